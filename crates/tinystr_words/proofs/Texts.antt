@@ -1,0 +1,190 @@
+-- Texts in padded arrays.
+use Rattle.std.proofs.Common.{◌≡◌, ◌≢◌, ℕ, ◌+◌, ◌-◌, ◌<◌, ◌≤◌, Bool, List, [], ◌∷◌, ◌++◌, length, get_or, take, drop, set, replicate, sym, ap, ap₂, ◌∙◌, refl, arith, eqb, not, suc, zero, min, subst}
+use Rattle.std.proofs.lemmas.Bool.Decides.{nat_tests}
+use Rattle.std.proofs.lemmas.List.{get_or_append_left, get_or-replicate, get_or-append_right, length-append, length-replicate, take_at, take_all, set_at, ext_get_or, length-take, take_min, append_assoc, length_push, drop-replicate, take-replicate}
+use Rattle.std.proofs.lemmas.List.Sums.{prefix_len_is, prefix_len-le-length}
+use Rattle.std.proofs.lemmas.List.Folds.{length-prefix_len}
+use Rattle.std.proofs.lemmas.List.Elements.{All-weaker, All-push, All-take, All-drop}
+use Rattle.std.proofs.lemmas.Str.Ascii.{IsAscii-from_all}
+use Rattle.std.proofs.lemmas.Str.{IsUtf8-from_ascii}
+use Rattle.std.specs.List.{prefix_len}
+use Rattle.std.specs.Str.{IsUtf8}
+use Rattle.tinystr_words.specs.Text.{IsTextByte, IsText, IsStrictText, pad, text_of, IsPaddedText}
+
+-- the test that `text_of` makes of each byte
+abbrev pub is_char : ℕ → Bool
+is_char b = not (eqb b 0)
+
+abbrev pub NULS : ℕ → List ℕ
+NULS k = replicate k 0
+
+pub get_or-nuls : (m k : ℕ) → get_or (NULS m) k 0 ≡ 0
+get_or-nuls zero k = refl
+get_or-nuls (suc m) zero = refl
+get_or-nuls (suc m) (suc k) = get_or-nuls m k
+
+-- a list of NULs
+pub nuls_from : (xs : List ℕ) (m : ℕ) → length xs ≡ m → ((k : ℕ) → k < length xs → get_or xs k 0 ≡ 0) → xs ≡ NULS m
+nuls_from xs m e h =
+    ext_get_or 0 xs (NULS m) (omega (arith, length-replicate {A = ℕ} m 0)) (λ k l. h k l ∙ sym (get_or-nuls m k))
+
+-- ---- a text and its padding
+
+pub length-pad : (t : List ℕ) (n : ℕ) → length t ≤ n → length (pad t n) ≡ n
+length-pad t n h = omega (arith, length-append t (NULS (n - length t)), length-replicate {A = ℕ} (n - length t) 0)
+
+prefix_len-pad : (t : List ℕ) (n : ℕ) → IsText t → prefix_len is_char (pad t n) ≡ length t
+prefix_len-pad t n h =
+    prefix_len_is is_char (pad t n) (length t) 0
+    (omega (arith, length-append t (NULS (n - length t))))
+    (λ k below. rw (get_or_append_left t (NULS (n - length t)) 0 k below) (let p = h k 0 below in grind (arith, nat_tests)))
+    (λ inside. rw (get_or-append_right t (NULS (n - length t)) (length t) (length t) 0 refl (omega arith))
+        (let p = get_or-nuls (n - length t) (length t - length t) in grind (arith, nat_tests)))
+
+pub text_of-pad : (t : List ℕ) (n : ℕ) → IsText t → text_of (pad t n) ≡ t
+text_of-pad t n h = take_at t (NULS (n - length t)) (prefix_len is_char (pad t n)) (sym (prefix_len-pad t n h))
+
+pub IsPaddedText-pad : (t : List ℕ) (n : ℕ) → IsStrictText t n → IsPaddedText (pad t n) n
+IsPaddedText-pad t n h =
+    let e = text_of-pad t n h.text in
+    record { text = rw e h.text; fits = rw e h.fits; padded = ap (λ (s : List ℕ). pad s n) (sym e) }
+
+-- what every function that makes a value shows of the array it made
+pub IsPaddedText-made : (bytes t : List ℕ) (n : ℕ) → bytes ≡ pad t n → IsStrictText t n → IsPaddedText bytes n
+IsPaddedText-made bytes t n made h = rw made (IsPaddedText-pad t n h)
+
+pub text_of-made : (bytes t : List ℕ) (n : ℕ) → bytes ≡ pad t n → IsText t → text_of bytes ≡ t
+text_of-made bytes t n made h = ap (λ (b : List ℕ). text_of b) made ∙ text_of-pad t n h
+
+-- two texts with one padded form are one text
+pub pad_once : (t s : List ℕ) (n : ℕ) → IsText t → IsText s → pad t n ≡ pad s n → t ≡ s
+pad_once t s n h k e = sym (text_of-pad t n h) ∙ text_of-made (pad t n) s n e k
+
+pub length-text_of : (bytes : List ℕ) → length (text_of bytes) ≡ prefix_len is_char bytes
+length-text_of bytes = length-prefix_len is_char bytes
+
+-- the text's bytes are the first of the array
+pub take-text_of : (bytes : List ℕ) → take (length (text_of bytes)) bytes ≡ text_of bytes
+take-text_of bytes = rw (length-text_of bytes) refl
+
+pub length-text_of-le : (bytes : List ℕ) → length (text_of bytes) ≤ length bytes
+length-text_of-le bytes = omega (arith, length-text_of bytes, prefix_len-le-length is_char bytes)
+
+-- the length, as a loop finds it
+pub length-text_of-at : (bytes : List ℕ) (n : ℕ) → n ≤ length bytes → ((k : ℕ) → k < n → get_or bytes k 0 ≢ 0) → (n < length bytes → get_or bytes n 0 ≡ 0) → length (text_of bytes) ≡ n
+length-text_of-at bytes n fits before here =
+    length-text_of bytes ∙ prefix_len_is is_char bytes n 0 fits
+        (λ k h. let p = before k h in grind (arith, nat_tests))
+        (λ h. let p = here h in grind (arith, nat_tests))
+
+pub ruleset padded_texts = (length-text_of-at, take-text_of, length-text_of-le)
+
+-- the bytes of a padded text, by their places
+pub IsPaddedText-char : (bytes : List ℕ) (n i : ℕ) → IsPaddedText bytes n → i < length (text_of bytes) → IsTextByte (get_or bytes i 0)
+IsPaddedText-char bytes n i h inside =
+    rw (h.padded, get_or_append_left (text_of bytes) (NULS (n - length (text_of bytes))) 0 i inside) (h.text i 0 inside)
+
+pub IsPaddedText-nul : (bytes : List ℕ) (n i : ℕ) → IsPaddedText bytes n → length (text_of bytes) ≤ i → get_or bytes i 0 ≡ 0
+IsPaddedText-nul bytes n i h outside =
+    rw (h.padded, get_or-append_right (text_of bytes) (NULS (n - length (text_of bytes))) (length (text_of bytes)) i 0 refl outside)
+        (get_or-nuls (n - length (text_of bytes)) (i - length (text_of bytes)))
+
+pub IsUtf8-text : (t : List ℕ) → IsText t → IsUtf8 t
+IsUtf8-text t h = IsUtf8-from_ascii t (IsAscii-from_all t (All-weaker IsTextByte (λ b. b < 128) (λ b c. c.1) t h))
+
+-- ---- a character put behind the text of an array
+
+set-nuls : (t : List ℕ) (k i x : ℕ) → length t ≡ i → set (t ++ NULS (suc k)) i x ≡ (t ++ x ∷ []) ++ NULS k
+set-nuls t k i x e = set_at t 0 (NULS k) x i e ∙ sym (append_assoc t (x ∷ []) (NULS k))
+
+set-pad : (t : List ℕ) (n i x : ℕ) → length t ≡ i → i < n → set (pad t n) i x ≡ pad (t ++ x ∷ []) n
+set-pad t n i x e h =
+    let left : n - length t ≡ suc (n - length t - 1) = omega arith in
+    let one_less : n - length (t ++ x ∷ []) ≡ n - length t - 1 = omega (arith, length_push t x) in
+    rw (left, one_less) (set-nuls t (n - length t - 1) i x e)
+
+pushed : (bytes t : List ℕ) (n i x : ℕ) → IsPaddedText bytes n → text_of bytes ≡ t → i ≡ length t → i < n → set bytes i x ≡ pad (t ++ x ∷ []) n
+pushed bytes t n i x h e at room =
+    let here : length (text_of bytes) ≡ i = ap length e ∙ sym at in
+    ap (λ (b : List ℕ). set b i x) h.padded ∙ set-pad (text_of bytes) n i x here room ∙ ap (λ (l : List ℕ). pad (l ++ x ∷ []) n) e
+
+IsText-pushed : (bytes t : List ℕ) (n x : ℕ) → IsPaddedText bytes n → text_of bytes ≡ t → IsTextByte x → IsText (t ++ x ∷ [])
+IsText-pushed bytes t n x h e char = All-push IsTextByte t x (rw e at h.text) char
+
+pub IsPaddedText-push : (bytes t : List ℕ) (n i x : ℕ) → IsPaddedText bytes n → text_of bytes ≡ t → i ≡ length t → i < n → IsTextByte x → IsPaddedText (set bytes i x) n
+IsPaddedText-push bytes t n i x h e at room char =
+    IsPaddedText-made (set bytes i x) (t ++ x ∷ []) n (pushed bytes t n i x h e at room)
+        (record { text = IsText-pushed bytes t n x h e char; fits = omega (arith, length_push t x) })
+
+pub text_of-push : (bytes t : List ℕ) (n i x : ℕ) → IsPaddedText bytes n → text_of bytes ≡ t → i ≡ length t → i < n → IsTextByte x → text_of (set bytes i x) ≡ t ++ x ∷ []
+text_of-push bytes t n i x h e at room char =
+    text_of-made (set bytes i x) (t ++ x ∷ []) n (pushed bytes t n i x h e at room) (IsText-pushed bytes t n x h e char)
+
+-- ---- the parts of lists that are joined, and of padded texts
+
+take_of_nil : (q : ℕ) → take {A = ℕ} q [] ≡ []
+take_of_nil zero = refl
+take_of_nil (suc q) = refl
+
+-- the front of two lists joined
+pub take-joined : (s o : List ℕ) (q : ℕ) → take q (s ++ o) ≡ take q s ++ take (q - length s) o
+take-joined [] o q = let e : q - 0 ≡ q = omega arith in rw (e, take_of_nil q) refl
+take-joined (x ∷ s) o zero = let e : 0 - suc (length s) ≡ 0 = omega arith in rw e refl
+take-joined (x ∷ s) o (suc q) = let e : suc q - suc (length s) ≡ q - length s = omega arith in rw e (ap (λ (l : List ℕ). x ∷ l) (take-joined s o q))
+
+drop_of_nil : (q : ℕ) → drop {A = ℕ} q [] ≡ []
+drop_of_nil zero = refl
+drop_of_nil (suc q) = refl
+
+-- the back of two lists joined
+drop-joined : (s o : List ℕ) (q : ℕ) → drop q (s ++ o) ≡ drop q s ++ drop (q - length s) o
+drop-joined [] o q = let e : q - 0 ≡ q = omega arith in rw (e, drop_of_nil q) refl
+drop-joined (x ∷ s) o zero = let e : 0 - suc (length s) ≡ 0 = omega arith in rw e refl
+drop-joined (x ∷ s) o (suc q) = let e : suc q - suc (length s) ≡ q - length s = omega arith in rw e (drop-joined s o q)
+
+-- fewer NULs
+pub take-pad : (t : List ℕ) (n w : ℕ) → length t ≤ n → n ≤ w → take n (pad t w) ≡ pad t n
+take-pad t n w fits le =
+    let all : take n t ≡ t = take_all n t fits in
+    let more : n - length t ≤ w - length t = omega arith in
+    take-joined t (NULS (w - length t)) n ∙ ap₂ (λ (a b : List ℕ). a ++ b) all (take-replicate {X = ℕ} (n - length t) (w - length t) 0 more)
+
+-- NULs in any number behind a text
+padded-nuls : (l t : List ℕ) (k : ℕ) → l ≡ t ++ NULS k → IsText t → IsPaddedText l (length l) × (text_of l ≡ t)
+padded-nuls l t k e x =
+    let long : length l ≡ length t + k = ap length e ∙ omega (arith, length-append t (NULS k), length-replicate {A = ℕ} k 0) in
+    let left : length l - length t ≡ k = omega arith in
+    let made : l ≡ pad t (length l) = rw left e in
+    (IsPaddedText-made l t (length l) made (record { text = x; fits = omega arith }), text_of-made l t (length l) made x)
+
+take-nuls : (q k : ℕ) → (m : ℕ) × (take q (NULS k) ≡ NULS m)
+take-nuls zero k = (0, refl)
+take-nuls (suc q) zero = (0, refl)
+take-nuls (suc q) (suc k) = let rest = take-nuls q k in (suc rest.0, ap (λ (l : List ℕ). 0 ∷ l) rest.1)
+
+padded-take : (l : List ℕ) (n q : ℕ) → IsPaddedText l n → IsPaddedText (take q l) (length (take q l)) × (text_of (take q l) ≡ take q (text_of l))
+padded-take l n q p =
+    let t = text_of l in
+    let nuls = take-nuls (q - length t) (n - length t) in
+    padded-nuls (take q l) (take q t) nuls.0
+      (ap (λ (b : List ℕ). take q b) p.padded ∙ take-joined t (NULS (n - length t)) q ∙ ap (λ (z : List ℕ). take q t ++ z) nuls.1)
+      (All-take IsTextByte q t p.text)
+
+padded-drop : (l : List ℕ) (n q : ℕ) → IsPaddedText l n → IsPaddedText (drop q l) (length (drop q l)) × (text_of (drop q l) ≡ drop q (text_of l))
+padded-drop l n q p =
+    let t = text_of l in
+    padded-nuls (drop q l) (drop q t) (n - length t - (q - length t))
+      (ap (λ (b : List ℕ). drop q b) p.padded ∙ drop-joined t (NULS (n - length t)) q ∙ ap (λ (z : List ℕ). drop q t ++ z) (drop-replicate {X = ℕ} (q - length t) (n - length t) 0))
+      (All-drop IsTextByte q t p.text)
+
+pub IsPaddedText-take : (l : List ℕ) (n q : ℕ) → IsPaddedText l n → IsPaddedText (take q l) (length (take q l))
+IsPaddedText-take l n q p = (padded-take l n q p).0
+
+pub text_of-take : (l : List ℕ) (n q : ℕ) → IsPaddedText l n → text_of (take q l) ≡ take q (text_of l)
+text_of-take l n q p = (padded-take l n q p).1
+
+pub IsPaddedText-drop : (l : List ℕ) (n q : ℕ) → IsPaddedText l n → IsPaddedText (drop q l) (length (drop q l))
+IsPaddedText-drop l n q p = (padded-drop l n q p).0
+
+pub text_of-drop : (l : List ℕ) (n q : ℕ) → IsPaddedText l n → text_of (drop q l) ≡ drop q (text_of l)
+text_of-drop l n q p = (padded-drop l n q p).1

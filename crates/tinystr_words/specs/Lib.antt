@@ -1,0 +1,5 @@
+pub mod Text
+pub mod Classes
+pub mod Case
+pub mod Reading
+pub mod Decimal

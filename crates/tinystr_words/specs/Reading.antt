@@ -1,0 +1,40 @@
+-- The fault of a list of units that a reader refuses, and what a lossy reader makes of a list. A unit is a byte, or a 16-bit number.
+use Rattle.std.specs.Prelude.{ℕ, ◌==◌, Bool, ◌&&◌, ◌||◌, nat_lt, List, length, map, take, slice_index, Option, Some, None, if◌then◌else◌}
+use Rattle.std.specs.List.{find, list_any, range_with_len}
+
+-- whether a NUL stands before position i
+abbrev pub is_after_null : List ℕ → ℕ → Bool
+is_after_null units i = list_any (λ u. u == 0) (take i units)
+
+-- whether the unit at i is above 127, or is a character after a NUL
+abbrev pub is_faulty : List ℕ → ℕ → Bool
+is_faulty units i =
+    nat_lt 127 (slice_index units i) || (nat_lt 0 (slice_index units i) && is_after_null units i)
+
+-- the least faulty position
+unfoldable pub first_faulty : List ℕ → Option ℕ
+first_faulty units = find (is_faulty units) (range_with_len 0 (length units))
+
+-- why a list of units is refused
+pub data Fault : Type 0 where
+  too_long : ℕ → ℕ → Fault
+  contains_null : Fault
+  non_ascii : Fault
+
+-- the fault at a faulty position; where there is none, there are NULs at the end
+abbrev pub fault_at : List ℕ → Option ℕ → Fault
+fault_at units None = contains_null
+fault_at units (Some i) = if nat_lt 127 (slice_index units i) then non_ascii else contains_null
+
+-- the fault of a list that a reader of at most n units refuses: its length comes first, and then the first faulty position
+unfoldable pub fault_in : ℕ → List ℕ → Fault
+fault_in n units =
+    if nat_lt n (length units) then too_long n (length units) else fault_at units (first_faulty units)
+
+-- whether a unit is a character of a text
+abbrev pub is_character : ℕ → Bool
+is_character u = nat_lt 0 u && nat_lt u 128
+
+-- the first n units, with r for each that is no character
+abbrev pub lossy : List ℕ → ℕ → ℕ → List ℕ
+lossy units r n = map (λ u. if is_character u then u else r) (take n units)

@@ -1,0 +1,30 @@
+-- Texts, and the arrays that hold them.
+use Rattle.std.specs.Prelude.{◌≡◌, ℕ, ◌-◌, ◌<◌, ◌≤◌, ◌==◌, List, ◌++◌, length, replicate, All}
+use Rattle.std.specs.List.{before_first}
+
+-- a byte of a text
+abbrev pub IsTextByte : ℕ → Type 0
+IsTextByte b = (0 < b) × (b < 128)
+
+-- a text is a list of bytes, each from 1 to 127
+abbrev pub IsText : List ℕ → Type 0
+IsText t = All IsTextByte t
+
+-- a text of at most n bytes: what a value holds, and what a strict reader takes
+pub record IsStrictText (t : List ℕ) (n : ℕ) : Type 0 where
+  pub text : IsText t
+  pub fits : length t ≤ n
+
+-- a text and then NULs, up to n bytes
+abbrev pub pad : List ℕ → ℕ → List ℕ
+pad t n = t ++ replicate (n - length t) 0
+
+-- what stands before the first NUL
+abbrev pub text_of : List ℕ → List ℕ
+text_of bytes = before_first (λ b. b == 0) bytes
+
+-- the n bytes are a text and then NULs
+pub record IsPaddedText (bytes : List ℕ) (n : ℕ) : Type 0 where
+  pub text : IsText (text_of bytes)
+  pub fits : length (text_of bytes) ≤ n
+  pub padded : bytes ≡ pad (text_of bytes) n

@@ -1,0 +1,2 @@
+//! Bounded ASCII texts: the definitions in which the contracts of the crates above speak, in `specs/`.
+#![tactic(auto)]
