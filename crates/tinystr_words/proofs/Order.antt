@@ -1,5 +1,5 @@
 -- The order and the equality of padded arrays are those of their texts.
-use Rattle.std.proofs.Common.{◌≡◌, ℕ, ◌+◌, ◌-◌, ◌<◌, List, [], ◌∷◌, ◌++◌, length, replicate, sym, ap, ◌∙◌, refl, arith, suc, zero}
+use Rattle.std.proofs.Common.{◌≡◌, ℕ, ◌+◌, ◌-◌, ◌<◌, List, [], ◌∷◌, ◌++◌, length, replicate, sym, ap, ◌∙◌, refl, arith, suc, zero, ◌≤◌}
 use Rattle.std.specs.Ordering.{nat_cmp, ordering_then}
 use Rattle.std.specs.Cmp.Lexicographic.{slice_cmp, pointwise}
 use Rattle.std.specs.Prelude.{nat_eq}
@@ -32,6 +32,9 @@ cmp-padded (x ∷ t) [] k zero a b e = absurd (omega arith)
 cmp-padded (x ∷ t) [] k (suc m) a b e = rw (cmp-char_nul x (All-head IsTextByte x t a).0) refl
 cmp-padded (x ∷ t) (y ∷ s) k m a b e =
     ap (λ o. ordering_then (nat_cmp x y) o) (cmp-padded t s k m (All-tail IsTextByte x t a) (All-tail IsTextByte y s b) (omega arith))
+
+pub cmp-pad : (t s : List ℕ) (n : ℕ) → IsText t → IsText s → length t ≤ n → length s ≤ n → slice_cmp nat_cmp (pad t n) (pad s n) ≡ slice_cmp nat_cmp t s
+cmp-pad t s n a b fits fits_other = cmp-padded t s (n - length t) (n - length s) a b (omega arith)
 
 -- two arrays of one length are in the order of their texts
 pub cmp-IsPaddedText : (xs ys : List ℕ) (n : ℕ) → IsPaddedText xs n → IsPaddedText ys n → length xs ≡ n → length ys ≡ n → slice_cmp nat_cmp xs ys ≡ slice_cmp nat_cmp (text_of xs) (text_of ys)

@@ -3,3 +3,4 @@ pub mod Classes
 pub mod Case
 pub mod Reading
 pub mod Decimal
+pub mod Order
