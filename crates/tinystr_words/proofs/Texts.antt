@@ -1,7 +1,7 @@
 -- Texts in padded arrays.
-use Rattle.std.proofs.Common.{◌≡◌, ◌≢◌, ℕ, ◌+◌, ◌-◌, ◌<◌, ◌≤◌, Bool, List, [], ◌∷◌, ◌++◌, length, get_or, take, drop, set, replicate, sym, ap, ap₂, ◌∙◌, refl, arith, eqb, not, suc, zero, min, subst}
+use Rattle.std.proofs.Common.{◌≡◌, ◌≢◌, ℕ, ◌+◌, ◌-◌, ◌<◌, ◌≤◌, Bool, List, [], ◌∷◌, ◌++◌, length, get_or, take, drop, set, replicate, sym, ap, ap₂, ◌∙◌, refl, arith, eqb, not, suc, zero}
 use Rattle.std.proofs.lemmas.Bool.Decides.{nat_tests}
-use Rattle.std.proofs.lemmas.List.{get_or_append_left, get_or-replicate, get_or-append_right, length-append, length-replicate, take_at, take_all, set_at, ext_get_or, length-take, take_min, append_assoc, length_push, drop-replicate, take-replicate}
+use Rattle.std.proofs.lemmas.List.{get_or_append_left, get_or-append_right, length-append, length-replicate, take_at, take_all, set_at, ext_get_or, append_assoc, length_push, drop-replicate, take-replicate}
 use Rattle.std.proofs.lemmas.List.Sums.{prefix_len_is, prefix_len-le-length}
 use Rattle.std.proofs.lemmas.List.Folds.{length-prefix_len}
 use Rattle.std.proofs.lemmas.List.Elements.{All-weaker, All-push, All-take, All-drop}
@@ -39,7 +39,7 @@ prefix_len-pad t n h =
     (omega (arith, length-append t (NULS (n - length t))))
     (λ k below. rw (get_or_append_left t (NULS (n - length t)) 0 k below) (let p = h k 0 below in grind (arith, nat_tests)))
     (λ inside. rw (get_or-append_right t (NULS (n - length t)) (length t) (length t) 0 refl (omega arith))
-        (let p = get_or-nuls (n - length t) (length t - length t) in grind (arith, nat_tests)))
+    (let p = get_or-nuls (n - length t) (length t - length t) in grind (arith, nat_tests)))
 
 pub text_of-pad : (t : List ℕ) (n : ℕ) → IsText t → text_of (pad t n) ≡ t
 text_of-pad t n h = take_at t (NULS (n - length t)) (prefix_len is_char (pad t n)) (sym (prefix_len-pad t n h))
@@ -74,8 +74,8 @@ length-text_of-le bytes = omega (arith, length-text_of bytes, prefix_len-le-leng
 pub length-text_of-at : (bytes : List ℕ) (n : ℕ) → n ≤ length bytes → ((k : ℕ) → k < n → get_or bytes k 0 ≢ 0) → (n < length bytes → get_or bytes n 0 ≡ 0) → length (text_of bytes) ≡ n
 length-text_of-at bytes n fits before here =
     length-text_of bytes ∙ prefix_len_is is_char bytes n 0 fits
-        (λ k h. let p = before k h in grind (arith, nat_tests))
-        (λ h. let p = here h in grind (arith, nat_tests))
+    (λ k h. let p = before k h in grind (arith, nat_tests))
+    (λ h. let p = here h in grind (arith, nat_tests))
 
 pub ruleset padded_texts = (length-text_of-at, take-text_of, length-text_of-le)
 
@@ -87,7 +87,7 @@ IsPaddedText-char bytes n i h inside =
 pub IsPaddedText-nul : (bytes : List ℕ) (n i : ℕ) → IsPaddedText bytes n → length (text_of bytes) ≤ i → get_or bytes i 0 ≡ 0
 IsPaddedText-nul bytes n i h outside =
     rw (h.padded, get_or-append_right (text_of bytes) (NULS (n - length (text_of bytes))) (length (text_of bytes)) i 0 refl outside)
-        (get_or-nuls (n - length (text_of bytes)) (i - length (text_of bytes)))
+    (get_or-nuls (n - length (text_of bytes)) (i - length (text_of bytes)))
 
 pub IsUtf8-text : (t : List ℕ) → IsText t → IsUtf8 t
 IsUtf8-text t h = IsUtf8-from_ascii t (IsAscii-from_all t (All-weaker IsTextByte (λ b. b < 128) (λ b c. c.1) t h))
@@ -114,7 +114,7 @@ IsText-pushed bytes t n x h e char = All-push IsTextByte t x (rw e at h.text) ch
 pub IsPaddedText-push : (bytes t : List ℕ) (n i x : ℕ) → IsPaddedText bytes n → text_of bytes ≡ t → i ≡ length t → i < n → IsTextByte x → IsPaddedText (set bytes i x) n
 IsPaddedText-push bytes t n i x h e at room char =
     IsPaddedText-made (set bytes i x) (t ++ x ∷ []) n (pushed bytes t n i x h e at room)
-        (record { text = IsText-pushed bytes t n x h e char; fits = omega (arith, length_push t x) })
+    (record { text = IsText-pushed bytes t n x h e char; fits = omega (arith, length_push t x) })
 
 pub text_of-push : (bytes t : List ℕ) (n i x : ℕ) → IsPaddedText bytes n → text_of bytes ≡ t → i ≡ length t → i < n → IsTextByte x → text_of (set bytes i x) ≡ t ++ x ∷ []
 text_of-push bytes t n i x h e at room char =
@@ -167,15 +167,15 @@ padded-take l n q p =
     let t = text_of l in
     let nuls = take-nuls (q - length t) (n - length t) in
     padded-nuls (take q l) (take q t) nuls.0
-      (ap (λ (b : List ℕ). take q b) p.padded ∙ take-joined t (NULS (n - length t)) q ∙ ap (λ (z : List ℕ). take q t ++ z) nuls.1)
-      (All-take IsTextByte q t p.text)
+    (ap (λ (b : List ℕ). take q b) p.padded ∙ take-joined t (NULS (n - length t)) q ∙ ap (λ (z : List ℕ). take q t ++ z) nuls.1)
+    (All-take IsTextByte q t p.text)
 
 padded-drop : (l : List ℕ) (n q : ℕ) → IsPaddedText l n → IsPaddedText (drop q l) (length (drop q l)) × (text_of (drop q l) ≡ drop q (text_of l))
 padded-drop l n q p =
     let t = text_of l in
     padded-nuls (drop q l) (drop q t) (n - length t - (q - length t))
-      (ap (λ (b : List ℕ). drop q b) p.padded ∙ drop-joined t (NULS (n - length t)) q ∙ ap (λ (z : List ℕ). drop q t ++ z) (drop-replicate {X = ℕ} (q - length t) (n - length t) 0))
-      (All-drop IsTextByte q t p.text)
+    (ap (λ (b : List ℕ). drop q b) p.padded ∙ drop-joined t (NULS (n - length t)) q ∙ ap (λ (z : List ℕ). drop q t ++ z) (drop-replicate {X = ℕ} (q - length t) (n - length t) 0))
+    (All-drop IsTextByte q t p.text)
 
 pub IsPaddedText-take : (l : List ℕ) (n q : ℕ) → IsPaddedText l n → IsPaddedText (take q l) (length (take q l))
 IsPaddedText-take l n q p = (padded-take l n q p).0
