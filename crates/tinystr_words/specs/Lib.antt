@@ -4,3 +4,5 @@ pub mod Case
 pub mod Reading
 pub mod Decimal
 pub mod Order
+pub mod Words
+pub mod Questions

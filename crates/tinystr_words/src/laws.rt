@@ -1,14 +1,17 @@
 //! Facts of the definitions alone. Each function computes nothing, and its contract is its law.
 
-ghost use Rattle.std.specs.Prelude.{◌≡◌, ◌<◌, ◌≤◌, ◌^◌, ◌↔◌, ◌⊎◌, ℕ, List, ◌++◌, length, take};
+ghost use Rattle.std.specs.Prelude.{◌≡◌, ◌<◌, ◌≤◌, ◌^◌, ◌↔◌, ◌⊎◌, ℕ, List, ◌++◌, length, take, ◌+◌, ◌-◌, Bool, [], ◌&&◌, All, slice_index, map};
 ghost use Rattle.std.specs.Cmp.Lexicographic.{slice_cmp};
 ghost use Rattle.std.specs.Fmt.{decimal};
+ghost use Rattle.std.specs.Int.{IsInRange};
 ghost use Rattle.std.specs.Ordering.{nat_cmp};
 ghost use Rattle.std.specs.declared.cmp.Ordering.TheVariants.{Less, Equal};
 ghost use Rattle.tinystr_words.specs.Case.{lowercase, titlecase, uppercase};
+ghost use Rattle.tinystr_words.specs.Classes.{ask};
 ghost use Rattle.tinystr_words.specs.Decimal.{IsDecimalOf};
 ghost use Rattle.tinystr_words.specs.Order.{IsBefore};
-ghost use Rattle.tinystr_words.specs.Text.{IsStrictText, pad};
+ghost use Rattle.tinystr_words.specs.Text.{IsStrictText, pad, IsText};
+ghost use Rattle.tinystr_words.specs.Words.{word, lane};
 
 /// Of two lists one comes before the other, or they are one list, and padded texts are in the order of the texts.
 pub fn order_total()
@@ -46,4 +49,42 @@ pub fn digits_ten()
 pub fn digits_shortest()
     ensures is { (n : ℕ) → n < 2 ^ 64 → IsDecimalOf n (decimal n) }
     ensures only { (n : ℕ) (ds : List ℕ) → n < 2 ^ 64 → IsDecimalOf n ds → ds ≡ decimal n }
+{}
+
+/// Where no lane is above 0x7f, no lane of a sum carries into the next.
+#[inline]
+pub fn lane_sum()
+    ensures { (a c : List ℕ) → length a ≡ length c → All (λ b. b ≤ 0x7f) a → All (λ b. b ≤ 0x7f) c →
+        (word a + word c < 256 ^ length a)
+        × ((i : ℕ) → i < length a → lane (word a + word c) i ≡ slice_index a i + slice_index c i) }
+{}
+
+/// The size of a word tells the length of the text that it holds.
+#[inline]
+pub fn word_length()
+    ensures { (w : ℕ) (t : List ℕ) → IsText t → length t ≤ w →
+        (word (pad t w) < 256 ^ length t) × ((k : ℕ) → word (pad t w) < 256 ^ k → length t ≤ k) }
+{}
+
+/// Two sums tell which lanes lie in their ranges.
+#[inline]
+pub fn lane_class()
+    ensures { (a low high : List ℕ) → length low ≡ length a → length high ≡ length a →
+        All (λ b. b ≤ 0x7f) a →
+        ((i : ℕ) → i < length a → (1 ≤ slice_index low i) × (slice_index low i ≤ slice_index high i) × (slice_index high i ≤ 0x7f)) →
+        let p = map (λ b. 0x80 - b) low in
+        let q = map (λ b. 0x7f - b) high in
+        (i : ℕ) → i < length a →
+        (IsInRange (slice_index low i) (slice_index high i) (slice_index a i))
+        ↔ ((0x80 ≤ lane (word a + word p) i) × (lane (word a + word q) i < 0x80)) }
+{}
+
+/// The questions and the case changes of a text, from those of its first sixteen bytes and of the others.
+#[inline]
+pub fn word_join()
+    ensures asked { (first others : ℕ → Bool) (a b : List ℕ) → (length a ≡ 16) ⊎ (b ≡ []) →
+        ask first others (a ++ b) ≡ (ask first others a && ask others others b) }
+    ensures lower { (a b : List ℕ) → lowercase (a ++ b) ≡ lowercase a ++ lowercase b }
+    ensures upper { (a b : List ℕ) → uppercase (a ++ b) ≡ uppercase a ++ uppercase b }
+    ensures title { (a b : List ℕ) → (length a ≡ 16) ⊎ (b ≡ []) → titlecase (a ++ b) ≡ titlecase a ++ lowercase b }
 {}

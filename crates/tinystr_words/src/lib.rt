@@ -1,4 +1,11 @@
-//! Bounded ASCII texts: the definitions in which the contracts of the crates above speak, in `specs/`.
+//! Bounded ASCII texts: the definitions in which the contracts of the crates above speak, in `specs/`, and padded
+//! texts in words of 32, 64 and 128 bits.
 #![tactic(auto)]
 
+pub mod int_ops;
 pub mod laws;
+mod question;
+mod word;
+
+pub use question::{Case, Question};
+pub use word::Word;

@@ -1,0 +1,218 @@
+-- Formulas over words: what each does to a lane alone, it does to that lane of the word.
+use Rattle.std.proofs.Common.{ℕ, zero, suc, ◌+◌, ◌-◌, ◌*◌, ◌/◌, ◌%◌, ◌^◌, ◌<◌, ◌≤◌, ◌≡◌, Bool, true, false, cond, ◌&&◌, ◌||◌, List, [], ◌∷◌, ◌++◌, length, refl, ap, ap₂, ◌∙◌, arith, bit_and, bit_or, nat_eq, nat_lt, replicate, lit<, subst, map}
+use Rattle.std.proofs.lemmas.Bool.Decides.{nat_tests}
+use Rattle.std.proofs.lemmas.Nat.{or_lt, and_le_l}
+use Rattle.std.specs.List.{list_all}
+use Rattle.std.proofs.lemmas.Bool.{ltb-true}
+use Rattle.std.proofs.lemmas.List.Elements.{All-head, All-tail}
+use Rattle.tinystr_words.specs.Text.{IsTextByte, IsText, pad}
+use Rattle.tinystr_words.specs.Classes.{ask}
+use Rattle.tinystr_words.specs.Case.{lower, raise}
+use Rattle.tinystr_words.specs.Words.{word, led}
+use Rattle.tinystr_words.specs.Questions.{first_class, later_class, answer, in_case}
+use Rattle.tinystr_words.specs.declared.question.Question.{Question}
+use Rattle.tinystr_words.specs.declared.question.Case.{Case}
+use Rattle.tinystr_words.specs.declared.question.Case.TheVariants.{Lower, Title, Upper}
+use Rattle.tinystr_words.proofs.Texts.{length-pad}
+use Rattle.tinystr_words.proofs.Parts.{first_change, later_change, length-in_case}
+use Rattle.tinystr_words.proofs.Lanes.{both_true, everywhere, everywhere_is, Ascii, lanes, word_add, word_and, word_or, word_not, word_quarter, same_words, holds}
+
+-- a formula over a word, as `(w + u(0x50)) & H` is `both (plus itself (each 0x50)) (each 0x80)`
+pub data Formula : Type 0 where
+  itself : Formula
+  lead : ℕ → ℕ → Formula
+  plus : Formula → Formula → Formula
+  both : Formula → Formula → Formula
+  either : Formula → Formula → Formula
+  flip : Formula → Formula
+  quarter : Formula → Formula
+
+abbrev pub each : ℕ → Formula
+each c = lead c c
+
+-- of one lane, where the flag says whether it is the first
+abbrev pub at : Formula → Bool → ℕ → ℕ
+at itself i b = b
+at (lead a c) i b = cond i a c
+at (plus f g) i b = at f i b + at g i b
+at (both f g) i b = bit_and (at f i b) (at g i b)
+at (either f g) i b = bit_or (at f i b) (at g i b)
+at (flip f) i b = 255 - at f i b
+at (quarter f) i b = at f i b / 4
+
+-- of a word of n lanes
+abbrev pub on : Formula → ℕ → ℕ → ℕ
+on itself n w = w
+on (lead a c) n w = word (led n a c)
+on (plus f g) n w = on f n w + on g n w
+on (both f g) n w = bit_and (on f n w) (on g n w)
+on (either f g) n w = bit_or (on f n w) (on g n w)
+on (flip f) n w = 256 ^ n - 1 - on f n w
+on (quarter f) n w = on f n w / 4
+
+-- the lane stays a byte at each step, and a shift moves no bit out of it
+abbrev pub is_safe : Formula → Bool → ℕ → Bool
+is_safe itself i b = true
+is_safe (lead a c) i b = nat_lt (cond i a c) 256
+is_safe (plus f g) i b = is_safe f i b && (is_safe g i b && nat_lt (at f i b + at g i b) 256)
+is_safe (both f g) i b = is_safe f i b && is_safe g i b
+is_safe (either f g) i b = is_safe f i b && is_safe g i b
+is_safe (flip f) i b = is_safe f i b
+is_safe (quarter f) i b = is_safe f i b && nat_eq (at f i b % 4) 0
+
+abbrev pub IsSafe : Formula → Type 0
+IsSafe f = (i : Bool) (b : ℕ) → b < 128 → is_safe f i b ≡ true
+
+eqb_is : (x y : ℕ) → nat_eq x y ≡ true → x ≡ y
+eqb_is x y h = grind (arith, nat_tests)
+
+pub safe_byte : (f : Formula) (i : Bool) (b : ℕ) → b < 128 → is_safe f i b ≡ true → at f i b < 256
+safe_byte itself i b l h = omega arith
+safe_byte (lead a c) i b l h = ltb-true _ _ h
+safe_byte (plus f g) i b l h = ltb-true _ _ (both_true (is_safe g i b) _ (both_true (is_safe f i b) _ h).1).1
+safe_byte (both f g) i b l h = let e = safe_byte f i b l (both_true (is_safe f i b) _ h).0 in omega (arith, and_le_l (at f i b) (at g i b))
+safe_byte (either f g) i b l h = or_lt 8 _ _ (safe_byte f i b l (both_true (is_safe f i b) _ h).0) (safe_byte g i b l (both_true (is_safe f i b) _ h).1)
+safe_byte (flip f) i b l h = omega arith
+safe_byte (quarter f) i b l h = let e = safe_byte f i b l (both_true (is_safe f i b) _ h).0 in omega arith
+
+word_itself : (i : Bool) (l : List ℕ) → word l ≡ word (lanes (λ i b. b) i l)
+word_itself i [] = refl
+word_itself i (b ∷ l) = ap (λ n. b + 256 * n) (word_itself false l)
+
+tail_each : (a c : ℕ) (l : List ℕ) → replicate (length l) c ≡ lanes (λ i _. cond i a c) false l
+tail_each a c [] = refl
+tail_each a c (b ∷ l) = ap (λ m. c ∷ m) (tail_each a c l)
+
+lanes_led : (a c : ℕ) (l : List ℕ) → led (length l) a c ≡ lanes (λ i _. cond i a c) true l
+lanes_led a c [] = refl
+lanes_led a c (b ∷ l) = ap (λ m. a ∷ m) (tail_each a c l)
+
+pub lanewise : (f : Formula) (l : List ℕ) → Ascii l → IsSafe f → on f (length l) (word l) ≡ word (lanes (at f) true l)
+lanewise itself l a s = word_itself true l
+lanewise (lead x c) l a s = ap word (lanes_led x c l)
+lanewise (plus f g) l a s =
+    let e = lanewise f l a (λ i b h. (both_true (is_safe f i b) _ (s i b h)).0) in
+    let k = lanewise g l a (λ i b h. (both_true (is_safe g i b) _ (both_true (is_safe f i b) _ (s i b h)).1).0) in
+    rw (e, k) (word_add (at f) (at g) true l)
+lanewise (both f g) l a s =
+    let p = λ (i : Bool) (b : ℕ) (h : b < 128). (both_true (is_safe f i b) _ (s i b h)).0 in
+    let q = λ (i : Bool) (b : ℕ) (h : b < 128). (both_true (is_safe f i b) _ (s i b h)).1 in
+    rw (lanewise f l a p, lanewise g l a q) (word_and (at f) (at g) (λ i b h. safe_byte f i b h (p i b h)) (λ i b h. safe_byte g i b h (q i b h)) true l a)
+lanewise (either f g) l a s =
+    let p = λ (i : Bool) (b : ℕ) (h : b < 128). (both_true (is_safe f i b) _ (s i b h)).0 in
+    let q = λ (i : Bool) (b : ℕ) (h : b < 128). (both_true (is_safe f i b) _ (s i b h)).1 in
+    rw (lanewise f l a p, lanewise g l a q) (word_or (at f) (at g) (λ i b h. safe_byte f i b h (p i b h)) (λ i b h. safe_byte g i b h (q i b h)) true l a)
+lanewise (flip f) l a s = rw (lanewise f l a s) (word_not (at f) (λ i b h. safe_byte f i b h (s i b h)) true l a)
+lanewise (quarter f) l a s =
+    let p = λ (i : Bool) (b : ℕ) (h : b < 128). (both_true (is_safe f i b) _ (s i b h)).0 in
+    let q = λ (i : Bool) (b : ℕ) (h : b < 128). eqb_is (at f i b % 4) 0 (both_true (is_safe f i b) _ (s i b h)).1 in
+    let e = word_quarter (at f) q true l a in
+    rw (lanewise f l a p) (omega arith)
+
+-- ---- what is known of each ASCII byte is known of each lane of a padded text
+
+holds_zeros : (P Q : Bool → ℕ → Bool) → ((i : Bool) (b : ℕ) → b < 128 → P i b ≡ (nat_eq b 0 || Q i b)) → (i : Bool) (k : ℕ) → holds P i (replicate k 0) ≡ true
+holds_zeros P Q same i zero = refl
+holds_zeros P Q same i (suc k) = rw (same i 0 (lit< tt)) (holds_zeros P Q same false k)
+
+not_zero : (b : ℕ) (r : Bool) → 1 ≤ b → (nat_eq b 0 || r) ≡ r
+not_zero b r h = grind (arith, nat_tests)
+
+pub holds_pad : (P Q : Bool → ℕ → Bool) → ((i : Bool) (b : ℕ) → b < 128 → P i b ≡ (nat_eq b 0 || Q i b)) → (i : Bool) (t : List ℕ) (k : ℕ) → IsText t → holds P i (t ++ replicate k 0) ≡ holds Q i t
+holds_pad P Q same i [] k x = holds_zeros P Q same i k
+holds_pad P Q same i (b ∷ t) k x =
+    let h = All-head (IsTextByte) b t x in
+    ap₂ (λ m n. m && n) (same i b (omega arith) ∙ not_zero b (Q i b) h.0) (holds_pad P Q same false t k (All-tail (IsTextByte) b t x))
+
+lanes_zeros : (F G : Bool → ℕ → ℕ) → ((i : Bool) (b : ℕ) → b < 128 → F i b ≡ cond (nat_eq b 0) 0 (G i b)) → (i : Bool) (k : ℕ) → lanes F i (replicate k 0) ≡ replicate k 0
+lanes_zeros F G same i zero = refl
+lanes_zeros F G same i (suc k) = ap₂ (λ x xs. x ∷ xs) (same i 0 (lit< tt)) (lanes_zeros F G same false k)
+
+not_zero_lane : (b r : ℕ) → 1 ≤ b → cond (nat_eq b 0) 0 r ≡ r
+not_zero_lane b r h = grind (arith, nat_tests)
+
+pub lanes_pad : (F G : Bool → ℕ → ℕ) → ((i : Bool) (b : ℕ) → b < 128 → F i b ≡ cond (nat_eq b 0) 0 (G i b)) → (i : Bool) (t : List ℕ) (k : ℕ) → IsText t → lanes F i (t ++ replicate k 0) ≡ lanes G i t ++ replicate k 0
+lanes_pad F G same i [] k x = lanes_zeros F G same i k
+lanes_pad F G same i (b ∷ t) k x =
+    let h = All-head (IsTextByte) b t x in
+    ap₂ (λ x xs. x ∷ xs) (same i b (omega arith) ∙ not_zero_lane b (G i b) h.0) (lanes_pad F G same false t k (All-tail (IsTextByte) b t x))
+
+ascii_zeros : (k : ℕ) → Ascii (replicate k 0)
+ascii_zeros zero = tt
+ascii_zeros (suc k) = (lit< tt, ascii_zeros k)
+
+ascii_padded : (t : List ℕ) (k : ℕ) → IsText t → Ascii (t ++ replicate k 0)
+ascii_padded [] k x = ascii_zeros k
+ascii_padded (b ∷ t) k x = let h = All-head (IsTextByte) b t x in (omega arith, ascii_padded t k (All-tail (IsTextByte) b t x))
+
+pub ascii_pad : (t : List ℕ) (n : ℕ) → IsText t → Ascii (pad t n)
+ascii_pad t n x = ascii_padded t (n - length t) x
+
+-- ---- what a test or a change of words says of the text
+
+abbrev pub pick : {A : Type 0} → (ℕ → A) → (ℕ → A) → Bool → ℕ → A
+pick first others i b = cond i (first b) (others b)
+
+ask_holds : (first others : ℕ → Bool) (t : List ℕ) → holds (pick first others) false t ≡ list_all others t
+ask_holds first others [] = refl
+ask_holds first others (b ∷ t) = ap (λ r. others b && r) (ask_holds first others t)
+
+ask_is : (first others : ℕ → Bool) (t : List ℕ) → holds (pick first others) true t ≡ ask first others t
+ask_is first others [] = refl
+ask_is first others (b ∷ t) = ap (λ r. first b && r) (ask_holds first others t)
+
+change_lanes : (first others : ℕ → ℕ) (t : List ℕ) → lanes (pick first others) false t ≡ map others t
+change_lanes first others [] = refl
+change_lanes first others (b ∷ t) = ap (λ r. others b ∷ r) (change_lanes first others t)
+
+change_is : (c : Case) (t : List ℕ) → lanes (pick (first_change c) (later_change c)) true t ≡ in_case c t
+change_is Lower [] = refl
+change_is Lower (b ∷ t) = ap (λ r. lower b ∷ r) (change_lanes lower lower t)
+change_is Title [] = refl
+change_is Title (b ∷ t) = ap (λ r. raise b ∷ r) (change_lanes raise lower t)
+change_is Upper [] = refl
+change_is Upper (b ∷ t) = ap (λ r. raise b ∷ r) (change_lanes raise raise t)
+
+abbrev pub same : Bool → Bool → Bool
+same true q = q
+same false q = cond q false true
+
+same_is : (p q : Bool) → same p q ≡ true → p ≡ q
+same_is true true h = refl
+same_is true false h = cc
+same_is false true h = cc
+same_is false false h = refl
+
+-- at each byte, first or later, f and g are equal exactly if the byte is NUL or in the question's class
+abbrev pub Asks : Formula → Formula → Question → Type 0
+Asks f g q = everywhere (λ i b. is_safe f i b && (is_safe g i b && same (nat_eq (at f i b) (at g i b)) (nat_eq b 0 || pick (first_class q) (later_class q) i b))) ≡ true
+
+-- at each byte, f keeps NUL and changes another as the case does
+abbrev pub Changes : Formula → Case → Type 0
+Changes f c = everywhere (λ i b. is_safe f i b && nat_eq (at f i b) (cond (nat_eq b 0) 0 (pick (first_change c) (later_change c) i b))) ≡ true
+
+pub on_pad : (f : Formula) → IsSafe f → (n : ℕ) (t : List ℕ) → IsText t → length t ≤ n → on f n (word (pad t n)) ≡ word (lanes (at f) true (pad t n))
+on_pad f s n t x le =
+    subst (λ m. on f m (word (pad t n)) ≡ word (lanes (at f) true (pad t n))) (length-pad t n le) (lanewise f (pad t n) (ascii_pad t n x) s)
+
+pub question : (f g : Formula) (q : Question) → Asks f g q → (n : ℕ) (t : List ℕ) → IsText t → length t ≤ n → nat_eq (on f n (word (pad t n))) (on g n (word (pad t n))) ≡ answer q t
+question f g q h n t x le =
+    let each = everywhere_is _ h in
+    let p : IsSafe f = λ i b l. (both_true (is_safe f i b) _ (each i b l)).0 in
+    let rest = λ (i : Bool) (b : ℕ) (l : b < 128). both_true (is_safe g i b) _ (both_true (is_safe f i b) _ (each i b l)).1 in
+    let r : IsSafe g = λ i b l. (rest i b l).0 in
+    let test = pick (first_class q) (later_class q) in
+    let agree : (i : Bool) (b : ℕ) → b < 128 → nat_eq (at f i b) (at g i b) ≡ (nat_eq b 0 || test i b) = λ i b l. same_is _ _ (rest i b l).1 in
+    rw (on_pad f p n t x le, on_pad g r n t x le)
+    (same_words (at f) (at g) (λ i b l. safe_byte f i b l (p i b l)) (λ i b l. safe_byte g i b l (r i b l)) true (pad t n) (ascii_pad t n x)
+    ∙ holds_pad _ test agree true t (n - length t) x ∙ ask_is (first_class q) (later_class q) t)
+
+pub changes_safe : (f : Formula) (c : Case) → Changes f c → IsSafe f
+changes_safe f c h i b l = (both_true (is_safe f i b) _ (everywhere_is _ h i b l)).0
+
+-- the lanes of a padded text, each changed by f, are those of the changed text
+pub changed : (f : Formula) (c : Case) → Changes f c → (n : ℕ) (t : List ℕ) → IsText t → length t ≤ n → lanes (at f) true (pad t n) ≡ pad (in_case c t) n
+changed f c h n t x le =
+    let change = pick (first_change c) (later_change c) in
+    let agree : (i : Bool) (b : ℕ) → b < 128 → at f i b ≡ cond (nat_eq b 0) 0 (change i b) = λ i b l. eqb_is _ _ (both_true (is_safe f i b) _ (everywhere_is _ h i b l)).1 in
+    rw (length-in_case c t) (lanes_pad (at f) change agree true t (n - length t) x ∙ ap (λ l. l ++ replicate (n - length t) 0) (change_is c t))

@@ -1,0 +1,97 @@
+-- Sums, masks and shifts of words, lane by lane.
+use Rattle.std.proofs.Common.{ℕ, zero, suc, ◌+◌, ◌-◌, ◌*◌, ◌/◌, ◌%◌, ◌^◌, ◌<◌, ◌≡◌, Bool, true, false, ◌&&◌, List, [], ◌∷◌, length, refl, ap, ◌∙◌, arith, bit_and, bit_or, nat_eq}
+use Rattle.std.proofs.Math.Nat.{pow-suc}
+use Rattle.std.proofs.lemmas.Bool.Decides.{Decides-below_and, nat_tests}
+use Rattle.std.proofs.lemmas.Nat.{and_block, or_block}
+use Rattle.std.specs.Simd.Lanes.{Each1}
+use Rattle.tinystr_words.specs.Words.{word}
+
+-- ---- a fact of each byte below n, by computing it
+
+abbrev pub below : (ℕ → Bool) → ℕ → Bool
+below p zero = true
+below p (suc n) = p n && below p n
+
+pub decided : (p : ℕ → Bool) (n : ℕ) → below p n ≡ true → (b : ℕ) → b < n → p b ≡ true
+decided p n h = (Decides-below_and p (λ b. p b ≡ true) (below p) (λ b. (λ e. e, λ e. e)) refl (λ m. refl) n).0 h
+
+pub both_true : (p q : Bool) → (p && q) ≡ true → (p ≡ true) × (q ≡ true)
+both_true true q h = (refl, h)
+both_true false q h = cc
+
+-- of each ASCII byte, as the first and as a later one
+unfoldable pub everywhere : (Bool → ℕ → Bool) → Bool
+everywhere p = below (λ b. p true b && p false b) 128
+
+pub everywhere_is : (p : Bool → ℕ → Bool) → everywhere p ≡ true → (i : Bool) (b : ℕ) → b < 128 → p i b ≡ true
+unfolding everywhere
+everywhere_is p h true b l = (both_true (p true b) (p false b) (decided (λ b. p true b && p false b) 128 h b l)).0
+everywhere_is p h false b l = (both_true (p true b) (p false b) (decided (λ b. p true b && p false b) 128 h b l)).1
+
+-- ---- the lanes of a word, each changed by a function that may treat the first apart
+
+abbrev pub Ascii : List ℕ → Type 0
+Ascii l = Each1 (λ b. b < 128) l
+
+abbrev pub lanes : (Bool → ℕ → ℕ) → Bool → List ℕ → List ℕ
+lanes F i [] = []
+lanes F i (b ∷ l) = F i b ∷ lanes F false l
+
+abbrev pub Bytes : (Bool → ℕ → ℕ) → Type 0
+Bytes F = (i : Bool) (b : ℕ) → b < 128 → F i b < 256
+
+pub word_add : (F G : Bool → ℕ → ℕ) (i : Bool) (l : List ℕ) → word (lanes F i l) + word (lanes G i l) ≡ word (lanes (λ i b. F i b + G i b) i l)
+word_add F G i [] = refl
+word_add F G i (b ∷ l) = omega (arith, word_add F G false l)
+
+and_step : (a b r s : ℕ) → r < 256 → s < 256 → bit_and (r + 256 * a) (s + 256 * b) ≡ bit_and r s + 256 * bit_and a b
+and_step a b r s p q =
+    let e : bit_and (a * 2 ^ 8 + r) (b * 2 ^ 8 + s) ≡ bit_and a b * 2 ^ 8 + bit_and r s = and_block 8 a b r s p q in
+    let x : r + 256 * a ≡ a * 2 ^ 8 + r = omega arith in
+    let y : s + 256 * b ≡ b * 2 ^ 8 + s = omega arith in
+    rw (x, y) (e ∙ omega arith)
+
+or_step : (a b r s : ℕ) → r < 256 → s < 256 → bit_or (r + 256 * a) (s + 256 * b) ≡ bit_or r s + 256 * bit_or a b
+or_step a b r s p q =
+    let e : bit_or (a * 2 ^ 8 + r) (b * 2 ^ 8 + s) ≡ bit_or a b * 2 ^ 8 + bit_or r s = or_block 8 a b r s p q in
+    let x : r + 256 * a ≡ a * 2 ^ 8 + r = omega arith in
+    let y : s + 256 * b ≡ b * 2 ^ 8 + s = omega arith in
+    rw (x, y) (e ∙ omega arith)
+
+pub word_and : (F G : Bool → ℕ → ℕ) → Bytes F → Bytes G → (i : Bool) (l : List ℕ) → Ascii l → bit_and (word (lanes F i l)) (word (lanes G i l)) ≡ word (lanes (λ i b. bit_and (F i b) (G i b)) i l)
+word_and F G p q i [] a = refl
+word_and F G p q i (b ∷ l) a =
+    and_step _ _ _ _ (p i b a.0) (q i b a.0) ∙ ap (λ n. bit_and (F i b) (G i b) + 256 * n) (word_and F G p q false l a.1)
+
+pub word_or : (F G : Bool → ℕ → ℕ) → Bytes F → Bytes G → (i : Bool) (l : List ℕ) → Ascii l → bit_or (word (lanes F i l)) (word (lanes G i l)) ≡ word (lanes (λ i b. bit_or (F i b) (G i b)) i l)
+word_or F G p q i [] a = refl
+word_or F G p q i (b ∷ l) a =
+    or_step _ _ _ _ (p i b a.0) (q i b a.0) ∙ ap (λ n. bit_or (F i b) (G i b) + 256 * n) (word_or F G p q false l a.1)
+
+pub word-lt : (F : Bool → ℕ → ℕ) → Bytes F → (i : Bool) (l : List ℕ) → Ascii l → word (lanes F i l) < 256 ^ length l
+word-lt F p i [] a = omega arith
+word-lt F p i (b ∷ l) a = let h = word-lt F p false l a.1 in let k = p i b a.0 in grind (arith)
+
+pub word_not : (F : Bool → ℕ → ℕ) → Bytes F → (i : Bool) (l : List ℕ) → Ascii l → 256 ^ length l - 1 - word (lanes F i l) ≡ word (lanes (λ i b. 255 - F i b) i l)
+word_not F p i [] a = refl
+word_not F p i (b ∷ l) a = let h = word_not F p false l a.1 in let s = word-lt F p false l a.1 in let k = p i b a.0 in omega (arith, pow-suc 256 (length l))
+
+pub word_quarter : (F : Bool → ℕ → ℕ) → ((i : Bool) (b : ℕ) → b < 128 → F i b % 4 ≡ 0) → (i : Bool) (l : List ℕ) → Ascii l → word (lanes F i l) ≡ 4 * word (lanes (λ i b. F i b / 4) i l)
+word_quarter F p i [] a = refl
+word_quarter F p i (b ∷ l) a = let h = word_quarter F p false l a.1 in let k = p i b a.0 in omega arith
+
+-- ---- tests on words
+
+-- each lane passes the test, which may treat the first apart
+abbrev pub holds : (Bool → ℕ → Bool) → Bool → List ℕ → Bool
+holds P i [] = true
+holds P i (b ∷ l) = P i b && holds P false l
+
+eq_step : (p q x y : ℕ) → p < 256 → q < 256 → nat_eq (p + 256 * x) (q + 256 * y) ≡ (nat_eq p q && nat_eq x y)
+eq_step p q x y l k = grind (arith, nat_tests)
+
+-- two words are equal exactly if each lane is
+pub same_words : (F G : Bool → ℕ → ℕ) → Bytes F → Bytes G → (i : Bool) (l : List ℕ) → Ascii l → nat_eq (word (lanes F i l)) (word (lanes G i l)) ≡ holds (λ i b. nat_eq (F i b) (G i b)) i l
+same_words F G p q i [] a = refl
+same_words F G p q i (b ∷ l) a =
+    eq_step _ _ _ _ (p i b a.0) (q i b a.0) ∙ ap (λ m. nat_eq (F i b) (G i b) && m) (same_words F G p q false l a.1)

@@ -1,0 +1,105 @@
+-- Words as numbers: their bytes, padding and size.
+use Rattle.std.proofs.Common.{ℕ, zero, suc, ◌+◌, ◌-◌, ◌*◌, ◌/◌, ◌%◌, ◌^◌, ◌<◌, ◌≤◌, ◌≡◌, List, [], ◌∷◌, ◌++◌, length, drop, replicate, refl, sym, ap, ap₂, ◌∙◌, subst, arith, lit<, ⊎_elim}
+use Rattle.std.proofs.Math.Nat.{pow-suc, div-div-eq-div-mul, pow-le-pow_right}
+use Rattle.std.proofs.lemmas.Nat.{leading_top, pow-add, pow_pos}
+use Rattle.std.proofs.lemmas.Bool.{cases_lt}
+use Rattle.std.proofs.lemmas.List.{drop-replicate}
+use Rattle.std.proofs.lemmas.List.Elements.{All-head, All-tail}
+use Rattle.std.specs.Int.{bytes_low_first}
+use Rattle.std.specs.Simd.Lanes.{Each1}
+use Rattle.std.proofs.lemmas.Simd.{Each1-weaker}
+use Rattle.std.specs.Int.Count.{count_leading_zeros, leading_of_zero}
+use Rattle.tinystr_words.specs.Text.{IsTextByte, IsText, pad}
+use Rattle.tinystr_words.specs.Words.{word, led, lanes_of}
+use Rattle.tinystr_words.proofs.Texts.{length-pad}
+use Rattle.tinystr_words.proofs.Lanes.{Ascii}
+use Rattle.tinystr_words.proofs.Formulas.{ascii_pad}
+
+-- ---- the bytes of a word
+
+bytes_from : (i k n : ℕ) → bytes_low_first (suc i) k n ≡ lanes_of k (n / 256 ^ suc i)
+bytes_from i zero n = refl
+bytes_from i (suc k) n =
+    ap (λ l. (n / 256 ^ suc i % 256) ∷ l) (bytes_from (suc i) k n
+    ∙ ap (λ m. lanes_of k m) (ap (λ m. n / m) (pow-suc 256 (suc i)) ∙ sym (div-div-eq-div-mul n (256 ^ suc i) 256)))
+
+-- what `to_le_bytes` gives
+pub le_bytes : (k n : ℕ) → bytes_low_first 0 k n ≡ lanes_of k n
+le_bytes zero n = refl
+le_bytes (suc k) n = ap (λ l. (n % 256) ∷ l) (bytes_from 0 k n)
+
+pub lanes_word : (l : List ℕ) → Each1 (λ b. b < 256) l → lanes_of (length l) (word l) ≡ l
+lanes_word [] a = refl
+lanes_word (b ∷ l) a =
+    let h : b < 256 = a.0 in
+    let e : (b + 256 * word l) % 256 ≡ b = omega arith in
+    let k : (b + 256 * word l) / 256 ≡ word l = omega arith in
+    ap₂ (λ x xs. x ∷ xs) e (ap (λ m. lanes_of (length l) m) k ∙ lanes_word l a.1)
+
+pub lanes_word_pad : (n : ℕ) (t : List ℕ) → IsText t → length t ≤ n → lanes_of n (word (pad t n)) ≡ pad t n
+lanes_word_pad n t x le =
+    subst (λ m. lanes_of m (word (pad t n)) ≡ pad t n) (length-pad t n le)
+    (lanes_word (pad t n) (Each1-weaker (λ b. b < 128) (λ b. b < 256) (λ b h. omega arith) (pad t n) (ascii_pad t n x)))
+
+-- ---- padding, and what it leaves room for
+
+pub word_zeros : (t : List ℕ) (k : ℕ) → word (t ++ replicate k 0) ≡ word t
+word_zeros [] zero = refl
+word_zeros [] (suc k) = let e : word (replicate k 0) ≡ 0 = word_zeros [] k in omega arith
+word_zeros (b ∷ t) k = ap (λ n. b + 256 * n) (word_zeros t k)
+
+pub word_dropped : (src : List ℕ) (k n : ℕ) → word (src ++ drop k (replicate n 0)) ≡ word src
+word_dropped src k n = ap (λ l. word (src ++ l)) (drop-replicate k n 0) ∙ word_zeros src (n - k)
+
+word_low : (l : List ℕ) → Ascii l → word l ≤ word (replicate (length l) 0x7f)
+word_low [] a = omega arith
+word_low (b ∷ l) a = let h : b < 128 = a.0 in omega (arith, word_low l a.1)
+
+pub word_ascii : (l : List ℕ) → Ascii l → word l ≤ word (led (length l) 0x7f 0x7f)
+word_ascii [] a = omega arith
+word_ascii (b ∷ l) a = let h : b < 128 = a.0 in omega (arith, word_low l a.1)
+
+-- a lane of at most 0x7f leaves room for 0x7f more
+room_after : (n c : ℕ) → c ≤ 0x7f → word (replicate n c) + word (replicate n 0x7f) < 256 ^ n
+room_after zero c h = omega arith
+room_after (suc n) c h = omega (arith, pow-suc 256 n, room_after n c h)
+
+pub led_room : (n a c : ℕ) → a ≤ 0x7f → c ≤ 0x7f → word (led n a c) + word (led n 0x7f 0x7f) < 256 ^ n
+led_room zero a c h k = omega arith
+led_room (suc n) a c h k = omega (arith, pow-suc 256 n, room_after n c k)
+
+-- ---- the length of a text, by the leading zeros of its word
+
+pub word_least : (b : ℕ) (t : List ℕ) → IsText (b ∷ t) → 256 ^ length t ≤ word (b ∷ t)
+word_least b [] x = omega (arith, (All-head (IsTextByte) b [] x).0)
+word_least b (d ∷ t) x = omega (arith, pow-suc 256 (length t), word_least d t (All-tail (IsTextByte) b (d ∷ t) x))
+
+pub word_below : (b : ℕ) (t : List ℕ) → IsText (b ∷ t) → word (b ∷ t) < 128 * 256 ^ length t
+word_below b [] x = omega (arith, (All-head (IsTextByte) b [] x).1)
+word_below b (d ∷ t) x = let h = (All-head (IsTextByte) b (d ∷ t) x).1 in omega (arith, pow-suc 256 (length t), word_below d t (All-tail (IsTextByte) b (d ∷ t) x))
+
+pow_256 : (m : ℕ) → 256 ^ m ≡ 2 ^ (8 * m)
+pow_256 zero = refl
+pow_256 (suc m) =
+    let e : 8 * suc m ≡ 8 * m + 8 = omega arith in
+    rw (pow-suc 256 m, pow_256 m, e) (sym (pow-add 2 (8 * m) 8))
+
+exponent_below : (i j : ℕ) → 2 ^ i < 2 ^ j → i < j
+exponent_below i j h =
+    ⊎_elim (λ l. l) (λ le. let k : 2 ^ j ≤ 2 ^ i = pow-le-pow_right {n = 2} (lit< tt) le in absurd (omega arith)) (cases_lt i j)
+
+leading_of_bits : (n m j r : ℕ) → m < n → r + suc j ≡ 8 * n → 8 * m < suc j → j < 8 * m + 7 → r / 8 ≡ n - suc m
+leading_of_bits n m j r l e low high = omega arith
+
+pub leading_zeros_of : (n : ℕ) (t : List ℕ) → IsText t → length t ≤ n → count_leading_zeros (8 * n) (word t) / 8 ≡ n - length t
+leading_zeros_of n [] x le = rw (leading_of_zero (8 * n)) (omega arith)
+leading_zeros_of n (b ∷ t) x le =
+    let least : 2 ^ (8 * length t) ≤ word (b ∷ t) = rw pow_256 at (word_least b t x) in
+    let one : 0 < 2 ^ (8 * length t) = pow_pos (8 * length t) in
+    let top : word (b ∷ t) < 2 ^ (8 * length t + 7) = rw (pow-add 2 (8 * length t) 7, ← pow_256 (length t)) (omega (arith, word_below b t x)) in
+    let within : 8 * length t + 7 ≤ 8 * n = omega arith in
+    let wide : 2 ^ (8 * length t + 7) ≤ 2 ^ (8 * n) = pow-le-pow_right {n = 2} (lit< tt) within in
+    let found = leading_top (8 * n) (word (b ∷ t)) (omega arith) (omega arith) in
+    leading_of_bits n (length t) found.0 _ le found.1
+    (exponent_below (8 * length t) (suc found.0) (omega arith))
+    (exponent_below found.0 (8 * length t + 7) (omega arith))

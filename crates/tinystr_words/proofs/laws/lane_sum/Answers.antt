@@ -1,0 +1,5 @@
+use Rattle.tinystr_words.proofs.WordFacts.{lane_sum_is}
+use Rattle.tinystr_words.proofs.laws.lane_sum.Goals as goal
+
+pub returns : goal.returns
+returns c = lane_sum_is

@@ -1,0 +1,5 @@
+use Rattle.tinystr_words.proofs.WordFacts.{word_length_is}
+use Rattle.tinystr_words.proofs.laws.word_length.Goals as goal
+
+pub returns : goal.returns
+returns c = word_length_is

@@ -1,0 +1,33 @@
+-- Words of bytes, and the texts that they hold.
+use Rattle.std.specs.Prelude.{ℕ, ◌+◌, ◌*◌, ◌/◌, ◌%◌, ◌^◌, ◌≤◌, ◌≡◌, zero, suc, List, [], ◌∷◌, length, replicate}
+use Rattle.tinystr_words.specs.Text.{IsText, pad, text_of}
+
+-- the sum of `l[i] * 256 ^ i`
+abbrev pub word : List ℕ → ℕ
+word [] = 0
+word (b ∷ rest) = b + 256 * word rest
+
+-- the byte at place i of a word
+abbrev pub lane : ℕ → ℕ → ℕ
+lane w i = w / 256 ^ i % 256
+
+-- n lanes, a in the first and c in the others
+abbrev pub led : ℕ → ℕ → ℕ → List ℕ
+led zero a c = []
+led (suc n) a c = a ∷ replicate n c
+
+-- the lowest n lanes of a word
+abbrev pub lanes_of : ℕ → ℕ → List ℕ
+lanes_of zero w = []
+lanes_of (suc n) w = (w % 256) ∷ lanes_of n (w / 256)
+
+-- the text that the lowest n lanes of a word hold
+unfoldable pub held : ℕ → ℕ → List ℕ
+held n w = text_of (lanes_of n w)
+
+-- a word is a text padded to n bytes, each below 0x80
+pub record HoldsText (n w : ℕ) : Type 0 where
+  pub text : IsText (held n w)
+  pub fits : length (held n w) ≤ n
+  pub padded : w ≡ word (pad (held n w) n)
+  pub ascii : w ≤ word (led n 0x7f 0x7f)

@@ -1,0 +1,226 @@
+//! Texts in one word each, asked and changed by a few sums over the whole word.
+
+ghost use Rattle.std.specs.Prelude.{◌≡◌, ◌+◌, ◌≤◌, ◌==◌, length, bit_or, bit_and};
+ghost use Rattle.tinystr_words.specs.Text.{IsPaddedText, pad, text_of};
+ghost use Rattle.tinystr_words.specs.Classes.{ask, is_upper, is_lower, is_digit, is_alphabetic, is_alphanumeric, is_not_upper, is_not_lower};
+ghost use Rattle.tinystr_words.specs.Case.{lowercase, titlecase, uppercase};
+ghost use Rattle.tinystr_words.specs.Words.{word, led, HoldsText};
+ghost use Rattle.tinystr_words.specs.Questions.{answer, in_case};
+
+use crate::question::{Case, Question};
+use crate::word::{DIGIT, LOWER, UPPER, Word};
+use std::marker::Model;
+
+/// A text of at most `LEN` bytes, each from 1 to 127: its bytes and then NULs, in one word.
+#[derive(Drop)]
+pub struct Aligned<T: Word<LEN>, const LEN: usize> {
+    word: T,
+}
+
+pub type Aligned4 = Aligned<u32, 4>;
+
+pub type Aligned8 = Aligned<u64, 8>;
+
+pub type Aligned16 = Aligned<u128, 16>;
+
+impl<T: Word<LEN>, const LEN: usize> Model for Aligned<T, LEN> {
+    ghost use Rattle.std.specs.Prelude.{List, ℕ};
+    ghost use Rattle.tinystr_words.specs.Words.{held, HoldsText};
+
+    ghost Value = { List ℕ };
+
+    ghost view = { λ a. held LEN (T.number a.word) };
+
+    ghost invariant = { λ a. HoldsText LEN (T.number a.word) };
+}
+
+// The high bit of each lane that isn't NUL.
+#[inline(always)]
+#[tactic(auto, using(crate::proofs::WordBytes::led_room))]
+fn present<T: Word<LEN>, const LEN: usize>(text: T) -> T
+    requires { T.number text ≤ word (led LEN 0x7f 0x7f) }
+    ensures { T.number result ≡ bit_and (T.number text + word (led LEN 0x7f 0x7f)) (word (led LEN 0x80 0x80)) }
+{
+    text.plus(T::splat(0x7f)).and(T::splat(0x80))
+}
+
+// A text with its letters in lower case, and some of its other bytes changed.
+#[inline(always)]
+fn folded<T: Word<LEN>, const LEN: usize>(text: T) -> T
+    requires { HoldsText LEN (T.number text) }
+    ensures bits { T.number result ≡ bit_or (T.number text) (word (led LEN 0x20 0x20)) }
+    ensures room { T.number result ≤ word (led LEN 0x7f 0x7f) }
+{
+    text.or(T::splat(0x20))
+}
+
+// Whether the marks have the high bit of no lane that isn't NUL.
+#[inline(always)]
+fn marks_no_byte<T: Word<LEN>, const LEN: usize>(marks: T, text: T) -> bool
+    requires { T.number text ≤ word (led LEN 0x7f 0x7f) }
+    ensures { result ≡ (bit_and (T.number marks) (bit_and (T.number text + word (led LEN 0x7f 0x7f)) (word (led LEN 0x80 0x80))) == word (led LEN 0 0)) }
+{
+    marks.and(present(text)).equals(T::splat(0))
+}
+
+// Whether the marks have the high bit of every lane.
+#[inline(always)]
+fn marks_every_lane<T: Word<LEN>, const LEN: usize>(marks: T) -> bool
+    ensures { result ≡ (bit_and (T.number marks) (word (led LEN 0x80 0x80)) == word (led LEN 0x80 0x80)) }
+{
+    marks.and(T::splat(0x80)).equals(T::splat(0x80))
+}
+
+impl<T: Word<LEN>, const LEN: usize> Aligned<T, LEN> {
+    /// The text of an array: what stands before its NULs.
+    #[inline(always)]
+    pub fn from_ascii_bytes<const N: usize>(src: &[u8; N]) -> Self
+        requires fits { N ≤ LEN }
+        requires padded { IsPaddedText src.now N }
+        ensures { result ≡ text_of src.now }
+    {
+        Self::from_part(src)
+    }
+
+    /// The text of a part of a longer array.
+    #[inline(always)]
+    pub fn from_part(part: &[u8]) -> Self
+        requires fits { length part.now ≤ LEN }
+        requires padded { IsPaddedText part.now (length part.now) }
+        ensures { result ≡ text_of part.now }
+    {
+        Aligned {
+            word: T::load(part),
+        }
+    }
+
+    #[inline(always)]
+    pub fn len(&self) -> usize
+        ensures { result ≡ length self.now }
+    {
+        LEN - self.word.leading_zeros() / 8
+    }
+
+    /// The answer to a question by name.
+    #[inline(always)]
+    pub fn asks(&self, question: Question) -> bool
+        ensures { result ≡ answer question self.now }
+    {
+        let word = self.word;
+        match question {
+            Question::Alphabetic => marks_no_byte(folded(word).outside(LOWER, LOWER), word),
+            Question::Alphanumeric => {
+                let letters = folded(word).outside(LOWER, LOWER);
+                marks_no_byte(letters.and(word.outside(DIGIT, DIGIT)), word)
+            }
+            Question::Numeric => marks_no_byte(word.outside(DIGIT, DIGIT), word),
+            Question::Lowercase => marks_every_lane(word.outside(UPPER, UPPER)),
+            Question::Titlecase => marks_every_lane(word.outside(LOWER, UPPER)),
+            Question::Uppercase => marks_every_lane(word.outside(LOWER, LOWER)),
+            Question::AlphabeticLowercase => marks_no_byte(word.outside(LOWER, LOWER), word),
+            Question::AlphabeticTitlecase => marks_no_byte(word.outside(UPPER, LOWER), word),
+            Question::AlphabeticUppercase => marks_no_byte(word.outside(UPPER, UPPER), word),
+        }
+    }
+
+    #[inline(always)]
+    pub fn is_ascii_alphabetic(&self) -> bool
+        ensures { result ≡ ask is_alphabetic is_alphabetic self.now }
+    {
+        self.asks(Question::Alphabetic)
+    }
+
+    #[inline(always)]
+    pub fn is_ascii_alphanumeric(&self) -> bool
+        ensures { result ≡ ask is_alphanumeric is_alphanumeric self.now }
+    {
+        self.asks(Question::Alphanumeric)
+    }
+
+    #[inline(always)]
+    pub fn is_ascii_numeric(&self) -> bool
+        ensures { result ≡ ask is_digit is_digit self.now }
+    {
+        self.asks(Question::Numeric)
+    }
+
+    #[inline(always)]
+    pub fn is_ascii_lowercase(&self) -> bool
+        ensures { result ≡ ask is_not_upper is_not_upper self.now }
+    {
+        self.asks(Question::Lowercase)
+    }
+
+    #[inline(always)]
+    pub fn is_ascii_titlecase(&self) -> bool
+        ensures { result ≡ ask is_not_lower is_not_upper self.now }
+    {
+        self.asks(Question::Titlecase)
+    }
+
+    #[inline(always)]
+    pub fn is_ascii_uppercase(&self) -> bool
+        ensures { result ≡ ask is_not_lower is_not_lower self.now }
+    {
+        self.asks(Question::Uppercase)
+    }
+
+    #[inline(always)]
+    pub fn is_ascii_alphabetic_lowercase(&self) -> bool
+        ensures { result ≡ ask is_lower is_lower self.now }
+    {
+        self.asks(Question::AlphabeticLowercase)
+    }
+
+    #[inline(always)]
+    pub fn is_ascii_alphabetic_titlecase(&self) -> bool
+        ensures { result ≡ ask is_upper is_lower self.now }
+    {
+        self.asks(Question::AlphabeticTitlecase)
+    }
+
+    #[inline(always)]
+    pub fn is_ascii_alphabetic_uppercase(&self) -> bool
+        ensures { result ≡ ask is_upper is_upper self.now }
+    {
+        self.asks(Question::AlphabeticUppercase)
+    }
+
+    /// The bytes of the text in a case by name, and then NULs.
+    #[inline(always)]
+    pub fn in_case(&self, case: Case) -> [u8; LEN]
+        ensures { result ≡ pad (in_case case self.now) LEN }
+    {
+        let word = self.word;
+        let changed = match case {
+            Case::Lower => word.or(word.case_bits(UPPER, UPPER)),
+            Case::Title => {
+                let bits = word.case_bits(LOWER, UPPER);
+                word.or(bits).and(T::led(0x20, 0).and(bits).not())
+            }
+            Case::Upper => word.and(word.case_bits(LOWER, LOWER).not()),
+        };
+        changed.to_le_bytes()
+    }
+
+    #[inline(always)]
+    pub fn to_ascii_lowercase(&self) -> [u8; LEN]
+        ensures { result ≡ pad (lowercase self.now) LEN }
+    {
+        self.in_case(Case::Lower)
+    }
+
+    #[inline(always)]
+    pub fn to_ascii_titlecase(&self) -> [u8; LEN]
+        ensures { result ≡ pad (titlecase self.now) LEN }
+    {
+        self.in_case(Case::Title)
+    }
+
+    #[inline(always)]
+    pub fn to_ascii_uppercase(&self) -> [u8; LEN]
+        ensures { result ≡ pad (uppercase self.now) LEN }
+    {
+        self.in_case(Case::Upper)
+    }
+}

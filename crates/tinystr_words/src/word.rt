@@ -1,0 +1,282 @@
+//! An unsigned integer as a word of byte lanes, the first byte lowest.
+
+ghost use Rattle.std.specs.Prelude.{◌≡◌, ◌+◌, ◌-◌, ◌*◌, ◌/◌, ◌^◌, ◌<◌, ◌≤◌, ◌==◌, ℕ, ◌++◌, drop, length, bit_and, bit_or};
+ghost use Rattle.std.proofs.Common.{lit<, lit≤};
+ghost use Rattle.std.specs.Int.Count.{count_leading_zeros};
+ghost use Rattle.tinystr_words.specs.Words.{word, led, lanes_of};
+
+/// What is added to a byte below 0x80 so that its high bit says where it lies: `low` sets the bit from the range's first byte on, `high` past its last.
+#[derive(Clone, Copy)]
+pub struct Range {
+    pub low: u8,
+    pub high: u8,
+}
+
+pub const UPPER: Range = Range {
+    low: 0x3f,
+    high: 0x25,
+};
+
+pub const LOWER: Range = Range {
+    low: 0x1f,
+    high: 0x05,
+};
+
+pub const DIGIT: Range = Range {
+    low: 0x50,
+    high: 0x46,
+};
+
+#[inline(always)]
+fn write_front(bytes: &mut [u8], src: &[u8])
+    requires { length src.now ≤ length bytes.old }
+    ensures { bytes.new ≡ src.now ++ drop (length src.now) bytes.old }
+{
+    bytes[..src.len()].copy_from_slice(src);
+}
+
+/// An integer of `LEN` bytes.
+pub trait Word<const LEN: usize>: Copy + Drop {
+    ghost number: { Self → ℕ };
+
+    fn from_le_bytes(bytes: &[u8; LEN]) -> Self
+        ensures { number result ≡ word bytes.now };
+
+    fn to_le_bytes(self) -> [u8; LEN]
+        ensures { result ≡ lanes_of LEN (number self) };
+
+    fn leading_zeros(self) -> usize
+        ensures { result ≡ count_leading_zeros (8 * LEN) (number self) };
+
+    fn plus(self, other: Self) -> Self
+        requires { number self + number other < 256 ^ LEN }
+        ensures { number result ≡ number self + number other };
+
+    fn and(self, other: Self) -> Self
+        ensures { number result ≡ bit_and (number self) (number other) };
+
+    fn or(self, other: Self) -> Self
+        ensures { number result ≡ bit_or (number self) (number other) };
+
+    fn not(self) -> Self
+        ensures { number result ≡ 256 ^ LEN - 1 - number self };
+
+    fn quarter(self) -> Self
+        ensures { number result ≡ number self / 4 };
+
+    fn equals(self, other: Self) -> bool
+        ensures { result ≡ (number self == number other) };
+
+    /// The word whose first lanes are these bytes and whose others are NUL.
+    #[inline(always)]
+    #[tactic(auto, using(crate::proofs::WordBytes::word_dropped))]
+    fn load(src: &[u8]) -> Self
+        requires { length src.now ≤ LEN }
+        ensures { number result ≡ word src.now }
+    {
+        let mut bytes = [0; LEN];
+        write_front(&mut bytes, src);
+        Self::from_le_bytes(&bytes)
+    }
+
+    /// One byte in the first lane, another in each other lane.
+    #[inline(always)]
+    fn led(first: u8, others: u8) -> Self
+        ensures { number result ≡ word (led LEN first others) }
+    {
+        let mut bytes = [others; LEN];
+        bytes[0] = first;
+        Self::from_le_bytes(&bytes)
+    }
+
+    /// The same byte in each lane.
+    #[inline(always)]
+    fn splat(byte: u8) -> Self
+        ensures { number result ≡ word (led LEN byte byte) }
+    {
+        Self::led(byte, byte)
+    }
+
+    /// The high bit of each lane whose byte is outside its range.
+    #[inline(always)]
+    #[tactic(auto, using(crate::proofs::WordBytes::led_room))]
+    fn outside(self, first: Range, others: Range) -> Self
+        requires ascii { number self ≤ word (led LEN 0x7f 0x7f) }
+        requires first { (first.low ≤ 0x7f) × (first.high ≤ 0x7f) }
+        requires others { (others.low ≤ 0x7f) × (others.high ≤ 0x7f) }
+        ensures { number result ≡ bit_or (256 ^ LEN - 1 - (number self + word (led LEN first.low others.low))) (number self + word (led LEN first.high others.high)) }
+    {
+        let below = self.plus(Self::led(first.low, others.low)).not();
+        let above = self.plus(Self::led(first.high, others.high));
+        below.or(above)
+    }
+
+    /// The case bit, 0x20, of each lane whose byte is in its range.
+    #[inline(always)]
+    fn case_bits(self, first: Range, others: Range) -> Self
+        requires ascii { number self ≤ word (led LEN 0x7f 0x7f) }
+        requires first { (first.low ≤ 0x7f) × (first.high ≤ 0x7f) }
+        requires others { (others.low ≤ 0x7f) × (others.high ≤ 0x7f) }
+        ensures { number result ≡ bit_and (256 ^ LEN - 1 - bit_or (256 ^ LEN - 1 - (number self + word (led LEN first.low others.low))) (number self + word (led LEN first.high others.high))) (word (led LEN 0x80 0x80)) / 4 }
+    {
+        self.outside(first, others)
+            .not()
+            .and(Self::splat(0x80))
+            .quarter()
+    }
+
+    ghost size: { (0 < LEN) × (LEN ≤ 16) };
+}
+
+impl Word<4> for u32 {
+    ghost number = { λ w. w };
+
+    ghost size = { (lit< tt, lit≤ tt) };
+
+    #[inline(always)]
+    fn from_le_bytes(bytes: &[u8; 4]) -> u32 {
+        u32::from_le_bytes(*bytes)
+    }
+
+    #[inline(always)]
+    fn to_le_bytes(self) -> [u8; 4] {
+        u32::to_le_bytes(self)
+    }
+
+    #[inline(always)]
+    fn leading_zeros(self) -> usize {
+        u32::leading_zeros(self) as usize
+    }
+
+    #[inline(always)]
+    fn plus(self, other: u32) -> u32 {
+        self + other
+    }
+
+    #[inline(always)]
+    fn and(self, other: u32) -> u32 {
+        self & other
+    }
+
+    #[inline(always)]
+    fn or(self, other: u32) -> u32 {
+        self | other
+    }
+
+    #[inline(always)]
+    fn not(self) -> u32 {
+        !self
+    }
+
+    #[inline(always)]
+    fn quarter(self) -> u32 {
+        self >> 2
+    }
+
+    #[inline(always)]
+    fn equals(self, other: u32) -> bool {
+        self == other
+    }
+}
+
+impl Word<8> for u64 {
+    ghost number = { λ w. w };
+
+    ghost size = { (lit< tt, lit≤ tt) };
+
+    #[inline(always)]
+    fn from_le_bytes(bytes: &[u8; 8]) -> u64 {
+        u64::from_le_bytes(*bytes)
+    }
+
+    #[inline(always)]
+    fn to_le_bytes(self) -> [u8; 8] {
+        u64::to_le_bytes(self)
+    }
+
+    #[inline(always)]
+    fn leading_zeros(self) -> usize {
+        u64::leading_zeros(self) as usize
+    }
+
+    #[inline(always)]
+    fn plus(self, other: u64) -> u64 {
+        self + other
+    }
+
+    #[inline(always)]
+    fn and(self, other: u64) -> u64 {
+        self & other
+    }
+
+    #[inline(always)]
+    fn or(self, other: u64) -> u64 {
+        self | other
+    }
+
+    #[inline(always)]
+    fn not(self) -> u64 {
+        !self
+    }
+
+    #[inline(always)]
+    fn quarter(self) -> u64 {
+        self >> 2
+    }
+
+    #[inline(always)]
+    fn equals(self, other: u64) -> bool {
+        self == other
+    }
+}
+
+impl Word<16> for u128 {
+    ghost number = { λ w. w };
+
+    ghost size = { (lit< tt, lit≤ tt) };
+
+    #[inline(always)]
+    fn from_le_bytes(bytes: &[u8; 16]) -> u128 {
+        u128::from_le_bytes(*bytes)
+    }
+
+    #[inline(always)]
+    fn to_le_bytes(self) -> [u8; 16] {
+        u128::to_le_bytes(self)
+    }
+
+    #[inline(always)]
+    fn leading_zeros(self) -> usize {
+        u128::leading_zeros(self) as usize
+    }
+
+    #[inline(always)]
+    fn plus(self, other: u128) -> u128 {
+        self + other
+    }
+
+    #[inline(always)]
+    fn and(self, other: u128) -> u128 {
+        self & other
+    }
+
+    #[inline(always)]
+    fn or(self, other: u128) -> u128 {
+        self | other
+    }
+
+    #[inline(always)]
+    fn not(self) -> u128 {
+        !self
+    }
+
+    #[inline(always)]
+    fn quarter(self) -> u128 {
+        self >> 2
+    }
+
+    #[inline(always)]
+    fn equals(self, other: u128) -> bool {
+        self == other
+    }
+}
