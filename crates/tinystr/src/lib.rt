@@ -3,9 +3,11 @@
 #![tactic(auto)]
 
 pub mod ascii;
+mod decimal;
 pub mod error;
 pub mod macros;
 mod reading;
+mod words;
 
 pub use ascii::{TinyAsciiStr, TinyStr4, TinyStr8, TinyStr16};
 pub use error::ParseError;

@@ -1,6 +1,6 @@
 use Rattle.std.proofs.Common.{◌≡◌, ◌<◌, ◌+◌, ◌^◌, ◌++◌, drop}
 use Rattle.std.specs.Fmt.{decimal}
-use Rattle.tinystr.proofs.ascii.write_decimal.Given as goal
+use Rattle.tinystr.proofs.decimal.write_decimal.Given as goal
 
 abbrev pub invariant-loop-rest : goal.invariant-loop-rest
 invariant-loop-rest l = record {

@@ -1,6 +1,6 @@
 use Rattle.std.proofs.Common.{◌<◌, arith, rules}
 use Rattle.tinystr_words.proofs.Decimals.{room_below, room_turn, decimal_turn, decimal_last, IsText-decimal_written}
-use Rattle.tinystr.proofs.ascii.write_decimal.Goals as goal
+use Rattle.tinystr.proofs.decimal.write_decimal.Goals as goal
 
 pub loop-rest-preserved : goal.loop-rest-preserved
 loop-rest-preserved c =
