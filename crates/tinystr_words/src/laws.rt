@@ -1,13 +1,13 @@
 //! Facts of the definitions alone. Each function computes nothing, and its contract is its law.
 
-ghost use Rattle.std.specs.Prelude.{◌≡◌, ◌<◌, ◌≤◌, ◌^◌, ◌↔◌, ◌⊎◌, ℕ, List, ◌++◌, length, take, ◌+◌, ◌-◌, Bool, [], ◌&&◌, All, slice_index, map};
+ghost use Rattle.std.specs.Prelude.{IsTrue, ◌≡◌, ◌<◌, ◌≤◌, ◌^◌, ◌↔◌, ◌⊎◌, ℕ, List, ◌++◌, length, take, ◌+◌, ◌-◌, Bool, [], ◌&&◌, All, slice_index, map};
 ghost use Rattle.std.specs.Cmp.Lexicographic.{slice_cmp};
 ghost use Rattle.std.specs.Fmt.{decimal};
 ghost use Rattle.std.specs.Int.{IsInRange};
 ghost use Rattle.std.specs.Ordering.{nat_cmp};
 ghost use Rattle.std.specs.declared.cmp.Ordering.TheVariants.{Less, Equal};
 ghost use Rattle.tinystr_words.specs.Case.{lowercase, titlecase, uppercase};
-ghost use Rattle.tinystr_words.specs.Classes.{ask};
+ghost use Rattle.tinystr_words.specs.Classes.{ask, is_alphabetic, is_lower, is_upper, is_not_lower, is_not_upper};
 ghost use Rattle.tinystr_words.specs.Decimal.{IsDecimalOf};
 ghost use Rattle.tinystr_words.specs.Order.{IsBefore};
 ghost use Rattle.tinystr_words.specs.Text.{IsStrictText, pad, IsText};
@@ -33,6 +33,34 @@ pub fn case_cut()
     ensures title { (m : ℕ) (t : List ℕ) → titlecase (take m t) ≡ take m (titlecase t) }
     ensures upper { (m : ℕ) (t : List ℕ) → uppercase (take m t) ≡ take m (uppercase t) }
 {}
+
+/// A case change keeps the length, done twice it is done once, and lower case forgets an upper case before it.
+pub fn case_twice()
+    ensures lower { (t : List ℕ) → (length (lowercase t) ≡ length t) × (lowercase (lowercase t) ≡ lowercase t) }
+    ensures title { (t : List ℕ) → (length (titlecase t) ≡ length t) × (titlecase (titlecase t) ≡ titlecase t) }
+    ensures upper { (t : List ℕ) → (length (uppercase t) ≡ length t) × (uppercase (uppercase t) ≡ uppercase t) }
+    ensures lower_upper { (t : List ℕ) → lowercase (uppercase t) ≡ lowercase t }
+{
+}
+
+/// A case change leaves alone exactly the texts of its case.
+pub fn case_fixed()
+    ensures lower { (t : List ℕ) → (lowercase t ≡ t) ↔ IsTrue (ask is_not_upper is_not_upper t) }
+    ensures title { (t : List ℕ) → (titlecase t ≡ t) ↔ IsTrue (ask is_not_lower is_not_upper t) }
+    ensures upper { (t : List ℕ) → (uppercase t ≡ t) ↔ IsTrue (ask is_not_lower is_not_lower t) }
+{
+}
+
+/// A text is of letters in a case exactly if it is of letters and of that case.
+pub fn class_joined()
+    ensures lower { (t : List ℕ) → ask is_lower is_lower t
+        ≡ (ask is_alphabetic is_alphabetic t && ask is_not_upper is_not_upper t) }
+    ensures title { (t : List ℕ) → ask is_upper is_lower t
+        ≡ (ask is_alphabetic is_alphabetic t && ask is_not_lower is_not_upper t) }
+    ensures upper { (t : List ℕ) → ask is_upper is_upper t
+        ≡ (ask is_alphabetic is_alphabetic t && ask is_not_lower is_not_lower t) }
+{
+}
 
 /// Texts joined and cut in either order have one front.
 pub fn join_cut()
