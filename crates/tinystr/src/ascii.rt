@@ -94,7 +94,7 @@ impl<const N: usize> TinyAsciiStr<N> {
         ensures text { IfOk result (λ t. t ≡ code_units.now) }
         ensures fault { IfErr result (λ e. fault_of e ≡ fault_in N code_units.now) }
     {
-        Self::read(code_units)
+        Self::read::<u8>(code_units)
     }
 
     /// Reads a text of at most `N` units of 16 bits, each a character of its own. A NUL is refused at its end too.
@@ -104,7 +104,7 @@ impl<const N: usize> TinyAsciiStr<N> {
         ensures text { IfOk result (λ t. t ≡ code_units.now) }
         ensures fault { IfErr result (λ e. fault_of e ≡ fault_in N code_units.now) }
     {
-        Self::read(code_units)
+        Self::read::<u16>(code_units)
     }
 
     /// Reads `N` bytes: a text and then NULs.
@@ -139,7 +139,7 @@ impl<const N: usize> TinyAsciiStr<N> {
         requires { IsTextByte replacement }
         ensures { result ≡ lossy code_units.now replacement N }
     {
-        Self::read_lossy(code_units, replacement)
+        Self::read_lossy::<u8>(code_units, replacement)
     }
 
     /// Reads the first `N` units, with the replacement for each that is 0 or above 127; the others are left out.
@@ -148,7 +148,7 @@ impl<const N: usize> TinyAsciiStr<N> {
         requires { IsTextByte replacement }
         ensures { result ≡ lossy code_units.now replacement N }
     {
-        Self::read_lossy(code_units, replacement)
+        Self::read_lossy::<u16>(code_units, replacement)
     }
 
     /// The text of an array that is known to be a text and then NULs. Nothing is tested when it runs.
@@ -208,7 +208,8 @@ impl<const N: usize> TinyAsciiStr<N> {
         ensures ascii { IsText result.now }
         ensures fits { length result.now ≤ N }
     {
-        &self.bytes[..self.len()]
+        let bytes = self.bytes.as_slice();
+        &bytes[..self.len()]
     }
 
     /// The text, in the value itself.

@@ -23,6 +23,9 @@ pub trait Unit: Copy {
         ensures { IsTextByte (number self) → result ≡ number self };
 }
 
+// How many units from 1 on are characters.
+const CHARACTERS: u8 = 0x7f;
+
 impl Unit for u8 {
     ghost number = { λ unit. unit };
 
@@ -33,7 +36,7 @@ impl Unit for u8 {
 
     #[inline(always)]
     fn is_character(self) -> bool {
-        self.wrapping_sub(1) < 0x7f
+        self.wrapping_sub(1) < CHARACTERS
     }
 
     #[inline(always)]
@@ -52,7 +55,7 @@ impl Unit for u16 {
 
     #[inline(always)]
     fn is_character(self) -> bool {
-        self.wrapping_sub(1) < 0x7f
+        self.wrapping_sub(1) < u16::from(CHARACTERS)
     }
 
     #[inline(always)]
