@@ -11,3 +11,6 @@ mod words;
 
 pub use ascii::{TinyAsciiStr, TinyStr4, TinyStr8, TinyStr16};
 pub use error::ParseError;
+
+#[cfg(test)]
+mod tests;
