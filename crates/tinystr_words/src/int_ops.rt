@@ -39,7 +39,8 @@ impl<T: Word<LEN>, const LEN: usize> Model for Aligned<T, LEN> {
 #[tactic(auto, using(crate::proofs::WordBytes::led_room))]
 fn present<T: Word<LEN>, const LEN: usize>(text: T) -> T
     requires { T.number text ≤ word (led LEN 0x7f 0x7f) }
-    ensures { T.number result ≡ bit_and (T.number text + word (led LEN 0x7f 0x7f)) (word (led LEN 0x80 0x80)) }
+    ensures { T.number result ≡
+        bit_and (T.number text + word (led LEN 0x7f 0x7f)) (word (led LEN 0x80 0x80)) }
 {
     text.plus(T::splat(0x7f)).and(T::splat(0x80))
 }
@@ -58,7 +59,9 @@ fn folded<T: Word<LEN>, const LEN: usize>(text: T) -> T
 #[inline(always)]
 fn marks_no_byte<T: Word<LEN>, const LEN: usize>(marks: T, text: T) -> bool
     requires { T.number text ≤ word (led LEN 0x7f 0x7f) }
-    ensures { result ≡ (bit_and (T.number marks) (bit_and (T.number text + word (led LEN 0x7f 0x7f)) (word (led LEN 0x80 0x80))) == word (led LEN 0 0)) }
+    ensures { result ≡ (bit_and (T.number marks)
+        (bit_and (T.number text + word (led LEN 0x7f 0x7f)) (word (led LEN 0x80 0x80)))
+        == word (led LEN 0 0)) }
 {
     marks.and(present(text)).equals(T::splat(0))
 }
@@ -66,7 +69,8 @@ fn marks_no_byte<T: Word<LEN>, const LEN: usize>(marks: T, text: T) -> bool
 // Whether the marks have the high bit of every lane.
 #[inline(always)]
 fn marks_every_lane<T: Word<LEN>, const LEN: usize>(marks: T) -> bool
-    ensures { result ≡ (bit_and (T.number marks) (word (led LEN 0x80 0x80)) == word (led LEN 0x80 0x80)) }
+    ensures { result ≡
+        (bit_and (T.number marks) (word (led LEN 0x80 0x80)) == word (led LEN 0x80 0x80)) }
 {
     marks.and(T::splat(0x80)).equals(T::splat(0x80))
 }

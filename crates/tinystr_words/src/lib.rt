@@ -7,4 +7,3 @@ mod question;
 mod word;
 
 pub use question::{Case, Question};
-pub use word::Word;

@@ -5,11 +5,14 @@ ghost use Rattle.std.proofs.Common.{lit<, lit≤};
 ghost use Rattle.std.specs.Int.Count.{count_leading_zeros};
 ghost use Rattle.tinystr_words.specs.Words.{word, led, lanes_of};
 
-/// What is added to a byte below 0x80 so that its high bit says where it lies: `low` sets the bit from the range's first byte on, `high` past its last.
+/// A range of bytes below 0x80, by what is added to a byte so that its high bit says where it lies.
 #[derive(Clone, Copy)]
 pub struct Range {
+    /// Sets the high bit from the range's first byte on: 0x80 less that byte.
     pub low: u8,
+    /// Sets the high bit past the range's last byte: 0x7f less that byte.
     pub high: u8,
+    ghost no_carry: { (low ≤ 0x7f) × (high ≤ 0x7f) },
 }
 
 pub const UPPER: Range = Range {
@@ -101,10 +104,10 @@ pub trait Word<const LEN: usize>: Copy + Drop {
     #[inline(always)]
     #[tactic(auto, using(crate::proofs::WordBytes::led_room))]
     fn outside(self, first: Range, others: Range) -> Self
-        requires ascii { number self ≤ word (led LEN 0x7f 0x7f) }
-        requires first { (first.low ≤ 0x7f) × (first.high ≤ 0x7f) }
-        requires others { (others.low ≤ 0x7f) × (others.high ≤ 0x7f) }
-        ensures { number result ≡ bit_or (256 ^ LEN - 1 - (number self + word (led LEN first.low others.low))) (number self + word (led LEN first.high others.high)) }
+        requires { number self ≤ word (led LEN 0x7f 0x7f) }
+        ensures { number result ≡ bit_or
+            (256 ^ LEN - 1 - (number self + word (led LEN first.low others.low)))
+            (number self + word (led LEN first.high others.high)) }
     {
         let below = self.plus(Self::led(first.low, others.low)).not();
         let above = self.plus(Self::led(first.high, others.high));
@@ -114,10 +117,12 @@ pub trait Word<const LEN: usize>: Copy + Drop {
     /// The case bit, 0x20, of each lane whose byte is in its range.
     #[inline(always)]
     fn case_bits(self, first: Range, others: Range) -> Self
-        requires ascii { number self ≤ word (led LEN 0x7f 0x7f) }
-        requires first { (first.low ≤ 0x7f) × (first.high ≤ 0x7f) }
-        requires others { (others.low ≤ 0x7f) × (others.high ≤ 0x7f) }
-        ensures { number result ≡ bit_and (256 ^ LEN - 1 - bit_or (256 ^ LEN - 1 - (number self + word (led LEN first.low others.low))) (number self + word (led LEN first.high others.high))) (word (led LEN 0x80 0x80)) / 4 }
+        requires { number self ≤ word (led LEN 0x7f 0x7f) }
+        ensures { number result ≡ bit_and
+            (256 ^ LEN - 1 - bit_or
+            (256 ^ LEN - 1 - (number self + word (led LEN first.low others.low)))
+            (number self + word (led LEN first.high others.high)))
+            (word (led LEN 0x80 0x80)) / 4 }
     {
         self.outside(first, others)
             .not()
