@@ -7,3 +7,6 @@ mod question;
 mod word;
 
 pub use question::{Case, Question};
+
+#[cfg(test)]
+mod tests;

@@ -31,7 +31,7 @@ pub const DIGIT: Range = Range {
 };
 
 #[inline(always)]
-fn write_front(bytes: &mut [u8], src: &[u8])
+pub(crate) fn write_front(bytes: &mut [u8], src: &[u8])
     requires { length src.now ≤ length bytes.old }
     ensures { bytes.new ≡ src.now ++ drop (length src.now) bytes.old }
 {
@@ -98,6 +98,17 @@ pub trait Word<const LEN: usize>: Copy + Drop {
         ensures { number result ≡ word (led LEN byte byte) }
     {
         Self::led(byte, byte)
+    }
+
+    /// The high bit of each lane that isn't NUL.
+    #[inline(always)]
+    #[tactic(auto, using(crate::proofs::WordBytes::led_room))]
+    fn present(self) -> Self
+        requires { number self ≤ word (led LEN 0x7f 0x7f) }
+        ensures { number result ≡
+            bit_and (number self + word (led LEN 0x7f 0x7f)) (word (led LEN 0x80 0x80)) }
+    {
+        self.plus(Self::splat(0x7f)).and(Self::splat(0x80))
     }
 
     /// The high bit of each lane whose byte is outside its range.
