@@ -104,8 +104,9 @@ impl<T: Word<LEN>, const LEN: usize> Aligned<T, LEN> {
         match question {
             Question::Alphabetic => marks_no_byte(folded(word).outside(LOWER, LOWER), word),
             Question::Alphanumeric => {
-                let letters = folded(word).outside(LOWER, LOWER);
-                marks_no_byte(letters.and(word.outside(DIGIT, DIGIT)), word)
+                let not_letter = folded(word).outside(LOWER, LOWER);
+                let not_digit = word.outside(DIGIT, DIGIT);
+                marks_no_byte(not_letter.and(not_digit), word)
             }
             Question::Numeric => marks_no_byte(word.outside(DIGIT, DIGIT), word),
             Question::Lowercase => marks_every_lane(word.outside(UPPER, UPPER)),

@@ -246,6 +246,9 @@ impl Word<8> for u64 {
     }
 }
 
+// The first number past 64 bits.
+const HALF: u128 = 1 << 64;
+
 impl Word<16> for u128 {
     ghost number = { λ w. w };
 
@@ -256,9 +259,15 @@ impl Word<16> for u128 {
         u128::from_le_bytes(*bytes)
     }
 
+    // By halves, since the sixteen bytes of one number are stored one at a time.
     #[inline(always)]
     fn to_le_bytes(self) -> [u8; 16] {
-        u128::to_le_bytes(self)
+        let low = (self % HALF) as u64;
+        let high = (self / HALF) as u64;
+        let mut bytes = [0; 16];
+        bytes[8..].copy_from_slice(&Word::to_le_bytes(high));
+        bytes[..8].copy_from_slice(&Word::to_le_bytes(low));
+        bytes
     }
 
     #[inline(always)]
