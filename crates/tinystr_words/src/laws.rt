@@ -8,7 +8,6 @@ ghost use Rattle.tinystr_words.specs.Case.{lowercase, titlecase, uppercase};
 ghost use Rattle.tinystr_words.specs.Words.{word, lane};
 
 /// Where no lane is above 0x7f, no lane of a sum carries into the next.
-#[inline]
 pub fn lane_sum()
     ensures { (a c : List ℕ) → length a ≡ length c → All (λ b. b ≤ 0x7f) a → All (λ b. b ≤ 0x7f) c →
         (word a + word c < 256 ^ length a)
@@ -16,14 +15,12 @@ pub fn lane_sum()
 {}
 
 /// The size of a word tells the length of the text that it holds.
-#[inline]
 pub fn word_length()
     ensures { (w : ℕ) (t : List ℕ) → IsText t → length t ≤ w →
         (word (pad t w) < 256 ^ length t) × ((k : ℕ) → word (pad t w) < 256 ^ k → length t ≤ k) }
 {}
 
 /// Two sums tell which lanes lie in their ranges.
-#[inline]
 pub fn lane_class()
     ensures { (a low high : List ℕ) → length low ≡ length a → length high ≡ length a →
         All (λ b. b ≤ 0x7f) a →
@@ -36,7 +33,6 @@ pub fn lane_class()
 {}
 
 /// The questions and the case changes of a text, from those of its first sixteen bytes and of the others.
-#[inline]
 pub fn word_join()
     ensures asked { (first others : ℕ → Bool) (a b : List ℕ) → (length a ≡ 16) ⊎ (b ≡ []) →
         ask first others (a ++ b) ≡ (ask first others a && ask others others b) }

@@ -15,16 +15,19 @@ pub struct Range {
     ghost no_carry: { (low ≤ 0x7f) × (high ≤ 0x7f) },
 }
 
+/// `A` to `Z`.
 pub const UPPER: Range = Range {
     low: 0x3f,
     high: 0x25,
 };
 
+/// `a` to `z`.
 pub const LOWER: Range = Range {
     low: 0x1f,
     high: 0x05,
 };
 
+/// `0` to `9`.
 pub const DIGIT: Range = Range {
     low: 0x50,
     high: 0x46,
