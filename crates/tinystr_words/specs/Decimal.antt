@@ -1,5 +1,18 @@
--- The end of a decimal text. The text itself is std's `decimal`.
-use Rattle.std.specs.Prelude.{ℕ, ◌-◌, List, drop, length}
+-- Decimal texts. The text of a number is std's `decimal`, which `IsDecimalOf` describes.
+use Rattle.std.specs.Prelude.{◌≡◌, ℕ, ◌+◌, ◌-◌, ◌*◌, ◌^◌, ◌<◌, List, [], ◌∷◌, drop, length, slice_index, All}
+use Rattle.std.specs.Int.{IsInRange}
+
+-- the number that digits spell
+abbrev pub number_of : List ℕ → ℕ
+number_of [] = 0
+number_of (d ∷ ds) = (d - 48) * 10 ^ length ds + number_of ds
+
+-- digits alone, one at least, that spell n, with no zero in front but in `0`
+pub record IsDecimalOf (n : ℕ) (ds : List ℕ) : Type 0 where
+  pub some : 0 < length ds
+  pub digits : All (λ d. IsInRange 48 57 d) ds
+  pub value : number_of ds ≡ n
+  pub shortest : slice_index ds 0 ≡ 48 → length ds ≡ 1
 
 -- the last k items, or all where there are fewer
 abbrev pub last : ℕ → List ℕ → List ℕ

@@ -3,5 +3,6 @@ pub mod Classes
 pub mod Case
 pub mod Reading
 pub mod Decimal
+pub mod Order
 pub mod Words
 pub mod Questions

@@ -1,5 +1,5 @@
 -- The fault of a list of units that a reader refuses, and what a lossy reader makes of a list. A unit is a byte, or a 16-bit number.
-use Rattle.std.specs.Prelude.{ℕ, ◌==◌, Bool, ◌&&◌, ◌||◌, nat_lt, List, length, map, take, slice_index, Option, Some, None, if◌then◌else◌}
+use Rattle.std.specs.Prelude.{ℕ, ◌==◌, Bool, ◌&&◌, ◌||◌, nat_lt, List, length, map, take, slice_index, Option, option_map, unwrap_or, if◌then◌else◌}
 use Rattle.std.specs.List.{find, list_any, range_with_len}
 
 -- whether a NUL stands before position i
@@ -21,20 +21,25 @@ pub data Fault : Type 0 where
   contains_null : Fault
   non_ascii : Fault
 
--- the fault at a faulty position; where there is none, there are NULs at the end
-abbrev pub fault_at : List ℕ → Option ℕ → Fault
-fault_at units None = contains_null
-fault_at units (Some i) = if nat_lt 127 (slice_index units i) then non_ascii else contains_null
+-- the fault at the first faulty position, where there is one
+unfoldable pub first_fault : List ℕ → Option Fault
+first_fault units =
+    option_map (λ i. if nat_lt 127 (slice_index units i) then non_ascii else contains_null) (first_faulty units)
 
--- the fault of a list that a reader of at most n units refuses: its length comes first, and then the first faulty position
+-- the fault of a list that a reader of at most n units refuses: its length comes first, and then the first faulty
+-- position; where there is none, there are NULs at the end
 unfoldable pub fault_in : ℕ → List ℕ → Fault
 fault_in n units =
-    if nat_lt n (length units) then too_long n (length units) else fault_at units (first_faulty units)
+    if nat_lt n (length units) then too_long n (length units) else unwrap_or (first_fault units) contains_null
 
 -- whether a unit is a character of a text
 abbrev pub is_character : ℕ → Bool
 is_character u = nat_lt 0 u && nat_lt u 128
 
+-- a character, or r for any other unit
+abbrev pub lossy_byte : ℕ → ℕ → ℕ
+lossy_byte r u = if is_character u then u else r
+
 -- the first n units, with r for each that is no character
 abbrev pub lossy : List ℕ → ℕ → ℕ → List ℕ
-lossy units r n = map (λ u. if is_character u then u else r) (take n units)
+lossy units r n = map (lossy_byte r) (take n units)

@@ -1,4 +1,5 @@
-//! Bounded ASCII texts: the definitions in which the contracts of the crates above speak, in `specs/`, and padded texts in words of 32, 64 and 128 bits.
+//! Bounded ASCII texts: the definitions in which the contracts of the crates above speak, in `specs/`, and padded
+//! texts in words of 32, 64 and 128 bits.
 #![tactic(auto)]
 
 pub mod int_ops;

@@ -1,0 +1,3 @@
+pub mod Error
+pub mod Reading
+pub mod Cut

@@ -1,0 +1,302 @@
+//! The type of a bounded text: its readers and views, cutting and joining, and decimal texts.
+
+ghost use Rattle.std.specs.Prelude.{◌≡◌, ◌+◌, ◌<◌, ◌≤◌, [], ◌∷◌, ◌++◌, length, map, take, IsOk, IfOk, IfErr, ◌↔◌, IsTrue};
+ghost use Rattle.std.specs.Fmt.{decimal};
+ghost use Rattle.tinystr_words.specs.Text.{pad, IsText, IsTextByte, IsStrictText, IsPaddedText};
+ghost use Rattle.tinystr_words.specs.Reading.{fault_in, lossy};
+ghost use Rattle.tinystr_words.specs.Decimal.{last};
+ghost use Rattle.tinystr.specs.Reading.{IsStrictRead};
+ghost use Rattle.tinystr.specs.Error.{fault_of};
+
+mod order;
+mod print;
+mod questions;
+
+use crate::decimal::write_decimal;
+use crate::error::ParseError;
+use crate::reading::{Unit, byte_or, find_fault, padded};
+use crate::words;
+use std::marker::Model;
+use std::str::FromStr;
+use tinystr_words::int_ops::{Aligned4, Aligned8};
+
+/// A text of at most `N` bytes, each from 1 to 127, in `N` bytes: the text and then NULs. It takes no memory.
+#[derive(Clone, Copy, Hash)]
+pub struct TinyAsciiStr<const N: usize> {
+    bytes: [u8; N],
+}
+
+/// A text of at most 4 bytes.
+pub type TinyStr4 = TinyAsciiStr<4>;
+/// A text of at most 8 bytes.
+pub type TinyStr8 = TinyAsciiStr<8>;
+/// A text of at most 16 bytes.
+pub type TinyStr16 = TinyAsciiStr<16>;
+
+impl<const N: usize> Model for TinyAsciiStr<N> {
+    ghost use Rattle.std.specs.Prelude.{List, ℕ};
+    ghost use Rattle.std.proofs.Common.{ap, sym};
+    ghost use Rattle.tinystr_words.specs.Text.{IsPaddedText, pad, text_of};
+
+    ghost Value = { List ℕ };
+
+    ghost view = { λ s. text_of s.bytes };
+
+    ghost invariant = { λ s. IsPaddedText s.bytes N };
+
+    ghost inverse = { λ t. record { bytes = pad t N } };
+
+    ghost inverse_ok = { λ a h. ap (λ (b : List ℕ). record { bytes = b }) (sym h.padded) };
+}
+
+impl<const N: usize> TinyAsciiStr<N> {
+    /// The empty text.
+    #[inline]
+    pub fn default() -> Self
+        ensures { result ≡ [] }
+    {
+        TinyAsciiStr { bytes: [0; N] }
+    }
+
+    // The text of the units, or why there is none.
+    #[inline(always)]
+    fn read<U: Unit>(units: &[U]) -> Result<Self, ParseError>
+        ensures accepted { IsOk result ↔ IsStrictText (map U.number units.now) N }
+        ensures text { IfOk result (λ t. t ≡ map U.number units.now) }
+        ensures fault { IfErr result (λ e. fault_of e ≡ fault_in N (map U.number units.now)) }
+    {
+        if units.len() > N {
+            return Err(ParseError::TooLong {
+                max: N,
+                len: units.len(),
+            });
+        }
+        match padded(units) {
+            Some(bytes) => Ok(TinyAsciiStr { bytes }),
+            None => Err(find_fault(units).unwrap_or(ParseError::ContainsNull)),
+        }
+    }
+
+    /// Reads a text of at most `N` bytes. A NUL is refused at its end too.
+    #[inline]
+    pub fn try_from_str(s: &str) -> Result<Self, ParseError>
+        ensures accepted { IsOk result ↔ IsStrictText s.now N }
+        ensures text { IfOk result (λ t. t ≡ s.now) }
+        ensures fault { IfErr result (λ e. fault_of e ≡ fault_in N s.now) }
+    {
+        Self::try_from_utf8(s.as_bytes())
+    }
+
+    /// Reads a text of at most `N` bytes. A NUL is refused at its end too.
+    #[inline]
+    pub fn try_from_utf8(code_units: &[u8]) -> Result<Self, ParseError>
+        ensures accepted { IsOk result ↔ IsStrictText code_units.now N }
+        ensures text { IfOk result (λ t. t ≡ code_units.now) }
+        ensures fault { IfErr result (λ e. fault_of e ≡ fault_in N code_units.now) }
+    {
+        Self::read::<u8>(code_units)
+    }
+
+    /// Reads a text of at most `N` units of 16 bits, each a character of its own. A NUL is refused at its end too.
+    #[inline]
+    pub fn try_from_utf16(code_units: &[u16]) -> Result<Self, ParseError>
+        ensures accepted { IsOk result ↔ IsStrictText code_units.now N }
+        ensures text { IfOk result (λ t. t ≡ code_units.now) }
+        ensures fault { IfErr result (λ e. fault_of e ≡ fault_in N code_units.now) }
+    {
+        Self::read::<u16>(code_units)
+    }
+
+    /// Reads `N` bytes: a text and then NULs.
+    #[inline]
+    pub fn try_from_raw(raw: [u8; N]) -> Result<Self, ParseError>
+        ensures accepted { IsOk result ↔ IsPaddedText raw.entry N }
+        ensures text { IfOk result (λ t. pad t N ≡ raw.entry) }
+        ensures fault { IfErr result (λ e. fault_of e ≡ fault_in N raw.entry) }
+    {
+        match find_fault(&raw[..]) {
+            Some(fault) => Err(fault),
+            None => Ok(TinyAsciiStr { bytes: raw }),
+        }
+    }
+
+    // The first units, with the replacement for each that is no character.
+    #[inline(always)]
+    fn read_lossy<U: Unit>(units: &[U], replacement: u8) -> Self
+        requires { IsTextByte replacement }
+        ensures { result ≡ lossy (map U.number units.now) replacement N }
+    {
+        let mut text = Self::default();
+        for (i, unit) in units[..units.len().min(N)].iter().enumerate() {
+            text.push(i, byte_or(*unit, replacement));
+        }
+        text
+    }
+
+    /// Reads the first `N` bytes, with the replacement for each that is NUL or above 127; the others are left out.
+    #[inline]
+    pub fn from_utf8_lossy(code_units: &[u8], replacement: u8) -> Self
+        requires { IsTextByte replacement }
+        ensures { result ≡ lossy code_units.now replacement N }
+    {
+        Self::read_lossy::<u8>(code_units, replacement)
+    }
+
+    /// Reads the first `N` units, with the replacement for each that is 0 or above 127; the others are left out.
+    #[inline]
+    pub fn from_utf16_lossy(code_units: &[u16], replacement: u8) -> Self
+        requires { IsTextByte replacement }
+        ensures { result ≡ lossy code_units.now replacement N }
+    {
+        Self::read_lossy::<u16>(code_units, replacement)
+    }
+
+    /// The text of an array that is known to be a text and then NULs. Nothing is tested when it runs.
+    #[inline]
+    pub fn from_utf8_unchecked(code_units: [u8; N]) -> Self
+        requires { IsPaddedText code_units N }
+        ensures { code_units.entry ≡ pad result N }
+    {
+        TinyAsciiStr { bytes: code_units }
+    }
+
+    /// The shortest decimal text of a number, or its last `N` digits where it has more.
+    #[inline]
+    pub fn new_unsigned_decimal(number: u32) -> Result<Self, Self>
+        ensures ok { IsOk result ↔ (length (decimal number) ≤ N) }
+        ensures digits { IfOk result (λ t. t ≡ decimal number) }
+        ensures last_digits { IfErr result (λ t. t ≡ last N (decimal number)) }
+    {
+        let mut digits = [b'0'; 10];
+        let start = write_decimal(number, &mut digits);
+        let text = &digits[start..];
+        if text.len() <= N {
+            Ok(Self::from_text(text))
+        } else {
+            Err(Self::from_text(&text[text.len() - N..]))
+        }
+    }
+
+    /// The length of the text in bytes.
+    #[inline]
+    pub fn len(&self) -> usize
+        ensures len { result ≡ length self.now }
+        ensures fits { result ≤ N }
+    {
+        if N <= 4 {
+            Aligned4::from_ascii_bytes(&self.bytes).len()
+        } else if N <= 8 {
+            Aligned8::from_ascii_bytes(&self.bytes).len()
+        } else {
+            words::len(&self.bytes)
+        }
+    }
+
+    /// Whether the text is empty, as the one text of capacity 0 is.
+    #[inline]
+    pub fn is_empty(&self) -> bool
+        ensures { IsTrue result ↔ (self.now ≡ []) }
+    {
+        self.len() == 0
+    }
+
+    /// The bytes of the text, in the value itself.
+    #[inline]
+    #[tactic(auto, using(tinystr_words::proofs::Texts::padded_texts))]
+    pub fn as_utf8(&self) -> &[u8]
+        ensures text { result.now ≡ self.now }
+        ensures ascii { IsText result.now }
+        ensures fits { length result.now ≤ N }
+    {
+        let bytes = self.bytes.as_slice();
+        &bytes[..self.len()]
+    }
+
+    /// The text, in the value itself.
+    #[inline]
+    pub fn as_str(&self) -> &str
+        ensures { result.now ≡ self.now }
+    {
+        std::str::from_utf8(self.as_utf8()).unwrap()
+    }
+
+    /// The bytes of the text and then NULs, in the value itself.
+    #[inline]
+    pub fn all_bytes(&self) -> &[u8; N]
+        ensures { result.now ≡ pad self.now N }
+    {
+        &self.bytes
+    }
+
+    // Puts a character behind the text. No other step writes into the padding.
+    #[inline(always)]
+    fn push(&mut self, len: usize, byte: u8)
+        requires at_end { len ≡ length self.old }
+        requires room { len < N }
+        requires character { IsTextByte byte }
+        ensures { self.new ≡ self.old ++ byte ∷ [] }
+    {
+        self.bytes[len] = byte;
+    }
+
+    // Puts what fits of a text behind the text.
+    #[inline(always)]
+    fn append(&mut self, text: &[u8])
+        requires { IsText text.now }
+        ensures { self.new ≡ take N (self.old ++ text.now) }
+    {
+        let len = self.len();
+        for (i, byte) in text[..(N - len).min(text.len())].iter().enumerate() {
+            self.push(len + i, *byte);
+        }
+    }
+
+    // What fits of a text.
+    #[inline(always)]
+    fn from_text(text: &[u8]) -> Self
+        requires { IsText text.now }
+        ensures { result ≡ take N text.now }
+    {
+        let mut made = Self::default();
+        made.append(text);
+        made
+    }
+
+    /// The text at another capacity, cut where it is longer.
+    #[inline]
+    pub fn resize<const M: usize>(self) -> TinyAsciiStr<M>
+        ensures { result ≡ take M self.entry }
+    {
+        TinyAsciiStr::<M>::from_text(self.as_utf8())
+    }
+
+    /// The two texts joined, cut where they are longer than `Q` bytes together.
+    #[inline]
+    pub fn concat<const M: usize, const Q: usize>(self, other: TinyAsciiStr<M>) -> TinyAsciiStr<Q>
+        ensures { result ≡ take Q (self.entry ++ other.entry) }
+    {
+        let mut text = self.resize::<Q>();
+        text.append(other.as_utf8());
+        text
+    }
+}
+
+impl<const N: usize> Default for TinyAsciiStr<N> {
+    ghost is_default = { λ t. t ≡ [] };
+
+    fn default() -> Self
+        ensures { result ≡ [] }
+    {
+        TinyAsciiStr::<N>::default()
+    }
+}
+
+impl<const N: usize> FromStr for TinyAsciiStr<N> {
+    type Err = ParseError;
+
+    ghost from_str_gives = { λ s r. IsStrictRead fault_of s N r };
+
+    fn from_str(s: &str) -> Result<Self, ParseError> {
+        Self::try_from_str(s)
+    }
+}

@@ -1,0 +1,141 @@
+//! Questions and case changes: one word of 4 or of 8 bytes where the array fits it, and words of 16 bytes past that.
+
+ghost use Rattle.std.specs.Prelude.{◌≡◌};
+ghost use Rattle.tinystr_words.specs.Classes.{ask, is_alphabetic, is_alphanumeric, is_digit, is_lower, is_upper, is_not_lower, is_not_upper};
+ghost use Rattle.tinystr_words.specs.Case.{lowercase, titlecase, uppercase};
+ghost use Rattle.tinystr_words.specs.Questions.{answer, in_case};
+
+use crate::ascii::TinyAsciiStr;
+use crate::words;
+use tinystr_words::int_ops::{Aligned4, Aligned8};
+use tinystr_words::{Case, Question};
+
+impl<const N: usize> TinyAsciiStr<N> {
+    // The answer to a question by name.
+    #[inline(always)]
+    fn asks(&self, question: Question) -> bool
+        ensures { result ≡ answer question self.now }
+    {
+        if N <= 4 {
+            Aligned4::from_ascii_bytes(&self.bytes).asks(question)
+        } else if N <= 8 {
+            Aligned8::from_ascii_bytes(&self.bytes).asks(question)
+        } else {
+            words::asks(&self.bytes, question)
+        }
+    }
+
+    // The text in a case by name.
+    #[inline(always)]
+    fn in_case(self, case: Case) -> Self
+        ensures { result ≡ in_case case self.entry }
+    {
+        let mut bytes = self.bytes;
+        if N <= 4 {
+            let word = Aligned4::from_ascii_bytes(&bytes).in_case(case);
+            bytes.copy_from_slice(&word[..N]);
+        } else if N <= 8 {
+            let word = Aligned8::from_ascii_bytes(&bytes).in_case(case);
+            bytes.copy_from_slice(&word[..N]);
+        } else {
+            words::change(&mut bytes, case);
+        }
+        TinyAsciiStr { bytes }
+    }
+
+    /// Whether each byte is a letter. Like the other questions it is true of the empty text.
+    #[inline]
+    pub fn is_ascii_alphabetic(&self) -> bool
+        ensures { result ≡ ask is_alphabetic is_alphabetic self.now }
+    {
+        self.asks(Question::Alphabetic)
+    }
+
+    /// Whether each byte is a letter or a digit.
+    #[inline]
+    pub fn is_ascii_alphanumeric(&self) -> bool
+        ensures { result ≡ ask is_alphanumeric is_alphanumeric self.now }
+    {
+        self.asks(Question::Alphanumeric)
+    }
+
+    /// Whether each byte is a digit.
+    #[inline]
+    pub fn is_ascii_numeric(&self) -> bool
+        ensures { result ≡ ask is_digit is_digit self.now }
+    {
+        self.asks(Question::Numeric)
+    }
+
+    /// Whether no byte is an upper-case letter; bytes that are no letters pass.
+    #[inline]
+    pub fn is_ascii_lowercase(&self) -> bool
+        ensures { result ≡ ask is_not_upper is_not_upper self.now }
+    {
+        self.asks(Question::Lowercase)
+    }
+
+    /// Whether the first byte is no lower-case letter and no later one an upper-case one; bytes that are no letters pass.
+    #[inline]
+    pub fn is_ascii_titlecase(&self) -> bool
+        ensures { result ≡ ask is_not_lower is_not_upper self.now }
+    {
+        self.asks(Question::Titlecase)
+    }
+
+    /// Whether no byte is a lower-case letter; bytes that are no letters pass.
+    #[inline]
+    pub fn is_ascii_uppercase(&self) -> bool
+        ensures { result ≡ ask is_not_lower is_not_lower self.now }
+    {
+        self.asks(Question::Uppercase)
+    }
+
+    /// Whether each byte is a lower-case letter.
+    #[inline]
+    pub fn is_ascii_alphabetic_lowercase(&self) -> bool
+        ensures { result ≡ ask is_lower is_lower self.now }
+    {
+        self.asks(Question::AlphabeticLowercase)
+    }
+
+    /// Whether the first byte is an upper-case letter and each later one a lower-case one.
+    #[inline]
+    pub fn is_ascii_alphabetic_titlecase(&self) -> bool
+        ensures { result ≡ ask is_upper is_lower self.now }
+    {
+        self.asks(Question::AlphabeticTitlecase)
+    }
+
+    /// Whether each byte is an upper-case letter.
+    #[inline]
+    pub fn is_ascii_alphabetic_uppercase(&self) -> bool
+        ensures { result ≡ ask is_upper is_upper self.now }
+    {
+        self.asks(Question::AlphabeticUppercase)
+    }
+
+    /// The text with each letter in lower case.
+    #[inline]
+    pub fn to_ascii_lowercase(self) -> Self
+        ensures { result ≡ lowercase self.entry }
+    {
+        self.in_case(Case::Lower)
+    }
+
+    /// The text with its first byte in upper case, and each later letter in lower case.
+    #[inline]
+    pub fn to_ascii_titlecase(self) -> Self
+        ensures { result ≡ titlecase self.entry }
+    {
+        self.in_case(Case::Title)
+    }
+
+    /// The text with each letter in upper case.
+    #[inline]
+    pub fn to_ascii_uppercase(self) -> Self
+        ensures { result ≡ uppercase self.entry }
+    {
+        self.in_case(Case::Upper)
+    }
+}

@@ -1,0 +1,16 @@
+//! Bounded ASCII strings: a `TinyAsciiStr<N>` holds a text of at most `N` bytes from 1 to 127 in `N` bytes, padded
+//! with NULs, and takes no memory.
+#![tactic(auto)]
+
+pub mod ascii;
+mod decimal;
+pub mod error;
+pub mod macros;
+mod reading;
+mod words;
+
+pub use ascii::{TinyAsciiStr, TinyStr4, TinyStr8, TinyStr16};
+pub use error::ParseError;
+
+#[cfg(test)]
+mod tests;

@@ -1,0 +1,188 @@
+//! Units read into padded bytes, and the fault of units that are refused.
+
+ghost use Rattle.std.specs.Prelude.{◌≡◌, ◌+◌, ◌*◌, ◌<◌, ◌≤◌, ◌↔◌, ℕ, map, length, IsTrue, MatchBool, MatchOption, option_map, if◌then◌else◌};
+ghost use Rattle.tinystr_words.specs.Text.{pad, IsText, IsTextByte};
+ghost use Rattle.tinystr_words.specs.Reading.{first_fault, lossy_byte};
+ghost use Rattle.tinystr.specs.Error.{fault_of};
+ghost use Rattle.tinystr.specs.Reading.{IsReadPart};
+
+use crate::error::ParseError;
+
+/// A unit that a reader takes: a byte, or a 16-bit number.
+pub trait Unit: Copy {
+    ghost number: { Self → ℕ };
+
+    fn code(self) -> u16
+        ensures { result ≡ number self };
+
+    fn is_character(self) -> bool
+        ensures { IsTrue result ↔ IsTextByte (number self) };
+
+    /// The byte of a character, and any byte for another unit.
+    fn low_byte(self) -> u8
+        ensures { IsTextByte (number self) → result ≡ number self };
+}
+
+// How many units from 1 on are characters.
+const CHARACTERS: u8 = 0x7f;
+
+impl Unit for u8 {
+    ghost number = { λ unit. unit };
+
+    #[inline(always)]
+    fn code(self) -> u16 {
+        u16::from(self)
+    }
+
+    #[inline(always)]
+    fn is_character(self) -> bool {
+        self.wrapping_sub(1) < CHARACTERS
+    }
+
+    #[inline(always)]
+    fn low_byte(self) -> u8 {
+        self
+    }
+}
+
+impl Unit for u16 {
+    ghost number = { λ unit. unit };
+
+    #[inline(always)]
+    fn code(self) -> u16 {
+        self
+    }
+
+    #[inline(always)]
+    fn is_character(self) -> bool {
+        self.wrapping_sub(1) < u16::from(CHARACTERS)
+    }
+
+    #[inline(always)]
+    fn low_byte(self) -> u8 {
+        (self % 256) as u8
+    }
+}
+
+// Reads `K` units into the bytes at the same places, and tells whether one is no character. It never leaves early,
+// so that the compiler can take all units at once.
+#[inline(always)]
+fn read_part<U: Unit, const K: usize>(bytes: &mut [u8], units: &[U], at: usize) -> bool
+    requires inside { at + K ≤ length units.now }
+    requires room { length units.now ≤ length bytes.old }
+    ensures read { MatchBool result (¬ IsText (map U.number units.now))
+        (IsReadPart bytes.old bytes.new (map U.number units.now) at (at + K)) }
+    ensures len { length bytes.new ≡ length bytes.old }
+{
+    let mut is_bad = false;
+    for i in at..at + K {
+        let unit = units[i];
+        is_bad |= !unit.is_character();
+        bytes[i] = unit.low_byte();
+    }
+    is_bad
+}
+
+// Two parts, which may overlap, are all units.
+#[inline(always)]
+fn read_pair<U: Unit, const K: usize>(bytes: &mut [u8], units: &[U]) -> bool
+    requires least { K ≤ length units.now }
+    requires most { length units.now ≤ 2 * K }
+    requires room { length units.now ≤ length bytes.old }
+    ensures read { MatchBool result (¬ IsText (map U.number units.now))
+        (IsReadPart bytes.old bytes.new (map U.number units.now) 0 (length units.now)) }
+    ensures len { length bytes.new ≡ length bytes.old }
+{
+    let is_bad = read_part::<U, K>(bytes, units, 0);
+    is_bad | read_part::<U, K>(bytes, units, units.len() - K)
+}
+
+// Parts of 32 units, the last of which may overlap the one before it.
+#[inline(always)]
+fn read_many<U: Unit>(bytes: &mut [u8], units: &[U]) -> bool
+    requires least { 32 ≤ length units.now }
+    requires room { length units.now ≤ length bytes.old }
+    ensures read { MatchBool result (¬ IsText (map U.number units.now))
+        (IsReadPart bytes.old bytes.new (map U.number units.now) 0 (length units.now)) }
+    ensures len { length bytes.new ≡ length bytes.old }
+{
+    let last = units.len() - 32;
+    let mut is_bad = false;
+    let mut at = 0;
+    while at < last {
+        is_bad |= read_part::<U, 32>(bytes, units, at);
+        at += 32;
+    }
+    is_bad | read_part::<U, 32>(bytes, units, last)
+}
+
+// Reads all units, by parts as large as they and the bytes allow.
+#[inline(always)]
+fn read_all<U: Unit>(bytes: &mut [u8], units: &[U]) -> bool
+    requires room { length units.now ≤ length bytes.old }
+    ensures read { MatchBool result (¬ IsText (map U.number units.now))
+        (IsReadPart bytes.old bytes.new (map U.number units.now) 0 (length units.now)) }
+    ensures len { length bytes.new ≡ length bytes.old }
+{
+    let room = bytes.len();
+    let len = units.len();
+    if room >= 32 && len >= 32 {
+        read_many(bytes, units)
+    } else if room >= 16 && len >= 16 {
+        read_pair::<U, 16>(bytes, units)
+    } else if room >= 8 && len >= 8 {
+        read_pair::<U, 8>(bytes, units)
+    } else if room >= 4 && len >= 4 {
+        read_pair::<U, 4>(bytes, units)
+    } else if len >= 2 {
+        read_pair::<U, 2>(bytes, units)
+    } else {
+        len == 1 && read_pair::<U, 1>(bytes, units)
+    }
+}
+
+/// A text and then NULs, where the units are a text.
+#[inline]
+pub fn padded<U: Unit, const N: usize>(units: &[U]) -> Option<[u8; N]>
+    requires { length units.now ≤ N }
+    ensures { MatchOption result (¬ IsText (map U.number units.now))
+        (λ bytes. IsText (map U.number units.now) × (bytes ≡ pad (map U.number units.now) N)) }
+{
+    let mut bytes = [0; N];
+    if read_all(&mut bytes[..], units) {
+        None
+    } else {
+        Some(bytes)
+    }
+}
+
+/// The fault at the first position whose unit is above 127, or is a character after a NUL.
+pub fn find_fault<U: Unit>(units: &[U]) -> Option<ParseError>
+    ensures { option_map fault_of result ≡ first_fault (map U.number units.now) }
+{
+    let mut is_after_null = false;
+    for unit in units {
+        let code = unit.code();
+        if code > 127 {
+            return Some(ParseError::NonAscii);
+        }
+        if code == 0 {
+            is_after_null = true;
+        } else if is_after_null {
+            return Some(ParseError::ContainsNull);
+        }
+    }
+    None
+}
+
+/// The byte of a character, or the replacement.
+#[inline(always)]
+pub fn byte_or<U: Unit>(unit: U, replacement: u8) -> u8
+    ensures { result ≡ lossy_byte replacement (U.number unit) }
+{
+    if unit.is_character() {
+        unit.low_byte()
+    } else {
+        replacement
+    }
+}

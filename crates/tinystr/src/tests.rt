@@ -1,0 +1,5 @@
+mod cutting;
+mod order;
+mod printing;
+mod readers;
+mod views;

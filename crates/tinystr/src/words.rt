@@ -1,0 +1,70 @@
+//! Padded texts of any length, by words of sixteen bytes.
+
+ghost use Rattle.std.specs.Prelude.{◌≡◌, ◌<◌, length, MatchOption};
+ghost use Rattle.tinystr_words.specs.Text.{IsPaddedText, text_of, pad};
+ghost use Rattle.tinystr_words.specs.Questions.{answer, in_case};
+ghost use Rattle.tinystr.specs.Cut.{IsCut};
+
+use tinystr_words::int_ops::Aligned16;
+use tinystr_words::{Case, Question};
+
+#[inline(always)]
+fn split_word(bytes: &[u8]) -> Option<(Aligned16, &[u8])>
+    requires { IsPaddedText bytes.now (length bytes.now) }
+    ensures { MatchOption result (length bytes.now < 16) (λ cut. IsCut bytes.now cut.0 cut.1.now) }
+{
+    let (word, rest) = bytes.split_first_chunk::<16>()?;
+    Some((Aligned16::from_ascii_bytes(word), rest))
+}
+
+#[inline(always)]
+#[tactic(auto, using(crate::proofs::Splits::len_step))]
+pub fn len(bytes: &[u8]) -> usize
+    requires { IsPaddedText bytes.now (length bytes.now) }
+    ensures { result ≡ length (text_of bytes.now) }
+{
+    let mut rest = bytes;
+    let mut sum = 0;
+    while let Some((word, after)) = split_word(rest) {
+        sum += word.len();
+        rest = after;
+    }
+    sum + Aligned16::from_part(rest).len()
+}
+
+#[inline(always)]
+#[tactic(auto, using(crate::proofs::Splits::ask_parts))]
+pub fn asks(bytes: &[u8], question: Question) -> bool
+    requires { IsPaddedText bytes.now (length bytes.now) }
+    ensures { result ≡ answer question (text_of bytes.now) }
+{
+    let mut rest = bytes;
+    let mut asked = question;
+    while let Some((word, after)) = split_word(rest) {
+        if !word.asks(asked) {
+            return false;
+        }
+        rest = after;
+        asked = question.of_later_words();
+    }
+    Aligned16::from_part(rest).asks(asked)
+}
+
+/// Changes each word, the later ones without a first character.
+#[inline(always)]
+pub fn change(bytes: &mut [u8], case: Case)
+    requires { IsPaddedText bytes.old (length bytes.old) }
+    ensures { bytes.new ≡ pad (in_case case (text_of bytes.old)) (length bytes.old) }
+{
+    let mut start = 0;
+    let mut applied = case;
+    while bytes.len() - start >= 16 {
+        let word = Aligned16::from_part(&bytes[start..start + 16]).in_case(applied);
+        bytes[start..start + 16].copy_from_slice(&word);
+        start += 16;
+        applied = case.of_later_words();
+    }
+    let count = bytes.len() - start;
+    let word = Aligned16::from_part(&bytes[start..]).in_case(applied);
+    bytes[start..].copy_from_slice(&word[..count]);
+}

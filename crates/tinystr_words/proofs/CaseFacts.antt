@@ -1,0 +1,109 @@
+-- Case changes done twice, texts that they leave alone, and classes joined from others.
+use Rattle.std.proofs.Common.{◌≡◌, ℕ, ◌↔◌, Bool, true, false, ◌&&◌, List, [], ◌∷◌, length, map, sym, ap, ap₂, ◌∙◌, refl, arith, suc}
+use Rattle.std.proofs.lemmas.Bool.Decides.{nat_tests}
+use Rattle.std.proofs.lemmas.List.{length-map}
+use Rattle.std.specs.List.{list_all}
+use Rattle.tinystr_words.specs.Classes.{ask, is_alphabetic, is_lower, is_upper, is_not_lower, is_not_upper}
+use Rattle.tinystr_words.specs.Case.{lower, raise, lowercase, titlecase, uppercase}
+
+-- ---- done twice
+
+lower_lower : (b : ℕ) → lower (lower b) ≡ lower b
+lower_lower b = grind (arith, nat_tests)
+
+raise_raise : (b : ℕ) → raise (raise b) ≡ raise b
+raise_raise b = grind (arith, nat_tests)
+
+lower_raise : (b : ℕ) → lower (raise b) ≡ lower b
+lower_raise b = grind (arith, nat_tests)
+
+pub length-titlecase : (t : List ℕ) → length (titlecase t) ≡ length t
+length-titlecase [] = refl
+length-titlecase (b ∷ t) = ap suc (length-map t lower)
+
+pub lowercase-twice : (t : List ℕ) → lowercase (lowercase t) ≡ lowercase t
+lowercase-twice [] = refl
+lowercase-twice (b ∷ t) = ap₂ (λ x xs. x ∷ xs) (lower_lower b) (lowercase-twice t)
+
+pub uppercase-twice : (t : List ℕ) → uppercase (uppercase t) ≡ uppercase t
+uppercase-twice [] = refl
+uppercase-twice (b ∷ t) = ap₂ (λ x xs. x ∷ xs) (raise_raise b) (uppercase-twice t)
+
+pub titlecase-twice : (t : List ℕ) → titlecase (titlecase t) ≡ titlecase t
+titlecase-twice [] = refl
+titlecase-twice (b ∷ t) = ap₂ (λ x xs. x ∷ xs) (raise_raise b) (lowercase-twice t)
+
+pub lowercase-uppercase : (t : List ℕ) → lowercase (uppercase t) ≡ lowercase t
+lowercase-uppercase [] = refl
+lowercase-uppercase (b ∷ t) = ap₂ (λ x xs. x ∷ xs) (lower_raise b) (lowercase-uppercase t)
+
+-- ---- left alone
+
+lower_alone : (b : ℕ) → (lower b ≡ b) ↔ (is_not_upper b ≡ true)
+lower_alone b = (λ e. grind (arith, nat_tests), λ e. grind (arith, nat_tests))
+
+raise_alone : (b : ℕ) → (raise b ≡ b) ↔ (is_not_lower b ≡ true)
+raise_alone b = (λ e. grind (arith, nat_tests), λ e. grind (arith, nat_tests))
+
+both_true : (p q : Bool) → (p && q) ≡ true → (p ≡ true) × (q ≡ true)
+both_true true q h = (refl, h)
+both_true false q h = cc
+
+-- a change of a first byte and of the later ones, each left alone exactly where a test passes
+map_alone : (f : ℕ → ℕ) (p : ℕ → Bool) → ((b : ℕ) → (f b ≡ b) ↔ (p b ≡ true)) → (t : List ℕ) → (map f t ≡ t) ↔ (list_all p t ≡ true)
+map_alone f p alone [] = (λ e. refl, λ e. refl)
+map_alone f p alone (b ∷ t) =
+    let rest = map_alone f p alone t in
+    (λ e. (let first : f b ≡ b = cc in let others : map f t ≡ t = cc in ap₂ (λ x y. x && y) ((alone b).0 first) (rest.0 others)),
+     λ e. (let parts = both_true (p b) (list_all p t) e in ap₂ (λ x xs. x ∷ xs) ((alone b).1 parts.0) (rest.1 parts.1)))
+
+ask_one : (p : ℕ → Bool) (t : List ℕ) → ask p p t ≡ list_all p t
+ask_one p [] = refl
+ask_one p (b ∷ t) = refl
+
+pub lowercase-alone : (t : List ℕ) → (lowercase t ≡ t) ↔ (ask is_not_upper is_not_upper t ≡ true)
+lowercase-alone t = rw (ask_one is_not_upper t) (map_alone lower is_not_upper lower_alone t)
+
+pub uppercase-alone : (t : List ℕ) → (uppercase t ≡ t) ↔ (ask is_not_lower is_not_lower t ≡ true)
+uppercase-alone t = rw (ask_one is_not_lower t) (map_alone raise is_not_lower raise_alone t)
+
+pub titlecase-alone : (t : List ℕ) → (titlecase t ≡ t) ↔ (ask is_not_lower is_not_upper t ≡ true)
+titlecase-alone [] = (λ e. refl, λ e. refl)
+titlecase-alone (b ∷ t) =
+    let rest = map_alone lower is_not_upper lower_alone t in
+    (λ e. (let first : raise b ≡ b = cc in let others : map lower t ≡ t = cc in ap₂ (λ x y. x && y) ((raise_alone b).0 first) (rest.0 others)),
+     λ e. (let parts = both_true (is_not_lower b) (list_all is_not_upper t) e in ap₂ (λ x xs. x ∷ xs) ((raise_alone b).1 parts.0) (rest.1 parts.1)))
+
+-- ---- joined
+
+and_pairs : (a b c d : Bool) → ((a && b) && (c && d)) ≡ ((a && c) && (b && d))
+and_pairs true true c d = refl
+and_pairs true false true d = refl
+and_pairs true false false d = refl
+and_pairs false b c d = refl
+
+all_joined : (both one other : ℕ → Bool) → ((b : ℕ) → both b ≡ (one b && other b)) → (t : List ℕ) → list_all both t ≡ (list_all one t && list_all other t)
+all_joined both one other joined [] = refl
+all_joined both one other joined (b ∷ t) =
+    ap₂ (λ x y. x && y) (joined b) (all_joined both one other joined t) ∙ and_pairs (one b) (other b) (list_all one t) (list_all other t)
+
+ask_joined : (first others class first_case others_case : ℕ → Bool) → ((b : ℕ) → first b ≡ (class b && first_case b)) → ((b : ℕ) → others b ≡ (class b && others_case b)) → (t : List ℕ) → ask first others t ≡ (ask class class t && ask first_case others_case t)
+ask_joined first others class first_case others_case at_first at_others [] = refl
+ask_joined first others class first_case others_case at_first at_others (b ∷ t) =
+    ap₂ (λ x y. x && y) (at_first b) (all_joined others class others_case at_others t)
+    ∙ and_pairs (class b) (first_case b) (list_all class t) (list_all others_case t)
+
+lower_joined : (b : ℕ) → is_lower b ≡ (is_alphabetic b && is_not_upper b)
+lower_joined b = grind (arith, nat_tests)
+
+upper_joined : (b : ℕ) → is_upper b ≡ (is_alphabetic b && is_not_lower b)
+upper_joined b = grind (arith, nat_tests)
+
+pub lowercase-joined : (t : List ℕ) → ask is_lower is_lower t ≡ (ask is_alphabetic is_alphabetic t && ask is_not_upper is_not_upper t)
+lowercase-joined = ask_joined is_lower is_lower is_alphabetic is_not_upper is_not_upper lower_joined lower_joined
+
+pub titlecase-joined : (t : List ℕ) → ask is_upper is_lower t ≡ (ask is_alphabetic is_alphabetic t && ask is_not_lower is_not_upper t)
+titlecase-joined = ask_joined is_upper is_lower is_alphabetic is_not_lower is_not_upper upper_joined lower_joined
+
+pub uppercase-joined : (t : List ℕ) → ask is_upper is_upper t ≡ (ask is_alphabetic is_alphabetic t && ask is_not_lower is_not_lower t)
+uppercase-joined = ask_joined is_upper is_upper is_alphabetic is_not_lower is_not_lower upper_joined upper_joined
