@@ -40,16 +40,14 @@ pub fn case_twice()
     ensures title { (t : List ℕ) → (length (titlecase t) ≡ length t) × (titlecase (titlecase t) ≡ titlecase t) }
     ensures upper { (t : List ℕ) → (length (uppercase t) ≡ length t) × (uppercase (uppercase t) ≡ uppercase t) }
     ensures lower_upper { (t : List ℕ) → lowercase (uppercase t) ≡ lowercase t }
-{
-}
+{}
 
 /// A case change leaves alone exactly the texts of its case.
 pub fn case_fixed()
     ensures lower { (t : List ℕ) → (lowercase t ≡ t) ↔ IsTrue (ask is_not_upper is_not_upper t) }
     ensures title { (t : List ℕ) → (titlecase t ≡ t) ↔ IsTrue (ask is_not_lower is_not_upper t) }
     ensures upper { (t : List ℕ) → (uppercase t ≡ t) ↔ IsTrue (ask is_not_lower is_not_lower t) }
-{
-}
+{}
 
 /// A text is of letters in a case exactly if it is of letters and of that case.
 pub fn class_joined()
@@ -59,8 +57,7 @@ pub fn class_joined()
         ≡ (ask is_alphabetic is_alphabetic t && ask is_not_lower is_not_upper t) }
     ensures upper { (t : List ℕ) → ask is_upper is_upper t
         ≡ (ask is_alphabetic is_alphabetic t && ask is_not_lower is_not_lower t) }
-{
-}
+{}
 
 /// Texts joined and cut in either order have one front.
 pub fn join_cut()
