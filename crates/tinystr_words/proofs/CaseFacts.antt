@@ -1,10 +1,11 @@
 -- Case changes done twice, texts that they leave alone, and classes joined from others.
-use Rattle.std.proofs.Common.{◌≡◌, ℕ, ◌↔◌, Bool, true, false, ◌&&◌, List, [], ◌∷◌, length, map, sym, ap, ap₂, ◌∙◌, refl, arith, suc}
+use Rattle.std.proofs.Common.{◌≡◌, ℕ, ◌↔◌, Bool, true, false, ◌&&◌, List, [], ◌∷◌, map, ap₂, ◌∙◌, refl, arith}
 use Rattle.std.proofs.lemmas.Bool.Decides.{nat_tests}
-use Rattle.std.proofs.lemmas.List.{length-map}
 use Rattle.std.specs.List.{list_all}
 use Rattle.tinystr_words.specs.Classes.{ask, is_alphabetic, is_lower, is_upper, is_not_lower, is_not_upper}
 use Rattle.tinystr_words.specs.Case.{lower, raise, lowercase, titlecase, uppercase}
+use Rattle.tinystr_words.proofs.Lanes.{both_true}
+use Rattle.tinystr_words.proofs.Parts.{ask-same}
 
 -- ---- done twice
 
@@ -16,10 +17,6 @@ raise_raise b = grind (arith, nat_tests)
 
 lower_raise : (b : ℕ) → lower (raise b) ≡ lower b
 lower_raise b = grind (arith, nat_tests)
-
-pub length-titlecase : (t : List ℕ) → length (titlecase t) ≡ length t
-length-titlecase [] = refl
-length-titlecase (b ∷ t) = ap suc (length-map t lower)
 
 pub lowercase-twice : (t : List ℕ) → lowercase (lowercase t) ≡ lowercase t
 lowercase-twice [] = refl
@@ -45,34 +42,28 @@ lower_alone b = (λ e. grind (arith, nat_tests), λ e. grind (arith, nat_tests))
 raise_alone : (b : ℕ) → (raise b ≡ b) ↔ (is_not_lower b ≡ true)
 raise_alone b = (λ e. grind (arith, nat_tests), λ e. grind (arith, nat_tests))
 
-both_true : (p q : Bool) → (p && q) ≡ true → (p ≡ true) × (q ≡ true)
-both_true true q h = (refl, h)
-both_true false q h = cc
-
 -- a change of a first byte and of the later ones, each left alone exactly where a test passes
 map_alone : (f : ℕ → ℕ) (p : ℕ → Bool) → ((b : ℕ) → (f b ≡ b) ↔ (p b ≡ true)) → (t : List ℕ) → (map f t ≡ t) ↔ (list_all p t ≡ true)
 map_alone f p alone [] = (λ e. refl, λ e. refl)
 map_alone f p alone (b ∷ t) =
-    let rest = map_alone f p alone t in
-    (λ e. (let first : f b ≡ b = cc in let others : map f t ≡ t = cc in ap₂ (λ x y. x && y) ((alone b).0 first) (rest.0 others)),
-     λ e. (let parts = both_true (p b) (list_all p t) e in ap₂ (λ x xs. x ∷ xs) ((alone b).1 parts.0) (rest.1 parts.1)))
-
-ask_one : (p : ℕ → Bool) (t : List ℕ) → ask p p t ≡ list_all p t
-ask_one p [] = refl
-ask_one p (b ∷ t) = refl
+    let rest = map_alone f p alone t in (
+      λ e. (let first : f b ≡ b = cc in let others : map f t ≡ t = cc in ap₂ (λ x y. x && y) ((alone b).0 first) (rest.0 others)),
+      λ e. (let parts = both_true (p b) (list_all p t) e in ap₂ (λ x xs. x ∷ xs) ((alone b).1 parts.0) (rest.1 parts.1)),
+    )
 
 pub lowercase-alone : (t : List ℕ) → (lowercase t ≡ t) ↔ (ask is_not_upper is_not_upper t ≡ true)
-lowercase-alone t = rw (ask_one is_not_upper t) (map_alone lower is_not_upper lower_alone t)
+lowercase-alone t = rw (ask-same is_not_upper t) (map_alone lower is_not_upper lower_alone t)
 
 pub uppercase-alone : (t : List ℕ) → (uppercase t ≡ t) ↔ (ask is_not_lower is_not_lower t ≡ true)
-uppercase-alone t = rw (ask_one is_not_lower t) (map_alone raise is_not_lower raise_alone t)
+uppercase-alone t = rw (ask-same is_not_lower t) (map_alone raise is_not_lower raise_alone t)
 
 pub titlecase-alone : (t : List ℕ) → (titlecase t ≡ t) ↔ (ask is_not_lower is_not_upper t ≡ true)
 titlecase-alone [] = (λ e. refl, λ e. refl)
 titlecase-alone (b ∷ t) =
-    let rest = map_alone lower is_not_upper lower_alone t in
-    (λ e. (let first : raise b ≡ b = cc in let others : map lower t ≡ t = cc in ap₂ (λ x y. x && y) ((raise_alone b).0 first) (rest.0 others)),
-     λ e. (let parts = both_true (is_not_lower b) (list_all is_not_upper t) e in ap₂ (λ x xs. x ∷ xs) ((raise_alone b).1 parts.0) (rest.1 parts.1)))
+    let rest = map_alone lower is_not_upper lower_alone t in (
+      λ e. (let first : raise b ≡ b = cc in let others : map lower t ≡ t = cc in ap₂ (λ x y. x && y) ((raise_alone b).0 first) (rest.0 others)),
+      λ e. (let parts = both_true (is_not_lower b) (list_all is_not_upper t) e in ap₂ (λ x xs. x ∷ xs) ((raise_alone b).1 parts.0) (rest.1 parts.1)),
+    )
 
 -- ---- joined
 

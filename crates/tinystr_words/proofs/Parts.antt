@@ -26,7 +26,7 @@ pub IsCut-at : (q : ℕ) (t : List ℕ) → IsCut q (take (suc q) t) (drop (suc 
 IsCut-at q t =
     ⊎_elim (λ short. inr (drop_all (suc q) t (omega arith))) (λ long. inl (length-take-le (suc q) t long)) (cases_lt (length t) (suc q))
 
-ask-same : (f : ℕ → Bool) (t : List ℕ) → ask f f t ≡ list_all f t
+pub ask-same : (f : ℕ → Bool) (t : List ℕ) → ask f f t ≡ list_all f t
 ask-same f [] = refl
 ask-same f (b ∷ t) = refl
 

@@ -1,7 +1,7 @@
 -- Texts in padded arrays.
 use Rattle.std.proofs.Common.{◌≡◌, ◌≢◌, ℕ, ◌+◌, ◌-◌, ◌<◌, ◌≤◌, Bool, List, [], ◌∷◌, ◌++◌, length, get_or, take, drop, set, replicate, sym, ap, ap₂, ◌∙◌, refl, arith, eqb, not, suc, zero}
 use Rattle.std.proofs.lemmas.Bool.Decides.{nat_tests}
-use Rattle.std.proofs.lemmas.List.{get_or_append_left, get_or-append_right, length-append, length-replicate, take_at, take_all, set_at, ext_get_or, append_assoc, length_push, drop-replicate, take-replicate}
+use Rattle.std.proofs.lemmas.List.{get_or_append_left, get_or-append_right, length-append, length-replicate, take_at, take_all, set_at, ext_get_or, append_assoc, length_push, drop-replicate, take-replicate, append-nil}
 use Rattle.std.proofs.lemmas.List.Sums.{prefix_len_is, prefix_len-le-length}
 use Rattle.std.proofs.lemmas.List.Folds.{length-prefix_len}
 use Rattle.std.proofs.lemmas.List.Elements.{All-weaker, All-push, All-take, All-drop}
@@ -52,6 +52,12 @@ IsPaddedText-pad t n h =
 -- what every function that makes a value shows of the array it made
 pub IsPaddedText-made : (bytes t : List ℕ) (n : ℕ) → bytes ≡ pad t n → IsStrictText t n → IsPaddedText bytes n
 IsPaddedText-made bytes t n made h = rw made (IsPaddedText-pad t n h)
+
+-- a text that fills its array
+pub IsPaddedText-whole : (t : List ℕ) → IsText t → IsPaddedText t (length t)
+IsPaddedText-whole t h =
+    let none : length t - length t ≡ 0 = omega arith in
+    IsPaddedText-made t t (length t) (rw none (sym (append-nil t))) (record { text = h; fits = omega arith })
 
 pub text_of-made : (bytes t : List ℕ) (n : ℕ) → bytes ≡ pad t n → IsText t → text_of bytes ≡ t
 text_of-made bytes t n made h = ap (λ (b : List ℕ). text_of b) made ∙ text_of-pad t n h

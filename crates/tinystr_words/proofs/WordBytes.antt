@@ -1,11 +1,11 @@
 -- Words as numbers: their bytes, padding and size.
 use Rattle.std.proofs.Common.{ℕ, zero, suc, ◌+◌, ◌-◌, ◌*◌, ◌/◌, ◌%◌, ◌^◌, ◌<◌, ◌≤◌, ◌≡◌, List, [], ◌∷◌, ◌++◌, length, drop, replicate, refl, sym, ap, ap₂, ◌∙◌, subst, arith, lit<, ⊎_elim}
-use Rattle.std.proofs.Math.Nat.{pow-suc, div-div-eq-div-mul, pow-le-pow_right}
+use Rattle.std.proofs.Math.Nat.{mul_comm, pow-suc, div-div-eq-div-mul, pow-le-pow_right}
+use Rattle.std.proofs.Math.Arith.{mod-mul}
 use Rattle.std.proofs.lemmas.Nat.{leading_top, pow-add, pow_pos}
 use Rattle.std.proofs.lemmas.Bool.{cases_lt}
 use Rattle.std.proofs.lemmas.List.{drop-replicate}
 use Rattle.std.proofs.lemmas.List.Elements.{All-head, All-tail}
-use Rattle.std.specs.Int.{bytes_low_first}
 use Rattle.std.specs.Simd.Lanes.{Each1}
 use Rattle.std.proofs.lemmas.Simd.{Each1-weaker}
 use Rattle.std.specs.Int.Count.{count_leading_zeros, leading_of_zero}
@@ -17,16 +17,32 @@ use Rattle.tinystr_words.proofs.Formulas.{ascii_pad}
 
 -- ---- the bytes of a word
 
-bytes_from : (i k n : ℕ) → bytes_low_first (suc i) k n ≡ lanes_of k (n / 256 ^ suc i)
-bytes_from i zero n = refl
-bytes_from i (suc k) n =
-    ap (λ l. (n / 256 ^ suc i % 256) ∷ l) (bytes_from (suc i) k n
-    ∙ ap (λ m. lanes_of k m) (ap (λ m. n / m) (pow-suc 256 (suc i)) ∙ sym (div-div-eq-div-mul n (256 ^ suc i) 256)))
+pow_256-pos : (n : ℕ) → 0 < 256 ^ n
+pow_256-pos zero = lit< tt
+pow_256-pos (suc n) = omega (arith, pow-suc 256 n, pow_256-pos n)
 
--- what `to_le_bytes` gives
-pub le_bytes : (k n : ℕ) → bytes_low_first 0 k n ≡ lanes_of k n
-le_bytes zero n = refl
-le_bytes (suc k) n = ap (λ l. (n % 256) ∷ l) (bytes_from 0 k n)
+-- the lowest bytes are those of the remainder
+lanes_mod : (n w : ℕ) → lanes_of n (w % 256 ^ n) ≡ lanes_of n w
+lanes_mod zero w = refl
+lanes_mod (suc n) w =
+    let one : 0 < 256 ^ n = pow_256-pos n in
+    let e : w % 256 ^ suc n ≡ (w / 256 % 256 ^ n) * 256 + w % 256 = ap (λ m. w % m) (pow-suc 256 n) ∙ mod-mul w one (lit< tt) in
+    let low : w % 256 ^ suc n % 256 ≡ w % 256 = omega arith in
+    let high : w % 256 ^ suc n / 256 ≡ w / 256 % 256 ^ n = omega arith in
+    ap₂ (λ x xs. x ∷ xs) low (ap (λ m. lanes_of n m) high ∙ lanes_mod n (w / 256))
+
+-- and the others those of the quotient
+lanes_append : (m n w : ℕ) → lanes_of m w ++ lanes_of n (w / 256 ^ m) ≡ lanes_of (m + n) w
+lanes_append zero n w = let e : w / 256 ^ 0 ≡ w = omega arith in let k : 0 + n ≡ n = omega arith in rw (e, k) refl
+lanes_append (suc m) n w =
+    let e : suc m + n ≡ suc (m + n) = omega arith in
+    let k : w / 256 ^ suc m ≡ w / 256 / 256 ^ m =
+    ap (λ d. w / d) (pow-suc 256 m ∙ mul_comm (256 ^ m) 256) ∙ sym (div-div-eq-div-mul w 256 (256 ^ m)) in
+    rw (e, k) (ap (λ l. (w % 256) ∷ l) (lanes_append m n (w / 256)))
+
+-- a word's bytes, from those of its two halves
+pub lanes_halves : (n w : ℕ) → lanes_of n (w % 256 ^ n) ++ lanes_of n (w / 256 ^ n) ≡ lanes_of (n + n) w
+lanes_halves n w = ap (λ l. l ++ lanes_of n (w / 256 ^ n)) (lanes_mod n w) ∙ lanes_append n n w
 
 pub lanes_word : (l : List ℕ) → Each1 (λ b. b < 256) l → lanes_of (length l) (word l) ≡ l
 lanes_word [] a = refl

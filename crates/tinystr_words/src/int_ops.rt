@@ -34,16 +34,6 @@ impl<T: Word<LEN>, const LEN: usize> Model for Aligned<T, LEN> {
     ghost invariant = { λ a. HoldsText LEN (T.number a.word) };
 }
 
-// The high bit of each lane that isn't NUL.
-#[inline(always)]
-#[tactic(auto, using(crate::proofs::WordBytes::led_room))]
-fn present<T: Word<LEN>, const LEN: usize>(text: T) -> T
-    requires { T.number text ≤ word (led LEN 0x7f 0x7f) }
-    ensures { T.number result ≡ bit_and (T.number text + word (led LEN 0x7f 0x7f)) (word (led LEN 0x80 0x80)) }
-{
-    text.plus(T::splat(0x7f)).and(T::splat(0x80))
-}
-
 // A text with its letters in lower case, and some of its other bytes changed.
 #[inline(always)]
 fn folded<T: Word<LEN>, const LEN: usize>(text: T) -> T
@@ -58,21 +48,24 @@ fn folded<T: Word<LEN>, const LEN: usize>(text: T) -> T
 #[inline(always)]
 fn marks_no_byte<T: Word<LEN>, const LEN: usize>(marks: T, text: T) -> bool
     requires { T.number text ≤ word (led LEN 0x7f 0x7f) }
-    ensures { result ≡ (bit_and (T.number marks) (bit_and (T.number text + word (led LEN 0x7f 0x7f)) (word (led LEN 0x80 0x80))) == word (led LEN 0 0)) }
+    ensures { result ≡ (bit_and (T.number marks)
+        (bit_and (T.number text + word (led LEN 0x7f 0x7f)) (word (led LEN 0x80 0x80)))
+        == word (led LEN 0 0)) }
 {
-    marks.and(present(text)).equals(T::splat(0))
+    marks.and(text.present()).equals(T::splat(0))
 }
 
 // Whether the marks have the high bit of every lane.
 #[inline(always)]
 fn marks_every_lane<T: Word<LEN>, const LEN: usize>(marks: T) -> bool
-    ensures { result ≡ (bit_and (T.number marks) (word (led LEN 0x80 0x80)) == word (led LEN 0x80 0x80)) }
+    ensures { result ≡
+        (bit_and (T.number marks) (word (led LEN 0x80 0x80)) == word (led LEN 0x80 0x80)) }
 {
     marks.and(T::splat(0x80)).equals(T::splat(0x80))
 }
 
 impl<T: Word<LEN>, const LEN: usize> Aligned<T, LEN> {
-    /// The text of an array: what stands before its NULs.
+    /// Takes the text of an array, which may have NULs behind it.
     #[inline(always)]
     pub fn from_ascii_bytes<const N: usize>(src: &[u8; N]) -> Self
         requires fits { N ≤ LEN }
@@ -82,7 +75,7 @@ impl<T: Word<LEN>, const LEN: usize> Aligned<T, LEN> {
         Self::from_part(src)
     }
 
-    /// The text of a part of a longer array.
+    /// Takes the text of a part of a longer array.
     #[inline(always)]
     pub fn from_part(part: &[u8]) -> Self
         requires fits { length part.now ≤ LEN }
@@ -94,6 +87,7 @@ impl<T: Word<LEN>, const LEN: usize> Aligned<T, LEN> {
         }
     }
 
+    /// The text's length, from how many zeros lead its word: only NULs stand above its last byte.
     #[inline(always)]
     pub fn len(&self) -> usize
         ensures { result ≡ length self.now }
@@ -101,7 +95,7 @@ impl<T: Word<LEN>, const LEN: usize> Aligned<T, LEN> {
         LEN - self.word.leading_zeros() / 8
     }
 
-    /// The answer to a question by name.
+    /// The answer of the method that the question names.
     #[inline(always)]
     pub fn asks(&self, question: Question) -> bool
         ensures { result ≡ answer question self.now }
@@ -110,8 +104,9 @@ impl<T: Word<LEN>, const LEN: usize> Aligned<T, LEN> {
         match question {
             Question::Alphabetic => marks_no_byte(folded(word).outside(LOWER, LOWER), word),
             Question::Alphanumeric => {
-                let letters = folded(word).outside(LOWER, LOWER);
-                marks_no_byte(letters.and(word.outside(DIGIT, DIGIT)), word)
+                let not_letter = folded(word).outside(LOWER, LOWER);
+                let not_digit = word.outside(DIGIT, DIGIT);
+                marks_no_byte(not_letter.and(not_digit), word)
             }
             Question::Numeric => marks_no_byte(word.outside(DIGIT, DIGIT), word),
             Question::Lowercase => marks_every_lane(word.outside(UPPER, UPPER)),
@@ -123,6 +118,7 @@ impl<T: Word<LEN>, const LEN: usize> Aligned<T, LEN> {
         }
     }
 
+    /// Whether each byte is a letter; so it is of the empty text, here and in the other questions.
     #[inline(always)]
     pub fn is_ascii_alphabetic(&self) -> bool
         ensures { result ≡ ask is_alphabetic is_alphabetic self.now }
@@ -130,6 +126,7 @@ impl<T: Word<LEN>, const LEN: usize> Aligned<T, LEN> {
         self.asks(Question::Alphabetic)
     }
 
+    /// Whether each byte is a letter or a digit.
     #[inline(always)]
     pub fn is_ascii_alphanumeric(&self) -> bool
         ensures { result ≡ ask is_alphanumeric is_alphanumeric self.now }
@@ -137,6 +134,7 @@ impl<T: Word<LEN>, const LEN: usize> Aligned<T, LEN> {
         self.asks(Question::Alphanumeric)
     }
 
+    /// Whether each byte is a digit.
     #[inline(always)]
     pub fn is_ascii_numeric(&self) -> bool
         ensures { result ≡ ask is_digit is_digit self.now }
@@ -144,6 +142,7 @@ impl<T: Word<LEN>, const LEN: usize> Aligned<T, LEN> {
         self.asks(Question::Numeric)
     }
 
+    /// Whether no byte is an uppercase letter.
     #[inline(always)]
     pub fn is_ascii_lowercase(&self) -> bool
         ensures { result ≡ ask is_not_upper is_not_upper self.now }
@@ -151,6 +150,7 @@ impl<T: Word<LEN>, const LEN: usize> Aligned<T, LEN> {
         self.asks(Question::Lowercase)
     }
 
+    /// Whether the first byte is no lowercase letter, and no later byte an uppercase one.
     #[inline(always)]
     pub fn is_ascii_titlecase(&self) -> bool
         ensures { result ≡ ask is_not_lower is_not_upper self.now }
@@ -158,6 +158,7 @@ impl<T: Word<LEN>, const LEN: usize> Aligned<T, LEN> {
         self.asks(Question::Titlecase)
     }
 
+    /// Whether no byte is a lowercase letter.
     #[inline(always)]
     pub fn is_ascii_uppercase(&self) -> bool
         ensures { result ≡ ask is_not_lower is_not_lower self.now }
@@ -165,6 +166,7 @@ impl<T: Word<LEN>, const LEN: usize> Aligned<T, LEN> {
         self.asks(Question::Uppercase)
     }
 
+    /// Whether each byte is a lowercase letter.
     #[inline(always)]
     pub fn is_ascii_alphabetic_lowercase(&self) -> bool
         ensures { result ≡ ask is_lower is_lower self.now }
@@ -172,6 +174,7 @@ impl<T: Word<LEN>, const LEN: usize> Aligned<T, LEN> {
         self.asks(Question::AlphabeticLowercase)
     }
 
+    /// Whether the first byte is an uppercase letter, and each later byte a lowercase one.
     #[inline(always)]
     pub fn is_ascii_alphabetic_titlecase(&self) -> bool
         ensures { result ≡ ask is_upper is_lower self.now }
@@ -179,6 +182,7 @@ impl<T: Word<LEN>, const LEN: usize> Aligned<T, LEN> {
         self.asks(Question::AlphabeticTitlecase)
     }
 
+    /// Whether each byte is an uppercase letter.
     #[inline(always)]
     pub fn is_ascii_alphabetic_uppercase(&self) -> bool
         ensures { result ≡ ask is_upper is_upper self.now }
@@ -186,7 +190,7 @@ impl<T: Word<LEN>, const LEN: usize> Aligned<T, LEN> {
         self.asks(Question::AlphabeticUppercase)
     }
 
-    /// The bytes of the text in a case by name, and then NULs.
+    /// The bytes of the method that the case names.
     #[inline(always)]
     pub fn in_case(&self, case: Case) -> [u8; LEN]
         ensures { result ≡ pad (in_case case self.now) LEN }
@@ -203,6 +207,7 @@ impl<T: Word<LEN>, const LEN: usize> Aligned<T, LEN> {
         changed.to_le_bytes()
     }
 
+    /// The text with each letter in lower case, and then NULs.
     #[inline(always)]
     pub fn to_ascii_lowercase(&self) -> [u8; LEN]
         ensures { result ≡ pad (lowercase self.now) LEN }
@@ -210,6 +215,7 @@ impl<T: Word<LEN>, const LEN: usize> Aligned<T, LEN> {
         self.in_case(Case::Lower)
     }
 
+    /// The text with its first letter in upper case and each later one in lower case, and then NULs.
     #[inline(always)]
     pub fn to_ascii_titlecase(&self) -> [u8; LEN]
         ensures { result ≡ pad (titlecase self.now) LEN }
@@ -217,6 +223,7 @@ impl<T: Word<LEN>, const LEN: usize> Aligned<T, LEN> {
         self.in_case(Case::Title)
     }
 
+    /// The text with each letter in upper case, and then NULs.
     #[inline(always)]
     pub fn to_ascii_uppercase(&self) -> [u8; LEN]
         ensures { result ≡ pad (uppercase self.now) LEN }

@@ -40,16 +40,14 @@ pub fn case_twice()
     ensures title { (t : List ℕ) → (length (titlecase t) ≡ length t) × (titlecase (titlecase t) ≡ titlecase t) }
     ensures upper { (t : List ℕ) → (length (uppercase t) ≡ length t) × (uppercase (uppercase t) ≡ uppercase t) }
     ensures lower_upper { (t : List ℕ) → lowercase (uppercase t) ≡ lowercase t }
-{
-}
+{}
 
 /// A case change leaves alone exactly the texts of its case.
 pub fn case_fixed()
     ensures lower { (t : List ℕ) → (lowercase t ≡ t) ↔ IsTrue (ask is_not_upper is_not_upper t) }
     ensures title { (t : List ℕ) → (titlecase t ≡ t) ↔ IsTrue (ask is_not_lower is_not_upper t) }
     ensures upper { (t : List ℕ) → (uppercase t ≡ t) ↔ IsTrue (ask is_not_lower is_not_lower t) }
-{
-}
+{}
 
 /// A text is of letters in a case exactly if it is of letters and of that case.
 pub fn class_joined()
@@ -59,8 +57,7 @@ pub fn class_joined()
         ≡ (ask is_alphabetic is_alphabetic t && ask is_not_lower is_not_upper t) }
     ensures upper { (t : List ℕ) → ask is_upper is_upper t
         ≡ (ask is_alphabetic is_alphabetic t && ask is_not_lower is_not_lower t) }
-{
-}
+{}
 
 /// Texts joined and cut in either order have one front.
 pub fn join_cut()
@@ -80,7 +77,6 @@ pub fn digits_shortest()
 {}
 
 /// Where no lane is above 0x7f, no lane of a sum carries into the next.
-#[inline]
 pub fn lane_sum()
     ensures { (a c : List ℕ) → length a ≡ length c → All (λ b. b ≤ 0x7f) a → All (λ b. b ≤ 0x7f) c →
         (word a + word c < 256 ^ length a)
@@ -88,14 +84,12 @@ pub fn lane_sum()
 {}
 
 /// The size of a word tells the length of the text that it holds.
-#[inline]
 pub fn word_length()
     ensures { (w : ℕ) (t : List ℕ) → IsText t → length t ≤ w →
         (word (pad t w) < 256 ^ length t) × ((k : ℕ) → word (pad t w) < 256 ^ k → length t ≤ k) }
 {}
 
 /// Two sums tell which lanes lie in their ranges.
-#[inline]
 pub fn lane_class()
     ensures { (a low high : List ℕ) → length low ≡ length a → length high ≡ length a →
         All (λ b. b ≤ 0x7f) a →
@@ -108,7 +102,6 @@ pub fn lane_class()
 {}
 
 /// The questions and the case changes of a text, from those of its first sixteen bytes and of the others.
-#[inline]
 pub fn word_join()
     ensures asked { (first others : ℕ → Bool) (a b : List ℕ) → (length a ≡ 16) ⊎ (b ≡ []) →
         ask first others (a ++ b) ≡ (ask first others a && ask others others b) }

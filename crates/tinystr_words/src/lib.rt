@@ -8,4 +8,6 @@ mod question;
 mod word;
 
 pub use question::{Case, Question};
-pub use word::Word;
+
+#[cfg(test)]
+mod tests;

@@ -5,30 +5,36 @@ ghost use Rattle.std.proofs.Common.{lit<, lit≤};
 ghost use Rattle.std.specs.Int.Count.{count_leading_zeros};
 ghost use Rattle.tinystr_words.specs.Words.{word, led, lanes_of};
 
-/// What is added to a byte below 0x80 so that its high bit says where it lies: `low` sets the bit from the range's first byte on, `high` past its last.
+/// A range of bytes below 0x80, by what is added to a byte so that its high bit says where it lies.
 #[derive(Clone, Copy)]
 pub struct Range {
+    /// Sets the high bit from the range's first byte on: 0x80 less that byte.
     pub low: u8,
+    /// Sets the high bit past the range's last byte: 0x7f less that byte.
     pub high: u8,
+    ghost no_carry: { (low ≤ 0x7f) × (high ≤ 0x7f) },
 }
 
+/// `A` to `Z`.
 pub const UPPER: Range = Range {
     low: 0x3f,
     high: 0x25,
 };
 
+/// `a` to `z`.
 pub const LOWER: Range = Range {
     low: 0x1f,
     high: 0x05,
 };
 
+/// `0` to `9`.
 pub const DIGIT: Range = Range {
     low: 0x50,
     high: 0x46,
 };
 
 #[inline(always)]
-fn write_front(bytes: &mut [u8], src: &[u8])
+pub(crate) fn write_front(bytes: &mut [u8], src: &[u8])
     requires { length src.now ≤ length bytes.old }
     ensures { bytes.new ≡ src.now ++ drop (length src.now) bytes.old }
 {
@@ -97,14 +103,25 @@ pub trait Word<const LEN: usize>: Copy + Drop {
         Self::led(byte, byte)
     }
 
+    /// The high bit of each lane that isn't NUL.
+    #[inline(always)]
+    #[tactic(auto, using(crate::proofs::WordBytes::led_room))]
+    fn present(self) -> Self
+        requires { number self ≤ word (led LEN 0x7f 0x7f) }
+        ensures { number result ≡
+            bit_and (number self + word (led LEN 0x7f 0x7f)) (word (led LEN 0x80 0x80)) }
+    {
+        self.plus(Self::splat(0x7f)).and(Self::splat(0x80))
+    }
+
     /// The high bit of each lane whose byte is outside its range.
     #[inline(always)]
     #[tactic(auto, using(crate::proofs::WordBytes::led_room))]
     fn outside(self, first: Range, others: Range) -> Self
-        requires ascii { number self ≤ word (led LEN 0x7f 0x7f) }
-        requires first { (first.low ≤ 0x7f) × (first.high ≤ 0x7f) }
-        requires others { (others.low ≤ 0x7f) × (others.high ≤ 0x7f) }
-        ensures { number result ≡ bit_or (256 ^ LEN - 1 - (number self + word (led LEN first.low others.low))) (number self + word (led LEN first.high others.high)) }
+        requires { number self ≤ word (led LEN 0x7f 0x7f) }
+        ensures { number result ≡ bit_or
+            (256 ^ LEN - 1 - (number self + word (led LEN first.low others.low)))
+            (number self + word (led LEN first.high others.high)) }
     {
         let below = self.plus(Self::led(first.low, others.low)).not();
         let above = self.plus(Self::led(first.high, others.high));
@@ -114,10 +131,12 @@ pub trait Word<const LEN: usize>: Copy + Drop {
     /// The case bit, 0x20, of each lane whose byte is in its range.
     #[inline(always)]
     fn case_bits(self, first: Range, others: Range) -> Self
-        requires ascii { number self ≤ word (led LEN 0x7f 0x7f) }
-        requires first { (first.low ≤ 0x7f) × (first.high ≤ 0x7f) }
-        requires others { (others.low ≤ 0x7f) × (others.high ≤ 0x7f) }
-        ensures { number result ≡ bit_and (256 ^ LEN - 1 - bit_or (256 ^ LEN - 1 - (number self + word (led LEN first.low others.low))) (number self + word (led LEN first.high others.high))) (word (led LEN 0x80 0x80)) / 4 }
+        requires { number self ≤ word (led LEN 0x7f 0x7f) }
+        ensures { number result ≡ bit_and
+            (256 ^ LEN - 1 - bit_or
+            (256 ^ LEN - 1 - (number self + word (led LEN first.low others.low)))
+            (number self + word (led LEN first.high others.high)))
+            (word (led LEN 0x80 0x80)) / 4 }
     {
         self.outside(first, others)
             .not()
@@ -230,6 +249,9 @@ impl Word<8> for u64 {
     }
 }
 
+// The first number past 64 bits.
+const HALF: u128 = 1 << 64;
+
 impl Word<16> for u128 {
     ghost number = { λ w. w };
 
@@ -240,9 +262,15 @@ impl Word<16> for u128 {
         u128::from_le_bytes(*bytes)
     }
 
+    // By halves, since the sixteen bytes of one number are stored one at a time.
     #[inline(always)]
     fn to_le_bytes(self) -> [u8; 16] {
-        u128::to_le_bytes(self)
+        let low = (self % HALF) as u64;
+        let high = (self / HALF) as u64;
+        let mut bytes = [0; 16];
+        bytes[8..].copy_from_slice(&Word::to_le_bytes(high));
+        bytes[..8].copy_from_slice(&Word::to_le_bytes(low));
+        bytes
     }
 
     #[inline(always)]
