@@ -1,0 +1,2 @@
+mod every_byte;
+mod every_capacity;

@@ -1,0 +1,91 @@
+//! The thirteen calls beside a plain loop over the characters.
+
+use std::process::Abort;
+use std::test::Fail;
+use tinystr::TinyAsciiStr;
+
+fn plain_answers(text: &[u8]) -> [bool; 9] {
+    let mut answers = [true; 9];
+    for (i, byte) in text.iter().enumerate() {
+        let upper = byte.is_ascii_uppercase();
+        let lower = byte.is_ascii_lowercase();
+        let digit = byte.is_ascii_digit();
+        let passes = [
+            upper || lower,
+            upper || lower || digit,
+            digit,
+            !upper,
+            if i == 0 { !lower } else { !upper },
+            !lower,
+            lower,
+            if i == 0 { upper } else { lower },
+            upper,
+        ];
+        for (answer, pass) in answers.iter_mut().zip(passes) {
+            *answer = *answer && pass;
+        }
+    }
+    answers
+}
+
+fn is_plain<const N: usize>(rt: &impl Abort, text: TinyAsciiStr<N>, bytes: &[u8]) {
+    assert_eq!(rt; text.len(), bytes.len());
+    let answers = [
+        text.is_ascii_alphabetic(),
+        text.is_ascii_alphanumeric(),
+        text.is_ascii_numeric(),
+        text.is_ascii_lowercase(),
+        text.is_ascii_titlecase(),
+        text.is_ascii_uppercase(),
+        text.is_ascii_alphabetic_lowercase(),
+        text.is_ascii_alphabetic_titlecase(),
+        text.is_ascii_alphabetic_uppercase(),
+    ];
+    assert_eq!(rt; answers, plain_answers(bytes), "{text:?} at {N}");
+    let lower = text.to_ascii_lowercase();
+    let title = text.to_ascii_titlecase();
+    let upper = text.to_ascii_uppercase();
+    assert_eq!(rt; lower.len(), bytes.len());
+    assert_eq!(rt; title.len(), bytes.len());
+    assert_eq!(rt; upper.len(), bytes.len());
+    for (i, byte) in bytes.iter().enumerate() {
+        let first = i == 0;
+        let (lowered, raised) = (byte.to_ascii_lowercase(), byte.to_ascii_uppercase());
+        assert_eq!(rt; lower.as_utf8().get(i), Some(&lowered), "{text:?} at {N}");
+        assert_eq!(rt;
+            title.as_utf8().get(i),
+            Some(if first { &raised } else { &lowered }),
+            "{text:?} at {N}"
+        );
+        assert_eq!(rt; upper.as_utf8().get(i), Some(&raised), "{text:?} at {N}");
+    }
+}
+
+// Each byte at each position of a text, at the capacity of the value given and at 32.
+fn each_byte<const N: usize>(rt: &impl Abort, base: TinyAsciiStr<N>) -> Result<(), Fail> {
+    for at in 0..base.len() {
+        for byte in 1..128u8 {
+            let mut bytes = *base.all_bytes();
+            bytes[at] = byte;
+            is_plain(
+                rt,
+                TinyAsciiStr::<N>::try_from_utf8(&bytes[..base.len()])?,
+                &bytes[..base.len()],
+            );
+            is_plain(
+                rt,
+                TinyAsciiStr::<32>::try_from_utf8(&bytes[..base.len()])?,
+                &bytes[..base.len()],
+            );
+        }
+    }
+    Ok(())
+}
+
+#[test]
+fn each_byte_at_each_position(rt: HostRuntime) -> Result<(), Fail> {
+    each_byte(&rt, TinyAsciiStr::<8>::try_from_str("abcdefgh")?)?;
+    each_byte(&rt, TinyAsciiStr::<16>::try_from_str("MacintoshOSX2019")?)?;
+    each_byte(&rt, TinyAsciiStr::<17>::try_from_str("abcdefghijklmnopq")?)?;
+    Ok(())
+}
