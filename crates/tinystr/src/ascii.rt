@@ -223,7 +223,8 @@ impl<const N: usize> TinyAsciiStr<N> {
     /// The bytes of the text and then NULs, in the value itself.
     #[inline]
     pub fn all_bytes(&self) -> &[u8; N]
-        ensures { result.now ≡ pad self.now N }
+        ensures bytes { result.now ≡ pad self.now N }
+        ensures padded { IsPaddedText result.now N }
     {
         &self.bytes
     }

@@ -1,31 +1,8 @@
-//! Words against vectors, traces and the ends of each width.
-
-ghost use Rattle.std.specs.Prelude.{◌≡◌, ◌≤◌, IsTrue, length};
-ghost use Rattle.tinystr_words.specs.Text.{IsStrictText, IsPaddedText, IsText, text_of};
+//! Words on their way from constants to answers, and the ends of each width.
 
 use crate::int_ops::{Aligned, Aligned4, Aligned8, Aligned16};
-use crate::word::{DIGIT, LOWER, UPPER, Word, write_front};
+use crate::word::{DIGIT, LOWER, UPPER, Word};
 use std::process::Abort;
-use vectors::TEXTS;
-
-mod vectors;
-
-fn is_text(bytes: &[u8]) -> bool
-    ensures text { IsTrue result → IsText bytes.now }
-    ensures padded { IsTrue result → IsPaddedText bytes.now (length bytes.now) }
-{
-    bytes.iter().all(|&b| 0 < b && b < 128)
-}
-
-// The text and then NULs.
-fn padded<const LEN: usize>(text: &[u8]) -> [u8; LEN]
-    requires { IsStrictText text.now LEN }
-    ensures { IsPaddedText result LEN }
-{
-    let mut bytes = [0; LEN];
-    write_front(&mut bytes, text);
-    bytes
-}
 
 fn answers<T: Word<LEN>, const LEN: usize>(word: &Aligned<T, LEN>) -> [bool; 9] {
     [
@@ -41,58 +18,25 @@ fn answers<T: Word<LEN>, const LEN: usize>(word: &Aligned<T, LEN>) -> [bool; 9] 
     ]
 }
 
-// Whether the word holds the text, with the answers that `yn` spells and these changes.
+// Whether the word has these answers, and each case change gives the bytes.
 fn check_word<T: Word<LEN>, const LEN: usize>(
     rt: &impl Abort,
     word: &Aligned<T, LEN>,
-    row: &(&str, &str, &str, &str, &str),
+    expected: [bool; 9],
+    bytes: &[u8; LEN],
 ) {
-    let (text, yn, lower, title, upper) = *row;
-    assert_eq!(rt; word.len(), text.len(), "length of {text}");
-    for (answer, letter) in answers(word).iter().zip(yn.bytes()) {
-        assert_eq!(rt; *answer, letter == b'y', "{yn} at {text}");
-    }
-    check_bytes(rt, &word.to_ascii_lowercase(), lower);
-    check_bytes(rt, &word.to_ascii_titlecase(), title);
-    check_bytes(rt, &word.to_ascii_uppercase(), upper);
-}
-
-// Whether the bytes are the text and then NULs.
-fn check_bytes(rt: &impl Abort, bytes: &[u8], text: &str) {
-    assert!(rt; bytes.starts_with(text.as_bytes()), "{text}");
-    assert!(rt;
-        bytes.iter().skip(text.len()).all(|&b| b == 0),
-        "after {text}"
-    );
-}
-
-// Each text that fits, handed in at its own length and at the full width.
-macro_rules! check_texts {
-    ($rt:expr, $word:ident, $width:literal) => {
-        for row in TEXTS.iter() {
-            let text = row.0.as_bytes();
-            assert!($rt; is_text(text));
-            if text.len() <= $width {
-                check_word($rt, &$word::from_part(text), row);
-                check_word($rt, &$word::from_ascii_bytes(&padded::<$width>(text)), row);
-            }
-        }
-    };
-}
-
-#[test]
-fn texts_at_each_width(rt: HostRuntime) {
-    check_texts!(&rt, Aligned4, 4);
-    check_texts!(&rt, Aligned8, 8);
-    check_texts!(&rt, Aligned16, 16);
+    assert_eq!(rt; answers(word), expected);
+    assert_eq!(rt; word.to_ascii_lowercase().as_slice(), bytes.as_slice());
+    assert_eq!(rt; word.to_ascii_titlecase().as_slice(), bytes.as_slice());
+    assert_eq!(rt; word.to_ascii_uppercase().as_slice(), bytes.as_slice());
 }
 
 #[test]
 fn arrays_at_their_own_length(rt: HostRuntime) {
     assert_eq!(rt; Aligned4::from_ascii_bytes(b"").len(), 0);
-    check_word(&rt, &Aligned4::from_ascii_bytes(b""), &TEXTS[0]);
-    check_word(&rt, &Aligned8::from_ascii_bytes(b""), &TEXTS[0]);
-    check_word(&rt, &Aligned16::from_ascii_bytes(b""), &TEXTS[0]);
+    check_word(&rt, &Aligned4::from_ascii_bytes(b""), [true; 9], &[0; 4]);
+    check_word(&rt, &Aligned8::from_ascii_bytes(b""), [true; 9], &[0; 8]);
+    check_word(&rt, &Aligned16::from_ascii_bytes(b""), [true; 9], &[0; 16]);
     let en = Aligned4::from_ascii_bytes(b"en");
     assert_eq!(rt; en.len(), 2);
     assert_eq!(rt; en.to_ascii_uppercase(), [0x45, 0x4e, 0, 0]);
@@ -108,25 +52,24 @@ fn arrays_at_their_own_length(rt: HostRuntime) {
 
 #[test]
 fn words_full_of_the_highest_byte(rt: HostRuntime) {
-    let yn = "nnnyyynnn";
-    let text = "\x7f\x7f\x7f\x7f";
+    let expected = [false, false, false, true, true, true, false, false, false];
+    let bytes = [0x7f; 16];
     check_word(
         &rt,
         &Aligned4::from_ascii_bytes(&[0x7f; 4]),
-        &(text, yn, text, text, text),
+        expected,
+        &[0x7f; 4],
     );
-    let text = "\x7f\x7f\x7f\x7f\x7f\x7f\x7f\x7f";
     check_word(
         &rt,
         &Aligned8::from_ascii_bytes(&[0x7f; 8]),
-        &(text, yn, text, text, text),
+        expected,
+        &[0x7f; 8],
     );
-    let text = "\x7f\x7f\x7f\x7f\x7f\x7f\x7f\x7f\x7f\x7f\x7f\x7f\x7f\x7f\x7f\x7f";
-    check_word(
-        &rt,
-        &Aligned16::from_ascii_bytes(&[0x7f; 16]),
-        &(text, yn, text, text, text),
-    );
+    check_word(&rt, &Aligned16::from_ascii_bytes(&bytes), expected, &bytes);
+    assert_eq!(rt; Aligned4::from_ascii_bytes(&[0x7f; 4]).len(), 4);
+    assert_eq!(rt; Aligned8::from_ascii_bytes(&[0x7f; 8]).len(), 8);
+    assert_eq!(rt; Aligned16::from_ascii_bytes(&bytes).len(), 16);
 }
 
 // ---- the lanes on the way

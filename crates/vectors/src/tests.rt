@@ -1,2 +1,3 @@
 mod every_byte;
 mod every_capacity;
+mod words;
