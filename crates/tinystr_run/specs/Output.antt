@@ -1,0 +1,27 @@
+-- What the program writes for what it reads.
+use Rattle.std.specs.Prelude.{ℕ, Option, take, List, [], ◌∷◌, ◌++◌, length, ◌==◌, if◌then◌else◌}
+use Rattle.std.specs.Io.KnownBytes.{Appends}
+use Rattle.std.specs.List.{slice_split, flat_map}
+use Rattle.tinystr_run.specs.Reply.{reply}
+
+-- the parts, without the last where that is empty
+abbrev pub without_empty_last : List (List ℕ) → List (List ℕ)
+without_empty_last [] = []
+without_empty_last (part ∷ []) = if length part == 0 then [] else part ∷ []
+without_empty_last (part ∷ next ∷ more) = part ∷ without_empty_last (next ∷ more)
+
+-- the parts between line feeds, the last part only if it isn't empty
+abbrev pub lines_of : List ℕ → List (List ℕ)
+lines_of input = without_empty_last (slice_split (λ b. b == 10) input)
+
+-- the line's reply and a line feed
+unfoldable pub answer_to : List ℕ → List ℕ
+answer_to line = reply line ++ 10 ∷ []
+
+-- the answers to the lines, in order
+unfoldable pub output_of : List ℕ → List ℕ
+output_of input = flat_map answer_to (lines_of input)
+
+-- the bytes that a writer holds grow by a beginning of these
+abbrev pub AppendsBeginning : Option (List ℕ) → Option (List ℕ) → List ℕ → Type 0
+AppendsBeginning old new bytes = (n : ℕ) × Appends old new (take n bytes)
