@@ -5,7 +5,7 @@ use Rattle.std.proofs.lemmas.Bool.Decides.{nat_tests}
 use Rattle.std.proofs.lemmas.Grind.{common_steps}
 use Rattle.std.proofs.lemmas.List.Sums.{prefix_len-le-length, fails_before_first}
 use Rattle.std.proofs.lemmas.List.Splits.{slice_split_first, slice_split_none, length-slice_split}
-use Rattle.tinystr_run.specs.Output.{without_empty_last, lines_of, answer_to, output_of}
+use Rattle.tinystr_run.specs.Output.{without_empty_last, lines_of, reply_line, output_of}
 
 -- parts that follow a part are kept
 without_empty_last-cons : (part : List ℕ) (parts : List (List ℕ)) → 0 < length parts → without_empty_last (part ∷ parts) ≡ part ∷ without_empty_last parts
@@ -30,9 +30,9 @@ lines_of-first input some =
           ap without_empty_last none ∙ one_part input some ∙ sym (rw (before, after) refl)
     ]
 
-pub output_of-first : (input : List ℕ) → 0 < length input → output_of input ≡ answer_to (before_first (λ b. b == 10) input) ++ output_of (after_first (λ b. b == 10) input)
+pub output_of-first : (input : List ℕ) → 0 < length input → output_of input ≡ reply_line (before_first (λ b. b == 10) input) ++ output_of (after_first (λ b. b == 10) input)
 unfolding output_of
-output_of-first input some = ap (flat_map answer_to) (lines_of-first input some)
+output_of-first input some = ap (flat_map reply_line) (lines_of-first input some)
 
 pub output_of-none : (input : List ℕ) → length input ≡ 0 → output_of input ≡ []
 unfolding output_of

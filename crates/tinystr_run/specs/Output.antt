@@ -15,12 +15,12 @@ abbrev pub lines_of : List ℕ → List (List ℕ)
 lines_of input = without_empty_last (slice_split (λ b. b == 10) input)
 
 -- the line's reply and a line feed
-unfoldable pub answer_to : List ℕ → List ℕ
-answer_to line = reply line ++ 10 ∷ []
+unfoldable pub reply_line : List ℕ → List ℕ
+reply_line line = reply line ++ 10 ∷ []
 
 -- the answers to the lines, in order
 unfoldable pub output_of : List ℕ → List ℕ
-output_of input = flat_map answer_to (lines_of input)
+output_of input = flat_map reply_line (lines_of input)
 
 -- the bytes that a writer holds grow by a beginning of these
 abbrev pub AppendsBeginning : Option (List ℕ) → Option (List ℕ) → List ℕ → Type 0

@@ -1,58 +1,70 @@
 -- What a line gets.
-use Rattle.std.specs.Prelude.{ℕ, Bool, ◌&&◌, ◌==◌, nat_le, List, ◌++◌, length, Option, Some, None, is_some, position, codes, if◌then◌else◌}
-use Rattle.std.specs.List.{before_first, after_first, list_all}
+use Rattle.std.specs.Prelude.{ℕ, Bool, true, false, ◌&&◌, ◌==◌, nat_le, List, ◌++◌, length, codes, if◌then◌else◌}
+use Rattle.std.specs.List.{before_first, after_first, list_all, list_any}
+use Rattle.std.specs.Option.{option_map_or}
 use Rattle.std.specs.Fmt.{decimal}
-use Rattle.tinystr_words.specs.Reading.{Fault, fault_in, is_character}
+use Rattle.tinystr_words.specs.Reading.{Fault, fault_in, is_character, lossy}
 use Rattle.tinystr_words.specs.Reading.Fault.{too_long, contains_null, non_ascii}
-use Rattle.tinystr_words.specs.Case.{lowercase}
+use Rattle.tinystr_words.specs.Classes.{ask, is_alphabetic, is_alphanumeric, is_digit, is_lower, is_upper, is_not_lower, is_not_upper}
+use Rattle.tinystr_words.specs.Case.{lowercase, titlecase, uppercase}
 use Rattle.tinystr_run.specs.declared.command.Command.{Command}
-use Rattle.tinystr_run.specs.declared.command.Command.TheVariants.{Read}
-use Rattle.tinystr_run.specs.declared.command.Query.{Query}
-use Rattle.tinystr_run.specs.declared.command.Query.TheVariants.{Text, Len, Lower}
+use Rattle.tinystr_run.specs.declared.command.Command.TheVariants.{OnText, Lossy}
+use Rattle.tinystr_run.specs.declared.command.TextCall.{TextCall}
+use Rattle.tinystr_run.specs.declared.command.TextCall.TheVariants.{Text, Len, Alphabetic, Alphanumeric, Numeric, Lowercase, Titlecase, Uppercase, AlphabeticLowercase, AlphabeticTitlecase, AlphabeticUppercase, Lower, Title, Upper}
 use Rattle.tinystr_run.specs.Words.{capacity_of, command_of}
 
--- whether the units are a text of at most n bytes
-abbrev pub is_strict : ℕ → List ℕ → Bool
-is_strict n units = nat_le (length units) n && list_all is_character units
+abbrev pub truth_text : Bool → List ℕ
+truth_text true = codes "true"
+truth_text false = codes "false"
 
 abbrev pub fault_text : Fault → List ℕ
 fault_text (too_long max len) = codes "too long " ++ decimal len ++ codes " > " ++ decimal max
 fault_text contains_null = codes "contains null"
 fault_text non_ascii = codes "non ascii"
 
--- what is asked of a text
-abbrev pub answer_of : Query → List ℕ → List ℕ
+-- what a call on a text gives
+abbrev pub answer_of : TextCall → List ℕ → List ℕ
 answer_of Text t = t
 answer_of Len t = decimal (length t)
+answer_of Alphabetic t = truth_text (ask is_alphabetic is_alphabetic t)
+answer_of Alphanumeric t = truth_text (ask is_alphanumeric is_alphanumeric t)
+answer_of Numeric t = truth_text (ask is_digit is_digit t)
+answer_of Lowercase t = truth_text (ask is_not_upper is_not_upper t)
+answer_of Titlecase t = truth_text (ask is_not_lower is_not_upper t)
+answer_of Uppercase t = truth_text (ask is_not_lower is_not_lower t)
+answer_of AlphabeticLowercase t = truth_text (ask is_lower is_lower t)
+answer_of AlphabeticTitlecase t = truth_text (ask is_upper is_lower t)
+answer_of AlphabeticUppercase t = truth_text (ask is_upper is_upper t)
 answer_of Lower t = lowercase t
+answer_of Title t = titlecase t
+answer_of Upper t = uppercase t
 
--- the answer of a text, or the fault of units that are none
-unfoldable pub reply_to_read : ℕ → Query → List ℕ → List ℕ
-reply_to_read n query units = if is_strict n units then answer_of query units else fault_text (fault_in n units)
+-- whether the units are a text of at most n bytes
+abbrev pub is_strict : ℕ → List ℕ → Bool
+is_strict n units = nat_le (length units) n && list_all is_character units
 
-abbrev pub reply_to_known : ℕ → Option Command → List ℕ → List ℕ
-reply_to_known n None units = codes "bad command"
-reply_to_known n (Some (Read query)) units = reply_to_read n query units
+-- a call's answer where the units are such a text, and else their fault
+unfoldable pub text_reply : ℕ → TextCall → List ℕ → List ℕ
+text_reply n call units = if is_strict n units then answer_of call units else fault_text (fault_in n units)
 
-abbrev pub reply_to_command : ℕ → List ℕ → List ℕ → List ℕ
-reply_to_command n word units = reply_to_known n (command_of word) units
+-- the reply of a command to units at capacity n
+abbrev pub command_reply : ℕ → List ℕ → Command → List ℕ
+command_reply n units (OnText call) = text_reply n call units
+command_reply n units Lossy = lossy units 63 n
 
-abbrev pub reply_at : Option ℕ → List ℕ → List ℕ → List ℕ
-reply_at None word units = codes "bad capacity"
-reply_at (Some n) word units = reply_to_command n word units
+abbrev pub reply_at : ℕ → List ℕ → List ℕ → List ℕ
+reply_at n word units = option_map_or (command_reply n units) (command_of word) (codes "bad command")
 
-unfoldable pub reply_to_words : List ℕ → List ℕ → List ℕ → List ℕ
-reply_to_words capacity word units = reply_at (capacity_of capacity) word units
+unfoldable pub words_reply : List ℕ → List ℕ → List ℕ → List ℕ
+words_reply capacity word units = option_map_or (λ n. reply_at n word units) (capacity_of capacity) (codes "bad capacity")
 
--- a line's part before its first space, and that after it
-abbrev pub head : List ℕ → List ℕ
-head line = before_first (λ b. b == 32) line
+abbrev pub is_space : ℕ → Bool
+is_space b = b == 32
 
-abbrev pub tail : List ℕ → List ℕ
-tail line = after_first (λ b. b == 32) line
-
+-- the reply to a line: its capacity ends at its first space, its command at the second, and the units are all that follow
 unfoldable pub reply : List ℕ → List ℕ
 reply line =
-    if is_some (position (λ b. b == 32) line)
-    then reply_to_words (head line) (head (tail line)) (tail (tail line))
+    let rest = after_first is_space line in
+    if list_any is_space line
+    then words_reply (before_first is_space line) (before_first is_space rest) (after_first is_space rest)
     else codes "bad line"

@@ -1,8 +1,9 @@
 //! A read, a write or a growth that fails.
+
 ghost use Rattle.std.specs.Prelude.{Some};
 
+use super::{INPUT, OUTPUT};
 use crate::engine::{RunError, run};
-use std::alloc::Global;
 use std::io::{self, ErrorKind, Read, Write};
 use std::test::Fail;
 
@@ -40,7 +41,7 @@ struct FailingWriter {
     taken: Vec<u8>,
     writes_left: usize,
     fault: Fault,
-    flush_fails: bool,
+    flush_error: Option<ErrorKind>,
 }
 
 impl Write for FailingWriter {
@@ -62,20 +63,17 @@ impl Write for FailingWriter {
     }
 
     fn flush(&mut self) -> io::Result<()> {
-        if self.flush_fails {
-            return Err(ErrorKind::Other.into());
+        match self.flush_error {
+            Some(kind) => Err(kind.into()),
+            None => Ok(()),
         }
-        Ok(())
     }
 }
-
-const INPUT: &[u8] = b"4 lower tEsT\n4 text abcde\n16 len MacintoshOSX2019\n0 text";
-
-const OUTPUT: &[u8] = b"test\ntoo long 5 > 4\n16\n\n";
 
 #[test]
 fn a_failed_read_writes_nothing(rt: HostRuntime) -> Result<(), Fail> {
     for kind in [ErrorKind::Interrupted, ErrorKind::Other] {
+        // The last read finds the end.
         for reads_left in 0..INPUT.len() + 2 {
             let mut reader = FailingReader {
                 bytes: INPUT,
@@ -97,22 +95,22 @@ fn a_failed_read_writes_nothing(rt: HostRuntime) -> Result<(), Fail> {
 }
 
 #[test]
-fn a_failed_write_leaves_a_beginning(rt: HostRuntime) -> Result<(), Fail> {
+fn a_failed_write_or_flush_leaves_a_beginning(rt: HostRuntime) -> Result<(), Fail> {
     for fault in [
         Fault::Error(ErrorKind::Interrupted),
         Fault::Error(ErrorKind::Other),
         Fault::TakesNothing,
     ] {
         for writes_left in 0..OUTPUT.len() + 1 {
-            for flush_fails in [false, true] {
+            for flush_error in [None, Some(ErrorKind::Interrupted), Some(ErrorKind::Other)] {
                 let mut writer = FailingWriter {
                     taken: Vec::new(rt.alloc()),
                     writes_left,
                     fault,
-                    flush_fails,
+                    flush_error,
                 };
                 let outcome = run(rt.alloc(), &mut &INPUT[..], &mut writer);
-                if writes_left < OUTPUT.len() || flush_fails {
+                if writes_left < OUTPUT.len() || flush_error.is_some() {
                     assert!(rt; matches!(outcome, Err(RunError::Write)));
                 } else {
                     outcome?;
@@ -124,20 +122,23 @@ fn a_failed_write_leaves_a_beginning(rt: HostRuntime) -> Result<(), Fail> {
     Ok(())
 }
 
-/// Run with each allocation failing in turn, by `rt try --test --fail-alloc N`: either nothing is written and the
-/// answer is `Memory`, or all is.
+// For `rt try --test --fail-alloc N`, which refuses the growth N: then nothing is written and the answer is `Memory`.
+// It prints whether a growth was refused.
 #[test]
 fn a_refused_growth_writes_nothing(rt: HostRuntime) -> Result<(), Fail> {
-    let mut room = [0u8; 64];
-    let room_len = room.len();
+    let mut room = [0u8; OUTPUT.len()];
     let mut rest = &mut room[..];
     let outcome = run(rt.alloc(), &mut &INPUT[..], &mut rest);
-    let written = room_len.saturating_sub(rest.len());
+    let left = rest.len();
     match outcome {
-        Err(RunError::Memory) => assert_eq!(rt; written, 0),
+        Err(RunError::Memory) => {
+            assert_eq!(rt; left, OUTPUT.len());
+            println!(rt; "growth refused")?;
+        }
         outcome => {
             outcome?;
-            assert_eq!(rt; &room[..written], OUTPUT);
+            assert_eq!(rt; &room[..], OUTPUT);
+            println!(rt; "growths given")?;
         }
     }
     Ok(())

@@ -1,4 +1,4 @@
-use Rattle.std.proofs.Common.{◌++◌, take}
+use Rattle.std.proofs.Common.{◌++◌, take, rules}
 use Rattle.tinystr_run.proofs.Written.{Appends-trans, Appends-kept, done_more, beginning}
 use Rattle.tinystr_run.proofs.engine.write_output.Goals as goal
 
@@ -19,7 +19,8 @@ returns-in_default-2-clause-err g c =
     let (done, split, appended) = c.loop-rest.invariant in
     beginning _ _ _ _ _ split (Appends-kept _ _ _ done appended c.in_default.ensures.bytes)
 
-pub returns-in-Err-clause-err : goal.returns-in-Err-clause-err
-returns-in-Err-clause-err g c =
+pub returns-clause-err : goal.returns-clause-err
+returns-clause-err g c =
     let (done, split, appended) = c.loop-rest.invariant in
-    beginning _ _ _ _ _ split (Appends-kept _ _ _ done appended c.in-Err.ensures.bytes)
+    let begun = beginning _ _ _ _ _ split (Appends-kept _ _ _ done appended c.flush.ensures.bytes) in
+    search rules
