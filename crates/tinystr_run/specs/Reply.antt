@@ -44,17 +44,23 @@ abbrev pub is_strict : ℕ → List ℕ → Bool
 is_strict n units = nat_le (length units) n && list_all is_character units
 
 -- a call's answer where the units are such a text, and else their fault
-unfoldable pub text_reply : ℕ → TextCall → List ℕ → List ℕ
-text_reply n call units = if is_strict n units then answer_of call units else fault_text (fault_in n units)
+unfoldable pub call_reply : ℕ → TextCall → List ℕ → List ℕ
+call_reply n call units = if is_strict n units then answer_of call units else fault_text (fault_in n units)
+
+-- what stands for a unit that is no character: `?`
+abbrev pub replacement : ℕ
+replacement = 63
 
 -- the reply of a command to units at capacity n
 abbrev pub command_reply : ℕ → List ℕ → Command → List ℕ
-command_reply n units (OnText call) = text_reply n call units
-command_reply n units Lossy = lossy units 63 n
+command_reply n units (OnText call) = call_reply n call units
+command_reply n units Lossy = lossy units replacement n
 
+-- the reply at capacity n to a command's word and the units
 abbrev pub reply_at : ℕ → List ℕ → List ℕ → List ℕ
 reply_at n word units = option_map_or (command_reply n units) (command_of word) (codes "bad command")
 
+-- the reply to the words of a line: its capacity is tested before its command
 unfoldable pub words_reply : List ℕ → List ℕ → List ℕ → List ℕ
 words_reply capacity word units = option_map_or (λ n. reply_at n word units) (capacity_of capacity) (codes "bad capacity")
 

@@ -35,7 +35,8 @@ const PIECE: usize = 4096;
 
 // Reads all that the reader has.
 fn read_input<R: Read>(alloc: Global, reader: &mut R) -> Result<Vec<u8>, RunError>
-    ensures input { IfOk result (λ input. Consumes (R.remaining reader.old) (R.remaining reader.new) input.items) }
+    ensures input { IfOk result
+        (λ input. Consumes (R.remaining reader.old) (R.remaining reader.new) input.items) }
     ensures end { OnOk result (IsAtEnd (R.remaining reader.new)) }
     ensures err { IfErr result (λ e. e ≢ RunError.Write) }
 {
@@ -77,7 +78,8 @@ fn output(alloc: Global, input: &[u8]) -> Result<Vec<u8>, AllocError>
 // Writes all the bytes and flushes.
 fn write_output<W: Write>(writer: &mut W, output: &[u8]) -> Result<(), RunError>
     ensures ok { OnOk result (Appends (W.contents writer.old) (W.contents writer.new) output.now) }
-    ensures err { OnErr result (AppendsBeginning (W.contents writer.old) (W.contents writer.new) output.now) }
+    ensures err { OnErr result
+        (AppendsBeginning (W.contents writer.old) (W.contents writer.new) output.now) }
     ensures fault { IfErr result (λ e. e ≡ RunError.Write) }
 {
     let mut rest = output;

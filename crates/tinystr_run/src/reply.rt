@@ -3,13 +3,14 @@
 ghost use Rattle.std.specs.Prelude.{◌≡◌, ◌<◌, ◌^◌, ◌++◌, OnOk};
 ghost use Rattle.std.specs.Fmt.{decimal};
 ghost use Rattle.tinystr.specs.Error.{fault_of};
-ghost use Rattle.tinystr_run.specs.Reply.{fault_text, truth_text, answer_of, text_reply, reply_at, words_reply, reply};
+ghost use Rattle.tinystr_run.specs.Reply.{fault_text, truth_text, answer_of, call_reply, reply_at, words_reply, reply};
 
 use crate::command::{Command, TextCall};
 use crate::cut::cut_at;
 use std::alloc::AllocError;
 use tinystr::{ParseError, TinyAsciiStr};
 
+// What the lossy reader puts for a unit that is no character.
 const REPLACEMENT: u8 = b'?';
 
 fn push_text<const N: usize>(out: &mut Vec<u8>, text: TinyAsciiStr<N>) -> Result<(), AllocError>
@@ -44,6 +45,7 @@ fn push_fault(out: &mut Vec<u8>, fault: ParseError) -> Result<(), AllocError>
     }
 }
 
+// Appends what a call on a text gives.
 fn push_answer<const N: usize>(
     out: &mut Vec<u8>,
     call: TextCall,
@@ -69,14 +71,16 @@ fn push_answer<const N: usize>(
     }
 }
 
-#[tactic(auto, unfolding(crate::specs::Reply::text_reply))]
-fn push_text_reply<const N: usize>(
+// Appends what a call gives of the text that the units are, or why they are none.
+#[tactic(auto, unfolding(crate::specs::Reply::call_reply))]
+fn push_call_reply<const N: usize>(
     out: &mut Vec<u8>,
     call: TextCall,
     units: &[u8],
 ) -> Result<(), AllocError>
+    // No array is larger.
     requires { N < 2 ^ 63 }
-    ensures { OnOk result (out.new.items ≡ out.old.items ++ text_reply N call units.now) }
+    ensures { OnOk result (out.new.items ≡ out.old.items ++ call_reply N call units.now) }
 {
     match TinyAsciiStr::<N>::try_from_utf8(units) {
         Ok(text) => push_answer(out, call, text),
@@ -84,17 +88,17 @@ fn push_text_reply<const N: usize>(
     }
 }
 
+// Appends the reply at the capacity `N` to a command's word and the units.
 fn push_reply_at<const N: usize>(
     out: &mut Vec<u8>,
     word: &[u8],
     units: &[u8],
 ) -> Result<(), AllocError>
-    // An array has less than half of the address space.
     requires { N < 2 ^ 63 }
     ensures { OnOk result (out.new.items ≡ out.old.items ++ reply_at N word.now units.now) }
 {
     match Command::parse(word) {
-        Some(Command::OnText(call)) => push_text_reply::<N>(out, call, units),
+        Some(Command::OnText(call)) => push_call_reply::<N>(out, call, units),
         Some(Command::Lossy) => {
             push_text(out, TinyAsciiStr::<N>::from_utf8_lossy(units, REPLACEMENT))
         }
@@ -102,6 +106,7 @@ fn push_reply_at<const N: usize>(
     }
 }
 
+// Appends the reply to the words of a line.
 #[tactic(auto, unfolding(crate::specs::Reply::words_reply, crate::specs::Words::capacity_of))]
 fn push_words_reply(
     out: &mut Vec<u8>,
@@ -109,7 +114,8 @@ fn push_words_reply(
     word: &[u8],
     units: &[u8],
 ) -> Result<(), AllocError>
-    ensures { OnOk result (out.new.items ≡ out.old.items ++ words_reply capacity.now word.now units.now) }
+    ensures { OnOk result
+        (out.new.items ≡ out.old.items ++ words_reply capacity.now word.now units.now) }
 {
     match capacity {
         b"0" => push_reply_at::<0>(out, word, units),
