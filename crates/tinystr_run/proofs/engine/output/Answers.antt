@@ -1,7 +1,6 @@
-use Rattle.std.proofs.Common.{◌≡◌, ◌++◌, arith, rules, append_assoc, append-nil, sym, ap, ◌∙◌}
+use Rattle.std.proofs.Common.{arith}
 use Rattle.std.proofs.lemmas.Bool.Decides.{nat_tests}
 use Rattle.std.proofs.lemmas.Grind.{common_steps}
-use Rattle.tinystr_run.specs.Output.{output_of}
 use Rattle.tinystr_run.proofs.Lines.{output_of-first, output_of-none}
 use Rattle.tinystr_run.proofs.engine.output.Goals as goal
 
