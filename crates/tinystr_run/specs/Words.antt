@@ -1,0 +1,42 @@
+-- The capacities and the commands, and the words that stand for them in a line.
+use Rattle.std.specs.Prelude.{ℕ, List, [], ◌∷◌, Option, option_map, codes}
+use Rattle.std.specs.Str.{bytes_eq}
+use Rattle.std.specs.List.{find}
+use Rattle.tinystr_run.specs.declared.command.Command.{Command}
+use Rattle.tinystr_run.specs.declared.command.Command.TheVariants.{OnText, Lossy}
+use Rattle.tinystr_run.specs.declared.command.TextCall.TheVariants.{Text, Len, Alphabetic, Alphanumeric, Numeric, Lowercase, Titlecase, Uppercase, AlphabeticLowercase, AlphabeticTitlecase, AlphabeticUppercase, Lower, Title, Upper}
+
+-- each word that spells a capacity, and the capacity
+abbrev pub capacities : List (List ℕ × ℕ)
+capacities =
+    (codes "0", 0) ∷ (codes "1", 1) ∷ (codes "2", 2) ∷ (codes "3", 3) ∷ (codes "4", 4) ∷ (codes "5", 5) ∷ (codes "8", 8) ∷ (codes "9", 9) ∷ (codes "16", 16) ∷ (codes "17", 17) ∷ (codes "32", 32) ∷ []
+
+-- the capacity that a word spells
+unfoldable pub capacity_of : List ℕ → Option ℕ
+capacity_of word = option_map (λ c. c.1) (find (λ (c : List ℕ × ℕ). bytes_eq word c.0) capacities)
+
+-- the word of a command
+abbrev pub name_of : Command → List ℕ
+name_of (OnText Text) = codes "text"
+name_of (OnText Len) = codes "len"
+name_of (OnText Alphabetic) = codes "alphabetic"
+name_of (OnText Alphanumeric) = codes "alphanumeric"
+name_of (OnText Numeric) = codes "numeric"
+name_of (OnText Lowercase) = codes "lowercase"
+name_of (OnText Titlecase) = codes "titlecase"
+name_of (OnText Uppercase) = codes "uppercase"
+name_of (OnText AlphabeticLowercase) = codes "alphabetic_lowercase"
+name_of (OnText AlphabeticTitlecase) = codes "alphabetic_titlecase"
+name_of (OnText AlphabeticUppercase) = codes "alphabetic_uppercase"
+name_of (OnText Lower) = codes "lower"
+name_of (OnText Title) = codes "title"
+name_of (OnText Upper) = codes "upper"
+name_of Lossy = codes "lossy"
+
+abbrev pub commands : List Command
+commands =
+    OnText Text ∷ OnText Len ∷ OnText Alphabetic ∷ OnText Alphanumeric ∷ OnText Numeric ∷ OnText Lowercase ∷ OnText Titlecase ∷ OnText Uppercase ∷ OnText AlphabeticLowercase ∷ OnText AlphabeticTitlecase ∷ OnText AlphabeticUppercase ∷ OnText Lower ∷ OnText Title ∷ OnText Upper ∷ Lossy ∷ []
+
+-- the command that a word names
+unfoldable pub command_of : List ℕ → Option Command
+command_of word = find (λ command. bytes_eq (name_of command) word) commands

@@ -1,0 +1,147 @@
+//! What a line gets.
+
+ghost use Rattle.std.specs.Prelude.{◌≡◌, ◌<◌, ◌^◌, ◌++◌, OnOk};
+ghost use Rattle.std.specs.Fmt.{decimal};
+ghost use Rattle.tinystr.specs.Error.{fault_of};
+ghost use Rattle.tinystr_run.specs.Reply.{fault_text, truth_text, answer_of, call_reply, reply_at, words_reply, reply};
+
+use crate::command::{Command, TextCall};
+use crate::cut::cut_at;
+use std::alloc::AllocError;
+use tinystr::{ParseError, TinyAsciiStr};
+
+// What the lossy reader puts for a unit that is no character.
+const REPLACEMENT: u8 = b'?';
+
+fn push_text<const N: usize>(out: &mut Vec<u8>, text: TinyAsciiStr<N>) -> Result<(), AllocError>
+    ensures { OnOk result (out.new.items ≡ out.old.items ++ text.entry) }
+{
+    out.extend_from_slice(text.as_utf8())
+}
+
+fn push_number(out: &mut Vec<u8>, number: usize) -> Result<(), AllocError>
+    ensures { OnOk result (out.new.items ≡ out.old.items ++ decimal number) }
+{
+    let text = number.to_string(*out.allocator())?;
+    out.extend_from_slice(text.as_bytes())
+}
+
+fn push_truth(out: &mut Vec<u8>, truth: bool) -> Result<(), AllocError>
+    ensures { OnOk result (out.new.items ≡ out.old.items ++ truth_text truth) }
+{
+    out.extend_from_slice(if truth { b"true" } else { b"false" })
+}
+
+fn push_fault(out: &mut Vec<u8>, fault: ParseError) -> Result<(), AllocError>
+    ensures { OnOk result (out.new.items ≡ out.old.items ++ fault_text (fault_of fault)) }
+{
+    match fault {
+        ParseError::TooLong { max, len } => {
+            let text = format!(in *out.allocator(); "too long {len} > {max}")?;
+            out.extend_from_slice(text.as_bytes())
+        }
+        ParseError::ContainsNull => out.extend_from_slice(b"contains null"),
+        ParseError::NonAscii => out.extend_from_slice(b"non ascii"),
+    }
+}
+
+// Appends what a call on a text gives.
+fn push_answer<const N: usize>(
+    out: &mut Vec<u8>,
+    call: TextCall,
+    text: TinyAsciiStr<N>,
+) -> Result<(), AllocError>
+    ensures { OnOk result (out.new.items ≡ out.old.items ++ answer_of call text.entry) }
+{
+    match call {
+        TextCall::Text => push_text(out, text),
+        TextCall::Len => push_number(out, text.len()),
+        TextCall::Alphabetic => push_truth(out, text.is_ascii_alphabetic()),
+        TextCall::Alphanumeric => push_truth(out, text.is_ascii_alphanumeric()),
+        TextCall::Numeric => push_truth(out, text.is_ascii_numeric()),
+        TextCall::Lowercase => push_truth(out, text.is_ascii_lowercase()),
+        TextCall::Titlecase => push_truth(out, text.is_ascii_titlecase()),
+        TextCall::Uppercase => push_truth(out, text.is_ascii_uppercase()),
+        TextCall::AlphabeticLowercase => push_truth(out, text.is_ascii_alphabetic_lowercase()),
+        TextCall::AlphabeticTitlecase => push_truth(out, text.is_ascii_alphabetic_titlecase()),
+        TextCall::AlphabeticUppercase => push_truth(out, text.is_ascii_alphabetic_uppercase()),
+        TextCall::Lower => push_text(out, text.to_ascii_lowercase()),
+        TextCall::Title => push_text(out, text.to_ascii_titlecase()),
+        TextCall::Upper => push_text(out, text.to_ascii_uppercase()),
+    }
+}
+
+// Appends what a call gives of the text that the units are, or why they are none.
+#[tactic(auto, unfolding(crate::specs::Reply::call_reply))]
+fn push_call_reply<const N: usize>(
+    out: &mut Vec<u8>,
+    call: TextCall,
+    units: &[u8],
+) -> Result<(), AllocError>
+    // No array is larger.
+    requires { N < 2 ^ 63 }
+    ensures { OnOk result (out.new.items ≡ out.old.items ++ call_reply N call units.now) }
+{
+    match TinyAsciiStr::<N>::try_from_utf8(units) {
+        Ok(text) => push_answer(out, call, text),
+        Err(fault) => push_fault(out, fault),
+    }
+}
+
+// Appends the reply at the capacity `N` to a command's word and the units.
+fn push_reply_at<const N: usize>(
+    out: &mut Vec<u8>,
+    word: &[u8],
+    units: &[u8],
+) -> Result<(), AllocError>
+    requires { N < 2 ^ 63 }
+    ensures { OnOk result (out.new.items ≡ out.old.items ++ reply_at N word.now units.now) }
+{
+    match Command::parse(word) {
+        Some(Command::OnText(call)) => push_call_reply::<N>(out, call, units),
+        Some(Command::Lossy) => {
+            push_text(out, TinyAsciiStr::<N>::from_utf8_lossy(units, REPLACEMENT))
+        }
+        None => out.extend_from_slice(b"bad command"),
+    }
+}
+
+// Appends the reply to the words of a line.
+#[tactic(auto, unfolding(crate::specs::Reply::words_reply, crate::specs::Words::capacity_of))]
+fn push_words_reply(
+    out: &mut Vec<u8>,
+    capacity: &[u8],
+    word: &[u8],
+    units: &[u8],
+) -> Result<(), AllocError>
+    ensures { OnOk result
+        (out.new.items ≡ out.old.items ++ words_reply capacity.now word.now units.now) }
+{
+    match capacity {
+        b"0" => push_reply_at::<0>(out, word, units),
+        b"1" => push_reply_at::<1>(out, word, units),
+        b"2" => push_reply_at::<2>(out, word, units),
+        b"3" => push_reply_at::<3>(out, word, units),
+        b"4" => push_reply_at::<4>(out, word, units),
+        b"5" => push_reply_at::<5>(out, word, units),
+        b"8" => push_reply_at::<8>(out, word, units),
+        b"9" => push_reply_at::<9>(out, word, units),
+        b"16" => push_reply_at::<16>(out, word, units),
+        b"17" => push_reply_at::<17>(out, word, units),
+        b"32" => push_reply_at::<32>(out, word, units),
+        _ => out.extend_from_slice(b"bad capacity"),
+    }
+}
+
+/// Appends the reply to a line.
+#[tactic(auto, unfolding(crate::specs::Reply::reply))]
+pub fn push_reply(out: &mut Vec<u8>, line: &[u8]) -> Result<(), AllocError>
+    ensures { OnOk result (out.new.items ≡ out.old.items ++ reply line.now) }
+{
+    if !line.contains(&b' ') {
+        return out.extend_from_slice(b"bad line");
+    }
+    let (capacity, rest) = cut_at(line, b' ');
+    let (word, units) = cut_at(rest, b' ');
+    push_words_reply(out, capacity, word, units)
+}
