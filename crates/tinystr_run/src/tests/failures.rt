@@ -133,12 +133,12 @@ fn a_refused_growth_writes_nothing(rt: HostRuntime) -> Result<(), Fail> {
     match outcome {
         Err(RunError::Memory) => {
             assert_eq!(rt; left, OUTPUT.len());
-            println!(rt; "growth refused")?;
+            println!(rt; "run refused")?;
         }
         outcome => {
             outcome?;
             assert_eq!(rt; &room[..], OUTPUT);
-            println!(rt; "growths given")?;
+            println!(rt; "run given")?;
         }
     }
     Ok(())
