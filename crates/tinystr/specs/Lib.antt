@@ -1,2 +1,3 @@
 pub mod Error
 pub mod Reading
+pub mod Unvalidated

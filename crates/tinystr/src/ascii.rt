@@ -2,7 +2,7 @@
 
 ghost use Rattle.std.specs.Prelude.{◌≡◌, ◌+◌, ◌<◌, ◌≤◌, [], ◌∷◌, ◌++◌, length, map, take, drop, IsOk, IfOk, IfErr, ◌↔◌, IsTrue, Some};
 ghost use Rattle.std.specs.Fmt.{decimal, debug_str};
-ghost use Rattle.tinystr_words.specs.Text.{pad, IsText, IsTextByte, IsStrictText, IsPaddedText};
+ghost use Rattle.tinystr_words.specs.Text.{pad, text_of, IsText, IsTextByte, IsStrictText, IsPaddedText};
 ghost use Rattle.tinystr_words.specs.Reading.{fault_in, lossy};
 ghost use Rattle.tinystr_words.specs.Decimal.{last};
 ghost use Rattle.tinystr_words.specs.Case.{lowercase, titlecase, uppercase};
@@ -164,7 +164,7 @@ impl<const N: usize> TinyAsciiStr<N> {
 
     pub fn from_utf8_unchecked(code_units: [u8; N]) -> Self
         requires { IsPaddedText code_units N }
-        ensures { code_units.entry ≡ pad result N }
+        ensures { result ≡ text_of code_units.entry }
     {
         TinyAsciiStr { bytes: code_units }
     }
@@ -187,7 +187,7 @@ impl<const N: usize> TinyAsciiStr<N> {
 
     pub fn try_from_raw(raw: [u8; N]) -> Result<Self, ParseError>
         ensures accepted { IsOk result ↔ IsPaddedText raw.entry N }
-        ensures text { IfOk result (λ t. pad t N ≡ raw.entry) }
+        ensures text { IfOk result (λ t. t ≡ text_of raw.entry) }
         ensures fault { IfErr result (λ e. fault_of e ≡ fault_in N raw.entry) }
     {
         match find_fault(&raw[..]) {

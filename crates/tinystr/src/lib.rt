@@ -6,6 +6,8 @@ pub mod ascii;
 pub mod error;
 pub mod macros;
 mod reading;
+pub mod unvalidated;
 
 pub use ascii::{TinyAsciiStr, TinyStr4, TinyStr8, TinyStr16};
 pub use error::ParseError;
+pub use unvalidated::UnvalidatedTinyAsciiStr;

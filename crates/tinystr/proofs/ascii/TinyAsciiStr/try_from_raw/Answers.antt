@@ -24,6 +24,3 @@ returns-in-Some-clause-fault g c =
 
 pub returns-in-None-clause-accepted : goal.returns-in-None-clause-accepted
 returns-in-None-clause-accepted g c = (λ _. invariant_of-result g c, λ _. search rules)
-
-pub returns-in-None-clause-text : goal.returns-in-None-clause-text
-returns-in-None-clause-text g c = let padded : IsPaddedText c.args.raw g.row.N = invariant_of-result g c in sym padded.padded
