@@ -8,11 +8,12 @@ ghost use Rattle.tinystr.specs.Unvalidated.{debug_bytes};
 
 use crate::ascii::TinyAsciiStr;
 use crate::error::ParseError;
+use std::cmp::Ordering;
 use std::fmt;
 use std::marker::Model;
 
 /// Any `N` bytes, which may or may not be a text and then NULs. Values are compared byte by byte.
-#[derive(Clone, Copy, PartialEq, Eq, PartialOrd, Ord)]
+#[derive(Clone, Copy, PartialEq, Eq)]
 pub struct UnvalidatedTinyAsciiStr<const N: usize> {
     bytes: [u8; N],
 }
@@ -27,6 +28,41 @@ impl<const N: usize> Model for UnvalidatedTinyAsciiStr<N> {
     ghost invariant = { λ s. length s.bytes ≡ N };
 
     ghost inverse = { λ bytes. record { bytes = bytes } };
+}
+
+impl<const N: usize> Ord for UnvalidatedTinyAsciiStr<N> {
+    ghost use Rattle.std.proofs.Common.{rules};
+    ghost use Rattle.std.specs.Cmp.Lexicographic.{slice_cmp};
+    ghost use Rattle.std.specs.Ordering.{nat_cmp};
+    ghost use Rattle.std.specs.Cmp.Rules.{comparing};
+
+    ghost cmp = { slice_cmp nat_cmp };
+
+    ghost total = { Prim.search (comparing, rules) };
+
+    ghost matches_partial_cmp = { Prim.search (comparing, rules) };
+
+    ghost matches_eq = { Prim.search (comparing, rules) };
+
+    fn cmp(&self, other: &Self) -> Ordering {
+        self.bytes.cmp(&other.bytes)
+    }
+}
+
+impl<const N: usize> PartialOrd for UnvalidatedTinyAsciiStr<N> {
+    ghost use Rattle.std.proofs.Common.{rules};
+    ghost use Rattle.std.specs.Cmp.{partial_order_from_own_ties};
+    ghost use Rattle.std.specs.Cmp.Lexicographic.{slice_cmp};
+    ghost use Rattle.std.specs.Ordering.{nat_cmp, as_partial_cmp};
+    ghost use Rattle.std.specs.Cmp.Rules.{comparing};
+
+    ghost partial_cmp = { as_partial_cmp (slice_cmp nat_cmp) };
+
+    ghost laws = { partial_order_from_own_ties (Prim.search (comparing, rules)) (Prim.search (comparing, rules)) };
+
+    fn partial_cmp(&self, other: &Self) -> Option<Ordering> {
+        Some(self.cmp(other))
+    }
 }
 
 impl<const N: usize> UnvalidatedTinyAsciiStr<N> {
