@@ -3,3 +3,5 @@ pub mod Classes
 pub mod Case
 pub mod Reading
 pub mod Decimal
+pub mod ByteForm
+pub mod Packed
