@@ -1,3 +1,4 @@
 pub mod Error
 pub mod Reading
 pub mod Unvalidated
+pub mod Forms

@@ -4,6 +4,7 @@
 
 pub mod ascii;
 pub mod error;
+pub mod forms;
 pub mod macros;
 mod reading;
 pub mod unvalidated;

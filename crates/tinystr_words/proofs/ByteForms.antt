@@ -69,27 +69,27 @@ clean_at n input i none = (grind (arith, nat_tests), grind (arith, nat_tests))
 
 -- ---- the fault that a pass finds
 
-pub byte_fault-short : (n : ℕ) (input : List ℕ) (seen : Bool) → IsScanned input (length input) seen → length input < n → byte_fault n input ≡ Some (too_short n)
-byte_fault-short n input seen h short =
-    byte_fault-first n input (length input) (too_short n) short (at_end n input) (λ k before. at_clean n input k before (h.clean k before))
+pub byte_fault-short : (n : ℕ) (input : List ℕ) (i : ℕ) (seen : Bool) → IsScanned input i seen → i ≡ length input → i < n → byte_fault n input ≡ Some (too_short n)
+byte_fault-short n input i seen h end short =
+    byte_fault-first n input i (too_short n) short (rw end (at_end n input)) (λ k before. at_clean n input k (omega arith) (h.clean k before))
 
-pub byte_fault-null : (n : ℕ) (input : List ℕ) (i : ℕ) → IsScanned input i true → i < length input → i < n → 0 < get_or input i 0 → byte_fault n input ≡ Some null
-byte_fault-null n input i h inside below some =
-    byte_fault-first n input i null below (at_null n input i inside (sym h.null) some) (λ k before. at_clean n input k (omega arith) (h.clean k before))
+pub byte_fault-null : (n : ℕ) (input : List ℕ) (i : ℕ) (seen : Bool) → IsScanned input i seen → seen ≡ true → i < length input → i < n → 0 < get_or input i 0 → byte_fault n input ≡ Some null
+byte_fault-null n input i seen h after inside below some =
+    byte_fault-first n input i null below (at_null n input i inside (sym h.null ∙ after) some) (λ k before. at_clean n input k (omega arith) (h.clean k before))
 
-pub byte_fault-high : (n : ℕ) (input : List ℕ) (i : ℕ) → IsScanned input i false → i < length input → i < n → 127 < get_or input i 0 → byte_fault n input ≡ Some non_ascii
-byte_fault-high n input i h inside below high =
-    byte_fault-first n input i non_ascii below (at_high n input i inside (sym h.null) high) (λ k before. at_clean n input k (omega arith) (h.clean k before))
+pub byte_fault-high : (n : ℕ) (input : List ℕ) (i : ℕ) (seen : Bool) → IsScanned input i seen → seen ≡ false → i < length input → i < n → 127 < get_or input i 0 → byte_fault n input ≡ Some non_ascii
+byte_fault-high n input i seen h before inside below high =
+    byte_fault-first n input i non_ascii below (at_high n input i inside (sym h.null ∙ before) high) (λ k before. at_clean n input k (omega arith) (h.clean k before))
 
-pub byte_fault-whole : (n : ℕ) (input : List ℕ) (seen : Bool) → IsScanned input n seen → n ≤ length input → byte_fault n input ≡ None
-byte_fault-whole n input seen h enough = byte_fault-none n input (λ k below. at_clean n input k (omega arith) (h.clean k below))
+pub byte_fault-whole : (n : ℕ) (input : List ℕ) (i : ℕ) (seen : Bool) → IsScanned input i seen → i ≡ n → n ≤ length input → byte_fault n input ≡ None
+byte_fault-whole n input i seen h end enough = byte_fault-none n input (λ k below. at_clean n input k (omega arith) (h.clean k (omega arith)))
 
 -- ---- bytes with no fault begin with a padded text
 
 is_faulty-take : (n : ℕ) (input : List ℕ) (k : ℕ) → k < n → is_faulty (take n input) k ≡ is_faulty input k
 is_faulty-take n input k below = rw (get_or-take n input k 0 below, take-take k n input (omega arith)) refl
 
-enough_from : (n : ℕ) (input : List ℕ) → byte_fault n input ≡ None → n ≤ length input
+pub enough_from : (n : ℕ) (input : List ℕ) → byte_fault n input ≡ None → n ≤ length input
 enough_from n input none =
     elim (cases_lt (length input) n) [
       | inl short ↦ absurd (let inside = (clean_at n input (length input) (byte_fault-none_at n input none (length input) short)).0 in omega arith)
@@ -111,3 +111,9 @@ byte_fault-padded t rest n h =
     at_clean n (pad t n ++ rest) k (omega (arith, length-append (pad t n) rest))
     (sym (is_faulty-take n (pad t n ++ rest) k below) ∙ rw first
     (clean_from (pad t n) (first_fault-padded (pad t n) n (IsPaddedText-pad t n h)) k (omega arith))))
+
+-- a pass over the first n bytes
+pub ruleset byte_pass = (byte_fault-short, byte_fault-null, byte_fault-high, byte_fault-whole, get_or-take, length-take-le)
+
+-- what the reader takes of bytes with no fault
+pub ruleset byte_reading = (enough_from, IsPaddedText-read)
