@@ -2,3 +2,4 @@ pub mod Error
 pub mod Reading
 pub mod Unvalidated
 pub mod Forms
+pub mod Records

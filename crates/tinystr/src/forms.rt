@@ -1,11 +1,11 @@
 //! Texts as JSON values and as `N` bytes, and back.
 
-ghost use Rattle.std.specs.Prelude.{◌≡◌, ◌≤◌, ◌↔◌, Some, None, option_map, length, take, drop, IsOk, IfOk, IfErr, IsErrOf, IsSomeAnd};
+ghost use Rattle.std.specs.Prelude.{◌≡◌, ◌≤◌, ◌↔◌, Some, None, option_map, length, take, drop, IsOk, IfOk, IfErr, IsSomeAnd};
 ghost use Rattle.serde_json.specs.View.{view};
 ghost use Rattle.serde_json.specs.Find.{as_str};
 ghost use Rattle.tinystr_words.specs.Text.{pad, text_of, IsStrictText, IsPaddedText};
 ghost use Rattle.tinystr_words.specs.ByteForm.{byte_fault};
-ghost use Rattle.tinystr.specs.Forms.{json_form, byte_fault_of, RefusesWrite};
+ghost use Rattle.tinystr.specs.Forms.{json_form, byte_fault_of, RefusesJson, RefusesWrite};
 
 use crate::ascii::TinyAsciiStr;
 use crate::unvalidated::UnvalidatedTinyAsciiStr;
@@ -51,11 +51,10 @@ impl<const N: usize> TinyAsciiStr<N> {
 
     /// The text of a string value.
     pub fn from_json(value: &Value) -> Result<Self, JsonReadError>
-        ensures accepted { IsOk result ↔ IsSomeAnd (as_str (view value.now)) (λ t. IsStrictText t N) }
+        ensures accepted { IsOk result
+            ↔ IsSomeAnd (as_str (view value.now)) (λ t. IsStrictText t N) }
         ensures text { IfOk result (λ t. view value.now ≡ json_form t) }
-        ensures not_text { IsErrOf result JsonReadError.NotText ↔ (as_str (view value.now) ≡ None) }
-        ensures invalid_text { IsErrOf result JsonReadError.InvalidText
-            ↔ IsSomeAnd (as_str (view value.now)) (λ t. ¬ IsStrictText t N) }
+        ensures fault { IfErr result (λ e. RefusesJson e (view value.now) N) }
     {
         let text = value.as_str().ok_or(JsonReadError::NotText)?;
         Self::try_from_str(text).map_err(|_| JsonReadError::InvalidText)
@@ -68,8 +67,8 @@ impl<const N: usize> TinyAsciiStr<N> {
         *self.all_bytes()
     }
 
-    #[tactic(auto, using(tinystr_words::proofs::ByteForms::byte_reading))]
     /// The text of the first `N` bytes, and the bytes behind them as a part of the input.
+    #[tactic(auto, using(tinystr_words::proofs::ByteForms::byte_reading))]
     pub fn read_bytes(input: &[u8]) -> Result<(Self, &[u8]), BytesReadError>
         ensures accepted { IsOk result ↔ (byte_fault N input.now ≡ None) }
         ensures padded { IfOk result (λ _. IsPaddedText (take N input.now) N) }
@@ -102,11 +101,11 @@ impl<const N: usize> UnvalidatedTinyAsciiStr<N> {
 
     /// The text of a string value, and then NULs.
     pub fn from_json(value: &Value) -> Result<Self, JsonReadError>
-        ensures accepted { IsOk result ↔ IsSomeAnd (as_str (view value.now)) (λ t. IsStrictText t N) }
-        ensures bytes { IfOk result (λ bytes. option_map (λ t. pad t N) (as_str (view value.now)) ≡ Some bytes) }
-        ensures not_text { IsErrOf result JsonReadError.NotText ↔ (as_str (view value.now) ≡ None) }
-        ensures invalid_text { IsErrOf result JsonReadError.InvalidText
-            ↔ IsSomeAnd (as_str (view value.now)) (λ t. ¬ IsStrictText t N) }
+        ensures accepted { IsOk result
+            ↔ IsSomeAnd (as_str (view value.now)) (λ t. IsStrictText t N) }
+        ensures bytes { IfOk result
+            (λ bytes. IsSomeAnd (as_str (view value.now)) (λ t. bytes ≡ pad t N)) }
+        ensures fault { IfErr result (λ e. RefusesJson e (view value.now) N) }
     {
         Ok(TinyAsciiStr::from_json(value)?.to_unvalidated())
     }

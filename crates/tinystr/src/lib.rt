@@ -7,6 +7,7 @@ pub mod error;
 pub mod forms;
 pub mod macros;
 mod reading;
+pub mod ule;
 pub mod unvalidated;
 
 pub use ascii::{TinyAsciiStr, TinyStr4, TinyStr8, TinyStr16};
