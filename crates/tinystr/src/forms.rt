@@ -156,3 +156,6 @@ fn find_byte_fault(input: &[u8], expected: usize) -> Option<BytesReadError>
     }
     None
 }
+
+#[cfg(test)]
+mod tests;

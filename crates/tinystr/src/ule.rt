@@ -67,3 +67,6 @@ impl<const N: usize> UnvalidatedTinyAsciiStr<N> {
         Ok(())
     }
 }
+
+#[cfg(test)]
+mod tests;

@@ -132,3 +132,6 @@ impl<const N: usize> fmt::Debug for UnvalidatedTinyAsciiStr<N> {
         }
     }
 }
+
+#[cfg(test)]
+mod tests;
