@@ -26,7 +26,7 @@ pub enum JsonReadError {
 pub enum BytesReadError {
     /// There are fewer than `expected` bytes.
     Length { expected: usize },
-    /// A byte behind a NUL is none.
+    /// A byte that is no NUL stands behind a NUL.
     Null,
     /// A byte is above 127.
     NonAscii,
@@ -87,7 +87,8 @@ impl<const N: usize> TinyAsciiStr<N> {
 }
 
 impl<const N: usize> UnvalidatedTinyAsciiStr<N> {
-    /// The string value of the text, where the bytes are one and then NULs. Tests them before it asks for memory.
+    /// The string value of the text, where the bytes are one and then NULs. They are tested before
+    /// memory is asked for.
     pub fn to_json(&self, alloc: Global) -> Result<Value, FormWriteError>
         ensures padded { IfOk result (λ _. IsPaddedText self.now N) }
         ensures value { IfOk result (λ value. view value ≡ json_form (text_of self.now)) }
@@ -110,7 +111,8 @@ impl<const N: usize> UnvalidatedTinyAsciiStr<N> {
         Ok(TinyAsciiStr::from_json(value)?.to_unvalidated())
     }
 
-    /// The bytes, where they are a text and then NULs. Never answers `Memory`.
+    /// The bytes, where they are a text and then NULs: not all that `read_bytes` gives can be written
+    /// again. Never answers `Memory`.
     pub fn to_bytes(&self) -> Result<[u8; N], FormWriteError>
         ensures accepted { IsOk result ↔ IsPaddedText self.now N }
         ensures bytes { IfOk result (λ bytes. bytes ≡ self.now) }
@@ -122,7 +124,8 @@ impl<const N: usize> UnvalidatedTinyAsciiStr<N> {
         }
     }
 
-    /// Any first `N` bytes, and the bytes behind them as a part of the input. Refuses by `Length` alone.
+    /// Any first `N` bytes, and the bytes behind them as a part of the input. Refuses by `Length`
+    /// alone.
     pub fn read_bytes(input: &[u8]) -> Result<(Self, &[u8]), BytesReadError>
         ensures accepted { IsOk result ↔ (N ≤ length input.now) }
         ensures bytes { IfOk result (λ read. read.0 ≡ take N input.now) }

@@ -1,4 +1,5 @@
-//! Packed records: padded texts of `N` bytes, one behind another, which are checked once and then read in place.
+//! Packed records: padded texts of `N` bytes, one behind another, which are checked once and then
+//! read in place.
 
 ghost use Rattle.std.specs.Prelude.{◌≡◌, ◌≢◌, ◌<◌, ◌%◌, ◌↔◌, length, replicate, IsOk, IfErr, IsErrOf};
 ghost use Rattle.tinystr_words.specs.Packed.{IsPacked};
@@ -28,10 +29,7 @@ impl<const N: usize> TinyAsciiStr<N> {
             ↔ (length bytes.now % N ≢ 0) }
         ensures fault { IfErr result (λ e. RefusesRecords e bytes.now N) }
     {
-        let len = bytes.len();
-        if len % N != 0 {
-            return Err(UleError::Length { len });
-        }
+        UnvalidatedTinyAsciiStr::<N>::validate_bytes(bytes)?;
         let mut rest = bytes;
         let mut index = 0;
         while rest.len() >= N {
