@@ -2,7 +2,7 @@
 
 ghost use Rattle.std.specs.Prelude.{◌≡◌, ◌+◌, ◌<◌, ◌≤◌, [], ◌∷◌, ◌++◌, length, map, take, IsOk, IfOk, IfErr, ◌↔◌, IsTrue};
 ghost use Rattle.std.specs.Fmt.{decimal};
-ghost use Rattle.tinystr_words.specs.Text.{pad, IsText, IsTextByte, IsStrictText, IsPaddedText};
+ghost use Rattle.tinystr_words.specs.Text.{pad, text_of, IsText, IsTextByte, IsStrictText, IsPaddedText};
 ghost use Rattle.tinystr_words.specs.Reading.{fault_in, lossy};
 ghost use Rattle.tinystr_words.specs.Decimal.{last};
 ghost use Rattle.tinystr.specs.Reading.{IsStrictRead};
@@ -111,7 +111,7 @@ impl<const N: usize> TinyAsciiStr<N> {
     #[inline]
     pub fn try_from_raw(raw: [u8; N]) -> Result<Self, ParseError>
         ensures accepted { IsOk result ↔ IsPaddedText raw.entry N }
-        ensures text { IfOk result (λ t. pad t N ≡ raw.entry) }
+        ensures text { IfOk result (λ t. t ≡ text_of raw.entry) }
         ensures fault { IfErr result (λ e. fault_of e ≡ fault_in N raw.entry) }
     {
         match find_fault(&raw[..]) {
@@ -155,7 +155,7 @@ impl<const N: usize> TinyAsciiStr<N> {
     #[inline]
     pub fn from_utf8_unchecked(code_units: [u8; N]) -> Self
         requires { IsPaddedText code_units N }
-        ensures { code_units.entry ≡ pad result N }
+        ensures { result ≡ text_of code_units.entry }
     {
         TinyAsciiStr { bytes: code_units }
     }

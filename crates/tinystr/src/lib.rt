@@ -5,12 +5,16 @@
 pub mod ascii;
 mod decimal;
 pub mod error;
+pub mod forms;
 pub mod macros;
 mod reading;
+pub mod ule;
+pub mod unvalidated;
 mod words;
 
 pub use ascii::{TinyAsciiStr, TinyStr4, TinyStr8, TinyStr16};
 pub use error::ParseError;
+pub use unvalidated::UnvalidatedTinyAsciiStr;
 
 #[cfg(test)]
 mod tests;

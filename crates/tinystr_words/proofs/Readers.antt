@@ -41,11 +41,11 @@ IsScanned-char units i h inside some low =
 
 -- ---- the least position that passes a test
 
-find_none : (p : ℕ → Bool) (a n : ℕ) → ((k : ℕ) → a ≤ k → k < a + n → p k ≡ false) → find p (range_with_len a n) ≡ None
+pub find_none : (p : ℕ → Bool) (a n : ℕ) → ((k : ℕ) → a ≤ k → k < a + n → p k ≡ false) → find p (range_with_len a n) ≡ None
 find_none p a zero none = refl
 find_none p a (suc n) none = rw (none a (omega arith) (omega arith)) (find_none p (a + 1) n (λ k h l. none k (omega arith) (omega arith)))
 
-find_first : (p : ℕ → Bool) (a n i : ℕ) → a ≤ i → i < a + n → p i ≡ true → ((k : ℕ) → a ≤ k → k < i → p k ≡ false) → find p (range_with_len a n) ≡ Some i
+pub find_first : (p : ℕ → Bool) (a n i : ℕ) → a ≤ i → i < a + n → p i ≡ true → ((k : ℕ) → a ≤ k → k < i → p k ≡ false) → find p (range_with_len a n) ≡ Some i
 find_first p a zero i from inside passes none = absurd (omega arith)
 find_first p a (suc n) i from inside passes none =
     elim (cases_lt a i) [
@@ -79,7 +79,7 @@ first_fault-late units i h inside some low =
     let character : nat_lt 0 (get_or units i 0) ≡ true = grind (arith, nat_tests) in
     rw (find_first (is_faulty units) 0 (length units) i (omega arith) (omega arith) (rw (within, character, ← h.null) refl) (λ k from below. h.clean k below), within) refl
 
-first_fault-clean : (units : List ℕ) → ((k : ℕ) → k < length units → is_faulty units k ≡ false) → first_fault units ≡ None
+pub first_fault-clean : (units : List ℕ) → ((k : ℕ) → k < length units → is_faulty units k ≡ false) → first_fault units ≡ None
 unfolding first_fault first_faulty
 first_fault-clean units clean = rw (find_none (is_faulty units) 0 (length units) (λ k from below. clean k (omega arith))) refl
 
@@ -90,7 +90,7 @@ clean_from_none : (o : Option ℕ) (f : ℕ → Fault) → option_map f o ≡ No
 clean_from_none None f e = refl
 clean_from_none (Some i) f e = cc
 
-clean_from : (units : List ℕ) → first_fault units ≡ None → (k : ℕ) → k < length units → is_faulty units k ≡ false
+pub clean_from : (units : List ℕ) → first_fault units ≡ None → (k : ℕ) → k < length units → is_faulty units k ≡ false
 unfolding first_fault first_faulty
 clean_from units none k inside =
     find_none_from (is_faulty units) 0 (length units) (clean_from_none _ _ none) k (omega arith) (omega arith)

@@ -6,3 +6,5 @@ pub mod Decimal
 pub mod Order
 pub mod Words
 pub mod Questions
+pub mod ByteForm
+pub mod Packed

@@ -1,16 +1,19 @@
 //! Facts of the definitions alone. Each function computes nothing, and its contract is its law.
 
-ghost use Rattle.std.specs.Prelude.{IsTrue, ◌≡◌, ◌<◌, ◌≤◌, ◌^◌, ◌↔◌, ◌⊎◌, ℕ, List, ◌++◌, length, take, ◌+◌, ◌-◌, Bool, [], ◌&&◌, All, slice_index, map};
+ghost use Rattle.std.specs.Prelude.{IsTrue, ◌≡◌, ◌<◌, ◌≤◌, ◌^◌, ◌↔◌, ◌⊎◌, ℕ, List, ◌++◌, length, take, ◌+◌, ◌-◌, Bool, [], ◌&&◌, All, slice_index, map, replicate, None};
 ghost use Rattle.std.specs.Cmp.Lexicographic.{slice_cmp};
 ghost use Rattle.std.specs.Fmt.{decimal};
 ghost use Rattle.std.specs.Int.{IsInRange};
 ghost use Rattle.std.specs.Ordering.{nat_cmp};
 ghost use Rattle.std.specs.declared.cmp.Ordering.TheVariants.{Less, Equal};
+ghost use Rattle.tinystr_words.specs.ByteForm.{byte_fault};
 ghost use Rattle.tinystr_words.specs.Case.{lowercase, titlecase, uppercase};
 ghost use Rattle.tinystr_words.specs.Classes.{ask, is_alphabetic, is_lower, is_upper, is_not_lower, is_not_upper};
 ghost use Rattle.tinystr_words.specs.Decimal.{IsDecimalOf};
 ghost use Rattle.tinystr_words.specs.Order.{IsBefore};
-ghost use Rattle.tinystr_words.specs.Text.{IsStrictText, pad, IsText};
+ghost use Rattle.tinystr_words.specs.Reading.{fault_in};
+ghost use Rattle.tinystr_words.specs.Reading.Fault.{non_ascii};
+ghost use Rattle.tinystr_words.specs.Text.{IsStrictText, pad, IsText, IsPaddedText};
 ghost use Rattle.tinystr_words.specs.Words.{word, lane};
 
 /// Of two lists one comes before the other, or they are one list, and padded texts are in the order of the texts.
@@ -108,4 +111,26 @@ pub fn word_join()
     ensures lower { (a b : List ℕ) → lowercase (a ++ b) ≡ lowercase a ++ lowercase b }
     ensures upper { (a b : List ℕ) → uppercase (a ++ b) ≡ uppercase a ++ uppercase b }
     ensures title { (a b : List ℕ) → (length a ≡ 16) ⊎ (b ≡ []) → titlecase (a ++ b) ≡ titlecase a ++ lowercase b }
+{}
+
+/// A text has a padded form, and no other text has the same.
+pub fn pad_once()
+    ensures padded { (t : List ℕ) (n : ℕ) → IsStrictText t n → IsPaddedText (pad t n) n }
+    ensures once { (t s : List ℕ) (n : ℕ) → IsStrictText t n → IsStrictText s n →
+        pad t n ≡ pad s n → t ≡ s }
+{}
+
+/// A padded form reads back, whatever stands behind it.
+pub fn bytes_back()
+    ensures clean { (t rest : List ℕ) (n : ℕ) → IsStrictText t n →
+        byte_fault n (pad t n ++ rest) ≡ None }
+    ensures first { (t rest : List ℕ) (n : ℕ) → IsStrictText t n →
+        take n (pad t n ++ rest) ≡ pad t n }
+    ensures strict { (t : List ℕ) (n : ℕ) → IsText t → length t ≤ n → IsStrictText t n }
+{}
+
+/// Bytes 255 are refused for what they are.
+pub fn niche_fault()
+    ensures refused { (n : ℕ) → 0 < n → ¬ IsPaddedText (replicate n 255) n }
+    ensures fault { (n : ℕ) → 0 < n → fault_in n (replicate n 255) ≡ non_ascii }
 {}

@@ -2,7 +2,6 @@ use Rattle.std.proofs.Common.{◌≡◌, None, Some, length, sym, rules, arith}
 use Rattle.std.proofs.lemmas.List.{map-id}
 use Rattle.tinystr_words.proofs.Readers.{IsPaddedText-clean, first_fault-padded, fault_in-fits}
 use Rattle.tinystr_words.specs.Reading.{first_fault}
-use Rattle.tinystr_words.specs.Text.{IsPaddedText}
 use Rattle.tinystr.specs.Error.{fault_of}
 use Rattle.tinystr.proofs.ascii.TinyAsciiStr.try_from_raw.Goals as goal
 
@@ -24,6 +23,3 @@ returns-in-Some-clause-fault g c =
 
 pub returns-in-None-clause-accepted : goal.returns-in-None-clause-accepted
 returns-in-None-clause-accepted g c = (λ _. invariant_of-result g c, λ _. search rules)
-
-pub returns-in-None-clause-text : goal.returns-in-None-clause-text
-returns-in-None-clause-text g c = let padded : IsPaddedText c.args.raw g.row.N = invariant_of-result g c in sym padded.padded

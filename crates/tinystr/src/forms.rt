@@ -1,0 +1,164 @@
+//! Texts as JSON values and as `N` bytes, and back.
+
+ghost use Rattle.std.specs.Prelude.{◌≡◌, ◌≤◌, ◌↔◌, Some, None, option_map, length, take, drop, IsOk, IfOk, IfErr, IsSomeAnd};
+ghost use Rattle.serde_json.specs.View.{view};
+ghost use Rattle.serde_json.specs.Find.{as_str};
+ghost use Rattle.tinystr_words.specs.Text.{pad, text_of, IsStrictText, IsPaddedText};
+ghost use Rattle.tinystr_words.specs.ByteForm.{byte_fault};
+ghost use Rattle.tinystr.specs.Forms.{json_form, byte_fault_of, RefusesJson, RefusesWrite};
+
+use crate::ascii::TinyAsciiStr;
+use crate::unvalidated::UnvalidatedTinyAsciiStr;
+use serde_json::Value;
+use std::alloc::{AllocError, Global};
+
+/// Why a JSON value gives no text.
+#[derive(Clone, Copy, Debug, PartialEq, Eq)]
+pub enum JsonReadError {
+    /// The value is no string.
+    NotText,
+    /// The string is no text of the wanted capacity.
+    InvalidText,
+}
+
+/// Why bytes give no value.
+#[derive(Clone, Copy, Debug, PartialEq, Eq)]
+pub enum BytesReadError {
+    /// There are fewer than `expected` bytes.
+    Length { expected: usize },
+    /// A byte that is no NUL stands behind a NUL.
+    Null,
+    /// A byte is above 127.
+    NonAscii,
+}
+
+/// Why bytes that may be no text aren't written.
+#[derive(Clone, Copy, Debug)]
+pub enum FormWriteError {
+    /// They are no text and then NULs.
+    NotAscii,
+    /// There was no memory for the JSON value.
+    Memory(AllocError),
+}
+
+impl<const N: usize> TinyAsciiStr<N> {
+    /// The string value of the text.
+    pub fn to_json(&self, alloc: Global) -> Result<Value, AllocError>
+        ensures { IfOk result (λ value. view value ≡ json_form self.now) }
+    {
+        Ok(Value::String(String::from_str(alloc, self.as_str())?))
+    }
+
+    /// The text of a string value.
+    pub fn from_json(value: &Value) -> Result<Self, JsonReadError>
+        ensures accepted { IsOk result
+            ↔ IsSomeAnd (as_str (view value.now)) (λ t. IsStrictText t N) }
+        ensures text { IfOk result (λ t. view value.now ≡ json_form t) }
+        ensures fault { IfErr result (λ e. RefusesJson e (view value.now) N) }
+    {
+        let text = value.as_str().ok_or(JsonReadError::NotText)?;
+        Self::try_from_str(text).map_err(|_| JsonReadError::InvalidText)
+    }
+
+    /// The text and then NULs.
+    pub fn to_bytes(&self) -> [u8; N]
+        ensures { result ≡ pad self.now N }
+    {
+        *self.all_bytes()
+    }
+
+    /// The text of the first `N` bytes, and the bytes behind them as a part of the input.
+    #[tactic(auto, using(tinystr_words::proofs::ByteForms::byte_reading))]
+    pub fn read_bytes(input: &[u8]) -> Result<(Self, &[u8]), BytesReadError>
+        ensures accepted { IsOk result ↔ (byte_fault N input.now ≡ None) }
+        ensures padded { IfOk result (λ _. IsPaddedText (take N input.now) N) }
+        ensures text { IfOk result (λ read. read.0 ≡ text_of (take N input.now)) }
+        ensures rest { IfOk result (λ read. read.1.now ≡ drop N input.now) }
+        ensures fault { IfErr result (λ e. byte_fault N input.now ≡ Some (byte_fault_of e)) }
+    {
+        match find_byte_fault(input, N) {
+            Some(fault) => Err(fault),
+            None => {
+                let (raw, rest) = input.split_first_chunk::<N>().unwrap();
+                Ok((Self::from_utf8_unchecked(*raw), rest))
+            }
+        }
+    }
+}
+
+impl<const N: usize> UnvalidatedTinyAsciiStr<N> {
+    /// The string value of the text, where the bytes are one and then NULs. They are tested before
+    /// memory is asked for.
+    pub fn to_json(&self, alloc: Global) -> Result<Value, FormWriteError>
+        ensures padded { IfOk result (λ _. IsPaddedText self.now N) }
+        ensures value { IfOk result (λ value. view value ≡ json_form (text_of self.now)) }
+        ensures fault { IfErr result (λ e. RefusesWrite e self.now N) }
+    {
+        let text = self
+            .try_into_tinystr()
+            .map_err(|_| FormWriteError::NotAscii)?;
+        text.to_json(alloc).map_err(FormWriteError::Memory)
+    }
+
+    /// The text of a string value, and then NULs.
+    pub fn from_json(value: &Value) -> Result<Self, JsonReadError>
+        ensures accepted { IsOk result
+            ↔ IsSomeAnd (as_str (view value.now)) (λ t. IsStrictText t N) }
+        ensures bytes { IfOk result
+            (λ bytes. IsSomeAnd (as_str (view value.now)) (λ t. bytes ≡ pad t N)) }
+        ensures fault { IfErr result (λ e. RefusesJson e (view value.now) N) }
+    {
+        Ok(TinyAsciiStr::from_json(value)?.to_unvalidated())
+    }
+
+    /// The bytes, where they are a text and then NULs: not all that `read_bytes` gives can be written
+    /// again. Never answers `Memory`.
+    pub fn to_bytes(&self) -> Result<[u8; N], FormWriteError>
+        ensures accepted { IsOk result ↔ IsPaddedText self.now N }
+        ensures bytes { IfOk result (λ bytes. bytes ≡ self.now) }
+        ensures fault { IfErr result (λ e. e ≡ FormWriteError.NotAscii) }
+    {
+        match self.try_into_tinystr() {
+            Ok(text) => Ok(text.to_bytes()),
+            Err(_) => Err(FormWriteError::NotAscii),
+        }
+    }
+
+    /// Any first `N` bytes, and the bytes behind them as a part of the input. Refuses by `Length`
+    /// alone.
+    pub fn read_bytes(input: &[u8]) -> Result<(Self, &[u8]), BytesReadError>
+        ensures accepted { IsOk result ↔ (N ≤ length input.now) }
+        ensures bytes { IfOk result (λ read. read.0 ≡ take N input.now) }
+        ensures rest { IfOk result (λ read. read.1.now ≡ drop N input.now) }
+        ensures fault { IfErr result (λ e. e ≡ BytesReadError.Length N) }
+    {
+        match input.split_first_chunk::<N>() {
+            Some((raw, rest)) => Ok((Self::from_utf8_unchecked(*raw), rest)),
+            None => Err(BytesReadError::Length { expected: N }),
+        }
+    }
+}
+
+// The fault at the first of `expected` positions that has one.
+#[tactic(auto, using(tinystr_words::proofs::ByteForms::byte_pass))]
+fn find_byte_fault(input: &[u8], expected: usize) -> Option<BytesReadError>
+    ensures { option_map byte_fault_of result ≡ byte_fault expected input.now }
+{
+    let mut is_after_null = false;
+    for byte in &input[..expected.min(input.len())] {
+        if is_after_null && *byte != 0 {
+            return Some(BytesReadError::Null);
+        }
+        if *byte > 127 {
+            return Some(BytesReadError::NonAscii);
+        }
+        is_after_null |= *byte == 0;
+    }
+    if input.len() < expected {
+        return Some(BytesReadError::Length { expected });
+    }
+    None
+}
+
+#[cfg(test)]
+mod tests;

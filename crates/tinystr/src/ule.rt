@@ -1,0 +1,70 @@
+//! Packed records: padded texts of `N` bytes, one behind another, which are checked once and then
+//! read in place.
+
+ghost use Rattle.std.specs.Prelude.{◌≡◌, ◌≢◌, ◌<◌, ◌%◌, ◌↔◌, length, replicate, IsOk, IfErr, IsErrOf};
+ghost use Rattle.tinystr_words.specs.Packed.{IsPacked};
+ghost use Rattle.tinystr.specs.Records.{RefusesRecords};
+
+use crate::ascii::TinyAsciiStr;
+use crate::error::ParseError;
+use crate::reading::find_fault;
+use crate::unvalidated::UnvalidatedTinyAsciiStr;
+
+/// Why bytes are no packed records.
+#[derive(Clone, Copy, Debug, PartialEq, Eq)]
+pub enum UleError {
+    /// The number of bytes, `len`, isn't divisible by the size of a record.
+    Length { len: usize },
+    /// Record `index`, counted from 0, is the first that is no padded text, and has this fault.
+    Parse { index: usize, fault: ParseError },
+}
+
+impl<const N: usize> TinyAsciiStr<N> {
+    /// Whether the bytes are packed records of `N` bytes.
+    #[tactic(auto, using(tinystr_words::proofs::Packing::packing))]
+    pub fn validate_bytes(bytes: &[u8]) -> Result<(), UleError>
+        requires { 0 < N }
+        ensures accepted { IsOk result ↔ IsPacked bytes.now N }
+        ensures length { IsErrOf result (UleError.Length (length bytes.now))
+            ↔ (length bytes.now % N ≢ 0) }
+        ensures fault { IfErr result (λ e. RefusesRecords e bytes.now N) }
+    {
+        UnvalidatedTinyAsciiStr::<N>::validate_bytes(bytes)?;
+        let mut rest = bytes;
+        let mut index = 0;
+        while rest.len() >= N {
+            let (record, more) = rest.split_at(N);
+            if let Some(fault) = find_fault(record) {
+                return Err(UleError::Parse { index, fault });
+            }
+            rest = more;
+            index += 1;
+        }
+        Ok(())
+    }
+
+    /// Bytes that no value has, for `N` above 0.
+    pub fn niche_bit_pattern() -> [u8; N]
+        ensures { result ≡ replicate N 255 }
+    {
+        [255; N]
+    }
+}
+
+impl<const N: usize> UnvalidatedTinyAsciiStr<N> {
+    /// Whether the bytes are records of `N` bytes, whatever these are.
+    pub fn validate_bytes(bytes: &[u8]) -> Result<(), UleError>
+        requires { 0 < N }
+        ensures accepted { IsOk result ↔ (length bytes.now % N ≡ 0) }
+        ensures fault { IfErr result (λ e. e ≡ UleError.Length (length bytes.now)) }
+    {
+        let len = bytes.len();
+        if len % N != 0 {
+            return Err(UleError::Length { len });
+        }
+        Ok(())
+    }
+}
+
+#[cfg(test)]
+mod tests;

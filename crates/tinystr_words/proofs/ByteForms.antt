@@ -1,0 +1,119 @@
+-- The fault of the byte form, position by position, and the padded texts that have none.
+use Rattle.std.proofs.Common.{◌≡◌, ℕ, zero, suc, ◌+◌, ◌<◌, ◌≤◌, ◌==◌, ◌&&◌, ◌||◌, Bool, true, false, not, if◌then◌else◌, nat_lt, nat_le, List, ◌++◌, length, get_or, take, Option, Some, None, refl, sym, ◌∙◌, arith, inl, inr}
+use Rattle.std.specs.Option.{is_some, option_and_then}
+use Rattle.std.specs.List.{find, range_with_len}
+use Rattle.std.proofs.lemmas.Bool.{cases_lt}
+use Rattle.std.proofs.lemmas.Bool.Decides.{nat_tests}
+use Rattle.std.proofs.lemmas.List.{get_or-take, take-take, take_at, length-take-le, length-append}
+use Rattle.tinystr_words.specs.Text.{IsStrictText, IsPaddedText, pad}
+use Rattle.tinystr_words.specs.Reading.{is_after_null, is_faulty}
+use Rattle.tinystr_words.specs.ByteForm.{ByteFault, byte_fault_at, byte_fault}
+use Rattle.tinystr_words.specs.ByteForm.ByteFault.{too_short, null, non_ascii}
+use Rattle.tinystr_words.proofs.Texts.{IsPaddedText-pad, length-pad}
+use Rattle.tinystr_words.proofs.Readers.{IsScanned, find_none, find_first, first_fault-clean, clean_from, first_fault-padded, IsPaddedText-clean}
+
+-- ---- the least position with a fault
+
+has_fault : ℕ → List ℕ → ℕ → Bool
+has_fault n input i = is_some (byte_fault_at n input i)
+
+byte_fault-none : (n : ℕ) (input : List ℕ) → ((k : ℕ) → k < n → byte_fault_at n input k ≡ None) → byte_fault n input ≡ None
+unfolding byte_fault has_fault
+byte_fault-none n input none =
+    rw (find_none (has_fault n input) 0 n (λ k from below. rw (none k (omega arith)) refl)) refl
+
+byte_fault-first : (n : ℕ) (input : List ℕ) (i : ℕ) (fault : ByteFault) → i < n → byte_fault_at n input i ≡ Some fault → ((k : ℕ) → k < i → byte_fault_at n input k ≡ None) → byte_fault n input ≡ Some fault
+unfolding byte_fault has_fault
+byte_fault-first n input i fault below here before =
+    rw (find_first (has_fault n input) 0 n i (omega arith) (omega arith) (rw here refl) (λ k from earlier. rw (before k earlier) refl)) here
+
+none_from : (f : ℕ → Option ByteFault) (a n : ℕ) → option_and_then f (find (λ i. is_some (f i)) (range_with_len a n)) ≡ None → (k : ℕ) → a ≤ k → k < a + n → f k ≡ None
+none_from f a zero none k from inside = absurd (omega arith)
+none_from f a (suc n) none k from inside =
+    elim (f a) as (λ o. f a ≡ o → f k ≡ None) [
+      | Some fault ↦ λ e. let found : f a ≡ None = rw e at none in cc
+      | None ↦ λ e. elim (cases_lt a k) [
+        | inl later ↦ none_from f (a + 1) n (rw e at none) k (omega arith) (omega arith)
+        | inr here ↦ (let same : k ≡ a = omega arith in rw same e)
+      ]
+    ] refl
+
+byte_fault-none_at : (n : ℕ) (input : List ℕ) → byte_fault n input ≡ None → (k : ℕ) → k < n → byte_fault_at n input k ≡ None
+unfolding byte_fault
+byte_fault-none_at n input none k below = none_from (byte_fault_at n input) 0 n none k (omega arith) (omega arith)
+
+-- ---- the tests at a position
+
+at_end : (n : ℕ) (input : List ℕ) → byte_fault_at n input (length input) ≡ Some (too_short n)
+at_end n input = grind (arith, nat_tests)
+
+at_null : (n : ℕ) (input : List ℕ) (i : ℕ) → i < length input → is_after_null input i ≡ true → 0 < get_or input i 0 → byte_fault_at n input i ≡ Some null
+at_null n input i inside after some =
+    let no : (get_or input i 0 == 0) ≡ false = grind (arith, nat_tests) in
+    let not_ended : nat_le (length input) i ≡ false = grind (arith, nat_tests) in
+    rw (not_ended, after, no) refl
+
+at_high : (n : ℕ) (input : List ℕ) (i : ℕ) → i < length input → is_after_null input i ≡ false → 127 < get_or input i 0 → byte_fault_at n input i ≡ Some non_ascii
+at_high n input i inside after high =
+    let above : nat_lt 127 (get_or input i 0) ≡ true = grind (arith, nat_tests) in
+    let not_ended : nat_le (length input) i ≡ false = grind (arith, nat_tests) in
+    rw (not_ended, after, above) refl
+
+at_clean : (n : ℕ) (input : List ℕ) (i : ℕ) → i < length input → is_faulty input i ≡ false → byte_fault_at n input i ≡ None
+at_clean n input i inside clean =
+    let not_ended : nat_le (length input) i ≡ false = grind (arith, nat_tests) in
+    rw not_ended (grind (arith, nat_tests))
+
+clean_at : (n : ℕ) (input : List ℕ) (i : ℕ) → byte_fault_at n input i ≡ None → (i < length input) × (is_faulty input i ≡ false)
+clean_at n input i none = (grind (arith, nat_tests), grind (arith, nat_tests))
+
+-- ---- the fault that a pass finds
+
+pub byte_fault-short : (n : ℕ) (input : List ℕ) (i : ℕ) (seen : Bool) → IsScanned input i seen → i ≡ length input → i < n → byte_fault n input ≡ Some (too_short n)
+byte_fault-short n input i seen h end short =
+    byte_fault-first n input i (too_short n) short (rw end (at_end n input)) (λ k before. at_clean n input k (omega arith) (h.clean k before))
+
+pub byte_fault-null : (n : ℕ) (input : List ℕ) (i : ℕ) (seen : Bool) → IsScanned input i seen → seen ≡ true → i < length input → i < n → 0 < get_or input i 0 → byte_fault n input ≡ Some null
+byte_fault-null n input i seen h after inside below some =
+    byte_fault-first n input i null below (at_null n input i inside (sym h.null ∙ after) some) (λ k before. at_clean n input k (omega arith) (h.clean k before))
+
+pub byte_fault-high : (n : ℕ) (input : List ℕ) (i : ℕ) (seen : Bool) → IsScanned input i seen → seen ≡ false → i < length input → i < n → 127 < get_or input i 0 → byte_fault n input ≡ Some non_ascii
+byte_fault-high n input i seen h before inside below high =
+    byte_fault-first n input i non_ascii below (at_high n input i inside (sym h.null ∙ before) high) (λ k before. at_clean n input k (omega arith) (h.clean k before))
+
+pub byte_fault-whole : (n : ℕ) (input : List ℕ) (i : ℕ) (seen : Bool) → IsScanned input i seen → i ≡ n → n ≤ length input → byte_fault n input ≡ None
+byte_fault-whole n input i seen h end enough = byte_fault-none n input (λ k below. at_clean n input k (omega arith) (h.clean k (omega arith)))
+
+-- ---- bytes with no fault begin with a padded text
+
+is_faulty-take : (n : ℕ) (input : List ℕ) (k : ℕ) → k < n → is_faulty (take n input) k ≡ is_faulty input k
+is_faulty-take n input k below = rw (get_or-take n input k 0 below, take-take k n input (omega arith)) refl
+
+pub enough_from : (n : ℕ) (input : List ℕ) → byte_fault n input ≡ None → n ≤ length input
+enough_from n input none =
+    elim (cases_lt (length input) n) [
+      | inl short ↦ absurd (let inside = (clean_at n input (length input) (byte_fault-none_at n input none (length input) short)).0 in omega arith)
+      | inr enough ↦ enough
+    ]
+
+pub IsPaddedText-read : (n : ℕ) (input : List ℕ) → byte_fault n input ≡ None → IsPaddedText (take n input) n
+IsPaddedText-read n input none =
+    let long = length-take-le n input (enough_from n input none) in
+    IsPaddedText-clean (take n input) n long
+    (first_fault-clean (take n input) (λ k inside.
+    is_faulty-take n input k (omega arith) ∙ (clean_at n input k (byte_fault-none_at n input none k (omega arith))).1))
+
+pub byte_fault-padded : (t rest : List ℕ) (n : ℕ) → IsStrictText t n → byte_fault n (pad t n ++ rest) ≡ None
+byte_fault-padded t rest n h =
+    let long = length-pad t n h.fits in
+    let first = take_at (pad t n) rest n long in
+    byte_fault-none n (pad t n ++ rest) (λ k below.
+    at_clean n (pad t n ++ rest) k (omega (arith, length-append (pad t n) rest))
+    (sym (is_faulty-take n (pad t n ++ rest) k below) ∙ rw first
+    (clean_from (pad t n) (first_fault-padded (pad t n) n (IsPaddedText-pad t n h)) k (omega arith))))
+
+-- a pass over the first n bytes
+pub ruleset byte_pass = (byte_fault-short, byte_fault-null, byte_fault-high, byte_fault-whole, get_or-take, length-take-le)
+
+-- what the reader takes of bytes with no fault
+pub ruleset byte_reading = (enough_from, IsPaddedText-read)

@@ -1,0 +1,110 @@
+-- Packed records, one by one.
+use Rattle.std.proofs.Common.{◌≡◌, ℕ, suc, zero, ◌<◌, ◌≤◌, ◌+◌, ◌*◌, ◌%◌, List, [], ◌∷◌, ◌++◌, length, take, drop, Some, None, refl, ap₂, sym, ◌∙◌, arith, below_more}
+use Rattle.std.specs.List.{All, flat_map}
+use Rattle.std.proofs.Math.Nat.{mul-mod_left, suc-mul, zero-mul}
+use Rattle.std.proofs.Math.Seq.{drop-append-add}
+use Rattle.std.proofs.lemmas.Nat.{mod-mul-add}
+use Rattle.std.proofs.lemmas.List.{map-id, length-append, length-drop, length-take-le, drop-drop, take_at, take-append-drop}
+use Rattle.std.proofs.lemmas.List.Elements.{All-nil, All-cons, All-head, All-tail}
+use Rattle.tinystr_words.specs.Text.{IsStrictText, IsPaddedText, text_of, pad}
+use Rattle.tinystr_words.specs.Reading.{Fault, first_fault, fault_in}
+use Rattle.tinystr_words.specs.Packed.{IsPacked, record_at, IsFirstBad}
+use Rattle.tinystr_words.proofs.Texts.{IsPaddedText-pad, length-pad}
+use Rattle.tinystr_words.proofs.Readers.{IsPaddedText-clean, first_fault-padded, fault_in-fits}
+
+padded : ℕ → List ℕ → List ℕ
+padded n t = pad t n
+
+AllStrict : ℕ → List (List ℕ) → Type 0
+AllStrict n ts = All (λ t. IsStrictText t n) ts
+
+length-joined : (n : ℕ) (ts : List (List ℕ)) → AllStrict n ts → length (flat_map (padded n) ts) ≡ length ts * n
+unfolding padded AllStrict
+length-joined n [] h = sym (zero-mul n)
+length-joined n (t ∷ ts) h =
+    let strict = All-head (λ t. IsStrictText t n) t ts h in
+    omega (arith, length-append (pad t n) (flat_map (padded n) ts), length-pad t n strict.fits, length-joined n ts (All-tail (λ t. IsStrictText t n) t ts h), suc-mul (length ts) n)
+
+record_at-joined : (n : ℕ) (ts : List (List ℕ)) (i : ℕ) → AllStrict n ts → i < length ts → IsPaddedText (record_at n (flat_map (padded n) ts) i) n
+unfolding padded AllStrict
+record_at-joined n [] i h below = absurd (omega arith)
+record_at-joined n (t ∷ ts) zero h below =
+    let strict = All-head (λ t. IsStrictText t n) t ts h in
+    rw (zero-mul n, take_at (pad t n) (flat_map (padded n) ts) n (length-pad t n strict.fits)) (IsPaddedText-pad t n strict)
+record_at-joined n (t ∷ ts) (suc i) h below =
+    let strict = All-head (λ t. IsStrictText t n) t ts h in
+    let past : suc i * n ≡ length (pad t n) + i * n = omega (arith, suc-mul i n, length-pad t n strict.fits) in
+    rw (past, drop-append-add (pad t n) (flat_map (padded n) ts) (i * n)) (record_at-joined n ts i (All-tail (λ t. IsStrictText t n) t ts h) (omega arith))
+
+below_times : (i k n : ℕ) → i * n < k * n → i < k
+below_times i k n h = grind arith
+
+-- a packed list is records, each a padded text
+pub IsPacked-length : (bytes : List ℕ) (n : ℕ) → IsPacked bytes n → length bytes % n ≡ 0
+unfolding padded AllStrict
+IsPacked-length bytes n h = rw (h.joined, length-joined n h.texts h.each) (mul-mod_left (length h.texts) n)
+
+pub IsPacked-record : (bytes : List ℕ) (n i : ℕ) → IsPacked bytes n → i * n < length bytes → IsPaddedText (record_at n bytes i) n
+unfolding padded AllStrict
+IsPacked-record bytes n i h inside =
+    let long : length bytes ≡ length h.texts * n = rw h.joined (length-joined n h.texts h.each) in
+    rw h.joined (record_at-joined n h.texts i h.each (below_times i (length h.texts) n (omega arith)))
+
+-- and the other way round
+pub IsPacked-from_records : (bytes : List ℕ) (n k : ℕ) → length bytes ≡ k * n → ((i : ℕ) → i < k → IsPaddedText (record_at n bytes i) n) → IsPacked bytes n
+IsPacked-from_records [] n zero long good = record { texts = []; each = All-nil (λ t. IsStrictText t n); joined = refl }
+IsPacked-from_records (b ∷ bytes) n zero long good = absurd (omega (arith, zero-mul n))
+IsPacked-from_records bytes n (suc k) long good =
+    let first : IsPaddedText (take n bytes) n = rw zero-mul at (good 0 (omega arith)) in
+    let rest = IsPacked-from_records (drop n bytes) n k (omega (arith, length-drop n bytes, suc-mul k n)) (λ i below.
+    let more : suc i * n ≡ n + i * n = omega (arith, suc-mul i n) in
+    rw (drop-drop (i * n) n bytes, ← more) (good (suc i) (omega arith))) in
+    record {
+      texts = text_of (take n bytes) ∷ rest.texts;
+      each = All-cons (λ t. IsStrictText t n) (text_of (take n bytes)) rest.texts (record { text = first.text; fits = first.fits }) rest.each;
+      joined = sym (take-append-drop n bytes) ∙ ap₂ (λ (a b : List ℕ). a ++ b) first.padded rest.joined;
+    }
+
+-- ---- one pass over the records
+
+-- the first i records are padded texts, and `rest` stands behind them
+pub record IsChecked (bytes : List ℕ) (n i : ℕ) (rest : List ℕ) : Type 0 where
+  pub left : rest ≡ drop (i * n) bytes
+  pub seen : i * n + length rest ≡ length bytes
+  pub good : (k : ℕ) → k < i → IsPaddedText (record_at n bytes k) n
+
+pub IsChecked-none : (bytes : List ℕ) (n : ℕ) → IsChecked bytes n 0 bytes
+IsChecked-none bytes n = record { left = rw zero-mul refl; seen = omega (arith, zero-mul n); good = λ k h. absurd (omega arith) }
+
+-- the next record is a padded text
+pub IsChecked-more : (bytes rest more : List ℕ) (n i : ℕ) → IsChecked bytes n i rest → more ≡ drop n rest → n ≤ length rest → first_fault (take n rest) ≡ None → IsChecked bytes n (i + 1) more
+IsChecked-more bytes rest more n i h behind inside clean =
+    let next : (i + 1) * n ≡ i * n + n = omega arith in
+    record {
+      left = rw (next, ← drop-drop n (i * n) bytes, ← h.left) behind;
+      seen = rw behind (omega (arith, h.seen, length-drop n rest));
+      good = below_more _ _ h.good (rw (← h.left) (IsPaddedText-clean (take n rest) n (length-take-le n rest inside) clean));
+    }
+
+-- the next record is bad
+pub IsFirstBad-next : (bytes rest raw : List ℕ) (n i : ℕ) (fault : Fault) → IsChecked bytes n i rest → raw ≡ take n rest → length raw ≡ n → 0 < n → n ≤ length rest → first_fault raw ≡ Some fault → IsFirstBad bytes n i
+IsFirstBad-next bytes rest raw n i fault h first whole some inside found = record {
+  inside = omega (arith, h.seen);
+  bad = λ padded. (let none = first_fault-padded raw n (rw (← h.left, ← first) at padded) in cc);
+  before = h.good;
+}
+
+pub fault_in-next : (bytes rest raw : List ℕ) (n i : ℕ) (fault : Fault) → IsChecked bytes n i rest → raw ≡ take n rest → length raw ≡ n → first_fault raw ≡ Some fault → fault ≡ fault_in n (record_at n bytes i)
+fault_in-next bytes rest raw n i fault h first whole found =
+    rw (← h.left, ← first) (sym (rw found at (fault_in-fits n raw (omega arith))))
+
+-- no record is left
+pub IsPacked-checked : (bytes rest : List ℕ) (n i : ℕ) → IsChecked bytes n i rest → length bytes % n ≡ 0 → length rest < n → IsPacked bytes n
+IsPacked-checked bytes rest n i h whole short =
+    let none : length rest ≡ 0 = sym (mod-mul-add i n (length rest) short) ∙ rw h.seen whole in
+    IsPacked-from_records bytes n i (omega (arith, h.seen)) h.good
+
+pub IsFirstBad-unpacked : (bytes : List ℕ) (n i : ℕ) → IsFirstBad bytes n i → ¬ IsPacked bytes n
+IsFirstBad-unpacked bytes n i h packed = h.bad (IsPacked-record bytes n i packed h.inside)
+
+pub ruleset packing = (map-id, IsChecked-none, IsFirstBad-next, fault_in-next, IsPacked-checked, IsFirstBad-unpacked, IsPacked-length)

@@ -1,0 +1,20 @@
+-- Packed records: padded texts, one behind another.
+use Rattle.std.specs.Prelude.{◌≡◌, ℕ, ◌*◌, ◌<◌, List, length, take, drop, All}
+use Rattle.std.specs.List.{flat_map}
+use Rattle.tinystr_words.specs.Text.{IsStrictText, IsPaddedText, pad}
+
+-- the bytes are the padded forms of some texts of at most n bytes
+pub record IsPacked (bytes : List ℕ) (n : ℕ) : Type 0 where
+  pub texts : List (List ℕ)
+  pub each : All (λ t. IsStrictText t n) texts
+  pub joined : bytes ≡ flat_map (λ t. pad t n) texts
+
+-- the n bytes of record i
+abbrev pub record_at : ℕ → List ℕ → ℕ → List ℕ
+record_at n bytes i = take n (drop (i * n) bytes)
+
+-- record i is the first that is no padded text
+pub record IsFirstBad (bytes : List ℕ) (n i : ℕ) : Type 0 where
+  pub inside : i * n < length bytes
+  pub bad : ¬ IsPaddedText (record_at n bytes i) n
+  pub before : (k : ℕ) → k < i → IsPaddedText (record_at n bytes k) n
