@@ -1,0 +1,3 @@
+pub mod FoldLemmas
+pub mod CutLemmas
+pub mod CanonLemmas

@@ -1,0 +1,30 @@
+-- How an input is cut at its separators and read from the front.
+use Rattle.std.specs.Prelude.{ℕ, ◌==◌, Bool, ◌||◌, if◌then◌else◌, List, [], ◌∷◌, Option, None, Some, Result, Ok, Err}
+use Rattle.tinystr_words.specs.Case.{titlecase, uppercase}
+use Rattle.subtags.specs.declared.error.LangIdError.{LangIdError}
+use Rattle.subtags.specs.declared.error.LangIdError.TheVariants.{InvalidSubtag}
+use Rattle.subtags.specs.Grammar.{dash, low_line, folded, parts, is_script, is_region}
+
+abbrev pub is_separator : ℕ → Bool
+is_separator b = b == dash || b == low_line
+
+-- the parts of what stands behind a separator
+abbrev pub parts_behind : Option (List ℕ) → List (List ℕ)
+parts_behind None = []
+parts_behind (Some u) = parts (folded u)
+
+-- the first part, where it is a script
+abbrev pub leading_script : List (List ℕ) → Option (List ℕ)
+leading_script [] = None
+leading_script (p ∷ ps) = if is_script p then Some (titlecase p) else None
+
+-- the parts behind that script
+abbrev pub behind_script : List (List ℕ) → List (List ℕ)
+behind_script [] = []
+behind_script (p ∷ ps) = if is_script p then ps else p ∷ ps
+
+-- a region, or no part
+abbrev pub region_alone : List (List ℕ) → Result (Option (List ℕ)) LangIdError
+region_alone [] = Ok None
+region_alone (p ∷ []) = if is_region p then Ok (Some (uppercase p)) else Err InvalidSubtag
+region_alone (p ∷ q ∷ ps) = Err InvalidSubtag
