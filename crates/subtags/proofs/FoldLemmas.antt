@@ -8,10 +8,10 @@ use Rattle.tinystr_words.specs.Case.{lower, raise, lowercase, titlecase, upperca
 use Rattle.subtags.specs.Grammar.{dash, folded_byte, folded, is_language, is_script, is_region, canonical_part}
 use Rattle.subtags.specs.Parts.{IsCanonicalPart}
 
--- a change of bytes that another one takes back
-absorbed : (f g : ℕ → ℕ) → ((b : ℕ) → f (g b) ≡ f b) → (l : List ℕ) → map f (map g l) ≡ map f l
+-- a change that takes another one back
+pub absorbed : {X : Type 0} (f g : X → X) → ((x : X) → f (g x) ≡ f x) → (l : List X) → map f (map g l) ≡ map f l
 absorbed f g e [] = refl
-absorbed f g e (b ∷ l) = ap₂ (λ (x : ℕ) (y : List ℕ). x ∷ y) (e b) (absorbed f g e l)
+absorbed {X} f g e (x ∷ l) = ap₂ (λ (y : X) (k : List X). y ∷ k) (e x) (absorbed f g e l)
 
 -- two changes that agree on the bytes that pass a test
 same_where : (p : ℕ → Bool) (f g : ℕ → ℕ) → ((b : ℕ) → p b ≡ true → f b ≡ g b) → (l : List ℕ) → list_all p l ≡ true → map f l ≡ map g l

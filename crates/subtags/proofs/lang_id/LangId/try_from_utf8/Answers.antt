@@ -1,0 +1,55 @@
+use Rattle.std.proofs.Common.{◌≡◌, ◌∙◌, ap, rules, arith}
+use Rattle.std.proofs.lemmas.Grind.{common_steps}
+use Rattle.subtags.specs.Grammar.{canonical_text, is_language, folded}
+use Rattle.subtags.proofs.CanonLemmas.{IsCanonical-canonical_text, folded-canonical_text}
+use Rattle.subtags.proofs.ReadLemmas.{no_language, no_tail, all_read}
+use Rattle.subtags.proofs.lang_id.LangId.try_from_utf8.Goals as goal
+
+pub returns-in_err-language-clause-accepted : goal.returns-in_err-language-clause-accepted
+returns-in_err-language-clause-accepted c =
+    let refused = no_language c.args.code_units.now c.cut.result.0.now _ c.cut.ensures in
+    grind (arith, common_steps)
+
+pub returns-in_err-language-clause-refusal : goal.returns-in_err-language-clause-refusal
+returns-in_err-language-clause-refusal c =
+    let refused = no_language c.args.code_units.now c.cut.result.0.now _ c.cut.ensures in
+    grind (arith, common_steps)
+
+pub returns-in_err-region-clause-accepted : goal.returns-in_err-region-clause-accepted
+returns-in_err-region-clause-accepted c =
+    let refused = no_tail c.args.code_units.now c.cut.result.0.now _ c.in_err-region.field-0.0 c.cut.ensures in
+    grind (arith, common_steps)
+
+pub returns-in_err-region-clause-refusal : goal.returns-in_err-region-clause-refusal
+returns-in_err-region-clause-refusal c =
+    let refused = no_tail c.args.code_units.now c.cut.result.0.now _ c.in_err-region.field-0.0 c.cut.ensures in
+    grind (arith, common_steps)
+
+pub invariant_of-result : goal.invariant_of-result
+invariant_of-result c =
+    let u = c.args.code_units.now in
+    let read = all_read u c.cut.result.0.now _ c.in_ok-region.region c.cut.ensures (grind (arith, common_steps)) (grind (arith, common_steps)) in
+    let text : c.joined.result ≡ canonical_text u = grind (arith, common_steps) in
+    rw text (IsCanonical-canonical_text u read.0)
+
+pub returns-clause-accepted : goal.returns-clause-accepted
+returns-clause-accepted c =
+    let u = c.args.code_units.now in
+    let read = all_read u c.cut.result.0.now _ c.in_ok-region.region c.cut.ensures (grind (arith, common_steps)) (grind (arith, common_steps)) in
+    let text : c.joined.result ≡ canonical_text u = grind (arith, common_steps) in
+    (λ _. read.0, λ _. search rules)
+
+pub returns-clause-text : goal.returns-clause-text
+returns-clause-text c =
+    let u = c.args.code_units.now in
+    let read = all_read u c.cut.result.0.now _ c.in_ok-region.region c.cut.ensures (grind (arith, common_steps)) (grind (arith, common_steps)) in
+    let text : c.joined.result ≡ canonical_text u = grind (arith, common_steps) in
+    text
+
+pub returns-clause-fold : goal.returns-clause-fold
+returns-clause-fold c =
+    let u = c.args.code_units.now in
+    let read = all_read u c.cut.result.0.now _ c.in_ok-region.region c.cut.ensures (grind (arith, common_steps)) (grind (arith, common_steps)) in
+    let text : c.joined.result ≡ canonical_text u = grind (arith, common_steps) in
+    ap folded text ∙ folded-canonical_text u
+
