@@ -1,5 +1,5 @@
 -- Canonical texts and their parts.
-use Rattle.std.proofs.Common.{◌≡◌, ℕ, Bool, true, false, cond, ◌&&◌, ◌||◌, List, [], ◌∷◌, ◌++◌, map, Option, Some, None, Result, Ok, Err, refl, sym, ap, ◌∙◌, subst, arith, append-nil}
+use Rattle.std.proofs.Common.{◌≡◌, ℕ, Bool, true, false, cond, ◌&&◌, ◌||◌, ◌↔◌, List, [], ◌∷◌, ◌++◌, drop, map, Option, Some, None, Result, Ok, Err, refl, sym, ap, ◌∙◌, subst, arith, append-nil}
 use Rattle.std.specs.Bool.{IsTrue}
 use Rattle.std.specs.List.{list_all, find, join_with_byte}
 use Rattle.std.proofs.lemmas.List.{map-append}
@@ -9,9 +9,9 @@ use Rattle.std.proofs.lemmas.Bool.Decides.{nat_tests}
 use Rattle.tinystr_words.specs.Classes.{is_alphanumeric}
 use Rattle.tinystr_words.specs.Case.{lowercase, titlecase, uppercase}
 use Rattle.subtags.specs.declared.error.LangIdError.TheVariants.{InvalidSubtag}
-use Rattle.subtags.specs.Grammar.{dash, folded_byte, folded, parts, is_language, is_script, is_region, is_tail, starts_with_language, later, IsLangId, canonical_part, canonical_parts, canonical_text, IsCanonical}
-use Rattle.subtags.specs.Parts.{first, language_of, script_of, region_of, behind_dash, joined}
-use Rattle.subtags.specs.Cut.{is_separator, leading_script, behind_script, region_alone}
+use Rattle.subtags.specs.Grammar.{dash, folded_byte, folded, parts, is_language, is_script, is_region, is_tail, is_lang_id, IsLangId, canonical_part, canonical_parts, canonical_text, IsCanonical}
+use Rattle.subtags.specs.Parts.{first, language_of, script_of, region_of, dashed, joined}
+use Rattle.subtags.specs.Cut.{is_separator, leading_script, behind_script, last_region}
 use Rattle.subtags.proofs.FoldLemmas.{absorbed, folded_twice, folded-canonical_part, is_script_alike, is_region_alike, alphanumeric_alike, language_plain, script_plain, region_plain}
 use Rattle.subtags.proofs.CutLemmas.{parts-folded, parts_plain, parts_before}
 
@@ -57,7 +57,7 @@ canonical_plain p h =
       | false ↦ λ other. region_plain p (grind arith)
     ] refl
 
-accepted_parts : (ps : List (List ℕ)) → (starts_with_language ps && is_tail (later ps)) ≡ true → parts (join_with_byte dash (canonical_parts ps)) ≡ canonical_parts ps
+accepted_parts : (ps : List (List ℕ)) → is_lang_id ps ≡ true → parts (join_with_byte dash (canonical_parts ps)) ≡ canonical_parts ps
 accepted_parts [] h = absurd (grind arith)
 accepted_parts (l ∷ []) h = parts_plain l (language_plain l (grind arith))
 accepted_parts (l ∷ p ∷ []) h =
@@ -66,7 +66,7 @@ accepted_parts (l ∷ p ∷ []) h =
 accepted_parts (l ∷ s ∷ r ∷ []) h =
     parts_before l _ (language_plain l (grind arith))
     ∙ ap (λ qs. l ∷ qs) (parts_before (canonical_part s) (canonical_part r) (canonical_plain s (grind arith))
-        ∙ ap (λ qs. canonical_part s ∷ qs) (parts_plain (canonical_part r) (canonical_plain r (grind arith))))
+    ∙ ap (λ qs. canonical_part s ∷ qs) (parts_plain (canonical_part r) (canonical_plain r (grind arith))))
 accepted_parts (l ∷ s ∷ r ∷ p ∷ ps) h = absurd (grind arith)
 
 pub parts-canonical_text : (u : List ℕ) → IsLangId u → parts (canonical_text u) ≡ canonical_parts (parts (folded u))
@@ -79,7 +79,7 @@ script_read (p ∷ []) h = let kept = is_script-canonical_part p in grind arith
 script_read (s ∷ r ∷ []) h = let kept = is_script-canonical_part s in grind arith
 script_read (s ∷ r ∷ p ∷ ps) h = absurd (grind arith)
 
-pub region_read : (ps : List (List ℕ)) → is_tail ps ≡ true → region_alone (behind_script ps) ≡ Ok (find is_region (map canonical_part ps))
+pub region_read : (ps : List (List ℕ)) → is_tail ps ≡ true → last_region (behind_script ps) ≡ Ok (find is_region (map canonical_part ps))
 region_read [] h = refl
 region_read (p ∷ []) h =
     let kept = is_region-canonical_part p in
@@ -93,7 +93,7 @@ region_read (s ∷ r ∷ []) h =
     grind arith
 region_read (s ∷ r ∷ p ∷ ps) h = absurd (grind arith)
 
-pub tail_refused : (ps : List (List ℕ)) → is_tail ps ≡ false → region_alone (behind_script ps) ≡ Err InvalidSubtag
+pub tail_refused : (ps : List (List ℕ)) → is_tail ps ≡ false → last_region (behind_script ps) ≡ Err InvalidSubtag
 tail_refused [] h = absurd (grind arith)
 tail_refused (p ∷ []) h = grind arith
 tail_refused (s ∷ r ∷ []) h = grind arith
@@ -113,3 +113,19 @@ joined-parts l (s ∷ r ∷ []) h =
     let other = region_no_script s in
     grind (arith, common_steps)
 joined-parts l (s ∷ r ∷ p ∷ ps) h = absurd (grind arith)
+
+joined-canonical_parts : (ps : List (List ℕ)) → is_lang_id ps ≡ true → join_with_byte dash (canonical_parts ps) ≡ joined (first (canonical_parts ps)) (find is_script (drop 1 (canonical_parts ps))) (find is_region (drop 1 (canonical_parts ps)))
+joined-canonical_parts [] h = absurd (grind arith)
+joined-canonical_parts (l ∷ ps) h = joined-parts l (map canonical_part ps) (is_tail-canonical ps (grind arith))
+
+pub joined-IsCanonical : (t : List ℕ) → IsCanonical t → t ≡ joined (language_of t) (script_of t) (region_of t)
+joined-IsCanonical t h =
+    let found : parts t ≡ canonical_parts (parts (folded t)) = ap parts (sym h.canonical) ∙ parts-canonical_text t h.accepted in
+    sym h.canonical ∙ joined-canonical_parts (parts (folded t)) h.accepted ∙ rw found refl
+
+-- the fold and the canonical text give each other
+pub same_canonical_text : (u v : List ℕ) → (canonical_text u ≡ canonical_text v) ↔ (folded u ≡ folded v)
+same_canonical_text u v = (
+  λ e. sym (folded-canonical_text u) ∙ ap folded e ∙ folded-canonical_text v,
+  λ e. ap (λ w. join_with_byte dash (canonical_parts (parts w))) e,
+)

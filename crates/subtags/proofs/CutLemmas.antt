@@ -9,7 +9,7 @@ use Rattle.tinystr_words.specs.Classes.{is_alphanumeric}
 use Rattle.tinystr_words.specs.Case.{titlecase, uppercase}
 use Rattle.subtags.specs.declared.error.LangIdError.TheVariants.{InvalidSubtag}
 use Rattle.subtags.specs.Grammar.{dash, folded_byte, folded, parts, is_script, is_region}
-use Rattle.subtags.specs.Cut.{is_separator, leading_script, behind_script, region_alone}
+use Rattle.subtags.specs.Cut.{is_separator, leading_script, behind_script, last_region}
 use Rattle.subtags.proofs.FoldLemmas.{folded_twice, is_script_alike, is_region_alike, region_plain, titlecase-folded, uppercase-folded}
 
 onto_first-map : (f : ℕ → ℕ) (b : ℕ) (ps : List (List ℕ)) → onto_first (f b) (map (map f) ps) ≡ map (map f) (onto_first b ps)
@@ -65,17 +65,17 @@ no_script_first p ps qs e h =
     (rw e (rw also), rw e (rw also))
 
 -- a region is read whole
-not_alone : (r : List ℕ) (ps : List (List ℕ)) → join_with_byte dash ps ≡ folded r → 0 < length ps → is_region r ≡ false → region_alone ps ≡ Err InvalidSubtag
+not_alone : (r : List ℕ) (ps : List (List ℕ)) → join_with_byte dash ps ≡ folded r → 0 < length ps → is_region r ≡ false → last_region ps ≡ Err InvalidSubtag
 not_alone r [] e some h = absurd (omega arith)
 not_alone r (p ∷ []) e some h =
     let also : is_region p ≡ false = is_region_alike p r (ap folded e ∙ folded_twice r) ∙ h in
     rw also
 not_alone r (p ∷ q ∷ ps) e some h = refl
 
-pub no_region_alone : (r : List ℕ) → is_region r ≡ false → region_alone (parts (folded r)) ≡ Err InvalidSubtag
-no_region_alone r h = not_alone r (parts (folded r)) (join_with_byte-slice_split dash (folded r)) (omega (arith, length-slice_split (λ b. b == dash) (folded r))) h
+pub no_last_region : (r : List ℕ) → is_region r ≡ false → last_region (parts (folded r)) ≡ Err InvalidSubtag
+no_last_region r h = not_alone r (parts (folded r)) (join_with_byte-slice_split dash (folded r)) (omega (arith, length-slice_split (λ b. b == dash) (folded r))) h
 
-pub one_region_alone : (r : List ℕ) → is_region r ≡ true → region_alone (parts (folded r)) ≡ Ok (Some (uppercase r))
-one_region_alone r h =
+pub one_last_region : (r : List ℕ) → is_region r ≡ true → last_region (parts (folded r)) ≡ Ok (Some (uppercase r))
+one_last_region r h =
     let also : is_region (folded r) ≡ true = is_region_alike (folded r) r (folded_twice r) ∙ h in
     rw (parts_plain (folded r) (region_plain (folded r) also)) (rw also (ap (λ t. Ok (Some t)) (uppercase-folded r h)))

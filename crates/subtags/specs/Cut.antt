@@ -1,4 +1,4 @@
--- How an input is cut at its separators and read from the front.
+-- How an input is read from the front. Only private functions speak of it.
 use Rattle.std.specs.Prelude.{ℕ, ◌==◌, Bool, ◌||◌, if◌then◌else◌, List, [], ◌∷◌, Option, None, Some, Result, Ok, Err}
 use Rattle.tinystr_words.specs.Case.{titlecase, uppercase}
 use Rattle.subtags.specs.declared.error.LangIdError.{LangIdError}
@@ -23,8 +23,8 @@ abbrev pub behind_script : List (List ℕ) → List (List ℕ)
 behind_script [] = []
 behind_script (p ∷ ps) = if is_script p then ps else p ∷ ps
 
--- a region, or no part
-abbrev pub region_alone : List (List ℕ) → Result (Option (List ℕ)) LangIdError
-region_alone [] = Ok None
-region_alone (p ∷ []) = if is_region p then Ok (Some (uppercase p)) else Err InvalidSubtag
-region_alone (p ∷ q ∷ ps) = Err InvalidSubtag
+-- a region, or no part at all
+abbrev pub last_region : List (List ℕ) → Result (Option (List ℕ)) LangIdError
+last_region [] = Ok None
+last_region (p ∷ []) = if is_region p then Ok (Some (uppercase p)) else Err InvalidSubtag
+last_region (p ∷ q ∷ ps) = Err InvalidSubtag

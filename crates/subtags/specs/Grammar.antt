@@ -1,4 +1,4 @@
--- Language identifiers: a language, and then nothing, a script, a region, or a script and a region.
+-- Language identifiers, the fold that tells them apart, and their canonical texts.
 use Rattle.std.specs.Prelude.{◌≡◌, ℕ, ◌==◌, Bool, true, false, ◌&&◌, ◌||◌, if◌then◌else◌, IsTrue, List, [], ◌∷◌, length, map}
 use Rattle.std.specs.Int.{is_in_range}
 use Rattle.std.specs.List.{list_all, slice_split, join_with_byte}
@@ -20,7 +20,7 @@ folded_byte b = if b == low_line then dash else lower b
 abbrev pub folded : List ℕ → List ℕ
 folded u = map folded_byte u
 
--- the texts that dashes cut a text into
+-- what stands before, between and behind the dashes
 abbrev pub parts : List ℕ → List (List ℕ)
 parts u = slice_split (λ b. b == dash) u
 
@@ -36,39 +36,35 @@ is_script p = list_all is_alphabetic p && length p == 4
 abbrev pub is_region : List ℕ → Bool
 is_region p = (list_all is_alphabetic p && length p == 2) || (list_all is_digit p && length p == 3)
 
--- what may stand behind a language
+-- nothing, a script, a region, or a script and a region
 abbrev pub is_tail : List (List ℕ) → Bool
 is_tail [] = true
 is_tail (p ∷ []) = is_script p || is_region p
 is_tail (s ∷ r ∷ []) = is_script s && is_region r
 is_tail (s ∷ r ∷ p ∷ ps) = false
 
-abbrev pub starts_with_language : List (List ℕ) → Bool
-starts_with_language [] = false
-starts_with_language (l ∷ ps) = is_language l
-
--- the parts behind the first one
-abbrev pub later : List (List ℕ) → List (List ℕ)
-later [] = []
-later (l ∷ ps) = ps
+-- a language and such a tail
+abbrev pub is_lang_id : List (List ℕ) → Bool
+is_lang_id [] = false
+is_lang_id (l ∷ ps) = is_language l && is_tail ps
 
 -- a language identifier, in any case and with either separator
 abbrev pub IsLangId : List ℕ → Type 0
-IsLangId u = IsTrue (starts_with_language (parts (folded u)) && is_tail (later (parts (folded u))))
+IsLangId u = IsTrue (is_lang_id (parts (folded u)))
 
--- a part behind a language, in its canonical case
+-- a script in title case, a region in upper case
 abbrev pub canonical_part : List ℕ → List ℕ
 canonical_part p = if is_script p then titlecase p else uppercase p
 
+-- the language stays as it was folded
 abbrev pub canonical_parts : List (List ℕ) → List (List ℕ)
 canonical_parts [] = []
 canonical_parts (l ∷ ps) = l ∷ map canonical_part ps
 
--- the folded parts, a script in title case and a region in upper case, joined by dashes
 abbrev pub canonical_text : List ℕ → List ℕ
 canonical_text u = join_with_byte dash (canonical_parts (parts (folded u)))
 
--- the text of an identifier
+-- a text that is accepted, and is its own canonical text
 pub record IsCanonical (t : List ℕ) : Type 0 where
   pub accepted : IsLangId t
   pub canonical : canonical_text t ≡ t

@@ -1,20 +1,22 @@
 //! Language identifiers.
 
-ghost use Rattle.std.specs.Prelude.{◌≡◌, ◌+◌, ◌≤◌, ◌∷◌, ◌++◌, length, IsOk, IfOk, IfErr, ◌↔◌, position};
-ghost use Rattle.std.specs.Option.{option_copied};
-ghost use Rattle.subtags.specs.Grammar.{dash, folded, parts, IsLangId, IsCanonical, canonical_text};
+ghost use Rattle.std.specs.Prelude.{◌≡◌, ◌+◌, ◌≤◌, ◌∷◌, ◌++◌, length, Some, IsOk, IfOk, IfErr, ◌↔◌};
+ghost use Rattle.std.specs.Fmt.{debug_str};
+ghost use Rattle.subtags.specs.Grammar.{dash, folded, IsLangId, IsCanonical, canonical_text};
 ghost use Rattle.subtags.specs.Parts.{language_of, script_of, region_of, joined};
-ghost use Rattle.subtags.specs.Answers.{refusal_of};
-ghost use Rattle.subtags.specs.Cut.{is_separator, parts_behind, leading_script, behind_script, region_alone};
+ghost use Rattle.subtags.specs.Answers.{refusal_of, IsLangIdRead};
 
+use crate::cut::{cut, last_region, take_script};
 use crate::error::LangIdError;
 use crate::language::Language;
 use crate::region::Region;
 use crate::script::Script;
+use std::fmt;
 use std::marker::Model;
+use std::str::FromStr;
 use tinystr::{TinyAsciiStr, tinystr};
 
-/// A language identifier, kept as its canonical text.
+/// A language identifier, kept as its canonical text and compared by it.
 #[derive(Clone, Copy, PartialEq, Eq, PartialOrd, Ord, Hash)]
 pub struct LangId {
     text: TinyAsciiStr<17>,
@@ -33,67 +35,85 @@ impl Model for LangId {
     ghost inverse = { λ t. record { text = t } };
 }
 
-fn is_separator(byte: u8) -> bool
-    ensures { result ≡ is_separator byte }
-{
-    byte == b'-' || byte == b'_'
-}
+impl LangId {
+    /// Reads an identifier, in any case and with either separator.
+    pub fn try_from_utf8(code_units: &[u8]) -> Result<Self, LangIdError>
+        ensures accepted { IsOk result ↔ IsLangId code_units.now }
+        ensures text { IfOk result (λ id. id ≡ canonical_text code_units.now) }
+        ensures fold { IfOk result (λ id. folded id ≡ folded code_units.now) }
+        ensures refusal { IfErr result (λ e. e ≡ refusal_of code_units.now) }
+    {
+        let (first, rest) = cut(code_units);
+        let language = Language::try_from_utf8(first).ok_or(LangIdError::InvalidLanguage)?;
+        let (script, rest) = take_script(rest);
+        let region = last_region(rest)?;
+        Ok(LangId {
+            text: joined(language, script, region),
+        })
+    }
 
-fn separator_at(units: &[u8]) -> Option<usize>
-    ensures { result ≡ position is_separator units.now }
-{
-    units.iter().position(|byte| is_separator(*byte))
-}
+    /// The canonical text, which is read back as this identifier.
+    pub fn to_text(&self) -> TinyAsciiStr<17>
+        ensures text { result ≡ self.now }
+        ensures canonical { IsCanonical self.now }
+    {
+        self.text
+    }
 
-// The part before the first separator, and what stands behind that separator.
-fn cut(units: &[u8]) -> (&[u8], Option<&[u8]>)
-    ensures { parts (folded units.now)
-        ≡ folded result.0.now ∷ parts_behind (option_copied result.1) }
-{
-    match separator_at(units) {
-        Some(at) => (&units[..at], Some(&units[at + 1..])),
-        None => (units, None),
+    /// The language, which each identifier has.
+    pub fn language(&self) -> Language
+        ensures { result ≡ language_of self.now }
+    {
+        let (first, _) = cut(self.text.as_utf8());
+        Language::try_from_utf8(first).unwrap()
+    }
+
+    /// The script, if the identifier has one.
+    pub fn script(&self) -> Option<Script>
+        ensures { result ≡ script_of self.now }
+    {
+        let (_, rest) = cut(self.text.as_utf8());
+        let (script, _) = take_script(rest);
+        script
+    }
+
+    /// The region, if the identifier has one.
+    pub fn region(&self) -> Option<Region>
+        ensures { result ≡ region_of self.now }
+    {
+        let (_, rest) = cut(self.text.as_utf8());
+        let (_, rest) = take_script(rest);
+        last_region(rest).unwrap()
     }
 }
 
-// Takes the first part off, where it is a script.
-fn take_script(rest: Option<&[u8]>) -> (Option<Script>, Option<&[u8]>)
-    ensures script { result.0 ≡ leading_script (parts_behind (option_copied rest.entry)) }
-    ensures rest { parts_behind (option_copied result.1)
-        ≡ behind_script (parts_behind (option_copied rest.entry)) }
-{
-    let Some(units) = rest else {
-        return (None, None);
-    };
-    let (first, behind) = cut(units);
-    match Script::try_from_utf8(first) {
-        Some(script) => (Some(script), behind),
-        None => (None, rest),
+impl FromStr for LangId {
+    type Err = LangIdError;
+
+    ghost from_str_gives = { IsLangIdRead };
+
+    fn from_str(s: &str) -> Result<Self, LangIdError> {
+        Self::try_from_utf8(s.as_bytes())
     }
 }
 
-// Reads what is left, which has to be nothing or a region.
-fn region_alone(rest: Option<&[u8]>) -> Result<Option<Region>, LangIdError>
-    ensures { result ≡ region_alone (parts_behind (option_copied rest.entry)) }
-{
-    let Some(units) = rest else {
-        return Ok(None);
-    };
-    match Region::try_from_utf8(units) {
-        Some(region) => Ok(Some(region)),
-        None => Err(LangIdError::InvalidSubtag),
+impl fmt::Display for LangId {
+    ghost output = { λ id. Some id };
+
+    fn fmt<W: fmt::Write>(&self, f: &mut fmt::Formatter<W>) -> fmt::Result {
+        fmt::Display::fmt(&self.text, f)
     }
 }
 
-// A text with a part behind it, after a dash.
-fn with_part<const M: usize>(text: TinyAsciiStr<17>, part: TinyAsciiStr<M>) -> TinyAsciiStr<17>
-    requires { length text + 1 + length part ≤ 17 }
-    ensures { result ≡ text ++ dash ∷ part.entry }
-{
-    let dash = tinystr!(1, "-").unwrap();
-    text.concat::<1, 17>(dash).concat(part)
+impl fmt::Debug for LangId {
+    ghost debug_output = { debug_str };
+
+    fn fmt<W: fmt::Write>(&self, f: &mut fmt::Formatter<W>) -> fmt::Result {
+        fmt::Debug::fmt(&self.text, f)
+    }
 }
 
+// The parts, joined by dashes.
 fn joined(language: Language, script: Option<Script>, region: Option<Region>) -> TinyAsciiStr<17>
     ensures { result ≡ joined language script region }
 {
@@ -107,51 +127,11 @@ fn joined(language: Language, script: Option<Script>, region: Option<Region>) ->
     text
 }
 
-impl LangId {
-    /// Reads an identifier, in any case and with either separator.
-    pub fn try_from_utf8(code_units: &[u8]) -> Result<LangId, LangIdError>
-        ensures accepted { IsOk result ↔ IsLangId code_units.now }
-        ensures text { IfOk result (λ id. id ≡ canonical_text code_units.now) }
-        ensures fold { IfOk result (λ id. folded id ≡ folded code_units.now) }
-        ensures refusal { IfErr result (λ e. e ≡ refusal_of code_units.now) }
-    {
-        let (language, rest) = cut(code_units);
-        let language = Language::try_from_utf8(language).ok_or(LangIdError::InvalidLanguage)?;
-        let (script, rest) = take_script(rest);
-        let region = region_alone(rest)?;
-        Ok(LangId {
-            text: joined(language, script, region),
-        })
-    }
-
-    /// The canonical text.
-    pub fn to_text(&self) -> TinyAsciiStr<17>
-        ensures text { result ≡ self.now }
-        ensures canonical { IsCanonical self.now }
-    {
-        self.text
-    }
-
-    pub fn language(&self) -> Language
-        ensures { result ≡ language_of self.now }
-    {
-        let (language, _) = cut(self.text.as_utf8());
-        Language::try_from_utf8(language).unwrap()
-    }
-
-    pub fn script(&self) -> Option<Script>
-        ensures { result ≡ script_of self.now }
-    {
-        let (_, rest) = cut(self.text.as_utf8());
-        let (script, _) = take_script(rest);
-        script
-    }
-
-    pub fn region(&self) -> Option<Region>
-        ensures { result ≡ region_of self.now }
-    {
-        let (_, rest) = cut(self.text.as_utf8());
-        let (_, rest) = take_script(rest);
-        region_alone(rest).unwrap()
-    }
+// The text with a dash and a part behind it.
+fn with_part<const M: usize>(text: TinyAsciiStr<17>, part: TinyAsciiStr<M>) -> TinyAsciiStr<17>
+    requires { length text + 1 + length part ≤ 17 }
+    ensures { result ≡ text ++ dash ∷ part.entry }
+{
+    let dash = tinystr!(1, "-").unwrap();
+    text.concat::<1, 17>(dash).concat(part)
 }

@@ -1,10 +1,14 @@
-//! Language identifiers.
+//! Language identifiers: a language, and behind it a script, a region, both or nothing, as `en`, `es-419` and
+//! `zh-Hant-TW`. They are read in any case, with `-` or `_` between the parts. A value is its canonical text and takes
+//! no memory. Nothing is looked up in a registry.
 #![tactic(auto)]
 
+mod cut;
 pub mod error;
 mod form;
 pub mod lang_id;
 pub mod language;
+pub mod laws;
 pub mod region;
 pub mod script;
 

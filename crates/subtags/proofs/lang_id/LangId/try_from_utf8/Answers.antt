@@ -52,4 +52,3 @@ returns-clause-fold c =
     let read = all_read u c.cut.result.0.now _ c.in_ok-region.region c.cut.ensures (grind (arith, common_steps)) (grind (arith, common_steps)) in
     let text : c.joined.result ≡ canonical_text u = grind (arith, common_steps) in
     ap folded text ∙ folded-canonical_text u
-

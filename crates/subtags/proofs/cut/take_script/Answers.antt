@@ -1,7 +1,7 @@
 use Rattle.std.proofs.Common.{sym, arith}
 use Rattle.std.proofs.lemmas.Grind.{common_steps}
 use Rattle.subtags.proofs.CutLemmas.{script_first, no_script_first}
-use Rattle.subtags.proofs.lang_id.take_script.Goals as goal
+use Rattle.subtags.proofs.cut.take_script.Goals as goal
 
 pub returns-in-Some-try_from_utf8-clause-script : goal.returns-in-Some-try_from_utf8-clause-script
 returns-in-Some-try_from_utf8-clause-script c =

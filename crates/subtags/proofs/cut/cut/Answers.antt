@@ -1,7 +1,7 @@
 use Rattle.std.proofs.Common.{sym}
 use Rattle.std.proofs.lemmas.List.{take_rest}
 use Rattle.subtags.proofs.CutLemmas.{parts_at, parts_whole}
-use Rattle.subtags.proofs.lang_id.cut.Goals as goal
+use Rattle.subtags.proofs.cut.cut.Goals as goal
 
 pub returns-in-Some : goal.returns-in-Some
 returns-in-Some c =
