@@ -1,17 +1,15 @@
 -- Canonical texts and their parts.
-use Rattle.std.proofs.Common.{◌≡◌, ℕ, Bool, true, false, cond, ◌&&◌, ◌||◌, ◌↔◌, List, [], ◌∷◌, ◌++◌, drop, map, Option, Some, None, Result, Ok, Err, refl, sym, ap, ◌∙◌, subst, arith, append-nil}
-use Rattle.std.specs.Bool.{IsTrue}
+use Rattle.std.proofs.Common.{◌≡◌, ℕ, true, false, ◌||◌, ◌↔◌, List, [], ◌∷◌, ◌++◌, drop, map, Ok, Err, refl, sym, ap, ◌∙◌, arith, append-nil}
 use Rattle.std.specs.List.{list_all, find, join_with_byte}
 use Rattle.std.proofs.lemmas.List.{map-append}
 use Rattle.std.proofs.lemmas.List.Splits.{join_with_byte-slice_split}
 use Rattle.std.proofs.lemmas.Grind.{common_steps}
 use Rattle.std.proofs.lemmas.Bool.Decides.{nat_tests}
 use Rattle.tinystr_words.specs.Classes.{is_alphanumeric}
-use Rattle.tinystr_words.specs.Case.{lowercase, titlecase, uppercase}
 use Rattle.subtags.specs.declared.error.LangIdError.TheVariants.{InvalidSubtag}
-use Rattle.subtags.specs.Grammar.{dash, folded_byte, folded, parts, is_language, is_script, is_region, is_tail, is_lang_id, IsLangId, canonical_part, canonical_parts, canonical_text, IsCanonical}
-use Rattle.subtags.specs.Parts.{first, language_of, script_of, region_of, dashed, joined}
-use Rattle.subtags.specs.Cut.{is_separator, leading_script, behind_script, last_region}
+use Rattle.subtags.specs.Grammar.{dash, folded_byte, folded, parts, is_script, is_region, is_tail, is_lang_id, IsLangId, canonical_part, canonical_parts, canonical_text, IsCanonical}
+use Rattle.subtags.specs.Parts.{first, language_of, script_of, region_of, joined}
+use Rattle.subtags.specs.Cut.{leading_script, behind_script, last_region}
 use Rattle.subtags.proofs.FoldLemmas.{absorbed, folded_twice, folded-canonical_part, is_script_alike, is_region_alike, alphanumeric_alike, language_plain, script_plain, region_plain}
 use Rattle.subtags.proofs.CutLemmas.{parts-folded, parts_plain, parts_before}
 

@@ -1,16 +1,15 @@
 -- Cutting.
-use Rattle.std.proofs.Common.{◌≡◌, ℕ, ◌+◌, ◌<◌, ◌≤◌, Bool, true, false, cond, ◌==◌, List, [], ◌∷◌, ◌++◌, map, length, take, drop, Option, Some, None, Result, Ok, Err, refl, sym, ap, ◌∙◌, arith}
+use Rattle.std.proofs.Common.{◌≡◌, ℕ, ◌+◌, ◌<◌, ◌≤◌, Bool, true, false, cond, ◌==◌, List, [], ◌∷◌, ◌++◌, map, length, take, drop, Some, None, Ok, Err, refl, sym, ap, ◌∙◌, arith}
 use Rattle.std.specs.List.{All, list_all, slice_split, onto_first, position, position_or_len, join_with_byte}
-use Rattle.std.proofs.lemmas.List.Elements.{All-nil, All-cons}
 use Rattle.std.proofs.lemmas.Bool.Decides.{nat_tests}
 use Rattle.std.proofs.lemmas.List.Splits.{slice_split_first, slice_split_none, slice_split_at, length-slice_split, join_with_byte-slice_split}
 use Rattle.std.proofs.lemmas.List.Sums.{fails_before_first}
 use Rattle.tinystr_words.specs.Classes.{is_alphanumeric}
 use Rattle.tinystr_words.specs.Case.{titlecase, uppercase}
 use Rattle.subtags.specs.declared.error.LangIdError.TheVariants.{InvalidSubtag}
-use Rattle.subtags.specs.Grammar.{dash, folded_byte, folded, parts, is_script, is_region}
-use Rattle.subtags.specs.Cut.{is_separator, leading_script, behind_script, last_region}
-use Rattle.subtags.proofs.FoldLemmas.{folded_twice, is_script_alike, is_region_alike, region_plain, titlecase-folded, uppercase-folded}
+use Rattle.subtags.specs.Grammar.{dash, is_separator, folded_byte, folded, parts, is_script, is_region}
+use Rattle.subtags.specs.Cut.{leading_script, behind_script, last_region}
+use Rattle.subtags.proofs.FoldLemmas.{all_from_test, folded_twice, is_script_alike, is_region_alike, region_plain, titlecase-folded, uppercase-folded}
 
 onto_first-map : (f : ℕ → ℕ) (b : ℕ) (ps : List (List ℕ)) → onto_first (f b) (map (map f) ps) ≡ map (map f) (onto_first b ps)
 onto_first-map f b [] = refl
@@ -43,8 +42,7 @@ parts_whole u h =
 
 -- letters and digits are one part
 whole : (p : List ℕ) → list_all is_alphanumeric p ≡ true → All (λ b. (b == dash) ≡ false) p
-whole [] h = All-nil (λ b. (b == dash) ≡ false)
-whole (b ∷ p) h = All-cons (λ x. (x == dash) ≡ false) b p (let plain : is_alphanumeric b ≡ true = grind arith in grind (arith, nat_tests)) (whole p (grind arith))
+whole p plain = all_from_test is_alphanumeric (λ b. (b == dash) ≡ false) (λ b a. grind (arith, nat_tests)) p plain
 
 pub parts_plain : (p : List ℕ) → list_all is_alphanumeric p ≡ true → parts p ≡ p ∷ []
 parts_plain p h = slice_split_none (λ b. b == dash) p (whole p h)

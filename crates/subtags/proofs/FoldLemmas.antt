@@ -1,11 +1,13 @@
 -- What folding and the case changes leave alone.
-use Rattle.std.proofs.Common.{◌≡◌, ℕ, Bool, true, false, cond, ◌==◌, ◌&&◌, ◌||◌, List, [], ◌∷◌, map, length, refl, sym, ap, ap₂, ◌∙◌, arith}
-use Rattle.std.specs.List.{list_all}
+use Rattle.std.proofs.Common.{◌≡◌, ℕ, Bool, true, false, cond, ◌&&◌, List, [], ◌∷◌, map, length, refl, sym, ap, ap₂, ◌∙◌, arith}
+use Rattle.std.specs.List.{All, list_all}
+use Rattle.std.proofs.lemmas.List.Elements.{All-nil, All-cons}
 use Rattle.std.proofs.lemmas.Bool.Decides.{nat_tests}
 use Rattle.std.proofs.lemmas.List.{length-map}
+use Rattle.tinystr_words.specs.Text.{IsText, IsTextByte, IsStrictText}
 use Rattle.tinystr_words.specs.Classes.{is_alphabetic, is_digit, is_alphanumeric}
 use Rattle.tinystr_words.specs.Case.{lower, raise, lowercase, titlecase, uppercase}
-use Rattle.subtags.specs.Grammar.{dash, folded_byte, folded, is_language, is_script, is_region, canonical_part}
+use Rattle.subtags.specs.Grammar.{folded_byte, folded, is_language, is_script, is_region, canonical_part}
 use Rattle.subtags.specs.Parts.{IsCanonicalPart}
 
 -- a change that takes another one back
@@ -83,20 +85,37 @@ pub alphanumeric_alike : (p q : List ℕ) → folded p ≡ folded q → list_all
 alphanumeric_alike p q alike = tests_alike is_alphanumeric (λ b. grind (arith, nat_tests)) p q alike
 
 -- the forms have letters and digits alone
+letters_plain : (p : List ℕ) → list_all is_alphabetic p ≡ true → list_all is_alphanumeric p ≡ true
+letters_plain p letters = weaker is_alphabetic is_alphanumeric (λ b a. grind arith) p letters
+
 pub language_plain : (p : List ℕ) → is_language p ≡ true → list_all is_alphanumeric p ≡ true
-language_plain p h = weaker is_alphabetic is_alphanumeric (λ b a. grind arith) p (grind arith)
+language_plain p h = letters_plain p (grind arith)
 
 pub script_plain : (p : List ℕ) → is_script p ≡ true → list_all is_alphanumeric p ≡ true
-script_plain p h = weaker is_alphabetic is_alphanumeric (λ b a. grind arith) p (grind arith)
+script_plain p h = letters_plain p (grind arith)
 
 pub region_plain : (p : List ℕ) → is_region p ≡ true → list_all is_alphanumeric p ≡ true
 region_plain p h =
     elim (list_all is_alphabetic p) as (λ b. list_all is_alphabetic p ≡ b → list_all is_alphanumeric p ≡ true) [
-      | true ↦ λ letters. weaker is_alphabetic is_alphanumeric (λ b a. grind arith) p letters
-      | false ↦ λ none. weaker is_digit is_alphanumeric (λ b a. grind arith) p (grind arith)
+      | true ↦ λ letters. letters_plain p letters
+      | false ↦ λ other. weaker is_digit is_alphanumeric (λ b a. grind arith) p (grind arith)
     ] refl
 
--- a part that is read before it is folded
+-- and are texts
+pub all_from_test : (t : ℕ → Bool) (P : ℕ → Type 0) → ((b : ℕ) → t b ≡ true → P b) → (p : List ℕ) → list_all t p ≡ true → All P p
+all_from_test t P e [] h = All-nil P
+all_from_test t P e (b ∷ p) h = All-cons P b p (e b (grind arith)) (all_from_test t P e p (grind arith))
+
+plain_text : (p : List ℕ) → list_all is_alphanumeric p ≡ true → IsText p
+plain_text p plain = all_from_test is_alphanumeric IsTextByte (λ b a. grind (arith, nat_tests)) p plain
+
+pub language_text : (p : List ℕ) → is_language p ≡ true → IsStrictText p 8
+language_text p h = record { text = plain_text p (language_plain p h); fits = grind (arith, nat_tests) }
+
+pub region_text : (p : List ℕ) → is_region p ≡ true → IsStrictText p 3
+region_text p h = record { text = plain_text p (region_plain p h); fits = grind (arith, nat_tests) }
+
+-- what a case change makes of a part, folded or not
 pub lowercase-folded : (p : List ℕ) → is_language p ≡ true → folded p ≡ lowercase p
 lowercase-folded p h = same_where is_alphanumeric folded_byte lower (λ b a. grind (arith, nat_tests)) p (language_plain p h)
 

@@ -1,10 +1,9 @@
 -- What an identifier is, once its first part l is cut off and its other parts ps are read from the front.
-use Rattle.std.proofs.Common.{◌≡◌, ℕ, Bool, true, false, cond, ◌&&◌, List, ◌∷◌, map, Option, Result, Ok, Err, refl, sym, ap, ◌∙◌, subst, arith}
-use Rattle.std.specs.Bool.{IsTrue}
+use Rattle.std.proofs.Common.{◌≡◌, ℕ, true, false, ◌&&◌, List, ◌∷◌, map, Option, Ok, Err, sym, ap, ◌∙◌, arith}
 use Rattle.std.specs.List.{find, join_with_byte}
 use Rattle.tinystr_words.specs.Case.{lowercase}
 use Rattle.subtags.specs.declared.error.LangIdError.{LangIdError}
-use Rattle.subtags.specs.declared.error.LangIdError.TheVariants.{InvalidLanguage, InvalidSubtag}
+use Rattle.subtags.specs.declared.error.LangIdError.TheVariants.{InvalidLanguage}
 use Rattle.subtags.specs.Grammar.{dash, folded, parts, is_language, is_script, is_region, is_tail, is_lang_id, IsLangId, canonical_part, canonical_parts, canonical_text, IsCanonical}
 use Rattle.subtags.specs.Parts.{first, language_of, script_of, region_of, joined}
 use Rattle.subtags.specs.Answers.{refusal_of}

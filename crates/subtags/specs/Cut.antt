@@ -1,12 +1,9 @@
 -- How an input is read from the front. Only private functions speak of it.
-use Rattle.std.specs.Prelude.{ℕ, ◌==◌, Bool, ◌||◌, if◌then◌else◌, List, [], ◌∷◌, Option, None, Some, Result, Ok, Err}
+use Rattle.std.specs.Prelude.{ℕ, if◌then◌else◌, List, [], ◌∷◌, Option, None, Some, Result, Ok, Err}
 use Rattle.tinystr_words.specs.Case.{titlecase, uppercase}
 use Rattle.subtags.specs.declared.error.LangIdError.{LangIdError}
 use Rattle.subtags.specs.declared.error.LangIdError.TheVariants.{InvalidSubtag}
-use Rattle.subtags.specs.Grammar.{dash, low_line, folded, parts, is_script, is_region}
-
-abbrev pub is_separator : ℕ → Bool
-is_separator b = b == dash || b == low_line
+use Rattle.subtags.specs.Grammar.{folded, parts, is_script, is_region}
 
 -- the parts of what stands behind a separator
 abbrev pub parts_behind : Option (List ℕ) → List (List ℕ)

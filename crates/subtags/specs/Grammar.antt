@@ -13,6 +13,9 @@ dash = 0x2D
 abbrev pub low_line : ℕ
 low_line = 0x5F
 
+abbrev pub is_separator : ℕ → Bool
+is_separator b = b == dash || b == low_line
+
 -- '-' for '_', and a letter in lower case
 abbrev pub folded_byte : ℕ → ℕ
 folded_byte b = if b == low_line then dash else lower b

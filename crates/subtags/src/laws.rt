@@ -4,12 +4,14 @@ ghost use Rattle.std.specs.Prelude.{◌≡◌, ℕ, List, Ok, map, IsTrue, ◌�
 ghost use Rattle.std.specs.List.{slice_split};
 ghost use Rattle.std.specs.Ordering.{nat_cmp};
 ghost use Rattle.std.specs.Cmp.Lexicographic.{slice_cmp};
-ghost use Rattle.subtags.specs.Grammar.{folded, parts, IsLangId, IsCanonical, canonical_text};
+ghost use Rattle.subtags.specs.Grammar.{is_separator, folded, parts, IsLangId, IsCanonical, canonical_text};
 ghost use Rattle.subtags.specs.Parts.{language_of, script_of, region_of, joined};
-ghost use Rattle.subtags.specs.Cut.{is_separator};
 
 use crate::error::LangIdError;
 use crate::lang_id::LangId;
+use crate::language::Language;
+use crate::region::Region;
+use crate::script::Script;
 use std::cmp::Ordering;
 
 /// To fold an input and then cut it at each dash is to cut it at each separator and then fold its parts.
@@ -40,16 +42,34 @@ pub fn read_back(id: &LangId) -> Result<LangId, LangIdError>
     LangId::try_from_utf8(id.to_text().as_utf8())
 }
 
-/// Identifiers are equal exactly if their texts are.
-pub fn equality(first: &LangId, second: &LangId) -> bool
-    ensures { IsTrue result ↔ (first.now ≡ second.now) }
+/// Identifiers are equal exactly if their texts are, and are ordered as their texts.
+pub fn identifier_order(id: &LangId, other: &LangId) -> (bool, Ordering)
+    ensures equal { IsTrue result.0 ↔ (id.now ≡ other.now) }
+    ensures order { result.1 ≡ slice_cmp nat_cmp id.now other.now }
 {
-    first == second
+    (id == other, id.cmp(other))
 }
 
-/// Identifiers are ordered as their texts are.
-pub fn order(first: &LangId, second: &LangId) -> Ordering
-    ensures { result ≡ slice_cmp nat_cmp first.now second.now }
+/// The same of languages.
+pub fn language_order(language: &Language, other: &Language) -> (bool, Ordering)
+    ensures equal { IsTrue result.0 ↔ (language.now ≡ other.now) }
+    ensures order { result.1 ≡ slice_cmp nat_cmp language.now other.now }
 {
-    first.cmp(second)
+    (language == other, language.cmp(other))
+}
+
+/// The same of scripts.
+pub fn script_order(script: &Script, other: &Script) -> (bool, Ordering)
+    ensures equal { IsTrue result.0 ↔ (script.now ≡ other.now) }
+    ensures order { result.1 ≡ slice_cmp nat_cmp script.now other.now }
+{
+    (script == other, script.cmp(other))
+}
+
+/// The same of regions.
+pub fn region_order(region: &Region, other: &Region) -> (bool, Ordering)
+    ensures equal { IsTrue result.0 ↔ (region.now ≡ other.now) }
+    ensures order { result.1 ≡ slice_cmp nat_cmp region.now other.now }
+{
+    (region == other, region.cmp(other))
 }

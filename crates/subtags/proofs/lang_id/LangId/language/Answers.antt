@@ -1,4 +1,4 @@
-use Rattle.std.proofs.Common.{◌≡◌, arith}
+use Rattle.std.proofs.Common.{arith}
 use Rattle.std.proofs.lemmas.Grind.{common_steps}
 use Rattle.subtags.proofs.ReadLemmas.{parts_read}
 use Rattle.subtags.proofs.lang_id.LangId.language.Goals as goal

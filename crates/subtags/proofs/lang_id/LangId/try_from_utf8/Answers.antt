@@ -1,6 +1,6 @@
 use Rattle.std.proofs.Common.{◌≡◌, ◌∙◌, ap, rules, arith}
 use Rattle.std.proofs.lemmas.Grind.{common_steps}
-use Rattle.subtags.specs.Grammar.{canonical_text, is_language, folded}
+use Rattle.subtags.specs.Grammar.{canonical_text, folded}
 use Rattle.subtags.proofs.CanonLemmas.{IsCanonical-canonical_text, folded-canonical_text}
 use Rattle.subtags.proofs.ReadLemmas.{no_language, no_tail, all_read}
 use Rattle.subtags.proofs.lang_id.LangId.try_from_utf8.Goals as goal
@@ -32,23 +32,14 @@ invariant_of-result c =
     let text : c.joined.result ≡ canonical_text u = grind (arith, common_steps) in
     rw text (IsCanonical-canonical_text u read.0)
 
-pub returns-clause-accepted : goal.returns-clause-accepted
-returns-clause-accepted c =
+pub returns : goal.returns
+returns c =
     let u = c.args.code_units.now in
     let read = all_read u c.cut.result.0.now _ c.in_ok-region.region c.cut.ensures (grind (arith, common_steps)) (grind (arith, common_steps)) in
     let text : c.joined.result ≡ canonical_text u = grind (arith, common_steps) in
-    (λ _. read.0, λ _. search rules)
-
-pub returns-clause-text : goal.returns-clause-text
-returns-clause-text c =
-    let u = c.args.code_units.now in
-    let read = all_read u c.cut.result.0.now _ c.in_ok-region.region c.cut.ensures (grind (arith, common_steps)) (grind (arith, common_steps)) in
-    let text : c.joined.result ≡ canonical_text u = grind (arith, common_steps) in
-    text
-
-pub returns-clause-fold : goal.returns-clause-fold
-returns-clause-fold c =
-    let u = c.args.code_units.now in
-    let read = all_read u c.cut.result.0.now _ c.in_ok-region.region c.cut.ensures (grind (arith, common_steps)) (grind (arith, common_steps)) in
-    let text : c.joined.result ≡ canonical_text u = grind (arith, common_steps) in
-    ap folded text ∙ folded-canonical_text u
+    record {
+      accepted = (λ _. read.0, λ _. search rules);
+      text = text;
+      fold = ap folded text ∙ folded-canonical_text u;
+      refusal = search rules;
+    }
