@@ -1,0 +1,129 @@
+-- Canonical texts and their parts.
+use Rattle.std.proofs.Common.{◌≡◌, ℕ, true, false, ◌||◌, ◌↔◌, List, [], ◌∷◌, ◌++◌, drop, map, Ok, Err, refl, sym, ap, ◌∙◌, arith, append-nil}
+use Rattle.std.specs.List.{list_all, find, join_with_byte}
+use Rattle.std.proofs.lemmas.List.{map-append}
+use Rattle.std.proofs.lemmas.List.Splits.{join_with_byte-slice_split}
+use Rattle.std.proofs.lemmas.Grind.{common_steps}
+use Rattle.std.proofs.lemmas.Bool.Decides.{nat_tests}
+use Rattle.tinystr_words.specs.Classes.{is_alphanumeric}
+use Rattle.subtags.specs.declared.error.LangIdError.TheVariants.{InvalidSubtag}
+use Rattle.subtags.specs.Grammar.{dash, folded_byte, folded, parts, is_script, is_region, is_tail, is_lang_id, IsLangId, canonical_part, canonical_parts, canonical_text, IsCanonical}
+use Rattle.subtags.specs.Parts.{first, language_of, script_of, region_of, joined}
+use Rattle.subtags.specs.Cut.{leading_script, behind_script, last_region}
+use Rattle.subtags.proofs.FoldLemmas.{absorbed, folded_twice, folded-canonical_part, is_script_alike, is_region_alike, alphanumeric_alike, language_plain, script_plain, region_plain}
+use Rattle.subtags.proofs.CutLemmas.{parts-folded, parts_plain, parts_before}
+
+folded-join : (ps : List (List ℕ)) → folded (join_with_byte dash ps) ≡ join_with_byte dash (map folded ps)
+folded-join [] = refl
+folded-join (p ∷ []) = refl
+folded-join (p ∷ q ∷ ps) =
+    map-append folded_byte p (dash ∷ join_with_byte dash (q ∷ ps)) ∙ ap (λ t. folded p ++ dash ∷ t) (folded-join (q ∷ ps))
+
+parts_folded_twice : (u : List ℕ) → map folded (parts (folded u)) ≡ parts (folded u)
+parts_folded_twice u = ap (map folded) (parts-folded u) ∙ absorbed folded folded folded_twice _ ∙ sym (parts-folded u)
+
+folded-canonical_parts : (ps : List (List ℕ)) → map folded (canonical_parts ps) ≡ map folded ps
+folded-canonical_parts [] = refl
+folded-canonical_parts (l ∷ ps) = ap (λ qs. folded l ∷ qs) (absorbed folded canonical_part folded-canonical_part ps)
+
+pub folded-canonical_text : (u : List ℕ) → folded (canonical_text u) ≡ folded u
+folded-canonical_text u =
+    folded-join (canonical_parts (parts (folded u)))
+    ∙ ap (join_with_byte dash) (folded-canonical_parts (parts (folded u)) ∙ parts_folded_twice u)
+    ∙ join_with_byte-slice_split dash (folded u)
+
+pub IsCanonical-canonical_text : (u : List ℕ) → IsLangId u → IsCanonical (canonical_text u)
+IsCanonical-canonical_text u h = record {
+  accepted = rw (folded-canonical_text u) h;
+  canonical = ap (λ w. join_with_byte dash (canonical_parts (parts w))) (folded-canonical_text u);
+}
+
+is_script-canonical_part : (p : List ℕ) → is_script (canonical_part p) ≡ is_script p
+is_script-canonical_part p = is_script_alike (canonical_part p) p (folded-canonical_part p)
+
+is_region-canonical_part : (p : List ℕ) → is_region (canonical_part p) ≡ is_region p
+is_region-canonical_part p = is_region_alike (canonical_part p) p (folded-canonical_part p)
+
+region_no_script : (p : List ℕ) → is_region p ≡ true → is_script p ≡ false
+region_no_script p h = grind (arith, nat_tests)
+
+canonical_plain : (p : List ℕ) → (is_script p || is_region p) ≡ true → list_all is_alphanumeric (canonical_part p) ≡ true
+canonical_plain p h =
+    alphanumeric_alike (canonical_part p) p (folded-canonical_part p)
+    ∙ elim (is_script p) as (λ b. is_script p ≡ b → list_all is_alphanumeric p ≡ true) [
+      | true ↦ λ script. script_plain p script
+      | false ↦ λ other. region_plain p (grind arith)
+    ] refl
+
+accepted_parts : (ps : List (List ℕ)) → is_lang_id ps ≡ true → parts (join_with_byte dash (canonical_parts ps)) ≡ canonical_parts ps
+accepted_parts [] h = absurd (grind arith)
+accepted_parts (l ∷ []) h = parts_plain l (language_plain l (grind arith))
+accepted_parts (l ∷ p ∷ []) h =
+    parts_before l (canonical_part p) (language_plain l (grind arith))
+    ∙ ap (λ qs. l ∷ qs) (parts_plain (canonical_part p) (canonical_plain p (grind arith)))
+accepted_parts (l ∷ s ∷ r ∷ []) h =
+    parts_before l _ (language_plain l (grind arith))
+    ∙ ap (λ qs. l ∷ qs) (parts_before (canonical_part s) (canonical_part r) (canonical_plain s (grind arith))
+    ∙ ap (λ qs. canonical_part s ∷ qs) (parts_plain (canonical_part r) (canonical_plain r (grind arith))))
+accepted_parts (l ∷ s ∷ r ∷ p ∷ ps) h = absurd (grind arith)
+
+pub parts-canonical_text : (u : List ℕ) → IsLangId u → parts (canonical_text u) ≡ canonical_parts (parts (folded u))
+parts-canonical_text u h = accepted_parts (parts (folded u)) h
+
+-- what is read from the front is what stands in the canonical text
+pub script_read : (ps : List (List ℕ)) → is_tail ps ≡ true → leading_script ps ≡ find is_script (map canonical_part ps)
+script_read [] h = refl
+script_read (p ∷ []) h = let kept = is_script-canonical_part p in grind arith
+script_read (s ∷ r ∷ []) h = let kept = is_script-canonical_part s in grind arith
+script_read (s ∷ r ∷ p ∷ ps) h = absurd (grind arith)
+
+pub region_read : (ps : List (List ℕ)) → is_tail ps ≡ true → last_region (behind_script ps) ≡ Ok (find is_region (map canonical_part ps))
+region_read [] h = refl
+region_read (p ∷ []) h =
+    let kept = is_region-canonical_part p in
+    let other = region_no_script p in
+    grind arith
+region_read (s ∷ r ∷ []) h =
+    let kept = is_region-canonical_part s in
+    let other = region_no_script s in
+    let kept' = is_region-canonical_part r in
+    let other' = region_no_script r in
+    grind arith
+region_read (s ∷ r ∷ p ∷ ps) h = absurd (grind arith)
+
+pub tail_refused : (ps : List (List ℕ)) → is_tail ps ≡ false → last_region (behind_script ps) ≡ Err InvalidSubtag
+tail_refused [] h = absurd (grind arith)
+tail_refused (p ∷ []) h = grind arith
+tail_refused (s ∷ r ∷ []) h = grind arith
+tail_refused (s ∷ r ∷ p ∷ ps) h = grind arith
+
+pub is_tail-canonical : (ps : List (List ℕ)) → is_tail ps ≡ true → is_tail (map canonical_part ps) ≡ true
+is_tail-canonical [] h = refl
+is_tail-canonical (p ∷ []) h = rw (is_script-canonical_part p, is_region-canonical_part p) h
+is_tail-canonical (s ∷ r ∷ []) h = rw (is_script-canonical_part s, is_region-canonical_part r) h
+is_tail-canonical (s ∷ r ∷ p ∷ ps) h = absurd (grind arith)
+
+-- the parts of an identifier, joined
+pub joined-parts : (l : List ℕ) (ps : List (List ℕ)) → is_tail ps ≡ true → join_with_byte dash (l ∷ ps) ≡ joined l (find is_script ps) (find is_region ps)
+joined-parts l [] h = sym (append-nil l)
+joined-parts l (p ∷ []) h = let other = region_no_script p in grind (arith, common_steps)
+joined-parts l (s ∷ r ∷ []) h =
+    let other = region_no_script s in
+    grind (arith, common_steps)
+joined-parts l (s ∷ r ∷ p ∷ ps) h = absurd (grind arith)
+
+joined-canonical_parts : (ps : List (List ℕ)) → is_lang_id ps ≡ true → join_with_byte dash (canonical_parts ps) ≡ joined (first (canonical_parts ps)) (find is_script (drop 1 (canonical_parts ps))) (find is_region (drop 1 (canonical_parts ps)))
+joined-canonical_parts [] h = absurd (grind arith)
+joined-canonical_parts (l ∷ ps) h = joined-parts l (map canonical_part ps) (is_tail-canonical ps (grind arith))
+
+pub joined-IsCanonical : (t : List ℕ) → IsCanonical t → t ≡ joined (language_of t) (script_of t) (region_of t)
+joined-IsCanonical t h =
+    let found : parts t ≡ canonical_parts (parts (folded t)) = ap parts (sym h.canonical) ∙ parts-canonical_text t h.accepted in
+    sym h.canonical ∙ joined-canonical_parts (parts (folded t)) h.accepted ∙ rw found refl
+
+-- the fold and the canonical text give each other
+pub same_canonical_text : (u v : List ℕ) → (canonical_text u ≡ canonical_text v) ↔ (folded u ≡ folded v)
+same_canonical_text u v = (
+  λ e. sym (folded-canonical_text u) ∙ ap folded e ∙ folded-canonical_text v,
+  λ e. ap (λ w. join_with_byte dash (canonical_parts (parts w))) e,
+)

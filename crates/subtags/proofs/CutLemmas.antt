@@ -1,0 +1,79 @@
+-- Cutting.
+use Rattle.std.proofs.Common.{◌≡◌, ℕ, ◌+◌, ◌<◌, ◌≤◌, Bool, true, false, cond, ◌==◌, List, [], ◌∷◌, ◌++◌, map, length, take, drop, Some, None, Ok, Err, refl, sym, ap, ◌∙◌, arith}
+use Rattle.std.specs.List.{All, list_all, slice_split, onto_first, position, position_or_len, join_with_byte}
+use Rattle.std.proofs.lemmas.Bool.Decides.{nat_tests}
+use Rattle.std.proofs.lemmas.List.Splits.{slice_split_first, slice_split_none, slice_split_at, length-slice_split, join_with_byte-slice_split}
+use Rattle.std.proofs.lemmas.List.Sums.{fails_before_first}
+use Rattle.tinystr_words.specs.Classes.{is_alphanumeric}
+use Rattle.tinystr_words.specs.Case.{titlecase, uppercase}
+use Rattle.subtags.specs.declared.error.LangIdError.TheVariants.{InvalidSubtag}
+use Rattle.subtags.specs.Grammar.{dash, is_separator, folded_byte, folded, parts, is_script, is_region}
+use Rattle.subtags.specs.Cut.{leading_script, behind_script, last_region}
+use Rattle.subtags.proofs.FoldLemmas.{all_from_test, folded_twice, is_script_alike, is_region_alike, region_plain, titlecase-folded, uppercase-folded}
+
+onto_first-map : (f : ℕ → ℕ) (b : ℕ) (ps : List (List ℕ)) → onto_first (f b) (map (map f) ps) ≡ map (map f) (onto_first b ps)
+onto_first-map f b [] = refl
+onto_first-map f b (p ∷ ps) = refl
+
+slice_split-map : (f : ℕ → ℕ) (p q : ℕ → Bool) → ((b : ℕ) → p (f b) ≡ q b) → (u : List ℕ) → slice_split p (map f u) ≡ map (map f) (slice_split q u)
+slice_split-map f p q e [] = refl
+slice_split-map f p q e (b ∷ u) =
+    rw e (elim (q b) as (λ v. cond v ([] ∷ slice_split p (map f u)) (onto_first (f b) (slice_split p (map f u))) ≡ map (map f) (cond v ([] ∷ slice_split q u) (onto_first b (slice_split q u)))) [
+      | true ↦ ap (λ l. [] ∷ l) (slice_split-map f p q e u)
+      | false ↦ ap (onto_first (f b)) (slice_split-map f p q e u) ∙ onto_first-map f b (slice_split q u)
+    ])
+
+-- folding and then cutting at each dash is cutting at each separator and then folding
+pub parts-folded : (u : List ℕ) → parts (folded u) ≡ map folded (slice_split is_separator u)
+parts-folded u = slice_split-map folded_byte (λ b. b == dash) is_separator (λ b. grind (arith, nat_tests)) u
+
+-- where the first separator stands at i
+pub parts_at : (u : List ℕ) (i : ℕ) → position is_separator u ≡ Some i → (i < length u) × (parts (folded u) ≡ folded (take i u) ∷ parts (folded (drop (i + 1) u)))
+parts_at u i h =
+    let at : (position_or_len is_separator u < length u) × (position_or_len is_separator u ≡ i) = grind (arith, nat_tests) in
+    let cut = rw at.1 at (slice_split_first is_separator u 0 at.0) in
+    (omega arith, parts-folded u ∙ ap (map folded) cut ∙ ap (λ ps. folded (take i u) ∷ ps) (sym (parts-folded (drop (i + 1) u))))
+
+-- where there is none
+pub parts_whole : (u : List ℕ) → position is_separator u ≡ None → parts (folded u) ≡ folded u ∷ []
+parts_whole u h =
+    let past : length u ≤ position_or_len is_separator u = grind (arith, nat_tests) in
+    parts-folded u ∙ ap (map folded) (slice_split_none is_separator u (λ k d lt. fails_before_first is_separator u k d (omega arith)))
+
+-- letters and digits are one part
+whole : (p : List ℕ) → list_all is_alphanumeric p ≡ true → All (λ b. (b == dash) ≡ false) p
+whole p plain = all_from_test is_alphanumeric (λ b. (b == dash) ≡ false) (λ b a. grind (arith, nat_tests)) p plain
+
+pub parts_plain : (p : List ℕ) → list_all is_alphanumeric p ≡ true → parts p ≡ p ∷ []
+parts_plain p h = slice_split_none (λ b. b == dash) p (whole p h)
+
+-- a part before a dash
+pub parts_before : (p u : List ℕ) → list_all is_alphanumeric p ≡ true → parts (p ++ dash ∷ u) ≡ p ∷ parts u
+parts_before p u h = slice_split_at (λ b. b == dash) p dash u (whole p h) refl
+
+-- the reading of a first part that is a script, or is none
+pub script_first : (p : List ℕ) (ps qs : List (List ℕ)) → qs ≡ folded p ∷ ps → is_script p ≡ true → (leading_script qs ≡ Some (titlecase p)) × (behind_script qs ≡ ps)
+script_first p ps qs e h =
+    let also : is_script (folded p) ≡ true = is_script_alike (folded p) p (folded_twice p) ∙ h in
+    (rw e (rw also (ap (λ t. Some t) (titlecase-folded p h))), rw e (rw also))
+
+pub no_script_first : (p : List ℕ) (ps qs : List (List ℕ)) → qs ≡ folded p ∷ ps → is_script p ≡ false → (leading_script qs ≡ None) × (behind_script qs ≡ qs)
+no_script_first p ps qs e h =
+    let also : is_script (folded p) ≡ false = is_script_alike (folded p) p (folded_twice p) ∙ h in
+    (rw e (rw also), rw e (rw also))
+
+-- a region is read whole
+not_alone : (r : List ℕ) (ps : List (List ℕ)) → join_with_byte dash ps ≡ folded r → 0 < length ps → is_region r ≡ false → last_region ps ≡ Err InvalidSubtag
+not_alone r [] e some h = absurd (omega arith)
+not_alone r (p ∷ []) e some h =
+    let also : is_region p ≡ false = is_region_alike p r (ap folded e ∙ folded_twice r) ∙ h in
+    rw also
+not_alone r (p ∷ q ∷ ps) e some h = refl
+
+pub no_last_region : (r : List ℕ) → is_region r ≡ false → last_region (parts (folded r)) ≡ Err InvalidSubtag
+no_last_region r h = not_alone r (parts (folded r)) (join_with_byte-slice_split dash (folded r)) (omega (arith, length-slice_split (λ b. b == dash) (folded r))) h
+
+pub one_last_region : (r : List ℕ) → is_region r ≡ true → last_region (parts (folded r)) ≡ Ok (Some (uppercase r))
+one_last_region r h =
+    let also : is_region (folded r) ≡ true = is_region_alike (folded r) r (folded_twice r) ∙ h in
+    rw (parts_plain (folded r) (region_plain (folded r) also)) (rw also (ap (λ t. Ok (Some t)) (uppercase-folded r h)))

@@ -1,0 +1,156 @@
+-- What folding and the case changes leave alone.
+use Rattle.std.proofs.Common.{◌≡◌, ℕ, Bool, true, false, cond, ◌&&◌, List, [], ◌∷◌, map, length, refl, sym, ap, ap₂, ◌∙◌, arith}
+use Rattle.std.specs.List.{All, list_all}
+use Rattle.std.proofs.lemmas.List.Elements.{All-nil, All-cons}
+use Rattle.std.proofs.lemmas.Bool.Decides.{nat_tests}
+use Rattle.std.proofs.lemmas.List.{length-map}
+use Rattle.tinystr_words.specs.Text.{IsText, IsTextByte, IsStrictText}
+use Rattle.tinystr_words.specs.Classes.{is_alphabetic, is_digit, is_alphanumeric}
+use Rattle.tinystr_words.specs.Case.{lower, raise, lowercase, titlecase, uppercase}
+use Rattle.subtags.specs.Grammar.{folded_byte, folded, is_language, is_script, is_region, canonical_part}
+use Rattle.subtags.specs.Parts.{IsCanonicalPart}
+
+-- a change that takes another one back
+pub absorbed : {X : Type 0} (f g : X → X) → ((x : X) → f (g x) ≡ f x) → (l : List X) → map f (map g l) ≡ map f l
+absorbed f g e [] = refl
+absorbed {X} f g e (x ∷ l) = ap₂ (λ (y : X) (k : List X). y ∷ k) (e x) (absorbed f g e l)
+
+-- two changes that agree on the bytes that pass a test
+same_where : (p : ℕ → Bool) (f g : ℕ → ℕ) → ((b : ℕ) → p b ≡ true → f b ≡ g b) → (l : List ℕ) → list_all p l ≡ true → map f l ≡ map g l
+same_where p f g e [] h = refl
+same_where p f g e (b ∷ l) h = ap₂ (λ (x : ℕ) (y : List ℕ). x ∷ y) (e b (grind arith)) (same_where p f g e l (grind arith))
+
+-- a change that takes another one back on such bytes
+absorbed_where : (p : ℕ → Bool) (f g : ℕ → ℕ) → ((b : ℕ) → p b ≡ true → f (g b) ≡ f b) → (l : List ℕ) → list_all p l ≡ true → map f (map g l) ≡ map f l
+absorbed_where p f g e [] h = refl
+absorbed_where p f g e (b ∷ l) h = ap₂ (λ (x : ℕ) (y : List ℕ). x ∷ y) (e b (grind arith)) (absorbed_where p f g e l (grind arith))
+
+same_tests : (p : ℕ → Bool) (f : ℕ → ℕ) → ((b : ℕ) → p (f b) ≡ p b) → (l : List ℕ) → list_all p (map f l) ≡ list_all p l
+same_tests p f e [] = refl
+same_tests p f e (b ∷ l) = ap₂ (λ (x y : Bool). x && y) (e b) (same_tests p f e l)
+
+weaker : (p q : ℕ → Bool) → ((b : ℕ) → p b ≡ true → q b ≡ true) → (l : List ℕ) → list_all p l ≡ true → list_all q l ≡ true
+weaker p q e [] h = refl
+weaker p q e (b ∷ l) h =
+    let rest = weaker p q e l (grind arith) in
+    let here = e b (grind arith) in
+    grind arith
+
+pub folded_twice : (u : List ℕ) → folded (folded u) ≡ folded u
+folded_twice u = absorbed folded_byte folded_byte (λ b. grind (arith, nat_tests)) u
+
+pub folded-lowercase : (t : List ℕ) → folded (lowercase t) ≡ folded t
+folded-lowercase t = absorbed folded_byte lower (λ b. grind (arith, nat_tests)) t
+
+folded_byte-raise : (b : ℕ) → folded_byte (raise b) ≡ folded_byte b
+folded_byte-raise b = grind (arith, nat_tests)
+
+pub folded-uppercase : (t : List ℕ) → folded (uppercase t) ≡ folded t
+folded-uppercase t = absorbed folded_byte raise folded_byte-raise t
+
+pub folded-titlecase : (t : List ℕ) → folded (titlecase t) ≡ folded t
+folded-titlecase [] = refl
+folded-titlecase (b ∷ t) = ap₂ (λ (x : ℕ) (y : List ℕ). x ∷ y) (folded_byte-raise b) (folded-lowercase t)
+
+pub folded-canonical_part : (p : List ℕ) → folded (canonical_part p) ≡ folded p
+folded-canonical_part p =
+    elim (is_script p) as (λ b. folded (cond b (titlecase p) (uppercase p)) ≡ folded p) [
+      | true ↦ folded-titlecase p
+      | false ↦ folded-uppercase p
+    ]
+
+-- texts that fold alike are of the same forms
+tests_alike : (t : ℕ → Bool) → ((b : ℕ) → t (folded_byte b) ≡ t b) → (p q : List ℕ) → folded p ≡ folded q → list_all t p ≡ list_all t q
+tests_alike t e p q alike = sym (same_tests t folded_byte e p) ∙ ap (list_all t) alike ∙ same_tests t folded_byte e q
+
+letters_alike : (p q : List ℕ) → folded p ≡ folded q → list_all is_alphabetic p ≡ list_all is_alphabetic q
+letters_alike p q alike = tests_alike is_alphabetic (λ b. grind (arith, nat_tests)) p q alike
+
+digits_alike : (p q : List ℕ) → folded p ≡ folded q → list_all is_digit p ≡ list_all is_digit q
+digits_alike p q alike = tests_alike is_digit (λ b. grind (arith, nat_tests)) p q alike
+
+length_alike : (p q : List ℕ) → folded p ≡ folded q → length p ≡ length q
+length_alike p q alike = sym (length-map p folded_byte) ∙ ap length alike ∙ length-map q folded_byte
+
+pub is_language_alike : (p q : List ℕ) → folded p ≡ folded q → is_language p ≡ is_language q
+is_language_alike p q alike = rw (letters_alike p q alike, length_alike p q alike)
+
+pub is_script_alike : (p q : List ℕ) → folded p ≡ folded q → is_script p ≡ is_script q
+is_script_alike p q alike = rw (letters_alike p q alike, length_alike p q alike)
+
+pub is_region_alike : (p q : List ℕ) → folded p ≡ folded q → is_region p ≡ is_region q
+is_region_alike p q alike = rw (letters_alike p q alike, digits_alike p q alike, length_alike p q alike)
+
+pub alphanumeric_alike : (p q : List ℕ) → folded p ≡ folded q → list_all is_alphanumeric p ≡ list_all is_alphanumeric q
+alphanumeric_alike p q alike = tests_alike is_alphanumeric (λ b. grind (arith, nat_tests)) p q alike
+
+-- the forms have letters and digits alone
+letters_plain : (p : List ℕ) → list_all is_alphabetic p ≡ true → list_all is_alphanumeric p ≡ true
+letters_plain p letters = weaker is_alphabetic is_alphanumeric (λ b a. grind arith) p letters
+
+pub language_plain : (p : List ℕ) → is_language p ≡ true → list_all is_alphanumeric p ≡ true
+language_plain p h = letters_plain p (grind arith)
+
+pub script_plain : (p : List ℕ) → is_script p ≡ true → list_all is_alphanumeric p ≡ true
+script_plain p h = letters_plain p (grind arith)
+
+pub region_plain : (p : List ℕ) → is_region p ≡ true → list_all is_alphanumeric p ≡ true
+region_plain p h =
+    elim (list_all is_alphabetic p) as (λ b. list_all is_alphabetic p ≡ b → list_all is_alphanumeric p ≡ true) [
+      | true ↦ λ letters. letters_plain p letters
+      | false ↦ λ other. weaker is_digit is_alphanumeric (λ b a. grind arith) p (grind arith)
+    ] refl
+
+-- and are texts
+pub all_from_test : (t : ℕ → Bool) (P : ℕ → Type 0) → ((b : ℕ) → t b ≡ true → P b) → (p : List ℕ) → list_all t p ≡ true → All P p
+all_from_test t P e [] h = All-nil P
+all_from_test t P e (b ∷ p) h = All-cons P b p (e b (grind arith)) (all_from_test t P e p (grind arith))
+
+plain_text : (p : List ℕ) → list_all is_alphanumeric p ≡ true → IsText p
+plain_text p plain = all_from_test is_alphanumeric IsTextByte (λ b a. grind (arith, nat_tests)) p plain
+
+pub language_text : (p : List ℕ) → is_language p ≡ true → IsStrictText p 8
+language_text p h = record { text = plain_text p (language_plain p h); fits = grind (arith, nat_tests) }
+
+pub region_text : (p : List ℕ) → is_region p ≡ true → IsStrictText p 3
+region_text p h = record { text = plain_text p (region_plain p h); fits = grind (arith, nat_tests) }
+
+-- what a case change makes of a part, folded or not
+pub lowercase-folded : (p : List ℕ) → is_language p ≡ true → folded p ≡ lowercase p
+lowercase-folded p h = same_where is_alphanumeric folded_byte lower (λ b a. grind (arith, nat_tests)) p (language_plain p h)
+
+raise-folded_byte : (b : ℕ) → is_alphanumeric b ≡ true → raise (folded_byte b) ≡ raise b
+raise-folded_byte b a = grind (arith, nat_tests)
+
+pub titlecase-folded : (p : List ℕ) → is_script p ≡ true → titlecase (folded p) ≡ titlecase p
+titlecase-folded [] h = refl
+titlecase-folded (b ∷ p) h =
+    let plain = script_plain (b ∷ p) h in
+    ap₂ (λ (x : ℕ) (y : List ℕ). x ∷ y) (raise-folded_byte b (grind arith))
+    (absorbed_where is_alphanumeric lower folded_byte (λ c a. grind (arith, nat_tests)) p (grind arith))
+
+pub uppercase-folded : (p : List ℕ) → is_region p ≡ true → uppercase (folded p) ≡ uppercase p
+uppercase-folded p h = absorbed_where is_alphanumeric raise folded_byte raise-folded_byte p (region_plain p h)
+
+-- what a change makes of a form is canonical
+pub canonical-lowercase : (p : List ℕ) → is_language p ≡ true → IsCanonicalPart is_language lowercase (lowercase p)
+canonical-lowercase p h = record {
+  form = is_language_alike (lowercase p) p (folded-lowercase p) ∙ h;
+  canonical = absorbed lower lower (λ b. grind (arith, nat_tests)) p;
+}
+
+titlecase_twice : (t : List ℕ) → titlecase (titlecase t) ≡ titlecase t
+titlecase_twice [] = refl
+titlecase_twice (b ∷ t) = ap₂ (λ (x : ℕ) (y : List ℕ). x ∷ y) (grind (arith, nat_tests)) (absorbed lower lower (λ c. grind (arith, nat_tests)) t)
+
+pub canonical-titlecase : (p : List ℕ) → is_script p ≡ true → IsCanonicalPart is_script titlecase (titlecase p)
+canonical-titlecase p h = record {
+  form = is_script_alike (titlecase p) p (folded-titlecase p) ∙ h;
+  canonical = titlecase_twice p;
+}
+
+pub canonical-uppercase : (p : List ℕ) → is_region p ≡ true → IsCanonicalPart is_region uppercase (uppercase p)
+canonical-uppercase p h = record {
+  form = is_region_alike (uppercase p) p (folded-uppercase p) ∙ h;
+  canonical = absorbed raise raise (λ b. grind (arith, nat_tests)) p;
+}

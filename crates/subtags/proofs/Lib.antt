@@ -1,0 +1,4 @@
+pub mod FoldLemmas
+pub mod CutLemmas
+pub mod CanonLemmas
+pub mod ReadLemmas

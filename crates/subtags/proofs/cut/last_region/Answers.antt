@@ -1,0 +1,12 @@
+use Rattle.std.proofs.Common.{sym, arith}
+use Rattle.std.proofs.lemmas.Grind.{common_steps}
+use Rattle.subtags.proofs.CutLemmas.{one_last_region, no_last_region}
+use Rattle.subtags.proofs.cut.last_region.Goals as goal
+
+pub returns-in-Some-try_from_utf8 : goal.returns-in-Some-try_from_utf8
+returns-in-Some-try_from_utf8 c =
+    let read = one_last_region c.in-Some.units.now (grind (arith, common_steps)) in
+    grind (arith, common_steps)
+
+pub returns-in-None : goal.returns-in-None
+returns-in-None c = rw c.in-Some.is (sym (no_last_region c.in-Some.units.now (grind (arith, common_steps))))

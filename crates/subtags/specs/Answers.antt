@@ -1,0 +1,20 @@
+-- What the readers answer, and the texts of their error.
+use Rattle.std.specs.Prelude.{◌≡◌, ℕ, List, codes, Result, IsOk, IfOk, IfErr, ◌↔◌, if◌then◌else◌}
+use Rattle.subtags.specs.declared.error.LangIdError.{LangIdError}
+use Rattle.subtags.specs.declared.error.LangIdError.TheVariants.{InvalidLanguage, InvalidSubtag}
+use Rattle.subtags.specs.Grammar.{folded, parts, is_language, IsLangId, canonical_text}
+use Rattle.subtags.specs.Parts.{first}
+
+-- why an input is refused: for its first part, or for what stands behind it
+abbrev pub refusal_of : List ℕ → LangIdError
+refusal_of u = if is_language (first (parts (folded u))) then InvalidSubtag else InvalidLanguage
+
+-- the canonical text exactly of the language identifiers, and else the reason
+pub record IsLangIdRead (u : List ℕ) (r : Result (List ℕ) LangIdError) : Type 0 where
+  pub accepted : IsOk r ↔ IsLangId u
+  pub text : IfOk r (λ t. t ≡ canonical_text u)
+  pub refusal : IfErr r (λ e. e ≡ refusal_of u)
+
+abbrev pub message_of : LangIdError → List ℕ
+message_of InvalidLanguage = codes "invalid language"
+message_of InvalidSubtag = codes "invalid subtag"

@@ -1,0 +1,27 @@
+-- How an input is read from the front. Only private functions speak of it.
+use Rattle.std.specs.Prelude.{ℕ, if◌then◌else◌, List, [], ◌∷◌, Option, None, Some, Result, Ok, Err}
+use Rattle.tinystr_words.specs.Case.{titlecase, uppercase}
+use Rattle.subtags.specs.declared.error.LangIdError.{LangIdError}
+use Rattle.subtags.specs.declared.error.LangIdError.TheVariants.{InvalidSubtag}
+use Rattle.subtags.specs.Grammar.{folded, parts, is_script, is_region}
+
+-- the parts of what stands behind a separator
+abbrev pub parts_behind : Option (List ℕ) → List (List ℕ)
+parts_behind None = []
+parts_behind (Some u) = parts (folded u)
+
+-- the first part, where it is a script
+abbrev pub leading_script : List (List ℕ) → Option (List ℕ)
+leading_script [] = None
+leading_script (p ∷ ps) = if is_script p then Some (titlecase p) else None
+
+-- the parts behind that script
+abbrev pub behind_script : List (List ℕ) → List (List ℕ)
+behind_script [] = []
+behind_script (p ∷ ps) = if is_script p then ps else p ∷ ps
+
+-- a region, or no part at all
+abbrev pub last_region : List (List ℕ) → Result (Option (List ℕ)) LangIdError
+last_region [] = Ok None
+last_region (p ∷ []) = if is_region p then Ok (Some (uppercase p)) else Err InvalidSubtag
+last_region (p ∷ q ∷ ps) = Err InvalidSubtag

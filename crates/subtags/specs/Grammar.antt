@@ -1,0 +1,73 @@
+-- Language identifiers, the fold that tells them apart, and their canonical texts.
+use Rattle.std.specs.Prelude.{◌≡◌, ℕ, ◌==◌, Bool, true, false, ◌&&◌, ◌||◌, if◌then◌else◌, IsTrue, List, [], ◌∷◌, length, map}
+use Rattle.std.specs.Int.{is_in_range}
+use Rattle.std.specs.List.{list_all, slice_split, join_with_byte}
+use Rattle.tinystr_words.specs.Classes.{is_alphabetic, is_digit}
+use Rattle.tinystr_words.specs.Case.{lower, titlecase, uppercase}
+
+-- '-'
+abbrev pub dash : ℕ
+dash = 0x2D
+
+-- '_'
+abbrev pub low_line : ℕ
+low_line = 0x5F
+
+abbrev pub is_separator : ℕ → Bool
+is_separator b = b == dash || b == low_line
+
+-- '-' for '_', and a letter in lower case
+abbrev pub folded_byte : ℕ → ℕ
+folded_byte b = if b == low_line then dash else lower b
+
+abbrev pub folded : List ℕ → List ℕ
+folded u = map folded_byte u
+
+-- what stands before, between and behind the dashes
+abbrev pub parts : List ℕ → List (List ℕ)
+parts u = slice_split (λ b. b == dash) u
+
+-- 2, 3 or 5 to 8 letters
+abbrev pub is_language : List ℕ → Bool
+is_language p = list_all is_alphabetic p && (length p == 2 || length p == 3 || is_in_range 5 8 (length p))
+
+-- 4 letters
+abbrev pub is_script : List ℕ → Bool
+is_script p = list_all is_alphabetic p && length p == 4
+
+-- 2 letters or 3 digits
+abbrev pub is_region : List ℕ → Bool
+is_region p = (list_all is_alphabetic p && length p == 2) || (list_all is_digit p && length p == 3)
+
+-- nothing, a script, a region, or a script and a region
+abbrev pub is_tail : List (List ℕ) → Bool
+is_tail [] = true
+is_tail (p ∷ []) = is_script p || is_region p
+is_tail (s ∷ r ∷ []) = is_script s && is_region r
+is_tail (s ∷ r ∷ p ∷ ps) = false
+
+-- a language and such a tail
+abbrev pub is_lang_id : List (List ℕ) → Bool
+is_lang_id [] = false
+is_lang_id (l ∷ ps) = is_language l && is_tail ps
+
+-- a language identifier, in any case and with either separator
+abbrev pub IsLangId : List ℕ → Type 0
+IsLangId u = IsTrue (is_lang_id (parts (folded u)))
+
+-- a script in title case, a region in upper case
+abbrev pub canonical_part : List ℕ → List ℕ
+canonical_part p = if is_script p then titlecase p else uppercase p
+
+-- the language stays as it was folded
+abbrev pub canonical_parts : List (List ℕ) → List (List ℕ)
+canonical_parts [] = []
+canonical_parts (l ∷ ps) = l ∷ map canonical_part ps
+
+abbrev pub canonical_text : List ℕ → List ℕ
+canonical_text u = join_with_byte dash (canonical_parts (parts (folded u)))
+
+-- a text that is accepted, and is its own canonical text
+pub record IsCanonical (t : List ℕ) : Type 0 where
+  pub accepted : IsLangId t
+  pub canonical : canonical_text t ≡ t

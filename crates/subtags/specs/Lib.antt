@@ -1,0 +1,4 @@
+pub mod Grammar
+pub mod Parts
+pub mod Answers
+pub mod Cut

@@ -1,0 +1,62 @@
+//! An input, cut at its separators and read from the front.
+
+ghost use Rattle.std.specs.Prelude.{◌≡◌, ◌∷◌, position};
+ghost use Rattle.std.specs.Option.{option_copied};
+ghost use Rattle.subtags.specs.Grammar.{is_separator, folded, parts};
+ghost use Rattle.subtags.specs.Cut.{parts_behind, leading_script, behind_script, last_region};
+
+use crate::error::LangIdError;
+use crate::region::Region;
+use crate::script::Script;
+
+fn is_separator(byte: u8) -> bool
+    ensures { result ≡ is_separator byte }
+{
+    byte == b'-' || byte == b'_'
+}
+
+fn separator_at(units: &[u8]) -> Option<usize>
+    ensures { result ≡ position is_separator units.now }
+{
+    units.iter().position(|byte| is_separator(*byte))
+}
+
+/// The part before the first separator, and what stands behind that separator.
+pub fn cut(units: &[u8]) -> (&[u8], Option<&[u8]>)
+    ensures { parts (folded units.now)
+        ≡ folded result.0.now ∷ parts_behind (option_copied result.1) }
+{
+    match separator_at(units) {
+        Some(at) => (&units[..at], Some(&units[at + 1..])),
+        None => (units, None),
+    }
+}
+
+/// Takes the first part off, where it is a script.
+pub fn take_script(rest: Option<&[u8]>) -> (Option<Script>, Option<&[u8]>)
+    ensures script { result.0 ≡ leading_script (parts_behind (option_copied rest.entry)) }
+    ensures rest { parts_behind (option_copied result.1)
+        ≡ behind_script (parts_behind (option_copied rest.entry)) }
+{
+    let Some(units) = rest else {
+        return (None, None);
+    };
+    let (first, behind) = cut(units);
+    match Script::try_from_utf8(first) {
+        Some(script) => (Some(script), behind),
+        None => (None, rest),
+    }
+}
+
+/// Reads what is left: a region, or nothing.
+pub fn last_region(rest: Option<&[u8]>) -> Result<Option<Region>, LangIdError>
+    ensures { result ≡ last_region (parts_behind (option_copied rest.entry)) }
+{
+    let Some(units) = rest else {
+        return Ok(None);
+    };
+    match Region::try_from_utf8(units) {
+        Some(region) => Ok(Some(region)),
+        None => Err(LangIdError::InvalidSubtag),
+    }
+}

@@ -1,0 +1,137 @@
+//! Language identifiers.
+
+ghost use Rattle.std.specs.Prelude.{◌≡◌, ◌+◌, ◌≤◌, ◌∷◌, ◌++◌, length, Some, IsOk, IfOk, IfErr, ◌↔◌};
+ghost use Rattle.std.specs.Fmt.{debug_str};
+ghost use Rattle.subtags.specs.Grammar.{dash, folded, IsLangId, IsCanonical, canonical_text};
+ghost use Rattle.subtags.specs.Parts.{language_of, script_of, region_of, joined};
+ghost use Rattle.subtags.specs.Answers.{refusal_of, IsLangIdRead};
+
+use crate::cut::{cut, last_region, take_script};
+use crate::error::LangIdError;
+use crate::language::Language;
+use crate::region::Region;
+use crate::script::Script;
+use std::fmt;
+use std::marker::Model;
+use std::str::FromStr;
+use tinystr::{TinyAsciiStr, tinystr};
+
+/// A language identifier, kept as its canonical text and compared by it.
+#[derive(Clone, Copy, PartialEq, Eq, PartialOrd, Ord, Hash)]
+pub struct LangId {
+    text: TinyAsciiStr<17>,
+}
+
+impl Model for LangId {
+    ghost use Rattle.std.specs.Prelude.{List, ℕ};
+    ghost use Rattle.subtags.specs.Grammar.{IsCanonical};
+
+    ghost Value = { List ℕ };
+
+    ghost view = { λ id. id.text };
+
+    ghost invariant = { λ id. IsCanonical id.text };
+
+    ghost inverse = { λ t. record { text = t } };
+}
+
+impl LangId {
+    /// Reads an identifier, in any case and with either separator.
+    pub fn try_from_utf8(code_units: &[u8]) -> Result<Self, LangIdError>
+        ensures accepted { IsOk result ↔ IsLangId code_units.now }
+        ensures text { IfOk result (λ id. id ≡ canonical_text code_units.now) }
+        ensures fold { IfOk result (λ id. folded id ≡ folded code_units.now) }
+        ensures refusal { IfErr result (λ e. e ≡ refusal_of code_units.now) }
+    {
+        let (first, rest) = cut(code_units);
+        let language = Language::try_from_utf8(first).ok_or(LangIdError::InvalidLanguage)?;
+        let (script, rest) = take_script(rest);
+        let region = last_region(rest)?;
+        Ok(LangId {
+            text: joined(language, script, region),
+        })
+    }
+
+    /// The canonical text, which is read back as this identifier.
+    pub fn to_text(&self) -> TinyAsciiStr<17>
+        ensures text { result ≡ self.now }
+        ensures canonical { IsCanonical self.now }
+    {
+        self.text
+    }
+
+    /// The language, which each identifier has.
+    pub fn language(&self) -> Language
+        ensures { result ≡ language_of self.now }
+    {
+        let (first, _) = cut(self.text.as_utf8());
+        Language::try_from_utf8(first).unwrap()
+    }
+
+    /// The script, if the identifier has one.
+    pub fn script(&self) -> Option<Script>
+        ensures { result ≡ script_of self.now }
+    {
+        let (_, rest) = cut(self.text.as_utf8());
+        let (script, _) = take_script(rest);
+        script
+    }
+
+    /// The region, if the identifier has one.
+    pub fn region(&self) -> Option<Region>
+        ensures { result ≡ region_of self.now }
+    {
+        let (_, rest) = cut(self.text.as_utf8());
+        let (_, rest) = take_script(rest);
+        last_region(rest).unwrap()
+    }
+}
+
+impl FromStr for LangId {
+    type Err = LangIdError;
+
+    ghost from_str_gives = { IsLangIdRead };
+
+    fn from_str(s: &str) -> Result<Self, LangIdError> {
+        Self::try_from_utf8(s.as_bytes())
+    }
+}
+
+impl fmt::Display for LangId {
+    ghost output = { λ id. Some id };
+
+    fn fmt<W: fmt::Write>(&self, f: &mut fmt::Formatter<W>) -> fmt::Result {
+        fmt::Display::fmt(&self.text, f)
+    }
+}
+
+impl fmt::Debug for LangId {
+    ghost debug_output = { debug_str };
+
+    fn fmt<W: fmt::Write>(&self, f: &mut fmt::Formatter<W>) -> fmt::Result {
+        fmt::Debug::fmt(&self.text, f)
+    }
+}
+
+// The parts, joined by dashes.
+fn joined(language: Language, script: Option<Script>, region: Option<Region>) -> TinyAsciiStr<17>
+    ensures { result ≡ joined language script region }
+{
+    let mut text = language.text().resize::<17>();
+    if let Some(script) = script {
+        text = with_part(text, script.text());
+    }
+    if let Some(region) = region {
+        text = with_part(text, region.text());
+    }
+    text
+}
+
+// The text with a dash and a part behind it.
+fn with_part<const M: usize>(text: TinyAsciiStr<17>, part: TinyAsciiStr<M>) -> TinyAsciiStr<17>
+    requires { length text + 1 + length part ≤ 17 }
+    ensures { result ≡ text ++ dash ∷ part.entry }
+{
+    let dash = tinystr!(1, "-").unwrap();
+    text.concat::<1, 17>(dash).concat(part)
+}

@@ -1,0 +1,75 @@
+//! Laws of language identifiers. A function with an empty body has the law as its contract.
+
+ghost use Rattle.std.specs.Prelude.{◌≡◌, ℕ, List, Ok, map, IsTrue, ◌↔◌};
+ghost use Rattle.std.specs.List.{slice_split};
+ghost use Rattle.std.specs.Ordering.{nat_cmp};
+ghost use Rattle.std.specs.Cmp.Lexicographic.{slice_cmp};
+ghost use Rattle.subtags.specs.Grammar.{is_separator, folded, parts, IsLangId, IsCanonical, canonical_text};
+ghost use Rattle.subtags.specs.Parts.{language_of, script_of, region_of, joined};
+
+use crate::error::LangIdError;
+use crate::lang_id::LangId;
+use crate::language::Language;
+use crate::region::Region;
+use crate::script::Script;
+use std::cmp::Ordering;
+
+/// To fold an input and then cut it at each dash is to cut it at each separator and then fold its parts.
+pub fn cut_before_fold()
+    ensures { (u : List ℕ) → parts (folded u) ≡ map folded (slice_split is_separator u) }
+{}
+
+/// A canonical text is accepted, is its own canonical text, and folds as the input does.
+pub fn canonical_once()
+    ensures canonical { (u : List ℕ) → IsLangId u → IsCanonical (canonical_text u) }
+    ensures fold { (u : List ℕ) → folded (canonical_text u) ≡ folded u }
+{}
+
+/// Two inputs have the same canonical text exactly if they fold alike.
+pub fn fold_tells_apart()
+    ensures { (u v : List ℕ) → (canonical_text u ≡ canonical_text v) ↔ (folded u ≡ folded v) }
+{}
+
+/// A canonical text is its language, its script and its region, joined by dashes.
+pub fn joined_parts()
+    ensures { (t : List ℕ) → IsCanonical t → t ≡ joined (language_of t) (script_of t) (region_of t) }
+{}
+
+/// Reading the text of an identifier gives the identifier back.
+pub fn read_back(id: &LangId) -> Result<LangId, LangIdError>
+    ensures { result ≡ Ok id.now }
+{
+    LangId::try_from_utf8(id.to_text().as_utf8())
+}
+
+/// Identifiers are equal exactly if their texts are, and are ordered as their texts.
+pub fn identifier_order(id: &LangId, other: &LangId) -> (bool, Ordering)
+    ensures equal { IsTrue result.0 ↔ (id.now ≡ other.now) }
+    ensures order { result.1 ≡ slice_cmp nat_cmp id.now other.now }
+{
+    (id == other, id.cmp(other))
+}
+
+/// The same of languages.
+pub fn language_order(language: &Language, other: &Language) -> (bool, Ordering)
+    ensures equal { IsTrue result.0 ↔ (language.now ≡ other.now) }
+    ensures order { result.1 ≡ slice_cmp nat_cmp language.now other.now }
+{
+    (language == other, language.cmp(other))
+}
+
+/// The same of scripts.
+pub fn script_order(script: &Script, other: &Script) -> (bool, Ordering)
+    ensures equal { IsTrue result.0 ↔ (script.now ≡ other.now) }
+    ensures order { result.1 ≡ slice_cmp nat_cmp script.now other.now }
+{
+    (script == other, script.cmp(other))
+}
+
+/// The same of regions.
+pub fn region_order(region: &Region, other: &Region) -> (bool, Ordering)
+    ensures equal { IsTrue result.0 ↔ (region.now ≡ other.now) }
+    ensures order { result.1 ≡ slice_cmp nat_cmp region.now other.now }
+{
+    (region == other, region.cmp(other))
+}

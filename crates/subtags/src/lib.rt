@@ -1,0 +1,22 @@
+//! Language identifiers: a language, and behind it a script, a region, both or nothing, as `en`, `es-419` and
+//! `zh-Hant-TW`. They are read in any case, with `-` or `_` between the parts. A value is its canonical text and takes
+//! no memory. Nothing is looked up in a registry.
+#![tactic(auto)]
+
+mod cut;
+pub mod error;
+mod form;
+pub mod lang_id;
+pub mod language;
+pub mod laws;
+pub mod region;
+pub mod script;
+
+pub use error::LangIdError;
+pub use lang_id::LangId;
+pub use language::Language;
+pub use region::Region;
+pub use script::Script;
+
+#[cfg(test)]
+mod tests;
