@@ -3,7 +3,8 @@ use Rattle.std.specs.Prelude.{ℕ, Bool, true, false, ◌&&◌, ◌==◌, nat_le
 use Rattle.std.specs.List.{before_first, after_first, list_all, list_any}
 use Rattle.std.specs.Option.{option_map_or}
 use Rattle.std.specs.Fmt.{decimal}
-use Rattle.tinystr_words.specs.Reading.{Fault, fault_in, is_character, lossy}
+use Rattle.tinystr_words.specs.Text.{is_strict_text}
+use Rattle.tinystr_words.specs.Reading.{Fault, fault_in, lossy}
 use Rattle.tinystr_words.specs.Reading.Fault.{too_long, contains_null, non_ascii}
 use Rattle.tinystr_words.specs.Classes.{ask, is_alphabetic, is_alphanumeric, is_digit, is_lower, is_upper, is_not_lower, is_not_upper}
 use Rattle.tinystr_words.specs.Case.{lowercase, titlecase, uppercase}
@@ -39,13 +40,9 @@ answer_of Lower t = lowercase t
 answer_of Title t = titlecase t
 answer_of Upper t = uppercase t
 
--- whether the units are a text of at most n bytes
-abbrev pub is_strict : ℕ → List ℕ → Bool
-is_strict n units = nat_le (length units) n && list_all is_character units
-
 -- a call's answer where the units are such a text, and else their fault
 unfoldable pub call_reply : ℕ → TextCall → List ℕ → List ℕ
-call_reply n call units = if is_strict n units then answer_of call units else fault_text (fault_in n units)
+call_reply n call units = if is_strict_text units n then answer_of call units else fault_text (fault_in n units)
 
 -- what stands for a unit that is no character: `?`
 abbrev pub replacement : ℕ

@@ -1,6 +1,7 @@
 -- The fault of a list of units that a reader refuses, and what a lossy reader makes of a list. A unit is a byte, or a 16-bit number.
 use Rattle.std.specs.Prelude.{ℕ, ◌==◌, Bool, ◌&&◌, ◌||◌, nat_lt, List, length, map, take, slice_index, Option, option_map, unwrap_or, if◌then◌else◌}
 use Rattle.std.specs.List.{find, list_any, range_with_len}
+use Rattle.tinystr_words.specs.Text.{is_character}
 
 -- whether a NUL stands before position i
 abbrev pub is_after_null : List ℕ → ℕ → Bool
@@ -31,10 +32,6 @@ first_fault units =
 unfoldable pub fault_in : ℕ → List ℕ → Fault
 fault_in n units =
     if nat_lt n (length units) then too_long n (length units) else unwrap_or (first_fault units) contains_null
-
--- whether a unit is a character of a text
-abbrev pub is_character : ℕ → Bool
-is_character u = nat_lt 0 u && nat_lt u 128
 
 -- a character, or r for any other unit
 abbrev pub lossy_byte : ℕ → ℕ → ℕ

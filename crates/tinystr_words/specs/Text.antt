@@ -1,6 +1,7 @@
 -- Texts, and the arrays that hold them.
-use Rattle.std.specs.Prelude.{◌≡◌, ℕ, ◌-◌, ◌<◌, ◌≤◌, ◌==◌, List, ◌++◌, length, replicate, All}
-use Rattle.std.specs.List.{before_first}
+use Rattle.std.specs.Prelude.{◌≡◌, ℕ, ◌-◌, ◌<◌, ◌≤◌, ◌==◌, ◌&&◌, nat_lt, nat_le, Bool, List, ◌++◌, length, replicate, All}
+use Rattle.std.specs.List.{before_first, list_all}
+use Rattle.std.specs.Str.{bytes_eq}
 
 -- a byte of a text
 abbrev pub IsTextByte : ℕ → Type 0
@@ -28,3 +29,14 @@ pub record IsPaddedText (bytes : List ℕ) (n : ℕ) : Type 0 where
   pub text : IsText (text_of bytes)
   pub fits : length (text_of bytes) ≤ n
   pub padded : bytes ≡ pad (text_of bytes) n
+
+-- ---- the same facts, as tests that compute
+
+abbrev pub is_character : ℕ → Bool
+is_character b = nat_lt 0 b && nat_lt b 128
+
+abbrev pub is_strict_text : List ℕ → ℕ → Bool
+is_strict_text t n = nat_le (length t) n && list_all is_character t
+
+abbrev pub is_padded_text : List ℕ → ℕ → Bool
+is_padded_text bytes n = is_strict_text (text_of bytes) n && bytes_eq bytes (pad (text_of bytes) n)
