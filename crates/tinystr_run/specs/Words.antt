@@ -3,7 +3,7 @@ use Rattle.std.specs.Prelude.{ℕ, List, [], ◌∷◌, Option, option_map, code
 use Rattle.std.specs.Str.{bytes_eq}
 use Rattle.std.specs.List.{find}
 use Rattle.tinystr_run.specs.declared.command.Command.{Command}
-use Rattle.tinystr_run.specs.declared.command.Command.TheVariants.{OnText, Lossy}
+use Rattle.tinystr_run.specs.declared.command.Command.TheVariants.{OnText, Lossy, Records, Locale}
 use Rattle.tinystr_run.specs.declared.command.TextCall.TheVariants.{Text, Len, Alphabetic, Alphanumeric, Numeric, Lowercase, Titlecase, Uppercase, AlphabeticLowercase, AlphabeticTitlecase, AlphabeticUppercase, Lower, Title, Upper}
 
 -- each word that spells a capacity, and the capacity
@@ -32,10 +32,12 @@ name_of (OnText Lower) = codes "lower"
 name_of (OnText Title) = codes "title"
 name_of (OnText Upper) = codes "upper"
 name_of Lossy = codes "lossy"
+name_of Records = codes "records"
+name_of Locale = codes "locale"
 
 abbrev pub commands : List Command
 commands =
-    OnText Text ∷ OnText Len ∷ OnText Alphabetic ∷ OnText Alphanumeric ∷ OnText Numeric ∷ OnText Lowercase ∷ OnText Titlecase ∷ OnText Uppercase ∷ OnText AlphabeticLowercase ∷ OnText AlphabeticTitlecase ∷ OnText AlphabeticUppercase ∷ OnText Lower ∷ OnText Title ∷ OnText Upper ∷ Lossy ∷ []
+    OnText Text ∷ OnText Len ∷ OnText Alphabetic ∷ OnText Alphanumeric ∷ OnText Numeric ∷ OnText Lowercase ∷ OnText Titlecase ∷ OnText Uppercase ∷ OnText AlphabeticLowercase ∷ OnText AlphabeticTitlecase ∷ OnText AlphabeticUppercase ∷ OnText Lower ∷ OnText Title ∷ OnText Upper ∷ Lossy ∷ Records ∷ Locale ∷ []
 
 -- the command that a word names
 unfoldable pub command_of : List ℕ → Option Command

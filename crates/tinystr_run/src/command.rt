@@ -9,6 +9,10 @@ pub enum Command {
     OnText(TextCall),
     /// The text that the lossy reader makes.
     Lossy,
+    /// Whether the bytes are packed records.
+    Records,
+    /// The canonical text of a language identifier.
+    Locale,
 }
 
 /// A call on a text.
@@ -30,7 +34,7 @@ pub enum TextCall {
     Upper,
 }
 
-const COMMANDS: [Command; 15] = [
+const COMMANDS: [Command; 17] = [
     Command::OnText(TextCall::Text),
     Command::OnText(TextCall::Len),
     Command::OnText(TextCall::Alphabetic),
@@ -46,6 +50,8 @@ const COMMANDS: [Command; 15] = [
     Command::OnText(TextCall::Title),
     Command::OnText(TextCall::Upper),
     Command::Lossy,
+    Command::Records,
+    Command::Locale,
 ];
 
 impl Command {
@@ -71,6 +77,8 @@ impl Command {
             Command::OnText(TextCall::Title) => b"title",
             Command::OnText(TextCall::Upper) => b"upper",
             Command::Lossy => b"lossy",
+            Command::Records => b"records",
+            Command::Locale => b"locale",
         }
     }
 

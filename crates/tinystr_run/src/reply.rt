@@ -1,13 +1,15 @@
 //! What a line gets.
 
-ghost use Rattle.std.specs.Prelude.{◌≡◌, ◌<◌, ◌^◌, ◌++◌, OnOk};
+ghost use Rattle.std.specs.Prelude.{◌≡◌, ◌<◌, ◌^◌, ◌++◌, codes, OnOk};
 ghost use Rattle.std.specs.Fmt.{decimal};
 ghost use Rattle.tinystr.specs.Error.{fault_of};
-ghost use Rattle.tinystr_run.specs.Reply.{fault_text, truth_text, answer_of, call_reply, reply_at, words_reply, reply};
+ghost use Rattle.tinystr_run.specs.Reply.{fault_text, truth_text, bad_index_text, answer_of, call_reply, records_reply, locale_reply, reply_at, words_reply, reply};
 
 use crate::command::{Command, TextCall};
 use crate::cut::cut_at;
 use std::alloc::AllocError;
+use subtags::LangId;
+use tinystr::ule::UleError;
 use tinystr::{ParseError, TinyAsciiStr};
 
 // What the lossy reader puts for a unit that is no character.
@@ -88,6 +90,65 @@ fn push_call_reply<const N: usize>(
     }
 }
 
+fn push_count(out: &mut Vec<u8>, count: usize) -> Result<(), AllocError>
+    ensures { OnOk result (out.new.items ≡ out.old.items ++ (codes "ok " ++ decimal count)) }
+{
+    let text = format!(in *out.allocator(); "ok {count}")?;
+    out.extend_from_slice(text.as_bytes())
+}
+
+fn push_bad_length(out: &mut Vec<u8>, len: usize) -> Result<(), AllocError>
+    ensures { OnOk result (out.new.items ≡ out.old.items ++ (codes "bad length " ++ decimal len)) }
+{
+    let text = format!(in *out.allocator(); "bad length {len}")?;
+    out.extend_from_slice(text.as_bytes())
+}
+
+fn push_bad_index(out: &mut Vec<u8>, index: usize) -> Result<(), AllocError>
+    ensures { OnOk result (out.new.items ≡ out.old.items ++ bad_index_text index) }
+{
+    let text = format!(in *out.allocator(); "bad record {index} ")?;
+    out.extend_from_slice(text.as_bytes())
+}
+
+fn push_bad_record(out: &mut Vec<u8>, index: usize, fault: ParseError) -> Result<(), AllocError>
+    ensures { OnOk result
+        (out.new.items ≡ out.old.items ++ (bad_index_text index ++ fault_text (fault_of fault))) }
+{
+    push_bad_index(out, index)?;
+    push_fault(out, fault)
+}
+
+// Appends whether the bytes are packed records of `N` bytes.
+#[tactic(auto, unfolding(crate::specs::Reply::records_reply))]
+fn push_records_reply<const N: usize>(out: &mut Vec<u8>, bytes: &[u8]) -> Result<(), AllocError>
+    requires { N < 2 ^ 63 }
+    ensures { OnOk result (out.new.items ≡ out.old.items ++ records_reply N bytes.now) }
+{
+    if N == 0 {
+        return out.extend_from_slice(b"bad capacity");
+    }
+    match TinyAsciiStr::<N>::validate_bytes(bytes) {
+        Ok(()) => push_count(out, bytes.len() / N),
+        Err(UleError::Length { len }) => push_bad_length(out, len),
+        Err(UleError::Parse { index, fault }) => push_bad_record(out, index, fault),
+    }
+}
+
+// Appends the canonical text of a language identifier, or why there is none.
+#[tactic(auto, unfolding(crate::specs::Reply::locale_reply))]
+fn push_locale_reply(out: &mut Vec<u8>, units: &[u8]) -> Result<(), AllocError>
+    ensures { OnOk result (out.new.items ≡ out.old.items ++ locale_reply units.now) }
+{
+    match LangId::try_from_utf8(units) {
+        Ok(id) => push_text(out, id.to_text()),
+        Err(error) => {
+            let text = format!(in *out.allocator(); "{error}")?;
+            out.extend_from_slice(text.as_bytes())
+        }
+    }
+}
+
 // Appends the reply at the capacity `N` to a command's word and the units.
 fn push_reply_at<const N: usize>(
     out: &mut Vec<u8>,
@@ -102,6 +163,8 @@ fn push_reply_at<const N: usize>(
         Some(Command::Lossy) => {
             push_text(out, TinyAsciiStr::<N>::from_utf8_lossy(units, REPLACEMENT))
         }
+        Some(Command::Records) => push_records_reply::<N>(out, units),
+        Some(Command::Locale) => push_locale_reply(out, units),
         None => out.extend_from_slice(b"bad command"),
     }
 }
