@@ -45,7 +45,8 @@ answer_of Upper t = uppercase t
 
 -- a call's answer where the units are such a text, and else their fault
 unfoldable pub call_reply : ℕ → TextCall → List ℕ → List ℕ
-call_reply n call units = if is_strict_text units n then answer_of call units else fault_text (fault_in n units)
+call_reply n call units =
+    if is_strict_text units n then answer_of call units else fault_text (fault_in n units)
 
 -- what stands for a unit that is no character: `?`
 abbrev pub replacement : ℕ
@@ -84,16 +85,19 @@ command_reply n units Locale = locale_reply units
 
 -- the reply at capacity n to a command's word and the units
 abbrev pub reply_at : ℕ → List ℕ → List ℕ → List ℕ
-reply_at n word units = option_map_or (command_reply n units) (command_of word) (codes "bad command")
+reply_at n word units =
+    option_map_or (command_reply n units) (command_of word) (codes "bad command")
 
 -- the reply to the words of a line: its capacity is tested before its command
 unfoldable pub words_reply : List ℕ → List ℕ → List ℕ → List ℕ
-words_reply capacity word units = option_map_or (λ n. reply_at n word units) (capacity_of capacity) (codes "bad capacity")
+words_reply capacity word units =
+    option_map_or (λ n. reply_at n word units) (capacity_of capacity) (codes "bad capacity")
 
 abbrev pub is_space : ℕ → Bool
 is_space b = b == 32
 
--- the reply to a line: its capacity ends at its first space, its command at the second, and the units are all that follow
+-- the reply to a line: its capacity ends at its first space, its command at the second or at the end, and the units
+-- are all that follow
 unfoldable pub reply : List ℕ → List ℕ
 reply line =
     let rest = after_first is_space line in

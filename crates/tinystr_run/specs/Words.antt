@@ -9,7 +9,17 @@ use Rattle.tinystr_run.specs.declared.command.TextCall.TheVariants.{Text, Len, A
 -- each word that spells a capacity, and the capacity
 abbrev pub capacities : List (List ℕ × ℕ)
 capacities =
-    (codes "0", 0) ∷ (codes "1", 1) ∷ (codes "2", 2) ∷ (codes "3", 3) ∷ (codes "4", 4) ∷ (codes "5", 5) ∷ (codes "8", 8) ∷ (codes "9", 9) ∷ (codes "16", 16) ∷ (codes "17", 17) ∷ (codes "32", 32) ∷ []
+    (codes "0", 0) ∷
+    (codes "1", 1) ∷
+    (codes "2", 2) ∷
+    (codes "3", 3) ∷
+    (codes "4", 4) ∷
+    (codes "5", 5) ∷
+    (codes "8", 8) ∷
+    (codes "9", 9) ∷
+    (codes "16", 16) ∷
+    (codes "17", 17) ∷
+    (codes "32", 32) ∷ []
 
 -- the capacity that a word spells
 unfoldable pub capacity_of : List ℕ → Option ℕ
@@ -35,9 +45,26 @@ name_of Lossy = codes "lossy"
 name_of Records = codes "records"
 name_of Locale = codes "locale"
 
+-- all of them
 abbrev pub commands : List Command
 commands =
-    OnText Text ∷ OnText Len ∷ OnText Alphabetic ∷ OnText Alphanumeric ∷ OnText Numeric ∷ OnText Lowercase ∷ OnText Titlecase ∷ OnText Uppercase ∷ OnText AlphabeticLowercase ∷ OnText AlphabeticTitlecase ∷ OnText AlphabeticUppercase ∷ OnText Lower ∷ OnText Title ∷ OnText Upper ∷ Lossy ∷ Records ∷ Locale ∷ []
+    OnText Text ∷
+    OnText Len ∷
+    OnText Alphabetic ∷
+    OnText Alphanumeric ∷
+    OnText Numeric ∷
+    OnText Lowercase ∷
+    OnText Titlecase ∷
+    OnText Uppercase ∷
+    OnText AlphabeticLowercase ∷
+    OnText AlphabeticTitlecase ∷
+    OnText AlphabeticUppercase ∷
+    OnText Lower ∷
+    OnText Title ∷
+    OnText Upper ∷
+    Lossy ∷
+    Records ∷
+    Locale ∷ []
 
 -- the command that a word names
 unfoldable pub command_of : List ℕ → Option Command

@@ -104,7 +104,8 @@ pub fn run<R: Read, W: Write>(alloc: Global, r: &mut R, w: &mut W) -> Result<(),
     ensures begun { IsErrOf result RunError.Write → IfSome (R.remaining r.old)
         (λ input. AppendsBeginning (W.contents w.old) (W.contents w.new) (output_of input)) }
     ensures unread { IsErrOf result RunError.Read → Keeps (W.contents w.old) (W.contents w.new) }
-    ensures no_memory { IsErrOf result RunError.Memory → Keeps (W.contents w.old) (W.contents w.new) }
+    ensures no_memory { IsErrOf result RunError.Memory →
+        Keeps (W.contents w.old) (W.contents w.new) }
 {
     let input = read_input(alloc, r)?;
     let out = output(alloc, &input)?;
