@@ -126,3 +126,44 @@ fn the_lossy_reader_refuses_nothing(rt: HostRuntime) -> Result<(), Fail> {
     }
     Ok(())
 }
+
+#[test]
+fn packed_records_are_counted_or_the_first_bad_one_is_named(rt: HostRuntime) -> Result<(), Fail> {
+    for (line, reply) in [
+        (&b"3 records GBPUSD"[..], &b"ok 2\n"[..]),
+        (b"3 records", b"ok 0\n"),
+        (b"1 records \0\0\0", b"ok 3\n"),
+        (b"3 records GBPUSDx", b"bad length 7\n"),
+        (b"32 records abc", b"bad length 3\n"),
+        (b"2 records ab\x80", b"bad length 3\n"),
+        (b"3 records GB\0\0A\0", b"bad record 1 contains null\n"),
+        (b"1 records \x80", b"bad record 0 non ascii\n"),
+        (b"2 records ab\0\x80\x80a", b"bad record 1 non ascii\n"),
+        (b"0 records", b"bad capacity\n"),
+        (b"0 records ab", b"bad capacity\n"),
+        (b"7 records ab", b"bad capacity\n"),
+    ] {
+        assert_eq!(rt; output(rt.alloc(), line)?.as_slice(), reply);
+    }
+    Ok(())
+}
+
+#[test]
+fn a_language_identifier_gets_its_canonical_text_at_any_capacity(
+    rt: HostRuntime,
+) -> Result<(), Fail> {
+    for (line, reply) in [
+        (&b"4 locale EN_latn-us"[..], &b"en-Latn-US\n"[..]),
+        (b"0 locale es-419", b"es-419\n"),
+        (b"32 locale abcdefgh-Latn-419", b"abcdefgh-Latn-419\n"),
+        (b"7 locale en", b"bad capacity\n"),
+        (b"4 locale", b"invalid language\n"),
+        (b"4 locale en US", b"invalid language\n"),
+        (b"4 locale en\x80", b"invalid language\n"),
+        (b"4 locale en-US\0", b"invalid subtag\n"),
+        (b"17 locale en--US", b"invalid subtag\n"),
+    ] {
+        assert_eq!(rt; output(rt.alloc(), line)?.as_slice(), reply);
+    }
+    Ok(())
+}
