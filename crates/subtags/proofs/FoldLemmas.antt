@@ -133,8 +133,8 @@ pub uppercase-folded : (p : List ℕ) → is_region p ≡ true → uppercase (fo
 uppercase-folded p h = absorbed_where is_alphanumeric raise folded_byte raise-folded_byte p (region_plain p h)
 
 -- what a change makes of a form is canonical
-pub canonical-lowercase : (p : List ℕ) → is_language p ≡ true → IsCanonicalPart is_language lowercase (lowercase p)
-canonical-lowercase p h = record {
+pub canonical-lowercase : (p t : List ℕ) → is_language p ≡ true → t ≡ lowercase p → IsCanonicalPart is_language lowercase t
+canonical-lowercase p t h e = rw e record {
   form = is_language_alike (lowercase p) p (folded-lowercase p) ∙ h;
   canonical = absorbed lower lower (λ b. grind (arith, nat_tests)) p;
 }
@@ -143,14 +143,14 @@ titlecase_twice : (t : List ℕ) → titlecase (titlecase t) ≡ titlecase t
 titlecase_twice [] = refl
 titlecase_twice (b ∷ t) = ap₂ (λ (x : ℕ) (y : List ℕ). x ∷ y) (grind (arith, nat_tests)) (absorbed lower lower (λ c. grind (arith, nat_tests)) t)
 
-pub canonical-titlecase : (p : List ℕ) → is_script p ≡ true → IsCanonicalPart is_script titlecase (titlecase p)
-canonical-titlecase p h = record {
+pub canonical-titlecase : (p t : List ℕ) → is_script p ≡ true → t ≡ titlecase p → IsCanonicalPart is_script titlecase t
+canonical-titlecase p t h e = rw e record {
   form = is_script_alike (titlecase p) p (folded-titlecase p) ∙ h;
   canonical = titlecase_twice p;
 }
 
-pub canonical-uppercase : (p : List ℕ) → is_region p ≡ true → IsCanonicalPart is_region uppercase (uppercase p)
-canonical-uppercase p h = record {
+pub canonical-uppercase : (p t : List ℕ) → is_region p ≡ true → t ≡ uppercase p → IsCanonicalPart is_region uppercase t
+canonical-uppercase p t h e = rw e record {
   form = is_region_alike (uppercase p) p (folded-uppercase p) ∙ h;
   canonical = absorbed raise raise (λ b. grind (arith, nat_tests)) p;
 }

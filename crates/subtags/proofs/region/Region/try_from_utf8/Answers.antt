@@ -1,6 +1,5 @@
-use Rattle.std.proofs.Common.{◌≡◌, arith}
+use Rattle.std.proofs.Common.{arith}
 use Rattle.std.proofs.lemmas.Grind.{common_steps}
-use Rattle.tinystr_words.specs.Case.{uppercase}
 use Rattle.subtags.proofs.FoldLemmas.{region_text, canonical-uppercase}
 use Rattle.subtags.proofs.region.Region.try_from_utf8.Goals as goal
 
@@ -11,5 +10,4 @@ unwrap-text-requires c =
 
 pub invariant_of-result : goal.invariant_of-result
 invariant_of-result c =
-    let read : c.to_ascii_uppercase.result ≡ uppercase c.args.code_units.now = grind (arith, common_steps) in
-    rw read (canonical-uppercase c.args.code_units.now (grind (arith, common_steps)))
+    canonical-uppercase c.args.code_units.now _ (grind (arith, common_steps)) (grind (arith, common_steps))
