@@ -1,5 +1,5 @@
 -- One pass over a list of units: what is known after the first i of them, and the fault that the pass finds.
-use Rattle.std.proofs.Common.{◌≡◌, ℕ, zero, suc, ◌+◌, ◌-◌, ◌<◌, ◌≤◌, ◌==◌, Bool, true, false, ◌||◌, List, ◌++◌, length, get_or, take, drop, Option, Some, None, nat_lt, sym, ap, ◌∙◌, refl, arith, below_more, inl, inr, [], ◌∷◌, if◌then◌else◌}
+use Rattle.std.proofs.Common.{◌≡◌, ℕ, zero, suc, ◌+◌, ◌-◌, ◌<◌, ◌≤◌, ◌==◌, Bool, true, false, ◌||◌, List, ◌++◌, length, get_or, take, drop, Option, Some, None, nat_lt, sym, ap, ◌∙◌, refl, arith, below_more, inl, inr}
 use Rattle.std.proofs.lemmas.Bool.{cases_lt}
 use Rattle.std.proofs.lemmas.Bool.Decides.{nat_tests}
 use Rattle.std.proofs.lemmas.List.{get_or-take, get_or-drop, get_or_default, take-append-drop, length-drop, length-take-le}

@@ -1,5 +1,5 @@
 -- The byte form: the fault of a list of bytes whose first n are no padded text.
-use Rattle.std.specs.Prelude.{ℕ, Bool, ◌==◌, ◌&&◌, not, nat_lt, nat_le, List, length, slice_index, Option, Some, None, is_some, option_and_then, if◌then◌else◌}
+use Rattle.std.specs.Prelude.{ℕ, ◌==◌, ◌&&◌, not, nat_lt, nat_le, List, length, slice_index, Option, Some, None, is_some, option_and_then, if◌then◌else◌}
 use Rattle.std.specs.List.{find, range_with_len}
 use Rattle.tinystr_words.specs.Reading.{is_after_null}
 

@@ -1,4 +1,4 @@
-use Rattle.std.proofs.Common.{◌≡◌, ◌<◌, ℕ, length, replicate, get_or, Some, refl, arith}
+use Rattle.std.proofs.Common.{◌≡◌, ◌<◌, ℕ, replicate, Some, refl, arith}
 use Rattle.std.proofs.lemmas.List.{length-replicate, get_or-replicate}
 use Rattle.tinystr_words.specs.Reading.{fault_in, first_fault}
 use Rattle.tinystr_words.specs.Reading.Fault.{non_ascii}

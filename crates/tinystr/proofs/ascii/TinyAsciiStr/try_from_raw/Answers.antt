@@ -2,7 +2,6 @@ use Rattle.std.proofs.Common.{◌≡◌, None, Some, length, sym, rules, arith}
 use Rattle.std.proofs.lemmas.List.{map-id}
 use Rattle.tinystr_words.proofs.Readers.{IsPaddedText-clean, first_fault-padded, fault_in-fits}
 use Rattle.tinystr_words.specs.Reading.{first_fault}
-use Rattle.tinystr_words.specs.Text.{IsPaddedText}
 use Rattle.tinystr.specs.Error.{fault_of}
 use Rattle.tinystr.proofs.ascii.TinyAsciiStr.try_from_raw.Goals as goal
 
