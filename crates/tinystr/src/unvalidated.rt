@@ -81,12 +81,14 @@ impl<const N: usize> UnvalidatedTinyAsciiStr<N> {
         Ok(UnvalidatedTinyAsciiStr { bytes: padded })
     }
 
+    /// These bytes, whatever they are.
     pub fn from_utf8_unchecked(bytes: [u8; N]) -> Self
         ensures { result ≡ bytes.entry }
     {
         UnvalidatedTinyAsciiStr { bytes }
     }
 
+    /// The text, where the bytes are one and then NULs, as `TinyAsciiStr::try_from_raw` reads it.
     pub fn try_into_tinystr(self) -> Result<TinyAsciiStr<N>, ParseError>
         ensures accepted { IsOk result ↔ IsPaddedText self.entry N }
         ensures text { IfOk result (λ t. t ≡ text_of self.entry) }
@@ -97,6 +99,7 @@ impl<const N: usize> UnvalidatedTinyAsciiStr<N> {
 }
 
 impl<const N: usize> TinyAsciiStr<N> {
+    /// All `N` bytes, the NULs behind the text too.
     pub fn to_unvalidated(self) -> UnvalidatedTinyAsciiStr<N>
         ensures { result ≡ pad self.entry N }
     {

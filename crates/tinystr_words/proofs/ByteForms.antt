@@ -6,7 +6,7 @@ use Rattle.std.proofs.lemmas.Bool.{cases_lt}
 use Rattle.std.proofs.lemmas.Bool.Decides.{nat_tests}
 use Rattle.std.proofs.lemmas.List.{get_or-take, take-take, take_at, length-take-le, length-append}
 use Rattle.tinystr_words.specs.Text.{IsStrictText, IsPaddedText, pad}
-use Rattle.tinystr_words.specs.Reading.{is_after_null, is_faulty}
+use Rattle.tinystr_words.specs.Reading.{is_faulty}
 use Rattle.tinystr_words.specs.ByteForm.{ByteFault, byte_fault_at, byte_fault}
 use Rattle.tinystr_words.specs.ByteForm.ByteFault.{too_short, null, non_ascii}
 use Rattle.tinystr_words.proofs.Texts.{IsPaddedText-pad, length-pad}
@@ -14,16 +14,16 @@ use Rattle.tinystr_words.proofs.Readers.{IsScanned, find_none, find_first, first
 
 -- ---- the least position with a fault
 
-has_fault : ℕ → List ℕ → ℕ → Bool
+abbrev has_fault : ℕ → List ℕ → ℕ → Bool
 has_fault n input i = is_some (byte_fault_at n input i)
 
 byte_fault-none : (n : ℕ) (input : List ℕ) → ((k : ℕ) → k < n → byte_fault_at n input k ≡ None) → byte_fault n input ≡ None
-unfolding byte_fault has_fault
+unfolding byte_fault
 byte_fault-none n input none =
     rw (find_none (has_fault n input) 0 n (λ k from below. rw (none k (omega arith)) refl)) refl
 
 byte_fault-first : (n : ℕ) (input : List ℕ) (i : ℕ) (fault : ByteFault) → i < n → byte_fault_at n input i ≡ Some fault → ((k : ℕ) → k < i → byte_fault_at n input k ≡ None) → byte_fault n input ≡ Some fault
-unfolding byte_fault has_fault
+unfolding byte_fault
 byte_fault-first n input i fault below here before =
     rw (find_first (has_fault n input) 0 n i (omega arith) (omega arith) (rw here refl) (λ k from earlier. rw (before k earlier) refl)) here
 
@@ -44,45 +44,32 @@ byte_fault-none_at n input none k below = none_from (byte_fault_at n input) 0 n 
 
 -- ---- the tests at a position
 
-at_end : (n : ℕ) (input : List ℕ) → byte_fault_at n input (length input) ≡ Some (too_short n)
-at_end n input = grind (arith, nat_tests)
-
-at_null : (n : ℕ) (input : List ℕ) (i : ℕ) → i < length input → is_after_null input i ≡ true → 0 < get_or input i 0 → byte_fault_at n input i ≡ Some null
-at_null n input i inside after some =
-    let no : (get_or input i 0 == 0) ≡ false = grind (arith, nat_tests) in
-    let not_ended : nat_le (length input) i ≡ false = grind (arith, nat_tests) in
-    rw (not_ended, after, no) refl
-
-at_high : (n : ℕ) (input : List ℕ) (i : ℕ) → i < length input → is_after_null input i ≡ false → 127 < get_or input i 0 → byte_fault_at n input i ≡ Some non_ascii
-at_high n input i inside after high =
-    let above : nat_lt 127 (get_or input i 0) ≡ true = grind (arith, nat_tests) in
-    let not_ended : nat_le (length input) i ≡ false = grind (arith, nat_tests) in
-    rw (not_ended, after, above) refl
-
 at_clean : (n : ℕ) (input : List ℕ) (i : ℕ) → i < length input → is_faulty input i ≡ false → byte_fault_at n input i ≡ None
-at_clean n input i inside clean =
-    let not_ended : nat_le (length input) i ≡ false = grind (arith, nat_tests) in
-    rw not_ended (grind (arith, nat_tests))
+at_clean n input i inside clean = grind (arith, nat_tests)
 
 clean_at : (n : ℕ) (input : List ℕ) (i : ℕ) → byte_fault_at n input i ≡ None → (i < length input) × (is_faulty input i ≡ false)
-clean_at n input i none = (grind (arith, nat_tests), grind (arith, nat_tests))
+clean_at n input i none = grind (arith, nat_tests)
 
 -- ---- the fault that a pass finds
 
+none_before : (n : ℕ) (input : List ℕ) (i : ℕ) (seen : Bool) → IsScanned input i seen → i ≤ length input → (k : ℕ) → k < i → byte_fault_at n input k ≡ None
+none_before n input i seen h inside k below = at_clean n input k (omega arith) (h.clean k below)
+
 pub byte_fault-short : (n : ℕ) (input : List ℕ) (i : ℕ) (seen : Bool) → IsScanned input i seen → i ≡ length input → i < n → byte_fault n input ≡ Some (too_short n)
 byte_fault-short n input i seen h end short =
-    byte_fault-first n input i (too_short n) short (rw end (at_end n input)) (λ k before. at_clean n input k (omega arith) (h.clean k before))
+    byte_fault-first n input i (too_short n) short (grind (arith, nat_tests)) (none_before n input i seen h (omega arith))
 
 pub byte_fault-null : (n : ℕ) (input : List ℕ) (i : ℕ) (seen : Bool) → IsScanned input i seen → seen ≡ true → i < length input → i < n → 0 < get_or input i 0 → byte_fault n input ≡ Some null
 byte_fault-null n input i seen h after inside below some =
-    byte_fault-first n input i null below (at_null n input i inside (sym h.null ∙ after) some) (λ k before. at_clean n input k (omega arith) (h.clean k before))
+    byte_fault-first n input i null below (grind (arith, nat_tests)) (none_before n input i seen h (omega arith))
 
 pub byte_fault-high : (n : ℕ) (input : List ℕ) (i : ℕ) (seen : Bool) → IsScanned input i seen → seen ≡ false → i < length input → i < n → 127 < get_or input i 0 → byte_fault n input ≡ Some non_ascii
 byte_fault-high n input i seen h before inside below high =
-    byte_fault-first n input i non_ascii below (at_high n input i inside (sym h.null ∙ before) high) (λ k before. at_clean n input k (omega arith) (h.clean k before))
+    byte_fault-first n input i non_ascii below (grind (arith, nat_tests)) (none_before n input i seen h (omega arith))
 
 pub byte_fault-whole : (n : ℕ) (input : List ℕ) (i : ℕ) (seen : Bool) → IsScanned input i seen → i ≡ n → n ≤ length input → byte_fault n input ≡ None
-byte_fault-whole n input i seen h end enough = byte_fault-none n input (λ k below. at_clean n input k (omega arith) (h.clean k (omega arith)))
+byte_fault-whole n input i seen h end enough =
+    byte_fault-none n input (λ k below. none_before n input i seen h (omega arith) k (omega arith))
 
 -- ---- bytes with no fault begin with a padded text
 

@@ -12,21 +12,19 @@ use Rattle.tinystr_words.specs.Packed.{IsPacked, record_at, IsFirstBad}
 use Rattle.tinystr_words.proofs.Texts.{IsPaddedText-pad, length-pad}
 use Rattle.tinystr_words.proofs.Readers.{IsPaddedText-clean, first_fault-padded, fault_in-fits}
 
-padded : ℕ → List ℕ → List ℕ
+abbrev padded : ℕ → List ℕ → List ℕ
 padded n t = pad t n
 
-AllStrict : ℕ → List (List ℕ) → Type 0
+abbrev AllStrict : ℕ → List (List ℕ) → Type 0
 AllStrict n ts = All (λ t. IsStrictText t n) ts
 
 length-joined : (n : ℕ) (ts : List (List ℕ)) → AllStrict n ts → length (flat_map (padded n) ts) ≡ length ts * n
-unfolding padded AllStrict
 length-joined n [] h = sym (zero-mul n)
 length-joined n (t ∷ ts) h =
     let strict = All-head (λ t. IsStrictText t n) t ts h in
     omega (arith, length-append (pad t n) (flat_map (padded n) ts), length-pad t n strict.fits, length-joined n ts (All-tail (λ t. IsStrictText t n) t ts h), suc-mul (length ts) n)
 
 record_at-joined : (n : ℕ) (ts : List (List ℕ)) (i : ℕ) → AllStrict n ts → i < length ts → IsPaddedText (record_at n (flat_map (padded n) ts) i) n
-unfolding padded AllStrict
 record_at-joined n [] i h below = absurd (omega arith)
 record_at-joined n (t ∷ ts) zero h below =
     let strict = All-head (λ t. IsStrictText t n) t ts h in
@@ -41,11 +39,9 @@ below_times i k n h = grind arith
 
 -- a packed list is records, each a padded text
 pub IsPacked-length : (bytes : List ℕ) (n : ℕ) → IsPacked bytes n → length bytes % n ≡ 0
-unfolding padded AllStrict
 IsPacked-length bytes n h = rw (h.joined, length-joined n h.texts h.each) (mul-mod_left (length h.texts) n)
 
 pub IsPacked-record : (bytes : List ℕ) (n i : ℕ) → IsPacked bytes n → i * n < length bytes → IsPaddedText (record_at n bytes i) n
-unfolding padded AllStrict
 IsPacked-record bytes n i h inside =
     let long : length bytes ≡ length h.texts * n = rw h.joined (length-joined n h.texts h.each) in
     rw h.joined (record_at-joined n h.texts i h.each (below_times i (length h.texts) n (omega arith)))
