@@ -1,5 +1,5 @@
 -- How bytes that may be no text are printed.
-use Rattle.std.specs.Prelude.{ℕ, Bool, ◌&&◌, List, Option, Some, if◌then◌else◌}
+use Rattle.std.specs.Prelude.{ℕ, List, Option, Some, if◌then◌else◌}
 use Rattle.std.specs.Fmt.{decimal, debug_str, debug_list}
 use Rattle.tinystr_words.specs.Text.{text_of, is_padded_text}
 
