@@ -4,6 +4,8 @@ ghost use Rattle.std.specs.Prelude.{◌≡◌, ℕ, List, Ok, map, IsTrue, ◌�
 ghost use Rattle.std.specs.List.{slice_split};
 ghost use Rattle.std.specs.Ordering.{nat_cmp};
 ghost use Rattle.std.specs.Cmp.Lexicographic.{slice_cmp};
+ghost use Rattle.std.specs.declared.cmp.Ordering.TheVariants.{Less};
+ghost use Rattle.tinystr_words.specs.Order.{IsBefore};
 ghost use Rattle.subtags.specs.Grammar.{is_separator, folded, parts, IsLangId, IsCanonical, canonical_text};
 ghost use Rattle.subtags.specs.Parts.{language_of, script_of, region_of, joined};
 
@@ -46,7 +48,9 @@ pub fn read_back(id: &LangId) -> Result<LangId, LangIdError>
 pub fn identifier_order(id: &LangId, other: &LangId) -> (bool, Ordering)
     ensures equal { IsTrue result.0 ↔ (id.now ≡ other.now) }
     ensures order { result.1 ≡ slice_cmp nat_cmp id.now other.now }
+    ensures before { (result.1 ≡ Less) ↔ IsBefore id.now other.now }
 {
+    tinystr_words::laws::order_compared();
     (id == other, id.cmp(other))
 }
 
@@ -54,7 +58,9 @@ pub fn identifier_order(id: &LangId, other: &LangId) -> (bool, Ordering)
 pub fn language_order(language: &Language, other: &Language) -> (bool, Ordering)
     ensures equal { IsTrue result.0 ↔ (language.now ≡ other.now) }
     ensures order { result.1 ≡ slice_cmp nat_cmp language.now other.now }
+    ensures before { (result.1 ≡ Less) ↔ IsBefore language.now other.now }
 {
+    tinystr_words::laws::order_compared();
     (language == other, language.cmp(other))
 }
 
@@ -62,7 +68,9 @@ pub fn language_order(language: &Language, other: &Language) -> (bool, Ordering)
 pub fn script_order(script: &Script, other: &Script) -> (bool, Ordering)
     ensures equal { IsTrue result.0 ↔ (script.now ≡ other.now) }
     ensures order { result.1 ≡ slice_cmp nat_cmp script.now other.now }
+    ensures before { (result.1 ≡ Less) ↔ IsBefore script.now other.now }
 {
+    tinystr_words::laws::order_compared();
     (script == other, script.cmp(other))
 }
 
@@ -70,6 +78,8 @@ pub fn script_order(script: &Script, other: &Script) -> (bool, Ordering)
 pub fn region_order(region: &Region, other: &Region) -> (bool, Ordering)
     ensures equal { IsTrue result.0 ↔ (region.now ≡ other.now) }
     ensures order { result.1 ≡ slice_cmp nat_cmp region.now other.now }
+    ensures before { (result.1 ≡ Less) ↔ IsBefore region.now other.now }
 {
+    tinystr_words::laws::order_compared();
     (region == other, region.cmp(other))
 }

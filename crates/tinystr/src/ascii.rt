@@ -215,7 +215,9 @@ impl<const N: usize> TinyAsciiStr<N> {
     /// The text, in the value itself.
     #[inline]
     pub fn as_str(&self) -> &str
-        ensures { result.now ≡ self.now }
+        ensures text { result.now ≡ self.now }
+        ensures ascii { IsText result.now }
+        ensures fits { length result.now ≤ N }
     {
         std::str::from_utf8(self.as_utf8()).unwrap()
     }

@@ -62,7 +62,8 @@ impl<const N: usize> TinyAsciiStr<N> {
 
     /// The text and then NULs.
     pub fn to_bytes(&self) -> [u8; N]
-        ensures { result ≡ pad self.now N }
+        ensures bytes { result ≡ pad self.now N }
+        ensures padded { IsPaddedText result N }
     {
         *self.all_bytes()
     }

@@ -6,6 +6,7 @@ pub mod ascii;
 mod decimal;
 pub mod error;
 pub mod forms;
+pub mod laws;
 pub mod macros;
 mod reading;
 pub mod ule;

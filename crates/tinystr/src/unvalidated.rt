@@ -101,14 +101,15 @@ impl<const N: usize> UnvalidatedTinyAsciiStr<N> {
 impl<const N: usize> TinyAsciiStr<N> {
     /// All `N` bytes, the NULs behind the text too.
     pub fn to_unvalidated(self) -> UnvalidatedTinyAsciiStr<N>
-        ensures { result ≡ pad self.entry N }
+        ensures bytes { result ≡ pad self.entry N }
+        ensures padded { IsPaddedText result N }
     {
         UnvalidatedTinyAsciiStr::from_utf8_unchecked(*self.all_bytes())
     }
 }
 
 impl<const N: usize> From<TinyAsciiStr<N>> for UnvalidatedTinyAsciiStr<N> {
-    ghost from_gives = { λ text made. made ≡ pad text N };
+    ghost from_gives = { λ text made. (made ≡ pad text N) × IsPaddedText made N };
 
     fn from(text: TinyAsciiStr<N>) -> Self {
         text.to_unvalidated()

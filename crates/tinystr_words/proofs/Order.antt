@@ -42,11 +42,3 @@ cmp-IsPaddedText xs ys n a b lx ly =
     let e = cmp-padded (text_of xs) (text_of ys) (n - length (text_of xs)) (n - length (text_of ys)) a.text b.text
     (omega (arith, length-text_of-le xs, length-text_of-le ys)) in
     cc
-
--- two arrays of one length are equal exactly if their texts are
-pub eq-IsPaddedText : (xs ys : List ℕ) (n : ℕ) → IsPaddedText xs n → IsPaddedText ys n → pointwise nat_eq xs ys ≡ pointwise nat_eq (text_of xs) (text_of ys)
-eq-IsPaddedText xs ys n a b =
-    let same_arrays = bytes_eq-Decides xs ys in
-    let same_texts = bytes_eq-Decides (text_of xs) (text_of ys) in
-    same_from_decides _ _ same_arrays
-    (λ r. a.padded ∙ ap (λ (t : List ℕ). pad t n) (same_texts.0 r) ∙ sym b.padded, λ e. same_texts.1 (ap (λ (l : List ℕ). text_of l) e))

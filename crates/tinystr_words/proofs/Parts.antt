@@ -65,18 +65,7 @@ pub in_case-parts : (c : Case) (q : ℕ) (l : List ℕ) → in_case c l ≡ in_c
 in_case-parts c q l =
     ap (λ (m : List ℕ). in_case c m) (sym (take-append-drop (suc q) l)) ∙ in_case-append c q (take (suc q) l) (drop (suc q) l) (IsCut-at q l)
 
--- a question for later words is its own
-pub later_question-same : (q : Question) → later_question (later_question q) ≡ later_question q
-later_question-same Alphabetic = refl
-later_question-same Alphanumeric = refl
-later_question-same Numeric = refl
-later_question-same Lowercase = refl
-later_question-same Titlecase = refl
-later_question-same Uppercase = refl
-later_question-same AlphabeticLowercase = refl
-later_question-same AlphabeticTitlecase = refl
-later_question-same AlphabeticUppercase = refl
-
+-- a case for later words is its own
 pub later_case-same : (c : Case) → later_case (later_case c) ≡ later_case c
 later_case-same Lower = refl
 later_case-same Title = refl

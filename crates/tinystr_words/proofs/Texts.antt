@@ -9,6 +9,7 @@ use Rattle.std.proofs.lemmas.Str.Ascii.{IsAscii-from_all}
 use Rattle.std.proofs.lemmas.Str.{IsUtf8-from_ascii}
 use Rattle.std.specs.List.{prefix_len}
 use Rattle.std.specs.Str.{IsUtf8}
+use Rattle.std.proofs.Math.Seq.{take-nil, drop-nil}
 use Rattle.tinystr_words.specs.Text.{IsTextByte, IsText, IsStrictText, pad, text_of, IsPaddedText}
 
 -- the test that `text_of` makes of each byte
@@ -128,23 +129,15 @@ text_of-push bytes t n i x h e at room char =
 
 -- ---- the parts of lists that are joined, and of padded texts
 
-take_of_nil : (q : ℕ) → take {A = ℕ} q [] ≡ []
-take_of_nil zero = refl
-take_of_nil (suc q) = refl
-
 -- the front of two lists joined
 pub take-joined : (s o : List ℕ) (q : ℕ) → take q (s ++ o) ≡ take q s ++ take (q - length s) o
-take-joined [] o q = let e : q - 0 ≡ q = omega arith in rw (e, take_of_nil q) refl
+take-joined [] o q = let e : q - 0 ≡ q = omega arith in rw (e, take-nil q) refl
 take-joined (x ∷ s) o zero = let e : 0 - suc (length s) ≡ 0 = omega arith in rw e refl
 take-joined (x ∷ s) o (suc q) = let e : suc q - suc (length s) ≡ q - length s = omega arith in rw e (ap (λ (l : List ℕ). x ∷ l) (take-joined s o q))
 
-drop_of_nil : (q : ℕ) → drop {A = ℕ} q [] ≡ []
-drop_of_nil zero = refl
-drop_of_nil (suc q) = refl
-
 -- the back of two lists joined
 drop-joined : (s o : List ℕ) (q : ℕ) → drop q (s ++ o) ≡ drop q s ++ drop (q - length s) o
-drop-joined [] o q = let e : q - 0 ≡ q = omega arith in rw (e, drop_of_nil q) refl
+drop-joined [] o q = let e : q - 0 ≡ q = omega arith in rw (e, drop-nil q) refl
 drop-joined (x ∷ s) o zero = let e : 0 - suc (length s) ≡ 0 = omega arith in rw e refl
 drop-joined (x ∷ s) o (suc q) = let e : suc q - suc (length s) ≡ q - length s = omega arith in rw e (drop-joined s o q)
 

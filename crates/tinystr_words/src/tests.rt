@@ -24,7 +24,9 @@ fn check_word<T: Word<LEN>, const LEN: usize>(
     word: &Aligned<T, LEN>,
     expected: [bool; 9],
     bytes: &[u8; LEN],
+    len: usize,
 ) {
+    assert_eq!(rt; word.len(), len);
     assert_eq!(rt; answers(word), expected);
     assert_eq!(rt; word.to_ascii_lowercase().as_slice(), bytes.as_slice());
     assert_eq!(rt; word.to_ascii_titlecase().as_slice(), bytes.as_slice());
@@ -33,10 +35,15 @@ fn check_word<T: Word<LEN>, const LEN: usize>(
 
 #[test]
 fn arrays_at_their_own_length(rt: HostRuntime) {
-    assert_eq!(rt; Aligned4::from_ascii_bytes(b"").len(), 0);
-    check_word(&rt, &Aligned4::from_ascii_bytes(b""), [true; 9], &[0; 4]);
-    check_word(&rt, &Aligned8::from_ascii_bytes(b""), [true; 9], &[0; 8]);
-    check_word(&rt, &Aligned16::from_ascii_bytes(b""), [true; 9], &[0; 16]);
+    check_word(&rt, &Aligned4::from_ascii_bytes(b""), [true; 9], &[0; 4], 0);
+    check_word(&rt, &Aligned8::from_ascii_bytes(b""), [true; 9], &[0; 8], 0);
+    check_word(
+        &rt,
+        &Aligned16::from_ascii_bytes(b""),
+        [true; 9],
+        &[0; 16],
+        0,
+    );
     let en = Aligned4::from_ascii_bytes(b"en");
     assert_eq!(rt; en.len(), 2);
     assert_eq!(rt; en.to_ascii_uppercase(), [0x45, 0x4e, 0, 0]);
@@ -59,17 +66,22 @@ fn words_full_of_the_highest_byte(rt: HostRuntime) {
         &Aligned4::from_ascii_bytes(&[0x7f; 4]),
         expected,
         &[0x7f; 4],
+        4,
     );
     check_word(
         &rt,
         &Aligned8::from_ascii_bytes(&[0x7f; 8]),
         expected,
         &[0x7f; 8],
+        8,
     );
-    check_word(&rt, &Aligned16::from_ascii_bytes(&bytes), expected, &bytes);
-    assert_eq!(rt; Aligned4::from_ascii_bytes(&[0x7f; 4]).len(), 4);
-    assert_eq!(rt; Aligned8::from_ascii_bytes(&[0x7f; 8]).len(), 8);
-    assert_eq!(rt; Aligned16::from_ascii_bytes(&bytes).len(), 16);
+    check_word(
+        &rt,
+        &Aligned16::from_ascii_bytes(&bytes),
+        expected,
+        &bytes,
+        16,
+    );
 }
 
 // ---- the lanes on the way

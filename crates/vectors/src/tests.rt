@@ -1,3 +1,4 @@
 mod every_byte;
 mod every_capacity;
+mod forms;
 mod words;

@@ -177,56 +177,6 @@ fn byte_forms(rt: HostRuntime) -> Result<(), Fail> {
     Ok(())
 }
 
-const TEXTS: [&str; 33] = [
-    "",
-    "Latn",
-    "laTn",
-    "windows",
-    "AR",
-    "Hans",
-    "macos",
-    "AT",
-    "infiniband",
-    "FR",
-    "en",
-    "Cyrl",
-    "FromIntegral",
-    "NO",
-    "419",
-    "MacintoshOSX2019",
-    "a3z",
-    "A3z",
-    "A3Z",
-    "a3Z",
-    "3A",
-    "3Z",
-    "3a",
-    "3z",
-    "@@[`{",
-    "UK",
-    "E12",
-    "tEsT",
-    "New York",
-    "001z",
-    "A15b",
-    "[3@w",
-    "abcdefghijklmnopq",
-];
-
-#[test]
-fn texts_read_back(rt: HostRuntime) -> Result<(), Fail> {
-    for text in TEXTS {
-        let value = TinyAsciiStr::<17>::try_from_str(text)?;
-        assert_eq!(rt; value.to_unvalidated().try_into_tinystr(), Ok(value));
-        let json = value.to_json(rt.alloc())?;
-        assert_eq!(rt; TinyAsciiStr::from_json(&json), Ok(value));
-        let mut input = [0xFF; 20];
-        input[..17].copy_from_slice(&value.to_bytes());
-        reads(&rt, &input, value, &[0xFF; 3]);
-    }
-    Ok(())
-}
-
 #[test]
 fn bytes_that_are_no_text(rt: HostRuntime) {
     let bytes = UnvalidatedTinyAsciiStr::from_utf8_unchecked([0, 0x41, 0]);

@@ -97,6 +97,10 @@ fn texts_answer_alike_at_every_capacity(rt: HostRuntime) -> Result<(), Fail> {
 
 #[test]
 fn texts_on_both_sides_of_a_word(rt: HostRuntime) -> Result<(), Fail> {
+    let seventeen = TinyAsciiStr::<17>::try_from_str("Abcdefghijklmnopq")?;
+    gives_answers(&rt, seventeen, "yynnynnyn");
+    gives_answers(&rt, seventeen.resize::<32>(), "yynnynnyn");
+
     let late_upper = TinyAsciiStr::<33>::try_from_str("aaaaaaaaaaaaaaaaaaaaaaaaaaaaaaaaZ")?;
     assert_eq!(rt; late_upper.len(), 33);
     gives_answers(&rt, late_upper, "yynnnnnnn");

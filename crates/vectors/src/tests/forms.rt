@@ -1,0 +1,29 @@
+//! Each text comes back from each of its forms.
+
+use crate::VECTORS;
+use std::test::Fail;
+use tinystr::TinyAsciiStr;
+use tinystr::forms::BytesReadError;
+
+#[test]
+fn texts_read_back(rt: HostRuntime) -> Result<(), Fail> {
+    for vector in VECTORS {
+        let text = TinyAsciiStr::<17>::try_from_str(vector.text)?;
+        assert_eq!(rt; text.to_unvalidated().try_into_tinystr(), Ok(text));
+        let json = text.to_json(rt.alloc())?;
+        assert_eq!(rt; TinyAsciiStr::from_json(&json), Ok(text));
+        let mut input = [0xFF; 20];
+        input[..17].copy_from_slice(&text.to_bytes());
+        match TinyAsciiStr::<17>::read_bytes(&input) {
+            Ok((read, rest)) => {
+                assert_eq!(rt; read, text);
+                assert_eq!(rt; rest, [0xFF; 3].as_slice());
+            }
+            Err(fault) => {
+                let refused: BytesReadError = fault;
+                assert!(rt; false, "{refused:?}");
+            }
+        }
+    }
+    Ok(())
+}
