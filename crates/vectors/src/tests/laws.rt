@@ -10,24 +10,30 @@ use tinystr::{ParseError, TinyAsciiStr, UnvalidatedTinyAsciiStr, tinystr};
 // Each text with one byte more fits.
 type Text = TinyAsciiStr<18>;
 
-// Each text, and its neighbours: without its last byte, with the least byte behind it, and with one byte that is the
+// Appends the text's neighbours: without its last byte, with the least byte behind it, and with one byte that is the
 // next or the one before.
+fn push_neighbours(texts: &mut Vec<Text>, text: Text) -> Result<(), Fail> {
+    let front = &text.as_utf8()[..text.len().saturating_sub(1)];
+    texts.push(Text::try_from_utf8(front)?)?;
+    texts.push(text.concat(tinystr!(1, "\x01")?))?;
+    for at in 0..text.len() {
+        let byte = text.all_bytes()[at];
+        for changed in [byte.wrapping_sub(1), byte.wrapping_add(1)] {
+            let mut bytes = *text.all_bytes();
+            bytes[at] = changed;
+            texts.push(Text::try_from_raw(bytes)?)?;
+        }
+    }
+    Ok(())
+}
+
+// Each text and its neighbours.
 fn texts(alloc: Global) -> Result<Vec<Text>, Fail> {
     let mut texts = Vec::new(alloc);
     for vector in VECTORS {
         let text = Text::try_from_str(vector.text)?;
-        let front = &text.as_utf8()[..text.len().saturating_sub(1)];
         texts.push(text)?;
-        texts.push(Text::try_from_utf8(front)?)?;
-        texts.push(text.concat(tinystr!(1, "\x01")?))?;
-        for at in 0..text.len() {
-            let byte = text.all_bytes()[at];
-            for changed in [byte.wrapping_sub(1), byte.wrapping_add(1)] {
-                let mut bytes = *text.all_bytes();
-                bytes[at] = changed;
-                texts.push(Text::try_from_raw(bytes)?)?;
-            }
-        }
+        push_neighbours(&mut texts, text)?;
     }
     Ok(texts)
 }
@@ -80,25 +86,15 @@ fn the_order_is_total_and_that_of_the_padded_bytes(rt: HostRuntime) -> Result<()
 fn equal_texts_hash_alike(rt: HostRuntime) -> Result<(), Fail> {
     let texts = texts(rt.alloc())?;
     let mut set = HashSet::new(rt.alloc());
-    let mut distinct = 0;
     for (i, text) in texts.iter().enumerate() {
-        set.insert(*text)?;
-        if !texts.iter().take(i).any(|earlier| earlier == text) {
-            distinct += 1;
-        }
+        let is_new = !texts.iter().take(i).any(|earlier| earlier == text);
+        assert_eq!(rt; set.insert(*text)?, is_new, "{text:?}");
     }
-    assert_eq!(rt; set.len(), distinct);
     for text in &texts {
-        let joined: Text = text.resize::<4>().concat(tinystr!(1, "")?);
-        assert_eq!(rt;
-            set.contains(&joined),
-            texts.iter().any(|other| *other == joined),
-            "{joined:?}"
-        );
-        assert!(rt;
-            set.contains(&Text::try_from_utf8(text.as_utf8())?),
-            "{text:?}"
-        );
+        // The same text by other calls.
+        let read = Text::try_from_utf8(text.as_utf8())?;
+        let cut = text.resize::<33>().resize::<18>();
+        assert!(rt; set.contains(&read) && set.contains(&cut), "{text:?}");
     }
     Ok(())
 }
