@@ -145,22 +145,23 @@ fn cuts_alike<const N: usize, const M: usize>(
 ) {
     assert_eq!(rt;
         front.as_utf8(),
-        &text.as_utf8()[..front.len().min(text.len())]
+        &text.as_utf8()[..text.len().min(M)],
+        "{text:?} at {M}"
     );
     assert_eq!(rt;
         front.to_ascii_lowercase(),
         text.to_ascii_lowercase().resize(),
-        "{text:?}"
+        "{text:?} at {M}"
     );
     assert_eq!(rt;
         front.to_ascii_titlecase(),
         text.to_ascii_titlecase().resize(),
-        "{text:?}"
+        "{text:?} at {M}"
     );
     assert_eq!(rt;
         front.to_ascii_uppercase(),
         text.to_ascii_uppercase().resize(),
-        "{text:?}"
+        "{text:?} at {M}"
     );
 }
 
@@ -186,23 +187,22 @@ fn case_changes_of_a_text_and_of_its_fronts(rt: HostRuntime) -> Result<(), Fail>
 
 #[test]
 fn three_texts_joined_and_cut_in_either_order(rt: HostRuntime) -> Result<(), Fail> {
-    let mut texts = Vec::new(rt.alloc());
+    let alloc = rt.alloc();
+    let mut outer = Vec::new(alloc);
     for vector in VECTORS {
-        texts.push(TinyAsciiStr::<17>::try_from_str(vector.text)?)?;
+        outer.push(Text::try_from_str(vector.text)?)?;
     }
-    for a in &texts {
-        for b in &texts {
-            for c in &texts {
-                let none: TinyAsciiStr<0> = a.concat::<17, 0>(*b).concat(*c);
-                assert_eq!(rt; none, a.concat(b.concat::<17, 0>(*c)));
-                let four: TinyAsciiStr<4> = a.concat::<17, 4>(*b).concat(*c);
-                assert_eq!(rt; four, a.concat(b.concat::<17, 8>(*c)), "{a} {b} {c}");
-                let nine: TinyAsciiStr<9> = a.concat::<17, 16>(*b).concat(*c);
-                assert_eq!(rt; nine, a.concat(b.concat::<17, 9>(*c)), "{a} {b} {c}");
-                let all: TinyAsciiStr<51> = a.concat::<17, 51>(*b).concat(*c);
-                assert_eq!(rt; all, a.concat(b.concat::<17, 51>(*c)), "{a} {b} {c}");
-                assert_eq!(rt; all.len(), a.len() + b.len() + c.len());
-            }
+    for b in texts(alloc)? {
+        for (a, c) in outer.iter().zip(outer.iter().rev()) {
+            let none: TinyAsciiStr<0> = a.concat::<18, 0>(b).concat(*c);
+            assert_eq!(rt; none, a.concat(b.concat::<18, 0>(*c)));
+            let four: TinyAsciiStr<4> = a.concat::<18, 4>(b).concat(*c);
+            assert_eq!(rt; four, a.concat(b.concat::<18, 8>(*c)), "{a} {b} {c}");
+            let nine: TinyAsciiStr<9> = a.concat::<18, 16>(b).concat(*c);
+            assert_eq!(rt; nine, a.concat(b.concat::<18, 9>(*c)), "{a} {b} {c}");
+            let all: TinyAsciiStr<54> = a.concat::<18, 36>(b).concat(*c);
+            assert_eq!(rt; all, a.concat(b.concat::<18, 54>(*c)), "{a} {b} {c}");
+            assert_eq!(rt; all.len(), a.len() + b.len() + c.len());
         }
     }
     Ok(())
@@ -274,6 +274,7 @@ fn decimal_texts_have_at_most_ten_digits(rt: HostRuntime) -> Result<(), Fail> {
         (999999999, 9),
         (1000000000, 10),
         (2147483648, 10),
+        (4294967294, 10),
         (4294967295, 10),
     ] {
         match TinyAsciiStr::<10>::new_unsigned_decimal(number) {
