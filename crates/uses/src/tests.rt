@@ -1,0 +1,1 @@
+//! Each caller, once.
