@@ -6,6 +6,6 @@ pub mod json;
 pub mod keys;
 pub mod locale;
 pub mod packed;
-
+pub mod script_code;
 #[cfg(test)]
 mod tests;

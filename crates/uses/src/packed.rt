@@ -16,9 +16,9 @@ pub fn record(file: &[u8], index: usize) -> Result<Option<TinyAsciiStr<4>>, UleE
     ensures fault { IfErr result (λ e. RefusesRecords e file.now 4) }
 {
     TinyAsciiStr::<4>::validate_bytes(file)?;
-    let (records, _) = file.as_chunks::<4>();
-    let Some(raw) = records.get(index) else {
+    if index >= file.len() / 4 {
         return Ok(None);
-    };
+    }
+    let (raw, _) = file[index * 4..].split_first_chunk::<4>().unwrap();
     Ok(TinyAsciiStr::try_from_raw(*raw).ok())
 }
