@@ -1,0 +1,11 @@
+//! Short callers of the libraries, each proved from their contracts.
+#![tactic(auto)]
+
+pub mod currency;
+pub mod json;
+pub mod keys;
+pub mod locale;
+pub mod packed;
+pub mod script_code;
+#[cfg(test)]
+mod tests;
