@@ -132,33 +132,6 @@ fn bytes_that_are_refused(rt: HostRuntime) {
     }
 }
 
-#[test]
-fn each_byte_at_each_position(rt: HostRuntime) {
-    for position in 0..4 {
-        for byte in 0..=u8::MAX {
-            let mut input = *b"abcd";
-            input[position] = byte;
-            match TinyAsciiStr::<4>::read_bytes(&input) {
-                Ok((read, rest)) => {
-                    let is_character = byte > 0 && byte < 128;
-                    assert!(rt;
-                        is_character || byte == 0 && position == 3,
-                        "{byte} at {position}"
-                    );
-                    assert_eq!(rt; read.all_bytes(), &input);
-                    assert_eq!(rt; rest, b"".as_slice());
-                }
-                Err(BytesReadError::NonAscii) => assert!(rt; byte > 127, "{byte} at {position}"),
-                Err(BytesReadError::Null) => assert!(rt;
-                    byte == 0 && position < 3,
-                    "{byte} at {position}"
-                ),
-                Err(BytesReadError::Length { .. }) => assert!(rt; false),
-            }
-        }
-    }
-}
-
 fn byte_form<const N: usize>(rt: &impl Abort, text: TinyAsciiStr<N>, form: [u8; N]) {
     assert_eq!(rt; text.to_bytes(), form);
     reads(rt, &form, text, b"");
