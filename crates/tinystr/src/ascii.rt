@@ -2,7 +2,7 @@
 
 ghost use Rattle.std.specs.Prelude.{◌≡◌, ◌+◌, ◌<◌, ◌≤◌, [], ◌∷◌, ◌++◌, length, map, take, IsOk, IfOk, IfErr, ◌↔◌, IsTrue};
 ghost use Rattle.std.specs.Fmt.{decimal};
-ghost use Rattle.tinystr_words.specs.Text.{pad, IsText, IsTextByte, IsStrictText, IsPaddedText};
+ghost use Rattle.tinystr_words.specs.Text.{pad, text_of, IsText, IsTextByte, IsStrictText, IsPaddedText};
 ghost use Rattle.tinystr_words.specs.Reading.{fault_in, lossy};
 ghost use Rattle.tinystr_words.specs.Decimal.{last};
 ghost use Rattle.tinystr.specs.Reading.{IsStrictRead};
@@ -14,7 +14,7 @@ mod questions;
 
 use crate::decimal::write_decimal;
 use crate::error::ParseError;
-use crate::reading::{Unit, byte_or, find_fault, padded};
+use crate::reading::{Unit, find_fault, lossy_padded, padded};
 use crate::words;
 use std::marker::Model;
 use std::str::FromStr;
@@ -126,11 +126,10 @@ impl<const N: usize> TinyAsciiStr<N> {
         requires { IsTextByte replacement }
         ensures { result ≡ lossy (map U.number units.now) replacement N }
     {
-        let mut text = Self::default();
-        for (i, unit) in units[..units.len().min(N)].iter().enumerate() {
-            text.push(i, byte_or(*unit, replacement));
+        let kept = &units[..N.min(units.len())];
+        TinyAsciiStr {
+            bytes: lossy_padded(kept, replacement),
         }
-        text
     }
 
     /// Reads the first `N` bytes, with the replacement for each that is NUL or above 127; the others are left out.
@@ -167,13 +166,14 @@ impl<const N: usize> TinyAsciiStr<N> {
         ensures digits { IfOk result (λ t. t ≡ decimal number) }
         ensures last_digits { IfErr result (λ t. t ≡ last N (decimal number)) }
     {
-        let mut digits = [b'0'; 10];
+        let mut digits = [0; 20];
         let start = write_decimal(number, &mut digits);
-        let text = &digits[start..];
-        if text.len() <= N {
-            Ok(Self::from_text(text))
+        let from = start.max(10_usize.saturating_sub(N));
+        let text = Self::cut(&digits[from..from + 10]);
+        if from == start {
+            Ok(text)
         } else {
-            Err(Self::from_text(&text[text.len() - N..]))
+            Err(text)
         }
     }
 
@@ -229,38 +229,33 @@ impl<const N: usize> TinyAsciiStr<N> {
         &self.bytes
     }
 
-    // Puts a character behind the text. No other step writes into the padding.
+    // Puts what fits of a padded text behind the text. No other step writes into the padding. Where the lengths of both
+    // arrays are known when the program is built and the text fits, it is a copy of a known length.
     #[inline(always)]
-    fn push(&mut self, len: usize, byte: u8)
+    fn append(&mut self, len: usize, padded: &[u8])
         requires at_end { len ≡ length self.old }
-        requires room { len < N }
-        requires character { IsTextByte byte }
-        ensures { self.new ≡ self.old ++ byte ∷ [] }
+        requires fits { len ≤ N }
+        requires padded { IsPaddedText padded.now (length padded.now) }
+        ensures { self.new ≡ take N (self.old ++ text_of padded.now) }
     {
-        self.bytes[len] = byte;
-    }
-
-    // Puts what fits of a text behind the text.
-    #[inline(always)]
-    fn append(&mut self, text: &[u8])
-        requires { IsText text.now }
-        ensures { self.new ≡ take N (self.old ++ text.now) }
-    {
-        let len = self.len();
-        for (i, byte) in text[..(N - len).min(text.len())].iter().enumerate() {
-            self.push(len + i, *byte);
+        let rest = &mut self.bytes[..];
+        let room = N - len;
+        if padded.len() <= room {
+            rest[len..len + padded.len()].copy_from_slice(padded);
+        } else {
+            rest[len..].copy_from_slice(&padded[..room]);
         }
     }
 
-    // What fits of a text.
+    // What fits of a padded text.
     #[inline(always)]
-    fn from_text(text: &[u8]) -> Self
-        requires { IsText text.now }
-        ensures { result ≡ take N text.now }
+    fn cut(padded: &[u8]) -> Self
+        requires { IsPaddedText padded.now (length padded.now) }
+        ensures { result ≡ take N (text_of padded.now) }
     {
-        let mut made = Self::default();
-        made.append(text);
-        made
+        let mut text = Self::default();
+        text.append(0, padded);
+        text
     }
 
     /// The text at another capacity, cut where it is longer.
@@ -268,7 +263,7 @@ impl<const N: usize> TinyAsciiStr<N> {
     pub fn resize<const M: usize>(self) -> TinyAsciiStr<M>
         ensures { result ≡ take M self.entry }
     {
-        TinyAsciiStr::<M>::from_text(self.as_utf8())
+        TinyAsciiStr::<M>::cut(&self.bytes[..])
     }
 
     /// The two texts joined, cut where they are longer than `Q` bytes together.
@@ -277,7 +272,7 @@ impl<const N: usize> TinyAsciiStr<N> {
         ensures { result ≡ take Q (self.entry ++ other.entry) }
     {
         let mut text = self.resize::<Q>();
-        text.append(other.as_utf8());
+        text.append(self.len().min(Q), &other.bytes[..]);
         text
     }
 }

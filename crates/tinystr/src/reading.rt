@@ -64,80 +64,88 @@ impl Unit for u16 {
     }
 }
 
-// Reads `K` units into the bytes at the same places, and tells whether one is no character. It never leaves early,
-// so that the compiler can take all units at once.
+// The byte of a character, or the replacement.
 #[inline(always)]
-fn read_part<U: Unit, const K: usize>(bytes: &mut [u8], units: &[U], at: usize) -> bool
+fn byte_or<U: Unit>(unit: U, replacement: u8) -> u8
+    ensures { result ≡ lossy_byte replacement (U.number unit) }
+{
+    if unit.is_character() {
+        unit.low_byte()
+    } else {
+        replacement
+    }
+}
+
+// Reads `K` units into the bytes at the same places, with the replacement for each that is no character, and tells
+// whether there is one. It never leaves early, so that the compiler can take all units at once.
+#[inline(always)]
+fn read_part<U: Unit, const K: usize>(bytes: &mut [u8], units: &[U], replacement: u8, at: usize) -> bool
     requires inside { at + K ≤ length units.now }
     requires room { length units.now ≤ length bytes.old }
-    ensures read { MatchBool result (¬ IsText (map U.number units.now))
-        (IsReadPart bytes.old bytes.new (map U.number units.now) at (at + K)) }
+    ensures read { IsReadPart result bytes.old bytes.new (map U.number units.now) replacement at (at + K) }
     ensures len { length bytes.new ≡ length bytes.old }
 {
     let mut is_bad = false;
     for i in at..at + K {
         let unit = units[i];
         is_bad |= !unit.is_character();
-        bytes[i] = unit.low_byte();
+        bytes[i] = byte_or(unit, replacement);
     }
     is_bad
 }
 
 // Two parts, which may overlap, are all units.
 #[inline(always)]
-fn read_pair<U: Unit, const K: usize>(bytes: &mut [u8], units: &[U]) -> bool
+fn read_pair<U: Unit, const K: usize>(bytes: &mut [u8], units: &[U], replacement: u8) -> bool
     requires least { K ≤ length units.now }
     requires most { length units.now ≤ 2 * K }
     requires room { length units.now ≤ length bytes.old }
-    ensures read { MatchBool result (¬ IsText (map U.number units.now))
-        (IsReadPart bytes.old bytes.new (map U.number units.now) 0 (length units.now)) }
+    ensures read { IsReadPart result bytes.old bytes.new (map U.number units.now) replacement 0 (length units.now) }
     ensures len { length bytes.new ≡ length bytes.old }
 {
-    let is_bad = read_part::<U, K>(bytes, units, 0);
-    is_bad | read_part::<U, K>(bytes, units, units.len() - K)
+    let is_bad = read_part::<U, K>(bytes, units, replacement, 0);
+    is_bad | read_part::<U, K>(bytes, units, replacement, units.len() - K)
 }
 
 // Parts of 32 units, the last of which may overlap the one before it.
 #[inline(always)]
-fn read_many<U: Unit>(bytes: &mut [u8], units: &[U]) -> bool
+fn read_many<U: Unit>(bytes: &mut [u8], units: &[U], replacement: u8) -> bool
     requires least { 32 ≤ length units.now }
     requires room { length units.now ≤ length bytes.old }
-    ensures read { MatchBool result (¬ IsText (map U.number units.now))
-        (IsReadPart bytes.old bytes.new (map U.number units.now) 0 (length units.now)) }
+    ensures read { IsReadPart result bytes.old bytes.new (map U.number units.now) replacement 0 (length units.now) }
     ensures len { length bytes.new ≡ length bytes.old }
 {
     let last = units.len() - 32;
     let mut is_bad = false;
     let mut at = 0;
     while at < last {
-        is_bad |= read_part::<U, 32>(bytes, units, at);
+        is_bad |= read_part::<U, 32>(bytes, units, replacement, at);
         at += 32;
     }
-    is_bad | read_part::<U, 32>(bytes, units, last)
+    is_bad | read_part::<U, 32>(bytes, units, replacement, last)
 }
 
 // Reads all units, by parts as large as they and the bytes allow.
 #[inline(always)]
-fn read_all<U: Unit>(bytes: &mut [u8], units: &[U]) -> bool
+fn read_all<U: Unit>(bytes: &mut [u8], units: &[U], replacement: u8) -> bool
     requires room { length units.now ≤ length bytes.old }
-    ensures read { MatchBool result (¬ IsText (map U.number units.now))
-        (IsReadPart bytes.old bytes.new (map U.number units.now) 0 (length units.now)) }
+    ensures read { IsReadPart result bytes.old bytes.new (map U.number units.now) replacement 0 (length units.now) }
     ensures len { length bytes.new ≡ length bytes.old }
 {
     let room = bytes.len();
     let len = units.len();
     if room >= 32 && len >= 32 {
-        read_many(bytes, units)
+        read_many(bytes, units, replacement)
     } else if room >= 16 && len >= 16 {
-        read_pair::<U, 16>(bytes, units)
+        read_pair::<U, 16>(bytes, units, replacement)
     } else if room >= 8 && len >= 8 {
-        read_pair::<U, 8>(bytes, units)
+        read_pair::<U, 8>(bytes, units, replacement)
     } else if room >= 4 && len >= 4 {
-        read_pair::<U, 4>(bytes, units)
+        read_pair::<U, 4>(bytes, units, replacement)
     } else if len >= 2 {
-        read_pair::<U, 2>(bytes, units)
+        read_pair::<U, 2>(bytes, units, replacement)
     } else {
-        len == 1 && read_pair::<U, 1>(bytes, units)
+        len == 1 && read_pair::<U, 1>(bytes, units, replacement)
     }
 }
 
@@ -149,11 +157,22 @@ pub fn padded<U: Unit, const N: usize>(units: &[U]) -> Option<[u8; N]>
         (λ bytes. IsText (map U.number units.now) × (bytes ≡ pad (map U.number units.now) N)) }
 {
     let mut bytes = [0; N];
-    if read_all(&mut bytes[..], units) {
+    if read_all(&mut bytes[..], units, 0) {
         None
     } else {
         Some(bytes)
     }
+}
+
+/// The units, with the replacement for each that is no character, and then NULs.
+#[inline]
+pub fn lossy_padded<U: Unit, const N: usize>(units: &[U], replacement: u8) -> [u8; N]
+    requires { length units.now ≤ N }
+    ensures { result ≡ pad (map (lossy_byte replacement) (map U.number units.now)) N }
+{
+    let mut bytes = [0; N];
+    read_all(&mut bytes[..], units, replacement);
+    bytes
 }
 
 /// The fault at the first position whose unit is above 127, or is a character after a NUL.
@@ -173,16 +192,4 @@ pub fn find_fault<U: Unit>(units: &[U]) -> Option<ParseError>
         }
     }
     None
-}
-
-/// The byte of a character, or the replacement.
-#[inline(always)]
-pub fn byte_or<U: Unit>(unit: U, replacement: u8) -> u8
-    ensures { result ≡ lossy_byte replacement (U.number unit) }
-{
-    if unit.is_character() {
-        unit.low_byte()
-    } else {
-        replacement
-    }
 }

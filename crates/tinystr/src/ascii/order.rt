@@ -1,6 +1,7 @@
 //! Equality and order of values, which are those of their texts.
 
 use crate::ascii::TinyAsciiStr;
+use crate::comparing::order;
 use std::cmp::Ordering;
 
 impl<const N: usize> PartialEq for TinyAsciiStr<N> {
@@ -39,7 +40,7 @@ impl<const N: usize> Ord for TinyAsciiStr<N> {
     ghost matches_eq = { Prim.search (comparing, rules) };
 
     fn cmp(&self, other: &Self) -> Ordering {
-        self.bytes.cmp(&other.bytes)
+        order(&self.bytes[..], &other.bytes[..])
     }
 }
 
