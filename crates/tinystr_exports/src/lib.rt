@@ -35,13 +35,13 @@ pub extern "C" fn tinystr_exports_compare(capacity: usize, relation: usize, roun
 
 /// Each list of bytes as a reader reads it: list i stands from `starts[i]` to `starts[i + 1]`. A fault is told by a number.
 #[unsafe(no_mangle)]
-pub extern "C" fn tinystr_exports_read8(capacity: usize, reader: usize, rounds: usize, units: &[u8], starts: &[u32], texts: &mut [u8], faults: &mut [u8]) -> bool {
+pub extern "C" fn tinystr_exports_read8(capacity: usize, reader: usize, rounds: usize, units: &[u8], starts: &[u32], texts: &mut [u8], faults: &mut [u32]) -> bool {
     crate::at_capacity!(capacity, read8_batch, reader, rounds, units, starts, texts, faults)
 }
 
 /// The same of units of 16 bits.
 #[unsafe(no_mangle)]
-pub extern "C" fn tinystr_exports_read16(capacity: usize, reader: usize, rounds: usize, units: &[u16], starts: &[u32], texts: &mut [u8], faults: &mut [u8]) -> bool {
+pub extern "C" fn tinystr_exports_read16(capacity: usize, reader: usize, rounds: usize, units: &[u16], starts: &[u32], texts: &mut [u8], faults: &mut [u32]) -> bool {
     crate::at_capacity!(capacity, read16_batch, reader, rounds, units, starts, texts, faults)
 }
 

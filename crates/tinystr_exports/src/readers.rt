@@ -12,7 +12,7 @@ const RAW: usize = 2;
 const REPLACEMENT: u8 = b'?';
 
 /// Reads each list of bytes by reader number `reader`; false where there is no such reader.
-pub fn read8_batch<const N: usize>(reader: usize, rounds: usize, units: &[u8], starts: &[u32], texts: &mut [u8], faults: &mut [u8]) -> bool
+pub fn read8_batch<const N: usize>(reader: usize, rounds: usize, units: &[u8], starts: &[u32], texts: &mut [u8], faults: &mut [u32]) -> bool
     requires { N ≤ 128 }
 {
     match reader {
@@ -24,11 +24,11 @@ pub fn read8_batch<const N: usize>(reader: usize, rounds: usize, units: &[u8], s
     true
 }
 
-fn read8_each<const N: usize, const READER: usize>(rounds: usize, units: &[u8], starts: &[u32], texts: &mut [u8], faults: &mut [u8])
+fn read8_each<const N: usize, const READER: usize>(rounds: usize, units: &[u8], starts: &[u32], texts: &mut [u8], faults: &mut [u32])
     requires { N ≤ 128 }
 {
     let mut made = [TinyAsciiStr::<N>::default(); COUNT];
-    let mut codes = [0; COUNT];
+    let mut codes = [0u32; COUNT];
     let count = starts.len().saturating_sub(1).min(COUNT);
     for _ in 0..rounds {
         for i in 0..count {
@@ -45,7 +45,7 @@ fn read8_each<const N: usize, const READER: usize>(rounds: usize, units: &[u8], 
         }
     }
     write_texts(&made, texts);
-    write_numbers(&codes, faults);
+    write_codes(&codes, faults);
 }
 
 #[inline(always)]
@@ -61,7 +61,7 @@ fn read8<const N: usize, const READER: usize>(list: &[u8]) -> Result<TinyAsciiSt
 }
 
 /// The same of units of 16 bits.
-pub fn read16_batch<const N: usize>(reader: usize, rounds: usize, units: &[u16], starts: &[u32], texts: &mut [u8], faults: &mut [u8]) -> bool
+pub fn read16_batch<const N: usize>(reader: usize, rounds: usize, units: &[u16], starts: &[u32], texts: &mut [u8], faults: &mut [u32]) -> bool
     requires { N ≤ 128 }
 {
     match reader {
@@ -72,11 +72,11 @@ pub fn read16_batch<const N: usize>(reader: usize, rounds: usize, units: &[u16],
     true
 }
 
-fn read16_each<const N: usize, const READER: usize>(rounds: usize, units: &[u16], starts: &[u32], texts: &mut [u8], faults: &mut [u8])
+fn read16_each<const N: usize, const READER: usize>(rounds: usize, units: &[u16], starts: &[u32], texts: &mut [u8], faults: &mut [u32])
     requires { N ≤ 128 }
 {
     let mut made = [TinyAsciiStr::<N>::default(); COUNT];
-    let mut codes = [0; COUNT];
+    let mut codes = [0u32; COUNT];
     let count = starts.len().saturating_sub(1).min(COUNT);
     for _ in 0..rounds {
         for i in 0..count {
@@ -93,7 +93,7 @@ fn read16_each<const N: usize, const READER: usize>(rounds: usize, units: &[u16]
         }
     }
     write_texts(&made, texts);
-    write_numbers(&codes, faults);
+    write_codes(&codes, faults);
 }
 
 #[inline(always)]
@@ -104,13 +104,18 @@ fn read16<const N: usize, const READER: usize>(list: &[u16]) -> Result<TinyAscii
     }
 }
 
-// 1 for a NUL, 2 for a unit above 127, and 3 for a list that is too long.
-fn code_of(fault: ParseError) -> u8 {
+// 1 for a NUL, 2 for a unit above 127, and 3 for a list that is too long, with both lengths above that.
+fn code_of(fault: ParseError) -> u32 {
     match fault {
         ParseError::ContainsNull => 1,
         ParseError::NonAscii => 2,
-        ParseError::TooLong { .. } => 3,
+        ParseError::TooLong { max, len } => 3 + 4 * (max % 256) as u32 + 1024 * (len % 65536) as u32,
     }
+}
+
+fn write_codes(codes: &[u32; COUNT], faults: &mut [u32]) {
+    let count = faults.len().min(COUNT);
+    faults[..count].copy_from_slice(&codes[..count]);
 }
 
 /// The decimal text of each number, and 1 where it is cut.
