@@ -121,10 +121,9 @@ fn main() {
             time!("`to_ascii_titlecase`", change(n, 1; &given.texts) -> out, out2);
             time!("`to_ascii_uppercase`", change(n, 2; &given.texts) -> out, out2);
             time!("`new_unsigned_decimal`", decimal(n; &numbers) -> out, out2; marks, marks2);
-            let wider = if n == 12 || n == 24 { n * 2 } else { n * 2 };
-            time!("`resize` to 2 N", resize(n, wider; &given.texts) -> out, out2);
+            time!("`resize` to 2 N", resize(n, 2 * n; &given.texts) -> out, out2);
             time!("`resize` from N to 4", resize(n, 4; &given.texts) -> out, out2);
-            time!("`concat` to 2 N", concat(n, wider; &given.texts, &given.others) -> out, out2);
+            time!("`concat` to 2 N", concat(n, 2 * n; &given.texts, &given.others) -> out, out2);
             time!("`concat` to N", concat(n, n; &given.texts, &given.others) -> out, out2);
         }
         println!("\n{} texts\n", if is_full { "Full" } else { "Mixed" });

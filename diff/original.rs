@@ -247,10 +247,23 @@ fn read_each<U, const N: usize>(rounds: usize, units: &[U], starts: &[u32], text
     write_numbers(&codes, faults);
 }
 
+#[inline(never)]
+fn lossy_each<U, const N: usize>(rounds: usize, units: &[U], starts: &[u32], texts: &mut [u8], read: impl Fn(&[U]) -> TinyAsciiStr<N>) {
+    let mut made = [TinyAsciiStr::default(); COUNT];
+    let count = starts.len().saturating_sub(1).min(COUNT);
+    for _ in 0..rounds {
+        for i in 0..count {
+            let Some(list) = units.get(starts[i] as usize..starts[i + 1] as usize) else { break };
+            made[i] = read(list);
+        }
+    }
+    write_texts(&made, texts);
+}
+
 fn read8_batch<const N: usize>(reader: usize, rounds: usize, units: &[u8], starts: &[u32], texts: &mut [u8], faults: &mut [u32]) {
     match reader {
         0 => read_each::<u8, N>(rounds, units, starts, texts, faults, |list| TinyAsciiStr::try_from_utf8(list)),
-        1 => read_each::<u8, N>(rounds, units, starts, texts, faults, |list| Ok(TinyAsciiStr::from_utf8_lossy(list, b'?'))),
+        1 => lossy_each::<u8, N>(rounds, units, starts, texts, |list| TinyAsciiStr::from_utf8_lossy(list, b'?')),
         _ => read_each::<u8, N>(rounds, units, starts, texts, faults, |list| match list.first_chunk::<N>() {
             Some(raw) => TinyAsciiStr::try_from_raw(*raw),
             None => Ok(TinyAsciiStr::default()),
@@ -266,7 +279,7 @@ pub fn read8(capacity: usize, reader: usize, rounds: usize, units: &[u8], starts
 fn read16_batch<const N: usize>(reader: usize, rounds: usize, units: &[u16], starts: &[u32], texts: &mut [u8], faults: &mut [u32]) {
     match reader {
         0 => read_each::<u16, N>(rounds, units, starts, texts, faults, |list| TinyAsciiStr::try_from_utf16(list)),
-        _ => read_each::<u16, N>(rounds, units, starts, texts, faults, |list| Ok(TinyAsciiStr::from_utf16_lossy(list, b'?'))),
+        _ => lossy_each::<u16, N>(rounds, units, starts, texts, |list| TinyAsciiStr::from_utf16_lossy(list, b'?')),
     }
 }
 

@@ -14,7 +14,7 @@ mod questions;
 
 use crate::decimal::write_decimal;
 use crate::error::ParseError;
-use crate::reading::{Unit, find_fault, lossy_padded, padded};
+use crate::reading::{Unit, find_fault, is_padded, lossy_padded, read_all};
 use crate::words;
 use std::marker::Model;
 use std::str::FromStr;
@@ -66,15 +66,30 @@ impl<const N: usize> TinyAsciiStr<N> {
         ensures fault { IfErr result (λ e. fault_of e ≡ fault_in N (map U.number units.now)) }
     {
         if units.len() > N {
+            return Self::refuse(units);
+        }
+        let mut bytes = [0; N];
+        if read_all(&mut bytes[..], units, 0) {
+            return Self::refuse(units);
+        }
+        Ok(TinyAsciiStr { bytes })
+    }
+
+    // Why there is no text of the units. It stands apart, so that a text never shares a place with an error, which would
+    // make LLVM copy it in small parts.
+    #[cold]
+    #[inline(never)]
+    fn refuse<U: Unit>(units: &[U]) -> Result<Self, ParseError>
+        ensures refused { ¬ IsOk result }
+        ensures fault { IfErr result (λ e. fault_of e ≡ fault_in N (map U.number units.now)) }
+    {
+        if units.len() > N {
             return Err(ParseError::TooLong {
                 max: N,
                 len: units.len(),
             });
         }
-        match padded(units) {
-            Some(bytes) => Ok(TinyAsciiStr { bytes }),
-            None => Err(find_fault(units).unwrap_or(ParseError::ContainsNull)),
-        }
+        Err(find_fault(units).unwrap_or(ParseError::ContainsNull))
     }
 
     /// Reads a text of at most `N` bytes. A NUL is refused at its end too.
@@ -114,9 +129,10 @@ impl<const N: usize> TinyAsciiStr<N> {
         ensures text { IfOk result (λ t. pad t N ≡ raw.entry) }
         ensures fault { IfErr result (λ e. fault_of e ≡ fault_in N raw.entry) }
     {
-        match find_fault(&raw[..]) {
-            Some(fault) => Err(fault),
-            None => Ok(TinyAsciiStr { bytes: raw }),
+        if is_padded(&raw[..]) {
+            Ok(TinyAsciiStr { bytes: raw })
+        } else {
+            Self::refuse(&raw[..])
         }
     }
 

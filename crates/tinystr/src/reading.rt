@@ -1,7 +1,7 @@
 //! Units read into padded bytes, and the fault of units that are refused.
 
-ghost use Rattle.std.specs.Prelude.{◌≡◌, ◌+◌, ◌*◌, ◌<◌, ◌≤◌, ◌↔◌, ℕ, map, length, IsTrue, MatchBool, MatchOption, option_map, if◌then◌else◌};
-ghost use Rattle.tinystr_words.specs.Text.{pad, IsText, IsTextByte};
+ghost use Rattle.std.specs.Prelude.{◌≡◌, ◌+◌, ◌*◌, ◌<◌, ◌≤◌, ◌↔◌, ℕ, map, length, IsTrue, MatchBool, option_map, if◌then◌else◌};
+ghost use Rattle.tinystr_words.specs.Text.{pad, IsText, IsTextByte, IsPaddedText};
 ghost use Rattle.tinystr_words.specs.Reading.{first_fault, lossy_byte};
 ghost use Rattle.tinystr.specs.Error.{fault_of};
 ghost use Rattle.tinystr.specs.Reading.{IsReadPart};
@@ -125,9 +125,10 @@ fn read_many<U: Unit>(bytes: &mut [u8], units: &[U], replacement: u8) -> bool
     is_bad | read_part::<U, 32>(bytes, units, replacement, last)
 }
 
-// Reads all units, by parts as large as they and the bytes allow.
+/// Reads all units, by parts as large as they and the bytes allow, with the replacement for each that is no character,
+/// and tells whether there is one.
 #[inline(always)]
-fn read_all<U: Unit>(bytes: &mut [u8], units: &[U], replacement: u8) -> bool
+pub fn read_all<U: Unit>(bytes: &mut [u8], units: &[U], replacement: u8) -> bool
     requires room { length units.now ≤ length bytes.old }
     ensures read { IsReadPart result bytes.old bytes.new (map U.number units.now) replacement 0 (length units.now) }
     ensures len { length bytes.new ≡ length bytes.old }
@@ -146,21 +147,6 @@ fn read_all<U: Unit>(bytes: &mut [u8], units: &[U], replacement: u8) -> bool
         read_pair::<U, 2>(bytes, units, replacement)
     } else {
         len == 1 && read_pair::<U, 1>(bytes, units, replacement)
-    }
-}
-
-/// A text and then NULs, where the units are a text.
-#[inline]
-pub fn padded<U: Unit, const N: usize>(units: &[U]) -> Option<[u8; N]>
-    requires { length units.now ≤ N }
-    ensures { MatchOption result (¬ IsText (map U.number units.now))
-        (λ bytes. IsText (map U.number units.now) × (bytes ≡ pad (map U.number units.now) N)) }
-{
-    let mut bytes = [0; N];
-    if read_all(&mut bytes[..], units, 0) {
-        None
-    } else {
-        Some(bytes)
     }
 }
 
@@ -192,4 +178,19 @@ pub fn find_fault<U: Unit>(units: &[U]) -> Option<ParseError>
         }
     }
     None
+}
+
+/// Whether the bytes are a text and then NULs. Like a read part it never leaves early.
+#[inline(always)]
+pub fn is_padded(bytes: &[u8]) -> bool
+    ensures { IsTrue result ↔ IsPaddedText bytes.now (length bytes.now) }
+{
+    let mut is_bad = false;
+    let mut is_after_null = false;
+    for byte in bytes {
+        let is_null = *byte == 0;
+        is_bad |= (*byte > 127) | (is_after_null & !is_null);
+        is_after_null = is_null;
+    }
+    !is_bad
 }

@@ -17,7 +17,7 @@ pub fn read8_batch<const N: usize>(reader: usize, rounds: usize, units: &[u8], s
 {
     match reader {
         READ => read8_each::<N, READ>(rounds, units, starts, texts, faults),
-        LOSSY => read8_each::<N, LOSSY>(rounds, units, starts, texts, faults),
+        LOSSY => lossy8_each::<N>(rounds, units, starts, texts),
         RAW => read8_each::<N, RAW>(rounds, units, starts, texts, faults),
         _ => return false,
     }
@@ -48,11 +48,26 @@ fn read8_each<const N: usize, const READER: usize>(rounds: usize, units: &[u8], 
     write_codes(&codes, faults);
 }
 
+fn lossy8_each<const N: usize>(rounds: usize, units: &[u8], starts: &[u32], texts: &mut [u8])
+    requires { N ≤ 128 }
+{
+    let mut made = [TinyAsciiStr::<N>::default(); COUNT];
+    let count = starts.len().saturating_sub(1).min(COUNT);
+    for _ in 0..rounds {
+        for i in 0..count {
+            let Some(list) = units.get(starts[i] as usize..starts[i + 1] as usize) else {
+                break;
+            };
+            made[i] = TinyAsciiStr::from_utf8_lossy(list, REPLACEMENT);
+        }
+    }
+    write_texts(&made, texts);
+}
+
 #[inline(always)]
 fn read8<const N: usize, const READER: usize>(list: &[u8]) -> Result<TinyAsciiStr<N>, ParseError> {
     match READER {
         READ => TinyAsciiStr::try_from_utf8(list),
-        LOSSY => Ok(TinyAsciiStr::from_utf8_lossy(list, REPLACEMENT)),
         _ => match list.first_chunk::<N>() {
             Some(raw) => TinyAsciiStr::try_from_raw(*raw),
             None => Ok(TinyAsciiStr::default()),
@@ -65,14 +80,14 @@ pub fn read16_batch<const N: usize>(reader: usize, rounds: usize, units: &[u16],
     requires { N ≤ 128 }
 {
     match reader {
-        READ => read16_each::<N, READ>(rounds, units, starts, texts, faults),
-        LOSSY => read16_each::<N, LOSSY>(rounds, units, starts, texts, faults),
+        READ => read16_each::<N>(rounds, units, starts, texts, faults),
+        LOSSY => lossy16_each::<N>(rounds, units, starts, texts),
         _ => return false,
     }
     true
 }
 
-fn read16_each<const N: usize, const READER: usize>(rounds: usize, units: &[u16], starts: &[u32], texts: &mut [u8], faults: &mut [u32])
+fn read16_each<const N: usize>(rounds: usize, units: &[u16], starts: &[u32], texts: &mut [u8], faults: &mut [u32])
     requires { N ≤ 128 }
 {
     let mut made = [TinyAsciiStr::<N>::default(); COUNT];
@@ -83,7 +98,7 @@ fn read16_each<const N: usize, const READER: usize>(rounds: usize, units: &[u16]
             let Some(list) = units.get(starts[i] as usize..starts[i + 1] as usize) else {
                 break;
             };
-            match read16::<N, READER>(list) {
+            match TinyAsciiStr::<N>::try_from_utf16(list) {
                 Ok(text) => {
                     made[i] = text;
                     codes[i] = 0;
@@ -96,12 +111,20 @@ fn read16_each<const N: usize, const READER: usize>(rounds: usize, units: &[u16]
     write_codes(&codes, faults);
 }
 
-#[inline(always)]
-fn read16<const N: usize, const READER: usize>(list: &[u16]) -> Result<TinyAsciiStr<N>, ParseError> {
-    match READER {
-        READ => TinyAsciiStr::try_from_utf16(list),
-        _ => Ok(TinyAsciiStr::from_utf16_lossy(list, REPLACEMENT)),
+fn lossy16_each<const N: usize>(rounds: usize, units: &[u16], starts: &[u32], texts: &mut [u8])
+    requires { N ≤ 128 }
+{
+    let mut made = [TinyAsciiStr::<N>::default(); COUNT];
+    let count = starts.len().saturating_sub(1).min(COUNT);
+    for _ in 0..rounds {
+        for i in 0..count {
+            let Some(list) = units.get(starts[i] as usize..starts[i + 1] as usize) else {
+                break;
+            };
+            made[i] = TinyAsciiStr::from_utf16_lossy(list, REPLACEMENT);
+        }
     }
+    write_texts(&made, texts);
 }
 
 // 1 for a NUL, 2 for a unit above 127, and 3 for a list that is too long, with both lengths above that.
