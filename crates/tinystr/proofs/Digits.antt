@@ -1,7 +1,7 @@
 -- Bytes in order are the digits of a number, the greatest first: equally long lists compare as their numbers.
 use Rattle.std.proofs.Common.{◌≡◌, ℕ, zero, suc, ◌+◌, ◌-◌, ◌*◌, ◌<◌, ◌≤◌, List, [], ◌∷◌, ◌++◌, length, get_or, take, drop, refl, sym, ap, ◌∙◌, arith, inl, inr}
 use Rattle.std.proofs.lemmas.Bool.{cases_lt}
-use Rattle.std.proofs.lemmas.List.{take-append-drop, length-take-le, get_or-drop, get_or-take}
+use Rattle.std.proofs.lemmas.List.{take-append-drop, length-take-le, get_or-drop}
 use Rattle.std.proofs.lemmas.Cmp.{tied_itself, nat_cmp_total}
 use Rattle.std.specs.Cmp.{nat_cmp_is}
 use Rattle.std.specs.Cmp.Lexicographic.{slice_cmp}
@@ -45,11 +45,11 @@ cmp_after [] (v ∷ vs) r s a e g h = absurd (omega arith)
 cmp_after (u ∷ us) [] r s a e g h = absurd (omega arith)
 cmp_after (u ∷ us) (v ∷ vs) r s a e g h =
     elim (cases_lt u v) [
-      inl less ↦ rw (is_less u v less, is_less _ _ (after_less us vs (a * 256 + u) (a * 256 + v) (omega arith) (λ i. g (suc i)) (omega arith))) refl
-    | inr from ↦ elim (cases_lt v u) [
-        inl more ↦ rw (is_greater u v more, is_greater _ _ (after_less vs us (a * 256 + v) (a * 256 + u) (omega arith) (λ i. h (suc i)) (omega arith))) refl
-      | inr to ↦ (let same : u ≡ v = omega arith in
-          rw (same, tied_itself nat_cmp_total v) (cmp_after us vs r s (a * 256 + v) (omega arith) (λ i. g (suc i)) (λ i. h (suc i))))
+      | inl less ↦ rw (is_less u v less, is_less _ _ (after_less us vs (a * 256 + u) (a * 256 + v) (omega arith) (λ i. g (suc i)) (omega arith))) refl
+      | inr from ↦ elim (cases_lt v u) [
+        | inl more ↦ rw (is_greater u v more, is_greater _ _ (after_less vs us (a * 256 + v) (a * 256 + u) (omega arith) (λ i. h (suc i)) (omega arith))) refl
+        | inr to ↦ (let same : u ≡ v = omega arith in
+            rw (same, tied_itself nat_cmp_total v) (cmp_after us vs r s (a * 256 + v) (omega arith) (λ i. g (suc i)) (λ i. h (suc i))))
       ]
     ]
 

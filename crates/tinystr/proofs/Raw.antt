@@ -1,5 +1,5 @@
 -- Padded bytes tested in one pass.
-use Rattle.std.proofs.Common.{◌≡◌, ℕ, ◌+◌, ◌<◌, ◌≤◌, Bool, true, false, ◌&&◌, ◌||◌, not, nat_lt, nat_eq, List, length, get_or, None, inl, inr, IsTrue, refl, arith}
+use Rattle.std.proofs.Common.{◌≡◌, ℕ, ◌+◌, ◌<◌, Bool, true, false, ◌&&◌, ◌||◌, not, nat_lt, nat_eq, List, length, get_or, inl, inr, IsTrue, refl, arith}
 use Rattle.std.proofs.lemmas.Bool.{cases_lt}
 use Rattle.std.proofs.lemmas.Bool.Decides.{nat_tests}
 use Rattle.std.specs.Prelude.{MatchBool, IsSome}
@@ -20,15 +20,16 @@ one_tested bytes i false seen inside h =
     elim (cases_lt 127 b) [
       | inl high ↦ (let e : nat_lt 127 b ≡ true = grind (arith, nat_tests) in rw (e, first_fault-high bytes i seen h inside high) refl)
       | inr low ↦ (let e : nat_lt 127 b ≡ false = grind (arith, nat_tests) in rw e (elim (cases_lt 0 b) [
-          | inl char ↦ (let n : nat_eq b 0 ≡ false = grind (arith, nat_tests) in rw n (char_tested bytes i seen inside h char (omega arith)))
-          | inr nul ↦ (let n : nat_eq b 0 ≡ true = grind (arith, nat_tests) in rw n (nul_tested bytes i seen inside h (omega arith)))
-        ]))
+        | inl char ↦ (let n : nat_eq b 0 ≡ false = grind (arith, nat_tests) in rw n (char_tested bytes i seen inside h char (omega arith)))
+        | inr nul ↦ (let n : nat_eq b 0 ≡ true = grind (arith, nat_tests) in rw n (nul_tested bytes i seen inside h (omega arith)))
+      ]))
     ]
   where
     char_tested : (bytes : List ℕ) (i : ℕ) (seen : Bool) → i < length bytes → IsScanned bytes i seen → 0 < get_or bytes i 0 → get_or bytes i 0 < 128
         → IsTested bytes (i + 1) (seen && true) false
     char_tested bytes i true inside h char low = rw (first_fault-late bytes i h inside char low) refl
     char_tested bytes i false inside h char low = IsScanned-char bytes i h inside char low
+
     nul_tested : (bytes : List ℕ) (i : ℕ) (seen : Bool) → i < length bytes → IsScanned bytes i seen → get_or bytes i 0 ≡ 0
         → IsTested bytes (i + 1) (seen && false) true
     nul_tested bytes i true inside h nul = IsScanned-nul bytes i true h inside nul

@@ -1,6 +1,6 @@
 -- A text that was read as a whole, and its array.
-use Rattle.std.proofs.Common.{◌≡◌, ◌+◌, ◌-◌, ◌<◌, ◌≤◌, ℕ, zero, suc, List, Bool, true, false, ◌||◌, not, set, IsTrue, ◌↔◌, length, get_or, replicate, refl, sym, ◌∙◌, arith, length-append, inl, inr}
-use Rattle.std.proofs.lemmas.List.{ext_get_or, get_or_past, get_or_append_left, get_or-append_right, length-replicate}
+use Rattle.std.proofs.Common.{◌≡◌, ◌+◌, ◌-◌, ◌<◌, ◌≤◌, ℕ, zero, suc, List, Bool, true, false, ◌||◌, not, set, IsTrue, ◌↔◌, length, get_or, replicate, refl, sym, ◌∙◌, arith, inl, inr}
+use Rattle.std.proofs.lemmas.List.{ext_get_or, get_or_past, get_or_append_left, get_or-append_right}
 use Rattle.std.proofs.lemmas.List.Elements.{All-from_get_or}
 use Rattle.std.proofs.lemmas.Bool.{cases_lt}
 use Rattle.std.specs.Prelude.{MatchBool}
@@ -43,9 +43,9 @@ tested_joined : (units : List ℕ) (i j k l : ℕ) (first second : Bool) → k �
 tested_joined units i j k l true second meet a b = a
 tested_joined units i j k l false true meet a b = b
 tested_joined units i j k l false false meet a b = λ p from to. elim (cases_lt p j) [
-    | inl inside ↦ a p from inside
-    | inr outside ↦ b p (omega arith) to
-  ]
+  | inl inside ↦ a p from inside
+  | inr outside ↦ b p (omega arith) to
+]
 
 -- characters are read as they are
 lossy_text : (r : ℕ) (t : List ℕ) → IsText t → map (lossy_byte r) t ≡ t

@@ -14,7 +14,7 @@ mod questions;
 
 use crate::decimal::write_decimal;
 use crate::error::ParseError;
-use crate::reading::{Unit, find_fault, is_padded, lossy_padded, read_all};
+use crate::reading::{Unit, fault_of_units, is_padded, lossy_padded, read_all};
 use crate::words;
 use std::marker::Model;
 use std::str::FromStr;
@@ -66,30 +66,13 @@ impl<const N: usize> TinyAsciiStr<N> {
         ensures fault { IfErr result (λ e. fault_of e ≡ fault_in N (map U.number units.now)) }
     {
         if units.len() > N {
-            return Self::refuse(units);
+            return Err(fault_of_units::<U, N>(units));
         }
         let mut bytes = [0; N];
         if read_all(&mut bytes[..], units, 0) {
-            return Self::refuse(units);
+            return Err(fault_of_units::<U, N>(units));
         }
         Ok(TinyAsciiStr { bytes })
-    }
-
-    // Why there is no text of the units. It stands apart, so that a text never shares a place with an error, which would
-    // make LLVM copy it in small parts.
-    #[cold]
-    #[inline(never)]
-    fn refuse<U: Unit>(units: &[U]) -> Result<Self, ParseError>
-        ensures refused { ¬ IsOk result }
-        ensures fault { IfErr result (λ e. fault_of e ≡ fault_in N (map U.number units.now)) }
-    {
-        if units.len() > N {
-            return Err(ParseError::TooLong {
-                max: N,
-                len: units.len(),
-            });
-        }
-        Err(find_fault(units).unwrap_or(ParseError::ContainsNull))
     }
 
     /// Reads a text of at most `N` bytes. A NUL is refused at its end too.
@@ -132,7 +115,7 @@ impl<const N: usize> TinyAsciiStr<N> {
         if is_padded(&raw[..]) {
             Ok(TinyAsciiStr { bytes: raw })
         } else {
-            Self::refuse(&raw[..])
+            Err(fault_of_units::<u8, N>(&raw[..]))
         }
     }
 
@@ -186,11 +169,7 @@ impl<const N: usize> TinyAsciiStr<N> {
         let start = write_decimal(number, &mut digits);
         let from = start.max(10_usize.saturating_sub(N));
         let text = Self::cut(&digits[from..from + 10]);
-        if from == start {
-            Ok(text)
-        } else {
-            Err(text)
-        }
+        if from == start { Ok(text) } else { Err(text) }
     }
 
     /// The length of the text in bytes.

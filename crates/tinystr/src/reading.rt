@@ -2,7 +2,7 @@
 
 ghost use Rattle.std.specs.Prelude.{◌≡◌, ◌+◌, ◌*◌, ◌<◌, ◌≤◌, ◌↔◌, ℕ, map, length, IsTrue, MatchBool, option_map, if◌then◌else◌};
 ghost use Rattle.tinystr_words.specs.Text.{pad, IsText, IsTextByte, IsPaddedText};
-ghost use Rattle.tinystr_words.specs.Reading.{first_fault, lossy_byte};
+ghost use Rattle.tinystr_words.specs.Reading.{first_fault, fault_in, lossy_byte};
 ghost use Rattle.tinystr.specs.Error.{fault_of};
 ghost use Rattle.tinystr.specs.Reading.{IsReadPart};
 
@@ -79,7 +79,12 @@ fn byte_or<U: Unit>(unit: U, replacement: u8) -> u8
 // Reads `K` units into the bytes at the same places, with the replacement for each that is no character, and tells
 // whether there is one. It never leaves early, so that the compiler can take all units at once.
 #[inline(always)]
-fn read_part<U: Unit, const K: usize>(bytes: &mut [u8], units: &[U], replacement: u8, at: usize) -> bool
+fn read_part<U: Unit, const K: usize>(
+    bytes: &mut [u8],
+    units: &[U],
+    replacement: u8,
+    at: usize,
+) -> bool
     requires inside { at + K ≤ length units.now }
     requires room { length units.now ≤ length bytes.old }
     ensures read { IsReadPart result bytes.old bytes.new (map U.number units.now) replacement at (at + K) }
@@ -161,8 +166,8 @@ pub fn lossy_padded<U: Unit, const N: usize>(units: &[U], replacement: u8) -> [u
     bytes
 }
 
-/// The fault at the first position whose unit is above 127, or is a character after a NUL.
-pub fn find_fault<U: Unit>(units: &[U]) -> Option<ParseError>
+// The fault at the first position whose unit is above 127, or is a character after a NUL.
+fn find_fault<U: Unit>(units: &[U]) -> Option<ParseError>
     ensures { option_map fault_of result ≡ first_fault (map U.number units.now) }
 {
     let mut is_after_null = false;
@@ -178,6 +183,20 @@ pub fn find_fault<U: Unit>(units: &[U]) -> Option<ParseError>
         }
     }
     None
+}
+
+/// Why there is no text of at most `N` units.
+#[inline(always)]
+pub fn fault_of_units<U: Unit, const N: usize>(units: &[U]) -> ParseError
+    ensures { fault_of result ≡ fault_in N (map U.number units.now) }
+{
+    if units.len() > N {
+        return ParseError::TooLong {
+            max: N,
+            len: units.len(),
+        };
+    }
+    find_fault(units).unwrap_or(ParseError::ContainsNull)
 }
 
 /// Whether the bytes are a text and then NULs. Like a read part it never leaves early.

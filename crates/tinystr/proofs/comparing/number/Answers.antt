@@ -1,4 +1,4 @@
-use Rattle.std.proofs.Common.{◌≡◌, ◌∙◌, ap, List, ℕ, rules, arith}
+use Rattle.std.proofs.Common.{◌∙◌, ap, List, ℕ, rules}
 use Rattle.std.proofs.lemmas.Nat.{le_bytes_8}
 use Rattle.std.specs.Int.{from_be_bytes, w64}
 use Rattle.tinystr.proofs.comparing.number.Goals as goal

@@ -1,4 +1,4 @@
-use Rattle.std.proofs.Common.{◌≡◌, ◌+◌, ◌++◌, ◌-◌, ◌∙◌, length, take, sym, ap, arith, rules, inl, inr, List, ℕ}
+use Rattle.std.proofs.Common.{◌≡◌, ◌+◌, ◌++◌, ◌-◌, ◌∙◌, length, take, sym, ap, arith, rules, inl, inr}
 use Rattle.std.proofs.lemmas.List.{take_all}
 use borrow.Rule.Slice.PartMut.{put_mid}
 use Rattle.tinystr_words.specs.Text.{IsPaddedText, text_of}

@@ -1,4 +1,4 @@
-use Rattle.std.proofs.Common.{◌≡◌, ◌∙◌, take, map, sym, ap, List, ℕ, rules}
+use Rattle.std.proofs.Common.{◌≡◌, ◌∙◌, take, map, sym, ap, List, ℕ}
 use Rattle.std.proofs.lemmas.List.{take-map, take_min}
 use Rattle.tinystr_words.specs.Reading.{lossy, lossy_byte}
 use Rattle.tinystr_words.specs.Text.{pad, text_of, IsPaddedText}

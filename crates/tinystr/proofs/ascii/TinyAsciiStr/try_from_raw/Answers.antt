@@ -1,5 +1,4 @@
 use Rattle.std.proofs.Common.{◌≡◌, length, rules}
-use Rattle.tinystr_words.specs.Text.{IsPaddedText}
 use Rattle.tinystr.proofs.ascii.TinyAsciiStr.try_from_raw.Goals as goal
 
 pub invariant_of-result : goal.invariant_of-result
