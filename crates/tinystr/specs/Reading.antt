@@ -1,7 +1,7 @@
 -- What a strict reader answers, and how units come into bytes.
-use Rattle.std.specs.Prelude.{◌≡◌, ℕ, ◌<◌, ◌≤◌, List, slice_index, Result, IsOk, IfOk, IfErr, ◌↔◌}
-use Rattle.tinystr_words.specs.Text.{IsTextByte, IsStrictText}
-use Rattle.tinystr_words.specs.Reading.{Fault, fault_in}
+use Rattle.std.specs.Prelude.{◌≡◌, ℕ, ◌<◌, ◌≤◌, Bool, List, map, slice_index, Result, IsOk, IfOk, IfErr, ◌↔◌, MatchBool}
+use Rattle.tinystr_words.specs.Text.{IsText, IsTextByte, IsStrictText}
+use Rattle.tinystr_words.specs.Reading.{Fault, fault_in, lossy_byte}
 
 -- a text exactly where the units are one that fits, and else the fault of the units
 pub record IsStrictRead {E : Type 0} (fault_of : E → Fault) (units : List ℕ) (n : ℕ) (r : Result (List ℕ) E) : Type 0 where
@@ -13,8 +13,9 @@ pub record IsStrictRead {E : Type 0} (fault_of : E → Fault) (units : List ℕ)
 abbrev pub IsSame : List ℕ → List ℕ → ℕ → Type 0
 IsSame bytes units k = slice_index bytes k ≡ slice_index units k
 
--- the units from i up to j are characters and are read, and what was read before stays
-pub record IsReadPart (old bytes units : List ℕ) (i j : ℕ) : Type 0 where
-  pub text : (k : ℕ) → i ≤ k → k < j → IsTextByte (slice_index units k)
-  pub read : (k : ℕ) → i ≤ k → k < j → IsSame bytes units k
-  pub kept : (k : ℕ) → IsSame old units k → IsSame bytes units k
+-- the units from i up to j are read, with r for each that is no character, and what was read before stays; unless one
+-- of all is bad, those are characters
+pub record IsReadPart (is_bad : Bool) (old bytes units : List ℕ) (r i j : ℕ) : Type 0 where
+  pub tested : MatchBool is_bad (¬ IsText units) ((k : ℕ) → i ≤ k → k < j → IsTextByte (slice_index units k))
+  pub read : (k : ℕ) → i ≤ k → k < j → IsSame bytes (map (lossy_byte r) units) k
+  pub kept : (k : ℕ) → IsSame old (map (lossy_byte r) units) k → IsSame bytes (map (lossy_byte r) units) k

@@ -14,7 +14,7 @@ mod questions;
 
 use crate::decimal::write_decimal;
 use crate::error::ParseError;
-use crate::reading::{Unit, byte_or, find_fault, padded};
+use crate::reading::{Unit, fault_of_units, is_padded, lossy_padded, read_all};
 use crate::words;
 use std::marker::Model;
 use std::str::FromStr;
@@ -66,15 +66,13 @@ impl<const N: usize> TinyAsciiStr<N> {
         ensures fault { IfErr result (λ e. fault_of e ≡ fault_in N (map U.number units.now)) }
     {
         if units.len() > N {
-            return Err(ParseError::TooLong {
-                max: N,
-                len: units.len(),
-            });
+            return Err(fault_of_units::<U, N>(units));
         }
-        match padded(units) {
-            Some(bytes) => Ok(TinyAsciiStr { bytes }),
-            None => Err(find_fault(units).unwrap_or(ParseError::ContainsNull)),
+        let mut bytes = [0; N];
+        if read_all(&mut bytes[..], units, 0) {
+            return Err(fault_of_units::<U, N>(units));
         }
+        Ok(TinyAsciiStr { bytes })
     }
 
     /// Reads a text of at most `N` bytes. A NUL is refused at its end too.
@@ -114,9 +112,10 @@ impl<const N: usize> TinyAsciiStr<N> {
         ensures text { IfOk result (λ t. t ≡ text_of raw.entry) }
         ensures fault { IfErr result (λ e. fault_of e ≡ fault_in N raw.entry) }
     {
-        match find_fault(&raw[..]) {
-            Some(fault) => Err(fault),
-            None => Ok(TinyAsciiStr { bytes: raw }),
+        if is_padded(&raw[..]) {
+            Ok(TinyAsciiStr { bytes: raw })
+        } else {
+            Err(fault_of_units::<u8, N>(&raw[..]))
         }
     }
 
@@ -126,11 +125,10 @@ impl<const N: usize> TinyAsciiStr<N> {
         requires { IsTextByte replacement }
         ensures { result ≡ lossy (map U.number units.now) replacement N }
     {
-        let mut text = Self::default();
-        for (i, unit) in units[..units.len().min(N)].iter().enumerate() {
-            text.push(i, byte_or(*unit, replacement));
+        let kept = &units[..N.min(units.len())];
+        TinyAsciiStr {
+            bytes: lossy_padded(kept, replacement),
         }
-        text
     }
 
     /// Reads the first `N` bytes, with the replacement for each that is NUL or above 127; the others are left out.
@@ -167,14 +165,11 @@ impl<const N: usize> TinyAsciiStr<N> {
         ensures digits { IfOk result (λ t. t ≡ decimal number) }
         ensures last_digits { IfErr result (λ t. t ≡ last N (decimal number)) }
     {
-        let mut digits = [b'0'; 10];
+        let mut digits = [0; 20];
         let start = write_decimal(number, &mut digits);
-        let text = &digits[start..];
-        if text.len() <= N {
-            Ok(Self::from_text(text))
-        } else {
-            Err(Self::from_text(&text[text.len() - N..]))
-        }
+        let from = start.max(10_usize.saturating_sub(N));
+        let text = Self::cut(&digits[from..from + 10]);
+        if from == start { Ok(text) } else { Err(text) }
     }
 
     /// The length of the text in bytes.
@@ -231,38 +226,33 @@ impl<const N: usize> TinyAsciiStr<N> {
         &self.bytes
     }
 
-    // Puts a character behind the text. No other step writes into the padding.
+    // Puts what fits of a padded text behind the text. No other step writes into the padding. Where the lengths of both
+    // arrays are known when the program is built and the text fits, it is a copy of a known length.
     #[inline(always)]
-    fn push(&mut self, len: usize, byte: u8)
+    fn append(&mut self, len: usize, padded: &[u8])
         requires at_end { len ≡ length self.old }
-        requires room { len < N }
-        requires character { IsTextByte byte }
-        ensures { self.new ≡ self.old ++ byte ∷ [] }
+        requires fits { len ≤ N }
+        requires padded { IsPaddedText padded.now (length padded.now) }
+        ensures { self.new ≡ take N (self.old ++ text_of padded.now) }
     {
-        self.bytes[len] = byte;
-    }
-
-    // Puts what fits of a text behind the text.
-    #[inline(always)]
-    fn append(&mut self, text: &[u8])
-        requires { IsText text.now }
-        ensures { self.new ≡ take N (self.old ++ text.now) }
-    {
-        let len = self.len();
-        for (i, byte) in text[..(N - len).min(text.len())].iter().enumerate() {
-            self.push(len + i, *byte);
+        let rest = &mut self.bytes[..];
+        let room = N - len;
+        if padded.len() <= room {
+            rest[len..len + padded.len()].copy_from_slice(padded);
+        } else {
+            rest[len..].copy_from_slice(&padded[..room]);
         }
     }
 
-    // What fits of a text.
+    // What fits of a padded text.
     #[inline(always)]
-    fn from_text(text: &[u8]) -> Self
-        requires { IsText text.now }
-        ensures { result ≡ take N text.now }
+    fn cut(padded: &[u8]) -> Self
+        requires { IsPaddedText padded.now (length padded.now) }
+        ensures { result ≡ take N (text_of padded.now) }
     {
-        let mut made = Self::default();
-        made.append(text);
-        made
+        let mut text = Self::default();
+        text.append(0, padded);
+        text
     }
 
     /// The text at another capacity, cut where it is longer.
@@ -270,7 +260,7 @@ impl<const N: usize> TinyAsciiStr<N> {
     pub fn resize<const M: usize>(self) -> TinyAsciiStr<M>
         ensures { result ≡ take M self.entry }
     {
-        TinyAsciiStr::<M>::from_text(self.as_utf8())
+        TinyAsciiStr::<M>::cut(&self.bytes[..])
     }
 
     /// The two texts joined, cut where they are longer than `Q` bytes together.
@@ -279,7 +269,7 @@ impl<const N: usize> TinyAsciiStr<N> {
         ensures { result ≡ take Q (self.entry ++ other.entry) }
     {
         let mut text = self.resize::<Q>();
-        text.append(other.as_utf8());
+        text.append(self.len().min(Q), &other.bytes[..]);
         text
     }
 }

@@ -1,15 +1,15 @@
 //! Decimal digits of a number.
 
-ghost use Rattle.std.specs.Prelude.{◌≡◌, ◌<◌, drop, length};
+ghost use Rattle.std.specs.Prelude.{◌≡◌, ◌<◌, ◌++◌, drop, length, replicate};
 ghost use Rattle.std.specs.Fmt.{decimal};
-ghost use Rattle.tinystr_words.specs.Text.{IsText};
 
-/// Writes the shortest decimal text of a number at the end of the array, and tells where it starts.
-pub fn write_decimal(number: u32, digits: &mut [u8; 10]) -> usize
+/// Writes the shortest decimal text of a number in front of ten NULs, and tells where it starts.
+#[inline(always)]
+pub fn write_decimal(number: u32, digits: &mut [u8; 20]) -> usize
+    requires { drop 10 digits.old ≡ replicate 10 0 }
     ensures start { result < 10 }
-    ensures text { drop result digits.new ≡ decimal number }
-    ensures characters { IsText (drop result digits.new) }
-    ensures len { length digits.new ≡ 10 }
+    ensures text { drop result digits.new ≡ decimal number ++ replicate 10 0 }
+    ensures len { length digits.new ≡ 20 }
 {
     let mut start = 9;
     let mut rest = number;

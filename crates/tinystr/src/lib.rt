@@ -3,6 +3,7 @@
 #![tactic(auto)]
 
 pub mod ascii;
+mod comparing;
 mod decimal;
 pub mod error;
 pub mod forms;

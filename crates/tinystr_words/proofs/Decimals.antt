@@ -27,15 +27,13 @@ room_turn r s h l =
     let same : s - 1 + 1 ≡ s = omega arith in
     rw same (omega (arith, pow_more 10 s))
 
-pub decimal_turn : (n r s : ℕ) (ds : List ℕ) → 10 ≤ r → r < 2 ^ 64 → s < length ds → 0 < s → decimal n ≡ decimal r ++ drop (s + 1) ds → decimal n ≡ decimal (r / 10) ++ drop (s - 1 + 1) (set ds s (48 + r % 10))
-decimal_turn n r s ds big fits inside pos e =
+-- one more digit written in front of what is written
+pub decimal_turn : (all : List ℕ) (r s : ℕ) (ds : List ℕ) → 10 ≤ r → r < 2 ^ 64 → s < length ds → 0 < s → all ≡ decimal r ++ drop (s + 1) ds → all ≡ decimal (r / 10) ++ drop (s - 1 + 1) (set ds s (48 + r % 10))
+decimal_turn all r s ds big fits inside pos e =
     let same : s - 1 + 1 ≡ s = omega arith in
     rw (same, drop-set ds s (48 + r % 10) inside)
     (e ∙ ap (λ (l : List ℕ). l ++ drop (s + 1) ds) (decimal_step r big fits) ∙ append_assoc (decimal (r / 10)) ((48 + r % 10) ∷ []) (drop (s + 1) ds))
 
-pub decimal_last : (n r s : ℕ) (ds : List ℕ) → r < 10 → s < length ds → decimal n ≡ decimal r ++ drop (s + 1) ds → drop s (set ds s (48 + r)) ≡ decimal n
-decimal_last n r s ds small inside e =
+pub decimal_last : (all : List ℕ) (r s : ℕ) (ds : List ℕ) → r < 10 → s < length ds → all ≡ decimal r ++ drop (s + 1) ds → drop s (set ds s (48 + r)) ≡ all
+decimal_last all r s ds small inside e =
     drop-set ds s (48 + r) inside ∙ sym (e ∙ ap (λ (l : List ℕ). l ++ drop (s + 1) ds) (decimal_digit r small))
-
-pub IsText-decimal_written : (n : ℕ) (l : List ℕ) → n < 2 ^ 64 → l ≡ decimal n → IsText l
-IsText-decimal_written n l h e = rw e (IsText-decimal n h)

@@ -1,6 +1,7 @@
 //! Equality and order of values, which are those of their texts.
 
 use crate::ascii::TinyAsciiStr;
+use crate::comparing::{order, same};
 use std::cmp::Ordering;
 
 impl<const N: usize> PartialEq for TinyAsciiStr<N> {
@@ -13,7 +14,12 @@ impl<const N: usize> PartialEq for TinyAsciiStr<N> {
     ghost laws = { Prim.search (comparing, rules) };
 
     fn eq(&self, other: &Self) -> bool {
-        self.bytes == other.bytes
+        // up to sixteen bytes the arrays' own `==` is a loop over bytes
+        if N <= 16 {
+            same(&self.bytes[..], &other.bytes[..])
+        } else {
+            self.bytes == other.bytes
+        }
     }
 }
 
@@ -39,7 +45,7 @@ impl<const N: usize> Ord for TinyAsciiStr<N> {
     ghost matches_eq = { Prim.search (comparing, rules) };
 
     fn cmp(&self, other: &Self) -> Ordering {
-        self.bytes.cmp(&other.bytes)
+        order(&self.bytes[..], &other.bytes[..])
     }
 }
 

@@ -1,13 +1,11 @@
 use Rattle.std.proofs.Common.{◌≡◌, ◌+◌, ◌-◌, ◌<◌, length, map}
-use Rattle.std.specs.Prelude.{MatchBool}
-use Rattle.tinystr_words.specs.Text.{IsText}
 use Rattle.tinystr.specs.Reading.{IsReadPart}
 use Rattle.tinystr.proofs.reading.read_many.Given as goal
 
 abbrev pub invariant-loop-at : goal.invariant-loop-at
 invariant-loop-at g l = record {
   inside : l.at < l.last + 32;
-  read : MatchBool l.is_bad (¬ IsText (map g.U.Unit.number l.units)) (IsReadPart l.initial.bytes l.bytes (map g.U.Unit.number l.units) 0 l.at);
+  read : IsReadPart l.is_bad l.initial.bytes l.bytes (map g.U.Unit.number l.units) l.replacement 0 l.at;
   len : length l.bytes ≡ length l.initial.bytes;
 }
 

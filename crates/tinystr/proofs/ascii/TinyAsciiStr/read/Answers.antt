@@ -1,33 +1,20 @@
-use Rattle.std.specs.Option.{option_map, unwrap_or}
-use Rattle.std.proofs.Common.{Option, Some, None, refl, ◌≡◌, map, sym, ◌∙◌, ap, arith}
+use Rattle.std.proofs.Common.{◌≡◌, length, map, rules, arith}
 use Rattle.std.proofs.lemmas.List.{length-map}
+use Rattle.tinystr_words.specs.Text.{pad, IsText}
 use Rattle.tinystr_words.proofs.Texts.{IsPaddedText-made, text_of-made}
-use Rattle.tinystr_words.proofs.Readers.{fault_in-long, fault_in-fits}
-use Rattle.tinystr_words.specs.Reading.Fault.{contains_null}
-use Rattle.tinystr.specs.Error.{fault_of}
-use Rattle.tinystr.specs.declared.error.ParseError.{ParseError}
-use Rattle.tinystr.specs.declared.error.ParseError.TheVariants.{ContainsNull}
+use Rattle.tinystr.proofs.Whole.{read_text}
 use Rattle.tinystr.proofs.ascii.TinyAsciiStr.read.Goals as goal
+use Rattle.tinystr.proofs.ascii.TinyAsciiStr.read.Goals.{Else-read_all}
 
-pub returns-then-units-clause-fault : goal.returns-then-units-clause-fault
-returns-then-units-clause-fault g c =
-    let len = length-map c.args.units.now g.U.Unit.number in
-    sym (rw len at (fault_in-long g.row.N (map g.U.Unit.number c.args.units.now) (omega arith)))
+made : (g : _) (c : Else-read_all g) → let units = map g.U.Unit.number c.args.units.now in IsText units × (c.read_all.new.bytes ≡ pad units g.row.N)
+made g c =
+    let len : length (map g.U.Unit.number c.args.units.now) ≡ length c.args.units.now = length-map c.args.units.now g.U.Unit.number in
+    read_text c.read_all.new.bytes (map g.U.Unit.number c.args.units.now) 0 g.row.N (omega arith) (search rules) (rw len c.if-read_all.ensures.read)
 
 pub invariant_of-result : goal.invariant_of-result
 invariant_of-result g c =
     let len = length-map c.args.units.now g.U.Unit.number in
-    IsPaddedText-made _ _ _ c.in-Some.ensures.1 (record { text = c.in-Some.ensures.0; fits = omega arith })
+    IsPaddedText-made _ _ _ (made g c).1 (record { text = (made g c).0; fits = omega arith })
 
-pub returns-in-Some-clause-text : goal.returns-in-Some-clause-text
-returns-in-Some-clause-text g c = text_of-made _ _ _ c.in-Some.ensures.1 c.in-Some.ensures.0
-
-named : (o : Option ParseError) → fault_of (unwrap_or o ContainsNull) ≡ unwrap_or (option_map fault_of o) contains_null
-named None = refl
-named (Some e) = refl
-
-pub returns-in-None-clause-fault : goal.returns-in-None-clause-fault
-returns-in-None-clause-fault g c =
-    let len = length-map c.args.units.now g.U.Unit.number in
-    let fits = fault_in-fits g.row.N (map g.U.Unit.number c.args.units.now) (omega arith) in
-    ap fault_of c.unwrap_or.ensures ∙ named c.find_fault.result ∙ ap (λ o. unwrap_or o contains_null) c.find_fault.ensures ∙ sym fits
+pub returns-clause-text : goal.returns-clause-text
+returns-clause-text g c = text_of-made _ _ _ (made g c).1 (made g c).0

@@ -1,0 +1,168 @@
+//! Batches of lists of units read, and decimal texts.
+
+ghost use Rattle.std.specs.Prelude.{◌≤◌};
+
+use crate::batch::{COUNT, write_numbers, write_texts};
+use tinystr::{ParseError, TinyAsciiStr};
+
+const READ: usize = 0;
+const LOSSY: usize = 1;
+const RAW: usize = 2;
+
+const REPLACEMENT: u8 = b'?';
+
+/// Reads each list of bytes by reader number `reader`; false where there is no such reader.
+pub fn read8_batch<const N: usize>(reader: usize, rounds: usize, units: &[u8], starts: &[u32], texts: &mut [u8], faults: &mut [u32]) -> bool
+    requires { N ≤ 128 }
+{
+    match reader {
+        READ => read8_each::<N, READ>(rounds, units, starts, texts, faults),
+        LOSSY => lossy8_each::<N>(rounds, units, starts, texts),
+        RAW => read8_each::<N, RAW>(rounds, units, starts, texts, faults),
+        _ => return false,
+    }
+    true
+}
+
+fn read8_each<const N: usize, const READER: usize>(rounds: usize, units: &[u8], starts: &[u32], texts: &mut [u8], faults: &mut [u32])
+    requires { N ≤ 128 }
+{
+    let mut made = [TinyAsciiStr::<N>::default(); COUNT];
+    let mut codes = [0u32; COUNT];
+    let count = starts.len().saturating_sub(1).min(COUNT);
+    for _ in 0..rounds {
+        for i in 0..count {
+            let Some(list) = units.get(starts[i] as usize..starts[i + 1] as usize) else {
+                break;
+            };
+            match read8::<N, READER>(list) {
+                Ok(text) => {
+                    made[i] = text;
+                    codes[i] = 0;
+                }
+                Err(fault) => codes[i] = code_of(fault),
+            }
+        }
+    }
+    write_texts(&made, texts);
+    write_codes(&codes, faults);
+}
+
+fn lossy8_each<const N: usize>(rounds: usize, units: &[u8], starts: &[u32], texts: &mut [u8])
+    requires { N ≤ 128 }
+{
+    let mut made = [TinyAsciiStr::<N>::default(); COUNT];
+    let count = starts.len().saturating_sub(1).min(COUNT);
+    for _ in 0..rounds {
+        for i in 0..count {
+            let Some(list) = units.get(starts[i] as usize..starts[i + 1] as usize) else {
+                break;
+            };
+            made[i] = TinyAsciiStr::from_utf8_lossy(list, REPLACEMENT);
+        }
+    }
+    write_texts(&made, texts);
+}
+
+#[inline(always)]
+fn read8<const N: usize, const READER: usize>(list: &[u8]) -> Result<TinyAsciiStr<N>, ParseError> {
+    match READER {
+        READ => TinyAsciiStr::try_from_utf8(list),
+        _ => match list.first_chunk::<N>() {
+            Some(raw) => TinyAsciiStr::try_from_raw(*raw),
+            None => Ok(TinyAsciiStr::default()),
+        },
+    }
+}
+
+/// The same of units of 16 bits.
+pub fn read16_batch<const N: usize>(reader: usize, rounds: usize, units: &[u16], starts: &[u32], texts: &mut [u8], faults: &mut [u32]) -> bool
+    requires { N ≤ 128 }
+{
+    match reader {
+        READ => read16_each::<N>(rounds, units, starts, texts, faults),
+        LOSSY => lossy16_each::<N>(rounds, units, starts, texts),
+        _ => return false,
+    }
+    true
+}
+
+fn read16_each<const N: usize>(rounds: usize, units: &[u16], starts: &[u32], texts: &mut [u8], faults: &mut [u32])
+    requires { N ≤ 128 }
+{
+    let mut made = [TinyAsciiStr::<N>::default(); COUNT];
+    let mut codes = [0u32; COUNT];
+    let count = starts.len().saturating_sub(1).min(COUNT);
+    for _ in 0..rounds {
+        for i in 0..count {
+            let Some(list) = units.get(starts[i] as usize..starts[i + 1] as usize) else {
+                break;
+            };
+            match TinyAsciiStr::<N>::try_from_utf16(list) {
+                Ok(text) => {
+                    made[i] = text;
+                    codes[i] = 0;
+                }
+                Err(fault) => codes[i] = code_of(fault),
+            }
+        }
+    }
+    write_texts(&made, texts);
+    write_codes(&codes, faults);
+}
+
+fn lossy16_each<const N: usize>(rounds: usize, units: &[u16], starts: &[u32], texts: &mut [u8])
+    requires { N ≤ 128 }
+{
+    let mut made = [TinyAsciiStr::<N>::default(); COUNT];
+    let count = starts.len().saturating_sub(1).min(COUNT);
+    for _ in 0..rounds {
+        for i in 0..count {
+            let Some(list) = units.get(starts[i] as usize..starts[i + 1] as usize) else {
+                break;
+            };
+            made[i] = TinyAsciiStr::from_utf16_lossy(list, REPLACEMENT);
+        }
+    }
+    write_texts(&made, texts);
+}
+
+// 1 for a NUL, 2 for a unit above 127, and 3 for a list that is too long, with both lengths above that.
+fn code_of(fault: ParseError) -> u32 {
+    match fault {
+        ParseError::ContainsNull => 1,
+        ParseError::NonAscii => 2,
+        ParseError::TooLong { max, len } => 3 + 4 * (max % 256) as u32 + 1024 * (len % 65536) as u32,
+    }
+}
+
+fn write_codes(codes: &[u32; COUNT], faults: &mut [u32]) {
+    let count = faults.len().min(COUNT);
+    faults[..count].copy_from_slice(&codes[..count]);
+}
+
+/// The decimal text of each number, and 1 where it is cut.
+pub fn decimal_batch<const N: usize>(rounds: usize, numbers: &[u32], texts: &mut [u8], cuts: &mut [u8]) -> bool
+    requires { N ≤ 128 }
+{
+    let mut made = [TinyAsciiStr::<N>::default(); COUNT];
+    let mut codes = [0; COUNT];
+    let count = numbers.len().min(COUNT);
+    for _ in 0..rounds {
+        for i in 0..count {
+            match TinyAsciiStr::new_unsigned_decimal(numbers[i]) {
+                Ok(text) => {
+                    made[i] = text;
+                    codes[i] = 0;
+                }
+                Err(text) => {
+                    made[i] = text;
+                    codes[i] = 1;
+                }
+            }
+        }
+    }
+    write_texts(&made, texts);
+    write_numbers(&codes, cuts);
+    true
+}
