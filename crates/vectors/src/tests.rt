@@ -1,3 +1,4 @@
 mod every_byte;
 mod every_capacity;
+mod original;
 mod words;
