@@ -1,6 +1,6 @@
 //! Facts of the definitions alone. Each function computes nothing, and its contract is its law.
 
-ghost use Rattle.std.specs.Prelude.{IsTrue, ◌≡◌, ◌<◌, ◌≤◌, ◌^◌, ◌↔◌, ◌⊎◌, ℕ, List, ◌++◌, length, take, ◌+◌, ◌-◌, Bool, [], ◌&&◌, All, slice_index, map, replicate, None};
+ghost use Rattle.std.specs.Prelude.{IsTrue, ◌≡◌, ◌<◌, ◌≤◌, ◌^◌, ◌↔◌, ◌⊎◌, ℕ, List, ◌++◌, length, take, ◌+◌, ◌-◌, ◌*◌, Bool, [], ◌&&◌, All, slice_index, map, replicate, None};
 ghost use Rattle.std.specs.Cmp.Lexicographic.{slice_cmp};
 ghost use Rattle.std.specs.Fmt.{decimal};
 ghost use Rattle.std.specs.Int.{IsInRange};
@@ -11,6 +11,7 @@ ghost use Rattle.tinystr_words.specs.Case.{lowercase, titlecase, uppercase};
 ghost use Rattle.tinystr_words.specs.Classes.{ask, is_alphabetic, is_lower, is_upper, is_not_lower, is_not_upper};
 ghost use Rattle.tinystr_words.specs.Decimal.{IsDecimalOf};
 ghost use Rattle.tinystr_words.specs.Order.{IsBefore};
+ghost use Rattle.tinystr_words.specs.Packed.{IsPacked, record_at};
 ghost use Rattle.tinystr_words.specs.Reading.{fault_in};
 ghost use Rattle.tinystr_words.specs.Reading.Fault.{non_ascii};
 ghost use Rattle.tinystr_words.specs.Text.{IsStrictText, pad, IsText, IsPaddedText};
@@ -133,4 +134,10 @@ pub fn bytes_back()
 pub fn niche_fault()
     ensures refused { (n : ℕ) → 0 < n → ¬ IsPaddedText (replicate n 255) n }
     ensures fault { (n : ℕ) → 0 < n → fault_in n (replicate n 255) ≡ non_ascii }
+{}
+
+/// Each record of packed records is a padded text.
+pub fn packed_records()
+    ensures { (bytes : List ℕ) (n i : ℕ) → IsPacked bytes n → i * n < length bytes →
+        IsPaddedText (record_at n bytes i) n }
 {}

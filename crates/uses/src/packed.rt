@@ -15,6 +15,7 @@ pub fn record(file: &[u8], index: usize) -> Result<Option<TinyAsciiStr<4>>, UleE
     ensures text { IfOk result (λ found. IfSome found (λ t. t ≡ text_of (record_at 4 file.now index))) }
     ensures fault { IfErr result (λ e. RefusesRecords e file.now 4) }
 {
+    tinystr_words::laws::packed_records();
     TinyAsciiStr::<4>::validate_bytes(file)?;
     if index >= file.len() / 4 {
         return Ok(None);

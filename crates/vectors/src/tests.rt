@@ -3,4 +3,5 @@ mod every_capacity;
 mod forms;
 mod hostile_bytes;
 mod laws;
+mod original;
 mod words;

@@ -1,0 +1,368 @@
+//! Compares each answer with the original crate's. A difference that isn't listed as a departure fails.
+
+mod original;
+mod ours;
+
+use original::COUNT;
+
+/// The departures, by name.
+const DEPARTURES: [&str; 3] = [
+    "`is_empty` at capacity 0, where the original panics",
+    "`new_unsigned_decimal(0)` at capacity 0, where the original is Ok of the empty text",
+    "the questions on letters in a case, of the empty text",
+];
+
+const FEW: [usize; 13] = [0, 1, 3, 4, 5, 8, 9, 12, 16, 17, 24, 32, 64];
+const TARGETS: [usize; 14] = [0, 1, 3, 4, 7, 8, 12, 16, 17, 24, 32, 48, 64, 128];
+const QUESTIONS: [&str; 11] = [
+    "len", "is_empty", "is_ascii_alphabetic", "is_ascii_alphanumeric", "is_ascii_numeric", "is_ascii_lowercase", "is_ascii_titlecase",
+    "is_ascii_uppercase", "is_ascii_alphabetic_lowercase", "is_ascii_alphabetic_titlecase", "is_ascii_alphabetic_uppercase",
+];
+const CASES: [&str; 3] = ["to_ascii_lowercase", "to_ascii_titlecase", "to_ascii_uppercase"];
+const READERS: [&str; 3] = ["try_from_utf8", "from_utf8_lossy", "try_from_raw"];
+const READERS16: [&str; 2] = ["try_from_utf16", "from_utf16_lossy"];
+const RELATIONS: [&str; 2] = ["cmp", "=="];
+
+fn capacities() -> impl Iterator<Item = usize> {
+    (0..=40).chain([64])
+}
+
+struct Random(u64);
+
+impl Random {
+    fn next(&mut self) -> u64 {
+        self.0 ^= self.0 << 13;
+        self.0 ^= self.0 >> 7;
+        self.0 ^= self.0 << 17;
+        self.0 >> 11
+    }
+
+    fn below(&mut self, bound: usize) -> usize {
+        (self.next() % bound as u64) as usize
+    }
+}
+
+/// What was compared, and what differed.
+#[derive(Default)]
+struct Count {
+    calls: u64,
+    departed: [u64; DEPARTURES.len()],
+    differed: u64,
+}
+
+impl Count {
+    fn compare<T: PartialEq + std::fmt::Debug>(&mut self, call: &str, n: usize, given: impl std::fmt::Debug, ours: T, theirs: T, departure: Option<usize>) {
+        self.calls += 1;
+        if ours == theirs {
+            return;
+        }
+        match departure {
+            Some(which) => self.departed[which] += 1,
+            None => {
+                self.differed += 1;
+                if self.differed < 20 {
+                    eprintln!("{call} at {n} of {given:?}: {ours:?} here, {theirs:?} in the original");
+                }
+            }
+        }
+    }
+
+    /// The `i`-th of each: `width` bytes of an array of texts.
+    fn compare_texts(&mut self, call: &str, n: usize, width: usize, count: usize, given: impl Fn(usize) -> String, ours: &[u8], theirs: &[u8]) {
+        for i in 0..count {
+            let part = i * width..(i + 1) * width;
+            if ours[part.clone()] == theirs[part.clone()] {
+                self.calls += 1;
+            } else {
+                self.compare(call, n, given(i), &ours[part.clone()], &theirs[part], None);
+            }
+        }
+    }
+}
+
+/// Reads each list of bytes by each reader of bytes, at one capacity.
+fn read8(count: &mut Count, n: usize, lists: &[Vec<u8>]) {
+    for lists in lists.chunks(COUNT) {
+        let units = lists.concat();
+        let mut starts = vec![0u32];
+        for list in lists {
+            starts.push(starts[starts.len() - 1] + list.len() as u32);
+        }
+        for (reader, call) in READERS.iter().enumerate() {
+            let mut out = [vec![0u8; COUNT * n], vec![0u8; COUNT * n]];
+            let mut faults = [vec![0u32; COUNT], vec![0u32; COUNT]];
+            assert!(ours::read8(n, reader, 1, &units, &starts, &mut out[0], &mut faults[0]));
+            assert!(original::read8(n, reader, 1, &units, &starts, &mut out[1], &mut faults[1]));
+            for (i, list) in lists.iter().enumerate() {
+                let part = i * n..(i + 1) * n;
+                count.compare(call, n, list, (faults[0][i], &out[0][part.clone()]), (faults[1][i], &out[1][part]), None);
+            }
+        }
+    }
+}
+
+fn read16(count: &mut Count, n: usize, lists: &[Vec<u16>]) {
+    for lists in lists.chunks(COUNT) {
+        let units = lists.concat();
+        let mut starts = vec![0u32];
+        for list in lists {
+            starts.push(starts[starts.len() - 1] + list.len() as u32);
+        }
+        for (reader, call) in READERS16.iter().enumerate() {
+            let mut out = [vec![0u8; COUNT * n], vec![0u8; COUNT * n]];
+            let mut faults = [vec![0u32; COUNT], vec![0u32; COUNT]];
+            assert!(ours::read16(n, reader, 1, &units, &starts, &mut out[0], &mut faults[0]));
+            assert!(original::read16(n, reader, 1, &units, &starts, &mut out[1], &mut faults[1]));
+            for (i, list) in lists.iter().enumerate() {
+                let part = i * n..(i + 1) * n;
+                count.compare(call, n, list, (faults[0][i], &out[0][part.clone()]), (faults[1][i], &out[1][part]), None);
+            }
+        }
+    }
+}
+
+fn padded(texts: &[Vec<u8>], n: usize) -> Vec<u8> {
+    let mut bytes = vec![0; texts.len() * n];
+    for (i, text) in texts.iter().enumerate() {
+        bytes[i * n..i * n + text.len()].copy_from_slice(text);
+    }
+    bytes
+}
+
+/// Asks each question of each text, and changes it to each case.
+fn ask(count: &mut Count, n: usize, texts: &[Vec<u8>]) {
+    for texts in texts.chunks(COUNT) {
+        let bytes = padded(texts, n);
+        for (question, call) in QUESTIONS.iter().enumerate() {
+            let mut answers = [vec![0u8; COUNT], vec![0u8; COUNT]];
+            assert!(ours::ask(n, question, 1, &bytes, &mut answers[0]));
+            assert!(original::ask(n, question, 1, &bytes, &mut answers[1]));
+            for (i, text) in texts.iter().enumerate() {
+                let departure = (text.is_empty() && question >= 8).then_some(2);
+                count.compare(call, n, text, answers[0][i], answers[1][i], departure);
+            }
+        }
+        for (case, call) in CASES.iter().enumerate() {
+            let mut out = [vec![0u8; COUNT * n], vec![0u8; COUNT * n]];
+            assert!(ours::change(n, case, 1, &bytes, &mut out[0]));
+            assert!(original::change(n, case, 1, &bytes, &mut out[1]));
+            count.compare_texts(call, n, n, texts.len(), |i| format!("{:?}", texts[i]), &out[0], &out[1]);
+        }
+    }
+}
+
+fn decimals(count: &mut Count, n: usize, numbers: &[u32]) {
+    for numbers in numbers.chunks(COUNT) {
+        let mut out = [vec![0u8; COUNT * n], vec![0u8; COUNT * n]];
+        let mut cuts = [vec![0u8; COUNT], vec![0u8; COUNT]];
+        assert!(ours::decimal(n, 1, numbers, &mut out[0], &mut cuts[0]));
+        assert!(original::decimal(n, 1, numbers, &mut out[1], &mut cuts[1]));
+        for (i, number) in numbers.iter().enumerate() {
+            let part = i * n..(i + 1) * n;
+            let departure = (n == 0 && *number == 0).then_some(1);
+            count.compare("new_unsigned_decimal", n, number, (cuts[0][i], &out[0][part.clone()]), (cuts[1][i], &out[1][part]), departure);
+        }
+    }
+}
+
+/// Compares each text with each other.
+fn compare(count: &mut Count, n: usize, texts: &[Vec<u8>]) {
+    for right in texts.chunks(COUNT) {
+        let right_bytes = padded(right, n);
+        for left in texts {
+            let left_bytes = padded(&vec![left.clone(); COUNT], n);
+            for (relation, call) in RELATIONS.iter().enumerate() {
+                let mut answers = [vec![0u8; COUNT], vec![0u8; COUNT]];
+                assert!(ours::compare(n, relation, 1, &left_bytes, &right_bytes, &mut answers[0]));
+                assert!(original::compare(n, relation, 1, &left_bytes, &right_bytes, &mut answers[1]));
+                for (i, text) in right.iter().enumerate() {
+                    count.compare(call, n, (left, text), answers[0][i], answers[1][i], None);
+                }
+            }
+        }
+    }
+}
+
+fn cut(count: &mut Count, n: usize, texts: &[Vec<u8>], others: &[Vec<u8>]) {
+    let (first, second) = (padded(texts, n), padded(others, n));
+    for to in TARGETS {
+        let mut out = [vec![0u8; COUNT * to], vec![0u8; COUNT * to]];
+        assert!(ours::resize(n, to, 1, &first, &mut out[0]));
+        assert!(original::resize(n, to, 1, &first, &mut out[1]));
+        count.compare_texts("resize", n, to, texts.len(), |i| format!("{:?} to {to}", texts[i]), &out[0], &out[1]);
+        assert!(ours::concat(n, to, 1, &first, &second, &mut out[0]));
+        assert!(original::concat(n, to, 1, &first, &second, &mut out[1]));
+        count.compare_texts("concat", n, to, texts.len(), |i| format!("{:?} and {:?} to {to}", texts[i], others[i]), &out[0], &out[1]);
+    }
+}
+
+/// Bytes that a reader may meet: mostly letters, with NULs and bytes above 127.
+fn hostile(random: &mut Random, len: usize) -> Vec<u8> {
+    (0..len)
+        .map(|_| match random.below(12) {
+            0 => 0,
+            1 => [0x7f, 0x80, 0xff][random.below(3)],
+            2 => random.below(256) as u8,
+            _ => b"aZ09 z"[random.below(6)],
+        })
+        .collect()
+}
+
+fn text(random: &mut Random, len: usize) -> Vec<u8> {
+    let kind = random.below(4);
+    (0..len)
+        .map(|i| match kind {
+            0 => b'a' + random.below(26) as u8,
+            1 => if i == 0 { b'A' + random.below(26) as u8 } else { b'a' + random.below(26) as u8 },
+            2 => b'0' + random.below(10) as u8,
+            _ => 1 + random.below(127) as u8,
+        })
+        .collect()
+}
+
+fn texts(random: &mut Random, n: usize, how_many: usize) -> Vec<Vec<u8>> {
+    (0..how_many)
+        .map(|_| {
+            let len = random.below(n + 1);
+            text(random, len)
+        })
+        .collect()
+}
+
+/// Prints a few answers of the original as rows of the table in `crates/vectors/src/tests/original.rt`.
+fn print_sample() {
+    use tinystr::{ParseError, TinyAsciiStr};
+    let mut random = Random(1);
+    for _ in 0..16 {
+        let len = random.below(11);
+        let units = hostile(&mut random, len);
+        let read = match TinyAsciiStr::<8>::try_from_utf8(&units) {
+            Ok(text) => format!("Ok({:?})", text.as_str()),
+            Err(ParseError::TooLong { max, len }) => format!("Err(ParseError::TooLong {{ max: {max}, len: {len} }})"),
+            Err(fault) => format!("Err(ParseError::{fault:?})"),
+        };
+        println!("    Read {{ units: &{units:?}, read: {read}, lossy: {:?} }},", TinyAsciiStr::<8>::from_utf8_lossy(&units, b'?').as_str());
+    }
+    for _ in 0..8 {
+        let number = (random.next() as u32) >> random.below(32);
+        let text = TinyAsciiStr::<6>::new_unsigned_decimal(number);
+        println!("    ({number}, {}),", match text { Ok(t) => format!("Ok({:?})", t.as_str()), Err(t) => format!("Err({:?})", t.as_str()) });
+    }
+    for _ in 0..8 {
+        let [first, second] = [0; 2].map(|_| { let len = random.below(7); text(&mut random, len).into_iter().map(|b| b"abZ"[b as usize % 3]).collect::<Vec<u8>>() });
+        let [a, b] = [&first, &second].map(|t| TinyAsciiStr::<6>::try_from_utf8(t).unwrap());
+        println!("    Pair {{ first: {:?}, second: {:?}, joined: {:?}, order: Ordering::{:?} }},", a.as_str(), b.as_str(), a.concat::<6, 8>(b).as_str(), a.cmp(&b));
+    }
+}
+
+fn main() {
+    if std::env::args().any(|a| a == "--sample") {
+        return print_sample();
+    }
+    let mut count = Count::default();
+    let mut random = Random(88172645463325252);
+
+    // all lists of at most two bytes, and all texts of at most two characters
+    let mut short: Vec<Vec<u8>> = vec![vec![]];
+    short.extend((0..=255).map(|a| vec![a]));
+    short.extend((0..=65535u16).map(|ab| ab.to_be_bytes().to_vec()));
+    for n in [0, 1, 2, 3, 4, 8, 9] {
+        read8(&mut count, n, &short);
+    }
+    short.retain(|list| list.iter().all(|b| (1..128).contains(b)));
+    for n in [2, 3, 4, 7, 8, 9, 16, 17, 24] {
+        ask(&mut count, n, &short);
+    }
+    ask(&mut count, 1, &short[..128]);
+    ask(&mut count, 0, &short[..1]);
+    // true here; original.rs answers in the original's place, which has no answer
+    std::panic::set_hook(Box::new(|_| ()));
+    let has_answer = std::panic::catch_unwind(|| tinystr::TinyAsciiStr::<0>::default().is_empty()).is_ok();
+    let _ = std::panic::take_hook();
+    count.compare("is_empty", 0, "", true, has_answer, Some(0));
+
+    // every byte at every position, and lists around each capacity
+    let odd = [0u16, 1, 0x7f, 0x80, 0xff, 0x100, 0x141, 0x161, 0xd800, 0xff61, 0xffff];
+    for n in capacities() {
+        for letter in [b'q', b'Q', b'7'] {
+            let mut lists = vec![];
+            for place in 0..n {
+                for byte in 0..=255 {
+                    let mut list = vec![letter; n];
+                    list[place] = byte;
+                    lists.push(list);
+                }
+            }
+            read8(&mut count, n, &lists);
+            lists.retain(|list| list.iter().all(|b| (1..128).contains(b)));
+            ask(&mut count, n, &lists);
+        }
+        let mut lists = vec![];
+        let mut wide = vec![];
+        for len in n.saturating_sub(2)..=n + 3 {
+            for _ in 0..400 {
+                lists.push(hostile(&mut random, len));
+                let mut list: Vec<u16> = hostile(&mut random, len).into_iter().map(u16::from).collect();
+                if len > 0 && random.below(2) == 0 {
+                    list[random.below(len)] = odd[random.below(odd.len())];
+                }
+                wide.push(list);
+            }
+        }
+        for place in 0..n {
+            for unit in odd {
+                let mut list = vec![u16::from(b'q'); n];
+                list[place] = unit;
+                wide.push(list);
+            }
+        }
+        read8(&mut count, n, &lists);
+        read16(&mut count, n, &wide);
+        ask(&mut count, n, &texts(&mut random, n, COUNT));
+    }
+    for n in [1, 4] {
+        read16(&mut count, n, &(0..=65535).map(|unit| vec![unit]).collect::<Vec<_>>());
+    }
+
+    // powers of ten and their neighbours, and random numbers
+    let mut numbers: Vec<u32> = (0..10).map(|k| 10u32.pow(k)).flat_map(|p| [p - 1, p, p + 1]).collect();
+    numbers.extend([u32::MAX - 1, u32::MAX, 4_000_000_000]);
+    for n in capacities() {
+        decimals(&mut count, n, &numbers);
+    }
+    for n in [1, 3, 4, 8, 9, 10, 11, 12, 16, 64] {
+        let many: Vec<u32> = (0..100_000).map(|_| (random.next() as u32) >> random.below(32)).collect();
+        decimals(&mut count, n, &many);
+    }
+
+    for n in FEW {
+        let first = texts(&mut random, n, COUNT);
+        let second = texts(&mut random, n, COUNT);
+        cut(&mut count, n, &first, &second);
+    }
+
+    // pairs, of which many share a beginning
+    for (n, how_many) in [(0, 1), (1, 128), (3, 300), (4, 600), (8, 2000), (12, 600), (16, 600), (17, 300), (24, 300), (40, 300), (64, 300)] {
+        let mut list = texts(&mut random, n, how_many);
+        for i in 1..list.len() {
+            if random.below(2) == 0 {
+                let kept = random.below(list[i - 1].len() + 1);
+                let mut like = list[i - 1][..kept].to_vec();
+                let rest = random.below(n - kept + 1);
+                like.extend(text(&mut random, rest));
+                list[i] = like;
+            }
+        }
+        compare(&mut count, n, &list);
+    }
+
+    println!("{} calls compared", count.calls);
+    for (name, times) in DEPARTURES.iter().zip(count.departed) {
+        println!("departs {times} times: {name}");
+    }
+    if count.differed > 0 || count.calls < 3_000_000 {
+        println!("{} calls differ", count.differed);
+        std::process::exit(1);
+    }
+    println!("no call differs otherwise");
+}
