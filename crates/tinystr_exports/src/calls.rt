@@ -7,19 +7,34 @@ use std::cmp::Ordering;
 use tinystr::TinyAsciiStr;
 
 const LEN: usize = 0;
+
 const IS_EMPTY: usize = 1;
+
 const ALPHABETIC: usize = 2;
+
 const ALPHANUMERIC: usize = 3;
+
 const NUMERIC: usize = 4;
+
 const LOWERCASE: usize = 5;
+
 const TITLECASE: usize = 6;
+
 const UPPERCASE: usize = 7;
+
 const ALPHABETIC_LOWERCASE: usize = 8;
+
 const ALPHABETIC_TITLECASE: usize = 9;
+
 const ALPHABETIC_UPPERCASE: usize = 10;
 
 /// Answers question number `question` for each text; false where there is no such question.
-pub fn ask_batch<const N: usize>(question: usize, rounds: usize, texts: &[u8], answers: &mut [u8]) -> bool
+pub fn ask_batch<const N: usize>(
+    question: usize,
+    rounds: usize,
+    texts: &[u8],
+    answers: &mut [u8],
+) -> bool
     requires { N ≤ 128 }
 {
     match question {
@@ -71,11 +86,18 @@ fn ask<const N: usize, const QUESTION: usize>(text: &TinyAsciiStr<N>) -> u8 {
 }
 
 const LOWER: usize = 0;
+
 const TITLE: usize = 1;
+
 const UPPER: usize = 2;
 
 /// Changes each text to case number `case`; false where there is no such case.
-pub fn change_batch<const N: usize>(case: usize, rounds: usize, texts: &[u8], changed: &mut [u8]) -> bool
+pub fn change_batch<const N: usize>(
+    case: usize,
+    rounds: usize,
+    texts: &[u8],
+    changed: &mut [u8],
+) -> bool
     requires { N ≤ 128 }
 {
     match case {
@@ -110,10 +132,17 @@ fn change<const N: usize, const CASE: usize>(text: TinyAsciiStr<N>) -> TinyAscii
 }
 
 const ORDER: usize = 0;
+
 const EQUALITY: usize = 1;
 
 /// Compares each pair; false where there is no comparison of that number.
-pub fn compare_batch<const N: usize>(relation: usize, rounds: usize, left: &[u8], right: &[u8], answers: &mut [u8]) -> bool
+pub fn compare_batch<const N: usize>(
+    relation: usize,
+    rounds: usize,
+    left: &[u8],
+    right: &[u8],
+    answers: &mut [u8],
+) -> bool
     requires { N ≤ 128 }
 {
     match relation {
@@ -124,7 +153,12 @@ pub fn compare_batch<const N: usize>(relation: usize, rounds: usize, left: &[u8]
     true
 }
 
-fn compare_each<const N: usize, const RELATION: usize>(rounds: usize, left: &[u8], right: &[u8], answers: &mut [u8])
+fn compare_each<const N: usize, const RELATION: usize>(
+    rounds: usize,
+    left: &[u8],
+    right: &[u8],
+    answers: &mut [u8],
+)
     requires { N ≤ 128 }
 {
     let left = read_texts::<N>(left);
@@ -140,7 +174,10 @@ fn compare_each<const N: usize, const RELATION: usize>(rounds: usize, left: &[u8
 }
 
 #[inline(always)]
-fn compare<const N: usize, const RELATION: usize>(left: &TinyAsciiStr<N>, right: &TinyAsciiStr<N>) -> u8 {
+fn compare<const N: usize, const RELATION: usize>(
+    left: &TinyAsciiStr<N>,
+    right: &TinyAsciiStr<N>,
+) -> u8 {
     match RELATION {
         ORDER => match left.cmp(right) {
             Ordering::Less => 0,

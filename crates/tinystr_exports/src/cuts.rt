@@ -6,13 +6,22 @@ use crate::batch::{COUNT, read_texts, write_texts};
 use tinystr::TinyAsciiStr;
 
 /// Each text at another capacity; false where that isn't known.
-pub fn resize_batch<const N: usize>(to: usize, rounds: usize, texts: &[u8], resized: &mut [u8]) -> bool
+pub fn resize_batch<const N: usize>(
+    to: usize,
+    rounds: usize,
+    texts: &[u8],
+    resized: &mut [u8],
+) -> bool
     requires { N ≤ 128 }
 {
     crate::to_capacity!(to, resize_each, rounds, texts, resized)
 }
 
-fn resize_each<const N: usize, const M: usize>(rounds: usize, texts: &[u8], resized: &mut [u8]) -> bool
+fn resize_each<const N: usize, const M: usize>(
+    rounds: usize,
+    texts: &[u8],
+    resized: &mut [u8],
+) -> bool
     requires from { N ≤ 128 }
     requires to { M ≤ 128 }
 {
@@ -28,13 +37,24 @@ fn resize_each<const N: usize, const M: usize>(rounds: usize, texts: &[u8], resi
 }
 
 /// Each text and the other one behind it, at another capacity; false where that isn't known.
-pub fn concat_batch<const N: usize>(to: usize, rounds: usize, first: &[u8], second: &[u8], joined: &mut [u8]) -> bool
+pub fn concat_batch<const N: usize>(
+    to: usize,
+    rounds: usize,
+    first: &[u8],
+    second: &[u8],
+    joined: &mut [u8],
+) -> bool
     requires { N ≤ 128 }
 {
     crate::to_capacity!(to, concat_each, rounds, first, second, joined)
 }
 
-fn concat_each<const N: usize, const Q: usize>(rounds: usize, first: &[u8], second: &[u8], joined: &mut [u8]) -> bool
+fn concat_each<const N: usize, const Q: usize>(
+    rounds: usize,
+    first: &[u8],
+    second: &[u8],
+    joined: &mut [u8],
+) -> bool
     requires from { N ≤ 128 }
     requires to { Q ≤ 128 }
 {

@@ -4,61 +4,140 @@
 //! times over as is asked.
 #![tactic(auto)]
 
-
-mod capacities;
 mod batch;
 mod calls;
+mod capacities;
 mod cuts;
 mod readers;
 
 use calls::{ask_batch, change_batch, compare_batch};
 use cuts::{concat_batch, resize_batch};
-use readers::{decimal_batch, read16_batch, read8_batch};
+use readers::{decimal_batch, read8_batch, read16_batch};
 
 /// A question or the length of each text, as a number.
 #[unsafe(no_mangle)]
-pub extern "C" fn tinystr_exports_ask(capacity: usize, question: usize, rounds: usize, texts: &[u8], answers: &mut [u8]) -> bool {
+pub extern "C" fn tinystr_exports_ask(
+    capacity: usize,
+    question: usize,
+    rounds: usize,
+    texts: &[u8],
+    answers: &mut [u8],
+) -> bool {
     crate::at_capacity!(capacity, ask_batch, question, rounds, texts, answers)
 }
 
 /// Each text in another case.
 #[unsafe(no_mangle)]
-pub extern "C" fn tinystr_exports_change(capacity: usize, case: usize, rounds: usize, texts: &[u8], changed: &mut [u8]) -> bool {
+pub extern "C" fn tinystr_exports_change(
+    capacity: usize,
+    case: usize,
+    rounds: usize,
+    texts: &[u8],
+    changed: &mut [u8],
+) -> bool {
     crate::at_capacity!(capacity, change_batch, case, rounds, texts, changed)
 }
 
 /// The order or the equality of each pair of texts, as a number.
 #[unsafe(no_mangle)]
-pub extern "C" fn tinystr_exports_compare(capacity: usize, relation: usize, rounds: usize, left: &[u8], right: &[u8], answers: &mut [u8]) -> bool {
-    crate::at_capacity!(capacity, compare_batch, relation, rounds, left, right, answers)
+pub extern "C" fn tinystr_exports_compare(
+    capacity: usize,
+    relation: usize,
+    rounds: usize,
+    left: &[u8],
+    right: &[u8],
+    answers: &mut [u8],
+) -> bool {
+    crate::at_capacity!(
+        capacity,
+        compare_batch,
+        relation,
+        rounds,
+        left,
+        right,
+        answers
+    )
 }
 
 /// Each list of bytes as a reader reads it: list i stands from `starts[i]` to `starts[i + 1]`. A fault is told by a number.
 #[unsafe(no_mangle)]
-pub extern "C" fn tinystr_exports_read8(capacity: usize, reader: usize, rounds: usize, units: &[u8], starts: &[u32], texts: &mut [u8], faults: &mut [u32]) -> bool {
-    crate::at_capacity!(capacity, read8_batch, reader, rounds, units, starts, texts, faults)
+pub extern "C" fn tinystr_exports_read8(
+    capacity: usize,
+    reader: usize,
+    rounds: usize,
+    units: &[u8],
+    starts: &[u32],
+    texts: &mut [u8],
+    faults: &mut [u32],
+) -> bool {
+    crate::at_capacity!(
+        capacity,
+        read8_batch,
+        reader,
+        rounds,
+        units,
+        starts,
+        texts,
+        faults
+    )
 }
 
 /// The same of units of 16 bits.
 #[unsafe(no_mangle)]
-pub extern "C" fn tinystr_exports_read16(capacity: usize, reader: usize, rounds: usize, units: &[u16], starts: &[u32], texts: &mut [u8], faults: &mut [u32]) -> bool {
-    crate::at_capacity!(capacity, read16_batch, reader, rounds, units, starts, texts, faults)
+pub extern "C" fn tinystr_exports_read16(
+    capacity: usize,
+    reader: usize,
+    rounds: usize,
+    units: &[u16],
+    starts: &[u32],
+    texts: &mut [u8],
+    faults: &mut [u32],
+) -> bool {
+    crate::at_capacity!(
+        capacity,
+        read16_batch,
+        reader,
+        rounds,
+        units,
+        starts,
+        texts,
+        faults
+    )
 }
 
 /// The decimal text of each number, and 1 where it is cut.
 #[unsafe(no_mangle)]
-pub extern "C" fn tinystr_exports_decimal(capacity: usize, rounds: usize, numbers: &[u32], texts: &mut [u8], cuts: &mut [u8]) -> bool {
+pub extern "C" fn tinystr_exports_decimal(
+    capacity: usize,
+    rounds: usize,
+    numbers: &[u32],
+    texts: &mut [u8],
+    cuts: &mut [u8],
+) -> bool {
     crate::at_capacity!(capacity, decimal_batch, rounds, numbers, texts, cuts)
 }
 
 /// Each text at another capacity.
 #[unsafe(no_mangle)]
-pub extern "C" fn tinystr_exports_resize(capacity: usize, to: usize, rounds: usize, texts: &[u8], resized: &mut [u8]) -> bool {
+pub extern "C" fn tinystr_exports_resize(
+    capacity: usize,
+    to: usize,
+    rounds: usize,
+    texts: &[u8],
+    resized: &mut [u8],
+) -> bool {
     crate::at_few_capacities!(capacity, resize_batch, to, rounds, texts, resized)
 }
 
 /// Each text and the other one behind it, at another capacity.
 #[unsafe(no_mangle)]
-pub extern "C" fn tinystr_exports_concat(capacity: usize, to: usize, rounds: usize, first: &[u8], second: &[u8], joined: &mut [u8]) -> bool {
+pub extern "C" fn tinystr_exports_concat(
+    capacity: usize,
+    to: usize,
+    rounds: usize,
+    first: &[u8],
+    second: &[u8],
+    joined: &mut [u8],
+) -> bool {
     crate::at_few_capacities!(capacity, concat_batch, to, rounds, first, second, joined)
 }

@@ -6,13 +6,22 @@ use crate::batch::{COUNT, write_numbers, write_texts};
 use tinystr::{ParseError, TinyAsciiStr};
 
 const READ: usize = 0;
+
 const LOSSY: usize = 1;
+
 const RAW: usize = 2;
 
 const REPLACEMENT: u8 = b'?';
 
 /// Reads each list of bytes by reader number `reader`; false where there is no such reader.
-pub fn read8_batch<const N: usize>(reader: usize, rounds: usize, units: &[u8], starts: &[u32], texts: &mut [u8], faults: &mut [u32]) -> bool
+pub fn read8_batch<const N: usize>(
+    reader: usize,
+    rounds: usize,
+    units: &[u8],
+    starts: &[u32],
+    texts: &mut [u8],
+    faults: &mut [u32],
+) -> bool
     requires { N ≤ 128 }
 {
     match reader {
@@ -24,7 +33,13 @@ pub fn read8_batch<const N: usize>(reader: usize, rounds: usize, units: &[u8], s
     true
 }
 
-fn read8_each<const N: usize, const READER: usize>(rounds: usize, units: &[u8], starts: &[u32], texts: &mut [u8], faults: &mut [u32])
+fn read8_each<const N: usize, const READER: usize>(
+    rounds: usize,
+    units: &[u8],
+    starts: &[u32],
+    texts: &mut [u8],
+    faults: &mut [u32],
+)
     requires { N ≤ 128 }
 {
     let mut made = [TinyAsciiStr::<N>::default(); COUNT];
@@ -76,7 +91,14 @@ fn read8<const N: usize, const READER: usize>(list: &[u8]) -> Result<TinyAsciiSt
 }
 
 /// The same of units of 16 bits.
-pub fn read16_batch<const N: usize>(reader: usize, rounds: usize, units: &[u16], starts: &[u32], texts: &mut [u8], faults: &mut [u32]) -> bool
+pub fn read16_batch<const N: usize>(
+    reader: usize,
+    rounds: usize,
+    units: &[u16],
+    starts: &[u32],
+    texts: &mut [u8],
+    faults: &mut [u32],
+) -> bool
     requires { N ≤ 128 }
 {
     match reader {
@@ -87,7 +109,13 @@ pub fn read16_batch<const N: usize>(reader: usize, rounds: usize, units: &[u16],
     true
 }
 
-fn read16_each<const N: usize>(rounds: usize, units: &[u16], starts: &[u32], texts: &mut [u8], faults: &mut [u32])
+fn read16_each<const N: usize>(
+    rounds: usize,
+    units: &[u16],
+    starts: &[u32],
+    texts: &mut [u8],
+    faults: &mut [u32],
+)
     requires { N ≤ 128 }
 {
     let mut made = [TinyAsciiStr::<N>::default(); COUNT];
@@ -132,7 +160,9 @@ fn code_of(fault: ParseError) -> u32 {
     match fault {
         ParseError::ContainsNull => 1,
         ParseError::NonAscii => 2,
-        ParseError::TooLong { max, len } => 3 + 4 * (max % 256) as u32 + 1024 * (len % 65536) as u32,
+        ParseError::TooLong { max, len } => 3
+            + 4 * (max % 256) as u32
+            + 1024 * (len % 65536) as u32,
     }
 }
 
@@ -142,7 +172,12 @@ fn write_codes(codes: &[u32; COUNT], faults: &mut [u32]) {
 }
 
 /// The decimal text of each number, and 1 where it is cut.
-pub fn decimal_batch<const N: usize>(rounds: usize, numbers: &[u32], texts: &mut [u8], cuts: &mut [u8]) -> bool
+pub fn decimal_batch<const N: usize>(
+    rounds: usize,
+    numbers: &[u32],
+    texts: &mut [u8],
+    cuts: &mut [u8],
+) -> bool
     requires { N ≤ 128 }
 {
     let mut made = [TinyAsciiStr::<N>::default(); COUNT];
