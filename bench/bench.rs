@@ -4,28 +4,16 @@
 mod original;
 #[path = "../diff/ours.rs"]
 mod ours;
+#[path = "../diff/random.rs"]
+mod random;
 
 use original::COUNT;
+use random::Random;
 use std::time::Instant;
 
 const CAPACITIES: [usize; 7] = [4, 8, 12, 16, 24, 32, 64];
 const TURNS: usize = 25;
 const ROUNDS: usize = 100;
-
-struct Random(u64);
-
-impl Random {
-    fn next(&mut self) -> u64 {
-        self.0 ^= self.0 << 13;
-        self.0 ^= self.0 >> 7;
-        self.0 ^= self.0 << 17;
-        self.0 >> 11
-    }
-
-    fn below(&mut self, bound: usize) -> usize {
-        (self.next() % bound as u64) as usize
-    }
-}
 
 /// A batch of texts of small letters: each fills its array, or has any length from 1 on.
 struct Batch {

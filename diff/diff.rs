@@ -2,8 +2,10 @@
 
 mod original;
 mod ours;
+mod random;
 
 use original::COUNT;
+use random::Random;
 
 /// The departures, by name.
 const DEPARTURES: [&str; 3] = [
@@ -25,21 +27,6 @@ const RELATIONS: [&str; 2] = ["cmp", "=="];
 
 fn capacities() -> impl Iterator<Item = usize> {
     (0..=40).chain([64])
-}
-
-struct Random(u64);
-
-impl Random {
-    fn next(&mut self) -> u64 {
-        self.0 ^= self.0 << 13;
-        self.0 ^= self.0 >> 7;
-        self.0 ^= self.0 << 17;
-        self.0 >> 11
-    }
-
-    fn below(&mut self, bound: usize) -> usize {
-        (self.next() % bound as u64) as usize
-    }
 }
 
 /// What was compared, and what differed.
