@@ -80,7 +80,7 @@ impl fmt::Display for Language {
     ghost output = { λ language. Some language };
 
     fn fmt<W: fmt::Write>(&self, f: &mut fmt::Formatter<W>) -> fmt::Result {
-        fmt::Display::fmt(self.as_str(), f)
+        fmt::Display::fmt(&self.text, f)
     }
 }
 
@@ -88,6 +88,6 @@ impl fmt::Debug for Language {
     ghost debug_output = { debug_str };
 
     fn fmt<W: fmt::Write>(&self, f: &mut fmt::Formatter<W>) -> fmt::Result {
-        fmt::Debug::fmt(self.as_str(), f)
+        fmt::Debug::fmt(&self.text, f)
     }
 }

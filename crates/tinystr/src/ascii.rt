@@ -178,12 +178,13 @@ impl<const N: usize> TinyAsciiStr<N> {
         ensures len { result ≡ length self.now }
         ensures fits { result ≤ N }
     {
+        let bytes = &self.bytes;
         if N <= 4 {
-            Aligned4::from_ascii_bytes(&self.bytes).len()
+            Aligned4::from_ascii_bytes(bytes).len()
         } else if N <= 8 {
-            Aligned8::from_ascii_bytes(&self.bytes).len()
+            Aligned8::from_ascii_bytes(bytes).len()
         } else {
-            words::len(&self.bytes)
+            words::len(bytes)
         }
     }
 
