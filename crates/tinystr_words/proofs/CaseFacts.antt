@@ -1,5 +1,7 @@
 -- Case changes done twice, texts that they leave alone, and classes joined from others.
-use Rattle.std.proofs.Common.{◌≡◌, ℕ, ◌↔◌, Bool, true, false, ◌&&◌, List, [], ◌∷◌, map, ap₂, ◌∙◌, refl, arith}
+use Rattle.std.proofs.Common.{◌≡◌, ℕ, ◌↔◌, Bool, true, false, ◌&&◌, List, [], ◌∷◌, map, ap, ap₂, ◌∙◌, refl, arith}
+use Rattle.std.proofs.Math.Path.{fun_ext}
+use Rattle.std.proofs.lemmas.Simd.{map-map}
 use Rattle.std.proofs.lemmas.Bool.Decides.{nat_tests}
 use Rattle.std.specs.List.{list_all}
 use Rattle.tinystr_words.specs.Classes.{ask, is_alphabetic, is_lower, is_upper, is_not_lower, is_not_upper}
@@ -18,21 +20,22 @@ raise_raise b = grind (arith, nat_tests)
 lower_raise : (b : ℕ) → lower (raise b) ≡ lower b
 lower_raise b = grind (arith, nat_tests)
 
+-- one change after another, where both come to one change of each byte
+map_after : (f g h : ℕ → ℕ) → ((b : ℕ) → f (g b) ≡ h b) → (t : List ℕ) → map f (map g t) ≡ map h t
+map_after f g h each t = map-map f g t ∙ ap (λ (change : ℕ → ℕ). map change t) (fun_ext each)
+
 pub lowercase-twice : (t : List ℕ) → lowercase (lowercase t) ≡ lowercase t
-lowercase-twice [] = refl
-lowercase-twice (b ∷ t) = ap₂ (λ x xs. x ∷ xs) (lower_lower b) (lowercase-twice t)
+lowercase-twice = map_after lower lower lower lower_lower
 
 pub uppercase-twice : (t : List ℕ) → uppercase (uppercase t) ≡ uppercase t
-uppercase-twice [] = refl
-uppercase-twice (b ∷ t) = ap₂ (λ x xs. x ∷ xs) (raise_raise b) (uppercase-twice t)
+uppercase-twice = map_after raise raise raise raise_raise
+
+pub lowercase-uppercase : (t : List ℕ) → lowercase (uppercase t) ≡ lowercase t
+lowercase-uppercase = map_after lower raise lower lower_raise
 
 pub titlecase-twice : (t : List ℕ) → titlecase (titlecase t) ≡ titlecase t
 titlecase-twice [] = refl
 titlecase-twice (b ∷ t) = ap₂ (λ x xs. x ∷ xs) (raise_raise b) (lowercase-twice t)
-
-pub lowercase-uppercase : (t : List ℕ) → lowercase (uppercase t) ≡ lowercase t
-lowercase-uppercase [] = refl
-lowercase-uppercase (b ∷ t) = ap₂ (λ x xs. x ∷ xs) (lower_raise b) (lowercase-uppercase t)
 
 -- ---- left alone
 
@@ -42,14 +45,16 @@ lower_alone b = (λ e. grind (arith, nat_tests), λ e. grind (arith, nat_tests))
 raise_alone : (b : ℕ) → (raise b ≡ b) ↔ (is_not_lower b ≡ true)
 raise_alone b = (λ e. grind (arith, nat_tests), λ e. grind (arith, nat_tests))
 
--- a change of a first byte and of the later ones, each left alone exactly where a test passes
+-- a byte and the list behind it, each left alone exactly where a test passes
+cons_alone : (b c : ℕ) (t s : List ℕ) (p q : Bool) → (c ≡ b) ↔ (p ≡ true) → (s ≡ t) ↔ (q ≡ true) → (c ∷ s ≡ b ∷ t) ↔ ((p && q) ≡ true)
+cons_alone b c t s p q first others = (
+  λ e. (let at_first : c ≡ b = cc in let at_others : s ≡ t = cc in ap₂ (λ x y. x && y) (first.0 at_first) (others.0 at_others)),
+  λ e. (let parts = both_true p q e in ap₂ (λ x xs. x ∷ xs) (first.1 parts.0) (others.1 parts.1)),
+)
+
 map_alone : (f : ℕ → ℕ) (p : ℕ → Bool) → ((b : ℕ) → (f b ≡ b) ↔ (p b ≡ true)) → (t : List ℕ) → (map f t ≡ t) ↔ (list_all p t ≡ true)
 map_alone f p alone [] = (λ e. refl, λ e. refl)
-map_alone f p alone (b ∷ t) =
-    let rest = map_alone f p alone t in (
-      λ e. (let first : f b ≡ b = cc in let others : map f t ≡ t = cc in ap₂ (λ x y. x && y) ((alone b).0 first) (rest.0 others)),
-      λ e. (let parts = both_true (p b) (list_all p t) e in ap₂ (λ x xs. x ∷ xs) ((alone b).1 parts.0) (rest.1 parts.1)),
-    )
+map_alone f p alone (b ∷ t) = cons_alone b (f b) t (map f t) (p b) (list_all p t) (alone b) (map_alone f p alone t)
 
 pub lowercase-alone : (t : List ℕ) → (lowercase t ≡ t) ↔ (ask is_not_upper is_not_upper t ≡ true)
 lowercase-alone t = rw (ask-same is_not_upper t) (map_alone lower is_not_upper lower_alone t)
@@ -60,10 +65,8 @@ uppercase-alone t = rw (ask-same is_not_lower t) (map_alone raise is_not_lower r
 pub titlecase-alone : (t : List ℕ) → (titlecase t ≡ t) ↔ (ask is_not_lower is_not_upper t ≡ true)
 titlecase-alone [] = (λ e. refl, λ e. refl)
 titlecase-alone (b ∷ t) =
-    let rest = map_alone lower is_not_upper lower_alone t in (
-      λ e. (let first : raise b ≡ b = cc in let others : map lower t ≡ t = cc in ap₂ (λ x y. x && y) ((raise_alone b).0 first) (rest.0 others)),
-      λ e. (let parts = both_true (is_not_lower b) (list_all is_not_upper t) e in ap₂ (λ x xs. x ∷ xs) ((raise_alone b).1 parts.0) (rest.1 parts.1)),
-    )
+    cons_alone b (raise b) t (map lower t) (is_not_lower b) (list_all is_not_upper t) (raise_alone b)
+    (map_alone lower is_not_upper lower_alone t)
 
 -- ---- joined
 
