@@ -1,26 +1,15 @@
 -- A text that was read as a whole, and its array.
-use Rattle.std.proofs.Common.{◌≡◌, ◌+◌, ◌-◌, ◌<◌, ◌≤◌, ℕ, zero, suc, List, Bool, true, false, ◌||◌, not, set, IsTrue, ◌↔◌, length, get_or, replicate, refl, sym, ◌∙◌, arith, inl, inr}
-use Rattle.std.proofs.lemmas.List.{ext_get_or, get_or_past, get_or_append_left, get_or-append_right}
-use Rattle.std.proofs.lemmas.List.Elements.{All-from_get_or}
+use Rattle.std.proofs.Common.{◌≡◌, ◌+◌, ◌-◌, ◌<◌, ◌≤◌, ℕ, List, [], ◌∷◌, Bool, true, false, ◌||◌, not, set, IsTrue, ◌↔◌, length, get_or, map, refl, sym, ap, ap₂, ◌∙◌, arith, inl, inr}
+use Rattle.std.proofs.lemmas.List.{ext_get_or, get_or_past, get_or_append_left, get_or-append_right, get_or-map, length-map}
+use Rattle.std.proofs.lemmas.List.Elements.{All-from_get_or, All-head, All-tail}
 use Rattle.std.proofs.lemmas.Bool.{cases_lt}
 use Rattle.std.specs.Prelude.{MatchBool}
 use Rattle.std.proofs.lemmas.Grind.{common_steps}
 use Rattle.tinystr_words.specs.Text.{pad, IsText, IsTextByte}
 use Rattle.tinystr_words.specs.Reading.{lossy_byte}
-use Rattle.tinystr_words.proofs.Texts.{length-pad}
+use Rattle.tinystr_words.proofs.Texts.{NULS, get_or-nuls, length-pad}
 use Rattle.tinystr_words.proofs.Readers.{lossy_byte-character}
-use Rattle.std.proofs.lemmas.List.{get_or-map, length-map}
-use Rattle.std.proofs.lemmas.List.Elements.{All-head, All-tail}
-use Rattle.std.proofs.Common.{map, [], ◌∷◌, ap, ap₂}
 use Rattle.tinystr.specs.Reading.{IsSame, IsReadPart}
-
-abbrev NULS : ℕ → List ℕ
-NULS n = replicate n 0
-
-nul_at : (n k : ℕ) → get_or (NULS n) k 0 ≡ 0
-nul_at zero k = refl
-nul_at (suc n) zero = refl
-nul_at (suc n) (suc k) = nul_at n k
 
 -- past its end a list is padded already
 pub padded_at : (units : List ℕ) (n k : ℕ) → get_or (pad units n) k 0 ≡ get_or units k 0
@@ -28,7 +17,7 @@ padded_at units n k =
     elim (cases_lt k (length units)) [
       | inl inside ↦ get_or_append_left units (NULS (n - length units)) 0 k inside
       | inr outside ↦ get_or-append_right units (NULS (n - length units)) (length units) k 0 refl (omega arith)
-          ∙ nul_at (n - length units) (k - length units) ∙ sym (get_or_past units k 0 (omega arith))
+          ∙ get_or-nuls (n - length units) (k - length units) ∙ sym (get_or_past units k 0 (omega arith))
     ]
 
 abbrev Tested : Bool → List ℕ → ℕ → ℕ → Type 0
@@ -64,7 +53,7 @@ read_whole is_bad bytes units r n fits len read =
     same k =
         elim (cases_lt k (length units)) [
           | inl inside ↦ read.read k (omega arith) inside
-          | inr outside ↦ read.kept k (nul_at n k ∙ sym (get_or_past (map (lossy_byte r) units) k 0 (omega (arith, length-map units (lossy_byte r)))))
+          | inr outside ↦ read.kept k (get_or-nuls n k ∙ sym (get_or_past (map (lossy_byte r) units) k 0 (omega (arith, length-map units (lossy_byte r)))))
         ]
 
 -- where no unit is bad, all are read as they are

@@ -1,18 +1,13 @@
--- The order and the equality of padded arrays are those of their texts.
-use Rattle.std.proofs.Common.{◌≡◌, ℕ, ◌+◌, ◌-◌, ◌<◌, List, [], ◌∷◌, ◌++◌, length, replicate, sym, ap, ◌∙◌, refl, arith, suc, zero, ◌≤◌}
+-- The order of padded arrays is that of their texts.
+use Rattle.std.proofs.Common.{◌≡◌, ℕ, ◌+◌, ◌-◌, ◌<◌, List, [], ◌∷◌, ◌++◌, length, ap, refl, arith, suc, zero, ◌≤◌}
 use Rattle.std.specs.Ordering.{nat_cmp, ordering_then}
-use Rattle.std.specs.Cmp.Lexicographic.{slice_cmp, pointwise}
-use Rattle.std.specs.Prelude.{nat_eq}
+use Rattle.std.specs.Cmp.Lexicographic.{slice_cmp}
 use Rattle.std.specs.declared.cmp.Ordering.TheVariants.{Less, Equal, Greater}
 use Rattle.std.proofs.lemmas.Cmp.{nat_list_cmp_total, tied_itself}
-use Rattle.std.proofs.lemmas.Bool.Decides.{nat_tests, same_from_decides}
-use Rattle.std.proofs.lemmas.Slice.Eq.{bytes_eq-Decides}
+use Rattle.std.proofs.lemmas.Bool.Decides.{nat_tests}
 use Rattle.std.proofs.lemmas.List.Elements.{All-head, All-tail}
-use Rattle.tinystr_words.proofs.Texts.{length-text_of-le}
+use Rattle.tinystr_words.proofs.Texts.{NULS, length-text_of-le}
 use Rattle.tinystr_words.specs.Text.{IsText, IsTextByte, pad, text_of, IsPaddedText}
-
-abbrev NULS : ℕ → List ℕ
-NULS k = replicate k 0
 
 cmp-nuls : (k m : ℕ) → k ≡ m → slice_cmp nat_cmp (NULS k) (NULS m) ≡ Equal
 cmp-nuls k m e = rw e (tied_itself nat_list_cmp_total (NULS m))
