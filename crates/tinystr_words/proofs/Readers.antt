@@ -8,7 +8,7 @@ use Rattle.std.proofs.lemmas.List.Folds.{list_any_more, list_any_at, list_any_no
 use Rattle.std.proofs.lemmas.List.Sums.{prefix_len_passes, prefix_len_stops}
 use Rattle.std.specs.List.{find, prefix_len, range_with_len}
 use Rattle.std.specs.Option.{option_map, unwrap_or}
-use Rattle.tinystr_words.proofs.Texts.{IsPaddedText-char, IsPaddedText-nul, nuls_from, length-text_of, length-text_of-le, is_char}
+use Rattle.tinystr_words.proofs.Texts.{IsPaddedText-char, IsPaddedText-nul, nuls_from, length-text_of, length-text_of-le, is_not_nul}
 use Rattle.tinystr_words.specs.Text.{IsTextByte, IsPaddedText, text_of}
 use Rattle.tinystr_words.specs.Reading.{lossy_byte, Fault, is_after_null, is_faulty, first_faulty, first_fault, fault_in}
 use Rattle.tinystr_words.specs.Reading.Fault.{too_long, contains_null, non_ascii}
@@ -138,7 +138,7 @@ IsPaddedText-clean bytes n e none = record {
   text = λ k d h.
       let l : k < p = omega (arith, length-text_of bytes) in
       let inside : k < length bytes = omega (arith, length-text_of-le bytes) in
-      let char = prefix_len_passes is_char bytes k 0 l in
+      let char = prefix_len_passes is_not_nul bytes k 0 l in
       rw (get_or-take p bytes k d l, get_or_default bytes k d 0 inside) (char_of k inside (grind (arith, nat_tests)));
   fits = omega (arith, length-text_of-le bytes);
   padded = sym (take-append-drop p bytes) ∙ ap (λ (z : List ℕ). take p bytes ++ z)
@@ -146,7 +146,7 @@ IsPaddedText-clean bytes n e none = record {
 }
   where
     p : ℕ
-    p = prefix_len is_char bytes
+    p = prefix_len is_not_nul bytes
 
     char_of : (k : ℕ) → k < length bytes → 0 < get_or bytes k 0 → IsTextByte (get_or bytes k 0)
     char_of k inside some = (some, faulty_high bytes k (clean_from bytes none k inside))
@@ -154,7 +154,7 @@ IsPaddedText-clean bytes n e none = record {
     nul_at : (k : ℕ) → k < length (drop p bytes) → get_or (drop p bytes) k 0 ≡ 0
     nul_at k h =
         let inside : p + k < length bytes = omega (arith, length-drop p bytes) in
-        let stops = prefix_len_stops is_char bytes 0 (omega arith) in
+        let stops = prefix_len_stops is_not_nul bytes 0 (omega arith) in
         let nul : get_or bytes p 0 ≡ 0 = grind (arith, nat_tests) in
         rw get_or-drop
         (elim (cases_lt 0 k) [

@@ -13,8 +13,8 @@ use Rattle.std.proofs.Math.Seq.{take-nil, drop-nil}
 use Rattle.tinystr_words.specs.Text.{IsTextByte, IsText, IsStrictText, pad, text_of, IsPaddedText}
 
 -- the test that `text_of` makes of each byte
-abbrev pub is_char : ℕ → Bool
-is_char b = not (eqb b 0)
+abbrev pub is_not_nul : ℕ → Bool
+is_not_nul b = not (eqb b 0)
 
 abbrev pub NULS : ℕ → List ℕ
 NULS k = replicate k 0
@@ -34,16 +34,16 @@ nuls_from xs m e h =
 pub length-pad : (t : List ℕ) (n : ℕ) → length t ≤ n → length (pad t n) ≡ n
 length-pad t n h = omega (arith, length-append t (NULS (n - length t)), length-replicate {A = ℕ} (n - length t) 0)
 
-prefix_len-pad : (t : List ℕ) (n : ℕ) → IsText t → prefix_len is_char (pad t n) ≡ length t
+prefix_len-pad : (t : List ℕ) (n : ℕ) → IsText t → prefix_len is_not_nul (pad t n) ≡ length t
 prefix_len-pad t n h =
-    prefix_len_is is_char (pad t n) (length t) 0
+    prefix_len_is is_not_nul (pad t n) (length t) 0
     (omega (arith, length-append t (NULS (n - length t))))
     (λ k below. rw (get_or_append_left t (NULS (n - length t)) 0 k below) (let p = h k 0 below in grind (arith, nat_tests)))
     (λ inside. rw (get_or-append_right t (NULS (n - length t)) (length t) (length t) 0 refl (omega arith))
     (let p = get_or-nuls (n - length t) (length t - length t) in grind (arith, nat_tests)))
 
 pub text_of-pad : (t : List ℕ) (n : ℕ) → IsText t → text_of (pad t n) ≡ t
-text_of-pad t n h = take_at t (NULS (n - length t)) (prefix_len is_char (pad t n)) (sym (prefix_len-pad t n h))
+text_of-pad t n h = take_at t (NULS (n - length t)) (prefix_len is_not_nul (pad t n)) (sym (prefix_len-pad t n h))
 
 pub IsPaddedText-pad : (t : List ℕ) (n : ℕ) → IsStrictText t n → IsPaddedText (pad t n) n
 IsPaddedText-pad t n h =
@@ -67,20 +67,20 @@ text_of-made bytes t n made h = ap (λ (b : List ℕ). text_of b) made ∙ text_
 pub pad_once : (t s : List ℕ) (n : ℕ) → IsText t → IsText s → pad t n ≡ pad s n → t ≡ s
 pad_once t s n h k e = sym (text_of-pad t n h) ∙ text_of-made (pad t n) s n e k
 
-pub length-text_of : (bytes : List ℕ) → length (text_of bytes) ≡ prefix_len is_char bytes
-length-text_of bytes = length-prefix_len is_char bytes
+pub length-text_of : (bytes : List ℕ) → length (text_of bytes) ≡ prefix_len is_not_nul bytes
+length-text_of bytes = length-prefix_len is_not_nul bytes
 
 -- the text's bytes are the first of the array
 pub take-text_of : (bytes : List ℕ) → take (length (text_of bytes)) bytes ≡ text_of bytes
 take-text_of bytes = rw (length-text_of bytes) refl
 
 pub length-text_of-le : (bytes : List ℕ) → length (text_of bytes) ≤ length bytes
-length-text_of-le bytes = omega (arith, length-text_of bytes, prefix_len-le-length is_char bytes)
+length-text_of-le bytes = omega (arith, length-text_of bytes, prefix_len-le-length is_not_nul bytes)
 
 -- the length, as a loop finds it
 pub length-text_of-at : (bytes : List ℕ) (n : ℕ) → n ≤ length bytes → ((k : ℕ) → k < n → get_or bytes k 0 ≢ 0) → (n < length bytes → get_or bytes n 0 ≡ 0) → length (text_of bytes) ≡ n
 length-text_of-at bytes n fits before here =
-    length-text_of bytes ∙ prefix_len_is is_char bytes n 0 fits
+    length-text_of bytes ∙ prefix_len_is is_not_nul bytes n 0 fits
     (λ k h. let p = before k h in grind (arith, nat_tests))
     (λ h. let p = here h in grind (arith, nat_tests))
 
