@@ -42,7 +42,8 @@ pub enum FormWriteError {
 }
 
 impl<const N: usize> TinyAsciiStr<N> {
-    /// The string value of the text.
+    /// The string value of the text. Its memory is asked of `alloc`.
+    #[inline]
     pub fn to_json(&self, alloc: Global) -> Result<Value, AllocError>
         ensures { IfOk result (λ value. view value ≡ json_form self.now) }
     {
@@ -61,6 +62,7 @@ impl<const N: usize> TinyAsciiStr<N> {
     }
 
     /// The text and then NULs.
+    #[inline]
     pub fn to_bytes(&self) -> [u8; N]
         ensures bytes { result ≡ pad self.now N }
         ensures padded { IsPaddedText result N }
@@ -102,6 +104,7 @@ impl<const N: usize> UnvalidatedTinyAsciiStr<N> {
     }
 
     /// The text of a string value, and then NULs.
+    #[inline]
     pub fn from_json(value: &Value) -> Result<Self, JsonReadError>
         ensures accepted { IsOk result
             ↔ IsSomeAnd (as_str (view value.now)) (λ t. IsStrictText t N) }

@@ -43,7 +43,8 @@ impl<const N: usize> TinyAsciiStr<N> {
         Ok(())
     }
 
-    /// Bytes that no value has, for `N` above 0.
+    /// Bytes that are those of no value, for `N` above 0: 255 each.
+    #[inline]
     pub fn niche_bit_pattern() -> [u8; N]
         ensures { result ≡ replicate N 255 }
     {

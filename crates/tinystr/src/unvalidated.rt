@@ -44,6 +44,7 @@ impl<const N: usize> Ord for UnvalidatedTinyAsciiStr<N> {
 
     ghost matches_eq = { Prim.search (comparing, rules) };
 
+    #[inline]
     fn cmp(&self, other: &Self) -> Ordering {
         self.bytes.cmp(&other.bytes)
     }
@@ -60,6 +61,7 @@ impl<const N: usize> PartialOrd for UnvalidatedTinyAsciiStr<N> {
 
     ghost laws = { partial_order_from_own_ties (Prim.search (comparing, rules)) (Prim.search (comparing, rules)) };
 
+    #[inline]
     fn partial_cmp(&self, other: &Self) -> Option<Ordering> {
         Some(self.cmp(other))
     }
@@ -82,6 +84,7 @@ impl<const N: usize> UnvalidatedTinyAsciiStr<N> {
     }
 
     /// These bytes, whatever they are.
+    #[inline]
     pub fn from_utf8_unchecked(bytes: [u8; N]) -> Self
         ensures { result ≡ bytes.entry }
     {
@@ -89,6 +92,7 @@ impl<const N: usize> UnvalidatedTinyAsciiStr<N> {
     }
 
     /// The text, where the bytes are one and then NULs, as `TinyAsciiStr::try_from_raw` reads it.
+    #[inline]
     pub fn try_into_tinystr(self) -> Result<TinyAsciiStr<N>, ParseError>
         ensures accepted { IsOk result ↔ IsPaddedText self.entry N }
         ensures text { IfOk result (λ t. t ≡ text_of self.entry) }
@@ -100,6 +104,7 @@ impl<const N: usize> UnvalidatedTinyAsciiStr<N> {
 
 impl<const N: usize> TinyAsciiStr<N> {
     /// All `N` bytes, the NULs behind the text too.
+    #[inline]
     pub fn to_unvalidated(self) -> UnvalidatedTinyAsciiStr<N>
         ensures bytes { result ≡ pad self.entry N }
         ensures padded { IsPaddedText result N }
@@ -111,6 +116,7 @@ impl<const N: usize> TinyAsciiStr<N> {
 impl<const N: usize> From<TinyAsciiStr<N>> for UnvalidatedTinyAsciiStr<N> {
     ghost from_gives = { λ text made. (made ≡ pad text N) × IsPaddedText made N };
 
+    #[inline]
     fn from(text: TinyAsciiStr<N>) -> Self {
         text.to_unvalidated()
     }
@@ -119,6 +125,7 @@ impl<const N: usize> From<TinyAsciiStr<N>> for UnvalidatedTinyAsciiStr<N> {
 impl<const N: usize> Default for UnvalidatedTinyAsciiStr<N> {
     ghost is_default = { λ made. made ≡ replicate N 0 };
 
+    #[inline]
     fn default() -> Self
         ensures { result ≡ replicate N 0 }
     {

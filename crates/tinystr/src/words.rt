@@ -8,6 +8,7 @@ ghost use Rattle.tinystr.specs.Cut.{IsCut};
 use tinystr_words::int_ops::Aligned16;
 use tinystr_words::{Case, Question};
 
+// The first sixteen bytes as a word, and the bytes behind them.
 #[inline(always)]
 fn split_word(bytes: &[u8]) -> Option<(Aligned16, &[u8])>
     requires { IsPaddedText bytes.now (length bytes.now) }
@@ -17,6 +18,7 @@ fn split_word(bytes: &[u8]) -> Option<(Aligned16, &[u8])>
     Some((Aligned16::from_ascii_bytes(word), rest))
 }
 
+/// The length of the text in bytes: the sum over its words.
 #[inline(always)]
 #[tactic(auto, using(crate::proofs::Splits::len_step))]
 pub fn len(bytes: &[u8]) -> usize
@@ -32,6 +34,7 @@ pub fn len(bytes: &[u8]) -> usize
     sum + Aligned16::from_part(rest).len()
 }
 
+/// Whether each word passes, the later ones without a first character.
 #[inline(always)]
 #[tactic(auto, using(crate::proofs::Splits::ask_parts))]
 pub fn asks(bytes: &[u8], question: Question) -> bool
@@ -50,7 +53,7 @@ pub fn asks(bytes: &[u8], question: Question) -> bool
     Aligned16::from_part(rest).asks(asked)
 }
 
-/// Changes each word, the later ones without a first character.
+/// Changes each word in place, the later ones without a first character. The NULs behind the text stay.
 #[inline(always)]
 pub fn change(bytes: &mut [u8], case: Case)
     requires { IsPaddedText bytes.old (length bytes.old) }

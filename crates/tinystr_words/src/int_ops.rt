@@ -17,10 +17,13 @@ pub struct Aligned<T: Word<LEN>, const LEN: usize> {
     word: T,
 }
 
+/// A text of at most 4 bytes, in 32 bits.
 pub type Aligned4 = Aligned<u32, 4>;
 
+/// A text of at most 8 bytes, in 64 bits.
 pub type Aligned8 = Aligned<u64, 8>;
 
+/// A text of at most 16 bytes, in 128 bits.
 pub type Aligned16 = Aligned<u128, 16>;
 
 impl<T: Word<LEN>, const LEN: usize> Model for Aligned<T, LEN> {
@@ -95,7 +98,7 @@ impl<T: Word<LEN>, const LEN: usize> Aligned<T, LEN> {
         LEN - self.word.leading_zeros() / 8
     }
 
-    /// The answer of the method that the question names.
+    /// The answer of the method that the question names, as `is_ascii_titlecase` for `Titlecase`.
     #[inline(always)]
     pub fn asks(&self, question: Question) -> bool
         ensures { result ≡ answer question self.now }
@@ -190,7 +193,7 @@ impl<T: Word<LEN>, const LEN: usize> Aligned<T, LEN> {
         self.asks(Question::AlphabeticUppercase)
     }
 
-    /// The bytes of the method that the case names.
+    /// The bytes of the method that the case names, as `to_ascii_titlecase` for `Title`.
     #[inline(always)]
     pub fn in_case(&self, case: Case) -> [u8; LEN]
         ensures { result ≡ pad (in_case case self.now) LEN }
@@ -215,7 +218,7 @@ impl<T: Word<LEN>, const LEN: usize> Aligned<T, LEN> {
         self.in_case(Case::Lower)
     }
 
-    /// The text with its first letter in upper case and each later one in lower case, and then NULs.
+    /// The text with its first byte, if it is a letter, in upper case and each later letter in lower case, and then NULs.
     #[inline(always)]
     pub fn to_ascii_titlecase(&self) -> [u8; LEN]
         ensures { result ≡ pad (titlecase self.now) LEN }

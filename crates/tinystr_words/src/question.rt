@@ -6,14 +6,23 @@ ghost use Rattle.tinystr_words.specs.Questions.{later_question, later_case};
 /// A question that a text is asked: whether each byte is in a class. The titlecase ones have a class of their own for the first byte.
 #[derive(Clone, Copy)]
 pub enum Question {
+    /// Each byte is a letter.
     Alphabetic,
+    /// Each byte is a letter or a digit.
     Alphanumeric,
+    /// Each byte is a digit.
     Numeric,
+    /// No byte is an uppercase letter.
     Lowercase,
+    /// The first byte is no lowercase letter, and no later byte is an uppercase one.
     Titlecase,
+    /// No byte is a lowercase letter.
     Uppercase,
+    /// Each byte is a lowercase letter.
     AlphabeticLowercase,
+    /// The first byte is an uppercase letter, and each later byte is a lowercase one.
     AlphabeticTitlecase,
+    /// Each byte is an uppercase letter.
     AlphabeticUppercase,
 }
 
@@ -34,9 +43,11 @@ impl Question {
 /// A case that a text is brought to.
 #[derive(Clone, Copy)]
 pub enum Case {
+    /// Each letter in lower case.
     Lower,
-    /// The first byte in upper case and the others in lower case.
+    /// The first byte, if it is a letter, in upper case, and each later letter in lower case.
     Title,
+    /// Each letter in upper case.
     Upper,
 }
 

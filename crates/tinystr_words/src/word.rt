@@ -33,8 +33,9 @@ pub const DIGIT: Range = Range {
     high: 0x46,
 };
 
+// Puts the source in place of the first bytes.
 #[inline(always)]
-pub(crate) fn write_front(bytes: &mut [u8], src: &[u8])
+fn write_front(bytes: &mut [u8], src: &[u8])
     requires { length src.now ≤ length bytes.old }
     ensures { bytes.new ≡ src.now ++ drop (length src.now) bytes.old }
 {
@@ -45,31 +46,40 @@ pub(crate) fn write_front(bytes: &mut [u8], src: &[u8])
 pub trait Word<const LEN: usize>: Copy + Drop {
     ghost number: { Self → ℕ };
 
+    /// The word of these lanes.
     fn from_le_bytes(bytes: &[u8; LEN]) -> Self
         ensures { number result ≡ word bytes.now };
 
+    /// The lanes, the lowest first.
     fn to_le_bytes(self) -> [u8; LEN]
         ensures { result ≡ lanes_of LEN (number self) };
 
+    /// How many bits, of all `8 * LEN`, are above the highest that is set.
     fn leading_zeros(self) -> usize
         ensures { result ≡ count_leading_zeros (8 * LEN) (number self) };
 
+    /// The sum, which is that of each lane with its like where none of these is past 255.
     fn plus(self, other: Self) -> Self
         requires { number self + number other < 256 ^ LEN }
         ensures { number result ≡ number self + number other };
 
+    /// The bits that are set in both.
     fn and(self, other: Self) -> Self
         ensures { number result ≡ bit_and (number self) (number other) };
 
+    /// The bits that are set in one or in both.
     fn or(self, other: Self) -> Self
         ensures { number result ≡ bit_or (number self) (number other) };
 
+    /// The bits that aren't set.
     fn not(self) -> Self
         ensures { number result ≡ 256 ^ LEN - 1 - number self };
 
+    /// Each bit two places lower, as 0x20 of 0x80. The lowest two are lost.
     fn quarter(self) -> Self
         ensures { number result ≡ number self / 4 };
 
+    /// Whether all lanes are the same.
     fn equals(self, other: Self) -> bool
         ensures { result ≡ (number self == number other) };
 
