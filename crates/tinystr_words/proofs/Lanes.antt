@@ -44,29 +44,26 @@ pub word_add : (F G : Bool → ℕ → ℕ) (i : Bool) (l : List ℕ) → word (
 word_add F G i [] = refl
 word_add F G i (b ∷ l) = omega (arith, word_add F G false l)
 
-and_step : (a b r s : ℕ) → r < 256 → s < 256 → bit_and (r + 256 * a) (s + 256 * b) ≡ bit_and r s + 256 * bit_and a b
-and_step a b r s p q =
-    let e : bit_and (a * 2 ^ 8 + r) (b * 2 ^ 8 + s) ≡ bit_and a b * 2 ^ 8 + bit_and r s = and_block 8 a b r s p q in
-    let x : r + 256 * a ≡ a * 2 ^ 8 + r = omega arith in
-    let y : s + 256 * b ≡ b * 2 ^ 8 + s = omega arith in
-    rw (x, y) (e ∙ omega arith)
+-- an operation on numbers that is done on each byte apart
+abbrev Bytewise : (ℕ → ℕ → ℕ) → Type 0
+Bytewise op = (a b r s : ℕ) → r < 256 → s < 256 → op (r + 256 * a) (s + 256 * b) ≡ op r s + 256 * op a b
 
-or_step : (a b r s : ℕ) → r < 256 → s < 256 → bit_or (r + 256 * a) (s + 256 * b) ≡ bit_or r s + 256 * bit_or a b
-or_step a b r s p q =
-    let e : bit_or (a * 2 ^ 8 + r) (b * 2 ^ 8 + s) ≡ bit_or a b * 2 ^ 8 + bit_or r s = or_block 8 a b r s p q in
-    let x : r + 256 * a ≡ a * 2 ^ 8 + r = omega arith in
-    let y : s + 256 * b ≡ b * 2 ^ 8 + s = omega arith in
-    rw (x, y) (e ∙ omega arith)
+Bytewise-from_block : (op : ℕ → ℕ → ℕ) → ((a b r s : ℕ) → r < 256 → s < 256 → op (a * 256 + r) (b * 256 + s) ≡ op a b * 256 + op r s) → Bytewise op
+Bytewise-from_block op block a b r s p q =
+    let x : r + 256 * a ≡ a * 256 + r = omega arith in
+    let y : s + 256 * b ≡ b * 256 + s = omega arith in
+    rw (x, y) (block a b r s p q ∙ omega arith)
+
+word_bytewise : (op : ℕ → ℕ → ℕ) → Bytewise op → op 0 0 ≡ 0 → (F G : Bool → ℕ → ℕ) → Bytes F → Bytes G → (i : Bool) (l : List ℕ) → Ascii l → op (word (lanes F i l)) (word (lanes G i l)) ≡ word (lanes (λ i b. op (F i b) (G i b)) i l)
+word_bytewise op step zeros F G p q i [] a = zeros
+word_bytewise op step zeros F G p q i (b ∷ l) a =
+    step _ _ _ _ (p i b a.0) (q i b a.0) ∙ ap (λ n. op (F i b) (G i b) + 256 * n) (word_bytewise op step zeros F G p q false l a.1)
 
 pub word_and : (F G : Bool → ℕ → ℕ) → Bytes F → Bytes G → (i : Bool) (l : List ℕ) → Ascii l → bit_and (word (lanes F i l)) (word (lanes G i l)) ≡ word (lanes (λ i b. bit_and (F i b) (G i b)) i l)
-word_and F G p q i [] a = refl
-word_and F G p q i (b ∷ l) a =
-    and_step _ _ _ _ (p i b a.0) (q i b a.0) ∙ ap (λ n. bit_and (F i b) (G i b) + 256 * n) (word_and F G p q false l a.1)
+word_and = word_bytewise bit_and (Bytewise-from_block bit_and (and_block 8)) refl
 
 pub word_or : (F G : Bool → ℕ → ℕ) → Bytes F → Bytes G → (i : Bool) (l : List ℕ) → Ascii l → bit_or (word (lanes F i l)) (word (lanes G i l)) ≡ word (lanes (λ i b. bit_or (F i b) (G i b)) i l)
-word_or F G p q i [] a = refl
-word_or F G p q i (b ∷ l) a =
-    or_step _ _ _ _ (p i b a.0) (q i b a.0) ∙ ap (λ n. bit_or (F i b) (G i b) + 256 * n) (word_or F G p q false l a.1)
+word_or = word_bytewise bit_or (Bytewise-from_block bit_or (or_block 8)) refl
 
 pub word-lt : (F : Bool → ℕ → ℕ) → Bytes F → (i : Bool) (l : List ℕ) → Ascii l → word (lanes F i l) < 256 ^ length l
 word-lt F p i [] a = omega arith
