@@ -13,7 +13,7 @@ use Rattle.tinystr_words.specs.Questions.{first_class, later_class, answer, in_c
 use Rattle.tinystr_words.specs.declared.question.Question.{Question}
 use Rattle.tinystr_words.specs.declared.question.Case.{Case}
 use Rattle.tinystr_words.specs.declared.question.Case.TheVariants.{Lower, Title, Upper}
-use Rattle.tinystr_words.proofs.Texts.{length-pad}
+use Rattle.tinystr_words.proofs.Texts.{NULS, length-pad}
 use Rattle.tinystr_words.proofs.Parts.{first_change, later_change, length-in_case}
 use Rattle.tinystr_words.proofs.Lanes.{both_true, everywhere, everywhere_is, Ascii, lanes, word_add, word_and, word_or, word_not, word_quarter, same_words, holds}
 
@@ -111,38 +111,38 @@ lanewise (quarter f) l a s =
 
 -- ---- what is known of each ASCII byte is known of each lane of a padded text
 
-holds_zeros : (P Q : Bool → ℕ → Bool) → ((i : Bool) (b : ℕ) → b < 128 → P i b ≡ (nat_eq b 0 || Q i b)) → (i : Bool) (k : ℕ) → holds P i (replicate k 0) ≡ true
-holds_zeros P Q same i zero = refl
-holds_zeros P Q same i (suc k) = rw (same i 0 (lit< tt)) (holds_zeros P Q same false k)
+holds_nuls : (P Q : Bool → ℕ → Bool) → ((i : Bool) (b : ℕ) → b < 128 → P i b ≡ (nat_eq b 0 || Q i b)) → (i : Bool) (k : ℕ) → holds P i (NULS k) ≡ true
+holds_nuls P Q same i zero = refl
+holds_nuls P Q same i (suc k) = rw (same i 0 (lit< tt)) (holds_nuls P Q same false k)
 
 not_zero : (b : ℕ) (r : Bool) → 1 ≤ b → (nat_eq b 0 || r) ≡ r
 not_zero b r h = grind (arith, nat_tests)
 
-pub holds_pad : (P Q : Bool → ℕ → Bool) → ((i : Bool) (b : ℕ) → b < 128 → P i b ≡ (nat_eq b 0 || Q i b)) → (i : Bool) (t : List ℕ) (k : ℕ) → IsText t → holds P i (t ++ replicate k 0) ≡ holds Q i t
-holds_pad P Q same i [] k x = holds_zeros P Q same i k
+pub holds_pad : (P Q : Bool → ℕ → Bool) → ((i : Bool) (b : ℕ) → b < 128 → P i b ≡ (nat_eq b 0 || Q i b)) → (i : Bool) (t : List ℕ) (k : ℕ) → IsText t → holds P i (t ++ NULS k) ≡ holds Q i t
+holds_pad P Q same i [] k x = holds_nuls P Q same i k
 holds_pad P Q same i (b ∷ t) k x =
     let h = All-head (IsTextByte) b t x in
     ap₂ (λ m n. m && n) (same i b (omega arith) ∙ not_zero b (Q i b) h.0) (holds_pad P Q same false t k (All-tail (IsTextByte) b t x))
 
-lanes_zeros : (F G : Bool → ℕ → ℕ) → ((i : Bool) (b : ℕ) → b < 128 → F i b ≡ cond (nat_eq b 0) 0 (G i b)) → (i : Bool) (k : ℕ) → lanes F i (replicate k 0) ≡ replicate k 0
-lanes_zeros F G same i zero = refl
-lanes_zeros F G same i (suc k) = ap₂ (λ x xs. x ∷ xs) (same i 0 (lit< tt)) (lanes_zeros F G same false k)
+lanes_nuls : (F G : Bool → ℕ → ℕ) → ((i : Bool) (b : ℕ) → b < 128 → F i b ≡ cond (nat_eq b 0) 0 (G i b)) → (i : Bool) (k : ℕ) → lanes F i (NULS k) ≡ NULS k
+lanes_nuls F G same i zero = refl
+lanes_nuls F G same i (suc k) = ap₂ (λ x xs. x ∷ xs) (same i 0 (lit< tt)) (lanes_nuls F G same false k)
 
 not_zero_lane : (b r : ℕ) → 1 ≤ b → cond (nat_eq b 0) 0 r ≡ r
 not_zero_lane b r h = grind (arith, nat_tests)
 
-pub lanes_pad : (F G : Bool → ℕ → ℕ) → ((i : Bool) (b : ℕ) → b < 128 → F i b ≡ cond (nat_eq b 0) 0 (G i b)) → (i : Bool) (t : List ℕ) (k : ℕ) → IsText t → lanes F i (t ++ replicate k 0) ≡ lanes G i t ++ replicate k 0
-lanes_pad F G same i [] k x = lanes_zeros F G same i k
+pub lanes_pad : (F G : Bool → ℕ → ℕ) → ((i : Bool) (b : ℕ) → b < 128 → F i b ≡ cond (nat_eq b 0) 0 (G i b)) → (i : Bool) (t : List ℕ) (k : ℕ) → IsText t → lanes F i (t ++ NULS k) ≡ lanes G i t ++ NULS k
+lanes_pad F G same i [] k x = lanes_nuls F G same i k
 lanes_pad F G same i (b ∷ t) k x =
     let h = All-head (IsTextByte) b t x in
     ap₂ (λ x xs. x ∷ xs) (same i b (omega arith) ∙ not_zero_lane b (G i b) h.0) (lanes_pad F G same false t k (All-tail (IsTextByte) b t x))
 
-ascii_zeros : (k : ℕ) → Ascii (replicate k 0)
-ascii_zeros zero = tt
-ascii_zeros (suc k) = (lit< tt, ascii_zeros k)
+ascii_nuls : (k : ℕ) → Ascii (NULS k)
+ascii_nuls zero = tt
+ascii_nuls (suc k) = (lit< tt, ascii_nuls k)
 
-ascii_padded : (t : List ℕ) (k : ℕ) → IsText t → Ascii (t ++ replicate k 0)
-ascii_padded [] k x = ascii_zeros k
+ascii_padded : (t : List ℕ) (k : ℕ) → IsText t → Ascii (t ++ NULS k)
+ascii_padded [] k x = ascii_nuls k
 ascii_padded (b ∷ t) k x = let h = All-head (IsTextByte) b t x in (omega arith, ascii_padded t k (All-tail (IsTextByte) b t x))
 
 pub ascii_pad : (t : List ℕ) (n : ℕ) → IsText t → Ascii (pad t n)
@@ -215,4 +215,4 @@ pub changed : (f : Formula) (c : Case) → Changes f c → (n : ℕ) (t : List �
 changed f c h n t x le =
     let change = pick (first_change c) (later_change c) in
     let agree : (i : Bool) (b : ℕ) → b < 128 → at f i b ≡ cond (nat_eq b 0) 0 (change i b) = λ i b l. eqb_is _ _ (both_true (is_safe f i b) _ (everywhere_is _ h i b l)).1 in
-    rw (length-in_case c t) (lanes_pad (at f) change agree true t (n - length t) x ∙ ap (λ l. l ++ replicate (n - length t) 0) (change_is c t))
+    rw (length-in_case c t) (lanes_pad (at f) change agree true t (n - length t) x ∙ ap (λ l. l ++ NULS (n - length t)) (change_is c t))

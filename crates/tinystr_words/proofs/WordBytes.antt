@@ -11,7 +11,7 @@ use Rattle.std.proofs.lemmas.Simd.{Each1-weaker}
 use Rattle.std.specs.Int.Count.{count_leading_zeros, leading_of_zero}
 use Rattle.tinystr_words.specs.Text.{IsTextByte, IsText, pad}
 use Rattle.tinystr_words.specs.Words.{word, led, lanes_of}
-use Rattle.tinystr_words.proofs.Texts.{length-pad}
+use Rattle.tinystr_words.proofs.Texts.{NULS, length-pad}
 use Rattle.tinystr_words.proofs.Lanes.{Ascii}
 use Rattle.tinystr_words.proofs.Formulas.{ascii_pad}
 
@@ -59,13 +59,13 @@ lanes_word_pad n t x le =
 
 -- ---- padding, and what it leaves room for
 
-pub word_zeros : (t : List ℕ) (k : ℕ) → word (t ++ replicate k 0) ≡ word t
-word_zeros [] zero = refl
-word_zeros [] (suc k) = let e : word (replicate k 0) ≡ 0 = word_zeros [] k in omega arith
-word_zeros (b ∷ t) k = ap (λ n. b + 256 * n) (word_zeros t k)
+pub word_nuls : (t : List ℕ) (k : ℕ) → word (t ++ NULS k) ≡ word t
+word_nuls [] zero = refl
+word_nuls [] (suc k) = let e : word (NULS k) ≡ 0 = word_nuls [] k in omega arith
+word_nuls (b ∷ t) k = ap (λ n. b + 256 * n) (word_nuls t k)
 
-pub word_dropped : (src : List ℕ) (k n : ℕ) → word (src ++ drop k (replicate n 0)) ≡ word src
-word_dropped src k n = ap (λ l. word (src ++ l)) (drop-replicate k n 0) ∙ word_zeros src (n - k)
+pub word_dropped : (src : List ℕ) (k n : ℕ) → word (src ++ drop k (NULS n)) ≡ word src
+word_dropped src k n = ap (λ l. word (src ++ l)) (drop-replicate k n 0) ∙ word_nuls src (n - k)
 
 word_low : (l : List ℕ) → Ascii l → word l ≤ word (replicate (length l) 0x7f)
 word_low [] a = omega arith

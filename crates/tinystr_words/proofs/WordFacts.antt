@@ -9,7 +9,7 @@ use Rattle.std.specs.List.{All}
 use Rattle.std.specs.Int.{IsInRange}
 use Rattle.tinystr_words.specs.Text.{IsText, pad}
 use Rattle.tinystr_words.specs.Words.{word, lane}
-use Rattle.tinystr_words.proofs.WordBytes.{word_zeros, word_least, word_below}
+use Rattle.tinystr_words.proofs.WordBytes.{word_nuls, word_least, word_below}
 
 lane_more : (b w i : ℕ) → b < 256 → lane (b + 256 * w) (suc i) ≡ lane w i
 lane_more b w i h =
@@ -51,7 +51,7 @@ word_length_of (b ∷ t) x =
     )
 
 pub word_length_is : (w : ℕ) (t : List ℕ) → IsText t → length t ≤ w → (word (pad t w) < 256 ^ length t) × ((k : ℕ) → word (pad t w) < 256 ^ k → length t ≤ k)
-word_length_is w t x le = rw (word_zeros t (w - length t)) (word_length_of t x)
+word_length_is w t x le = rw (word_nuls t (w - length t)) (word_length_of t x)
 
 pub lane_class_is : (a low high : List ℕ) → length low ≡ length a → length high ≡ length a → All IsLow a
     → ((i : ℕ) → i < length a → (1 ≤ get_or low i 0) × (get_or low i 0 ≤ get_or high i 0) × (get_or high i 0 ≤ 0x7f))

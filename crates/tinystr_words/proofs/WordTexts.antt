@@ -11,7 +11,7 @@ use Rattle.tinystr_words.specs.declared.question.Case.{Case}
 use Rattle.tinystr_words.proofs.Texts.{length-pad, text_of-pad, length-text_of-le}
 use Rattle.tinystr_words.proofs.Lanes.{Ascii, Bytes, lanes, everywhere_is}
 use Rattle.tinystr_words.proofs.Formulas.{Formula, IsSafe, on, at, is_safe, ascii_pad, safe_byte, changes_safe, on_pad, question, changed}
-use Rattle.tinystr_words.proofs.WordBytes.{lanes_word, lanes_word_pad, word_zeros, word_ascii, leading_zeros_of}
+use Rattle.tinystr_words.proofs.WordBytes.{lanes_word, lanes_word_pad, word_nuls, word_ascii, leading_zeros_of}
 use Rattle.tinystr_words.proofs.Kernels.{kernel, passed, kernel_asks, change, change_changes, folded, folded_safe, folded_ascii}
 
 -- ---- a word from a padded text
@@ -19,27 +19,27 @@ use Rattle.tinystr_words.proofs.Kernels.{kernel, passed, kernel_asks, change, ch
 text_word : (n : ℕ) (t : List ℕ) → IsText t → length t ≤ n → held n (word t) ≡ t
 unfolding held
 text_word n t x le =
-    let k : lanes_of n (word t) ≡ pad t n = ap (λ m. lanes_of n m) (sym (word_zeros t (n - length t))) ∙ lanes_word_pad n t x le in
+    let k : lanes_of n (word t) ≡ pad t n = ap (λ m. lanes_of n m) (sym (word_nuls t (n - length t))) ∙ lanes_word_pad n t x le in
     ap (λ (l : List ℕ). text_of l) k ∙ text_of-pad t n x
 
 holds_text : (n : ℕ) (t : List ℕ) → IsText t → length t ≤ n → HoldsText n (word t)
 holds_text n t x le =
     let e = text_word n t x le in
-    let z : word (pad t n) ≡ word t = word_zeros t (n - length t) in
+    let z : word (pad t n) ≡ word t = word_nuls t (n - length t) in
     let a : word (pad t n) ≤ word (led n 0x7f 0x7f) = subst (λ m. word (pad t n) ≤ word (led m 0x7f 0x7f)) (length-pad t n le) (word_ascii (pad t n) (ascii_pad t n x)) in
     record { text = subst IsText (sym e) x; fits = rw e le; padded = rw e (sym z); ascii = rw (← z) a }
 
 pub padded_word : (n : ℕ) (l : List ℕ) → IsPaddedText l (length l) → length l ≤ n → HoldsText n (word l) × (held n (word l) ≡ text_of l)
 padded_word n l p le =
     let t = text_of l in
-    let e : word l ≡ word t = ap word p.padded ∙ word_zeros t (length l - length t) in
+    let e : word l ≡ word t = ap word p.padded ∙ word_nuls t (length l - length t) in
     let small : length t ≤ n = omega (arith, length-text_of-le l) in
     rw e (holds_text n t p.text small, text_word n t p.text small)
 
 pub held_length : {n w : ℕ} → HoldsText n w → n - count_leading_zeros (8 * n) w / 8 ≡ length (held n w)
 held_length {n} {w} h =
     let t = held n w in
-    let e : w ≡ word t = h.padded ∙ word_zeros t (n - length t) in
+    let e : w ≡ word t = h.padded ∙ word_nuls t (n - length t) in
     let z : count_leading_zeros (8 * n) w / 8 ≡ n - length t = ap (λ v. count_leading_zeros (8 * n) v / 8) e ∙ leading_zeros_of n t h.text h.fits in
     let fits = h.fits in
     omega arith
