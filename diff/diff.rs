@@ -24,6 +24,9 @@ const CASES: [&str; 3] = ["to_ascii_lowercase", "to_ascii_titlecase", "to_ascii_
 const READERS: [&str; 3] = ["try_from_utf8", "from_utf8_lossy", "try_from_raw"];
 const READERS16: [&str; 2] = ["try_from_utf16", "from_utf16_lossy"];
 const RELATIONS: [&str; 2] = ["cmp", "=="];
+const FORMS: [&str; 4] = ["`{}`", "`{:-^9.5}`", "`{:?}`", "`{:?}` of the unvalidated type"];
+const OF_TEXTS: std::ops::Range<usize> = 0..3;
+const OF_ANY_BYTES: std::ops::Range<usize> = 3..4;
 
 fn capacities() -> impl Iterator<Item = usize> {
     (0..=40).chain([64])
@@ -138,6 +141,24 @@ fn ask(count: &mut Count, n: usize, texts: &[Vec<u8>]) {
     }
 }
 
+/// Prints each list in some forms: a text, or any bytes.
+fn print(count: &mut Count, n: usize, forms: std::ops::Range<usize>, lists: &[Vec<u8>]) {
+    for lists in lists.chunks(COUNT) {
+        let values = padded(lists, n);
+        let room = lists.len() * (9 + 6 * n);
+        for form in forms.clone() {
+            let mut printed = [vec![0u8; room], vec![0u8; room]];
+            let mut ends = [vec![u64::MAX; lists.len()], vec![u64::MAX; lists.len()]];
+            assert!(ours::print(n, form, 1, &values, &mut printed[0], &mut ends[0]));
+            assert!(original::print(n, form, 1, &values, &mut printed[1], &mut ends[1]));
+            let part = |k: usize, i: usize| &printed[k][if i == 0 { 0 } else { ends[k][i - 1] as usize }..ends[k][i] as usize];
+            for (i, list) in lists.iter().enumerate() {
+                count.compare(FORMS[form], n, list, part(0, i), part(1, i), None);
+            }
+        }
+    }
+}
+
 fn decimals(count: &mut Count, n: usize, numbers: &[u32]) {
     for numbers in numbers.chunks(COUNT) {
         let mut out = [vec![0u8; COUNT * n], vec![0u8; COUNT * n]];
@@ -207,6 +228,12 @@ fn text(random: &mut Random, len: usize) -> Vec<u8> {
         .collect()
 }
 
+/// A text of characters of which most are escaped.
+fn escaped(random: &mut Random, len: usize) -> Vec<u8> {
+    let all = b"\"\\'\t\r\n\x01\x0b\x1b\x1f\x7f~ aZ0{}";
+    (0..len).map(|_| all[random.below(all.len())]).collect()
+}
+
 fn texts(random: &mut Random, n: usize, how_many: usize) -> Vec<Vec<u8>> {
     (0..how_many)
         .map(|_| {
@@ -256,12 +283,18 @@ fn main() {
     for n in [0, 1, 2, 3, 4, 8, 9] {
         read8(&mut count, n, &short);
     }
+    for n in [2, 9] {
+        print(&mut count, n, OF_ANY_BYTES, &short);
+    }
     short.retain(|list| list.iter().all(|b| (1..128).contains(b)));
     for n in [2, 3, 4, 7, 8, 9, 16, 17, 24] {
         ask(&mut count, n, &short);
+        print(&mut count, n, OF_TEXTS, &short);
     }
-    ask(&mut count, 1, &short[..128]);
-    ask(&mut count, 0, &short[..1]);
+    for (n, how_many) in [(1, 128), (0, 1)] {
+        ask(&mut count, n, &short[..how_many]);
+        print(&mut count, n, OF_TEXTS, &short[..how_many]);
+    }
     // true here; original.rs answers in the original's place, which has no answer
     std::panic::set_hook(Box::new(|_| ()));
     let has_answer = std::panic::catch_unwind(|| tinystr::TinyAsciiStr::<0>::default().is_empty()).is_ok();
@@ -281,8 +314,10 @@ fn main() {
                 }
             }
             read8(&mut count, n, &lists);
+            print(&mut count, n, OF_ANY_BYTES, &lists);
             lists.retain(|list| list.iter().all(|b| (1..128).contains(b)));
             ask(&mut count, n, &lists);
+            print(&mut count, n, OF_TEXTS, &lists);
         }
         let mut lists = vec![];
         let mut wide = vec![];
@@ -305,7 +340,13 @@ fn main() {
         }
         read8(&mut count, n, &lists);
         read16(&mut count, n, &wide);
-        ask(&mut count, n, &texts(&mut random, n, COUNT));
+        lists.retain(|list| list.len() <= n);
+        print(&mut count, n, OF_ANY_BYTES, &lists);
+        let some = texts(&mut random, n, COUNT);
+        ask(&mut count, n, &some);
+        print(&mut count, n, OF_TEXTS, &some);
+        let some: Vec<Vec<u8>> = (0..COUNT).map(|i| escaped(&mut random, n.saturating_sub(i % 3))).collect();
+        print(&mut count, n, OF_TEXTS, &some);
     }
     for n in [1, 4] {
         read16(&mut count, n, &(0..=65535).map(|unit| vec![unit]).collect::<Vec<_>>());

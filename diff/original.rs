@@ -2,7 +2,8 @@
 //! called and timed alike.
 
 use std::cmp::Ordering;
-use tinystr::{ParseError, TinyAsciiStr};
+use std::io::{self, Cursor, Write};
+use tinystr::{ParseError, TinyAsciiStr, UnvalidatedTinyAsciiStr};
 
 /// The most values of one batch.
 pub const COUNT: usize = 1024;
@@ -357,4 +358,34 @@ fn concat_batch<const N: usize>(to: usize, rounds: usize, first: &[u8], second: 
 
 pub fn concat(capacity: usize, to: usize, rounds: usize, first: &[u8], second: &[u8], joined: &mut [u8]) -> bool {
     at_few_capacities!(capacity, concat_batch, to, rounds, first, second, joined)
+}
+
+fn print_each<const N: usize>(rounds: usize, values: &[u8], printed: &mut [u8], ends: &mut [u64], print: impl Fn(&mut Cursor<&mut [u8]>, [u8; N]) -> io::Result<()>) {
+    for _ in 0..rounds {
+        let mut rest = values;
+        let mut out = Cursor::new(&mut *printed);
+        for end in ends.iter_mut() {
+            let Some((raw, more)) = rest.split_first_chunk::<N>() else { break };
+            if print(&mut out, *raw).is_err() {
+                break;
+            }
+            *end = out.position();
+            rest = more;
+        }
+    }
+}
+
+fn print_batch<const N: usize>(form: usize, rounds: usize, values: &[u8], printed: &mut [u8], ends: &mut [u64]) {
+    let text = |raw| TinyAsciiStr::<N>::try_from_raw(raw).unwrap_or_default();
+    match form {
+        0 => print_each::<N>(rounds, values, printed, ends, |out, raw| write!(out, "{}", text(raw))),
+        1 => print_each::<N>(rounds, values, printed, ends, |out, raw| write!(out, "{:-^9.5}", text(raw))),
+        2 => print_each::<N>(rounds, values, printed, ends, |out, raw| write!(out, "{:?}", text(raw))),
+        _ => print_each::<N>(rounds, values, printed, ends, |out, raw| write!(out, "{:?}", UnvalidatedTinyAsciiStr::from_utf8_unchecked(raw))),
+    }
+}
+
+pub fn print(capacity: usize, form: usize, rounds: usize, values: &[u8], printed: &mut [u8], ends: &mut [u64]) -> bool {
+    at_capacity!(capacity, print_batch, form, rounds, values, printed, ends);
+    true
 }

@@ -10,6 +10,7 @@ mod linked {
         pub fn tinystr_exports_decimal(capacity: usize, rounds: usize, numbers: *const u32, numbers_len: usize, texts: *mut u8, texts_len: usize, cuts: *mut u8, cuts_len: usize) -> bool;
         pub fn tinystr_exports_resize(capacity: usize, to: usize, rounds: usize, texts: *const u8, texts_len: usize, resized: *mut u8, resized_len: usize) -> bool;
         pub fn tinystr_exports_concat(capacity: usize, to: usize, rounds: usize, first: *const u8, first_len: usize, second: *const u8, second_len: usize, joined: *mut u8, joined_len: usize) -> bool;
+        pub fn tinystr_exports_print(capacity: usize, form: usize, rounds: usize, values: *const u8, values_len: usize, printed: *mut u8, printed_len: usize, ends: *mut u64, ends_len: usize) -> bool;
     }
 }
 
@@ -60,5 +61,14 @@ pub fn resize(capacity: usize, to: usize, rounds: usize, texts: &[u8], resized: 
 pub fn concat(capacity: usize, to: usize, rounds: usize, first: &[u8], second: &[u8], joined: &mut [u8]) -> bool {
     unsafe {
         linked::tinystr_exports_concat(capacity, to, rounds, first.as_ptr(), first.len(), second.as_ptr(), second.len(), joined.as_mut_ptr(), joined.len())
+    }
+}
+
+pub fn print(capacity: usize, form: usize, rounds: usize, values: &[u8], printed: &mut [u8], ends: &mut [u64]) -> bool {
+    unsafe {
+        linked::tinystr_exports_print(
+            capacity, form, rounds, values.as_ptr(), values.len(),
+            printed.as_mut_ptr(), printed.len(), ends.as_mut_ptr(), ends.len(),
+        )
     }
 }

@@ -8,10 +8,12 @@ mod batch;
 mod calls;
 mod capacities;
 mod cuts;
+mod printing;
 mod readers;
 
 use calls::{ask_batch, change_batch, compare_batch};
 use cuts::{concat_batch, resize_batch};
+use printing::print_batch;
 use readers::{decimal_batch, read8_batch, read16_batch};
 
 /// A question or the length of each text, as a number.
@@ -140,4 +142,17 @@ pub extern "C" fn tinystr_exports_concat(
     joined: &mut [u8],
 ) -> bool {
     crate::at_few_capacities!(capacity, concat_batch, to, rounds, first, second, joined)
+}
+
+/// Each value as it is printed in one form, one after another, and where each ends.
+#[unsafe(no_mangle)]
+pub extern "C" fn tinystr_exports_print(
+    capacity: usize,
+    form: usize,
+    rounds: usize,
+    values: &[u8],
+    printed: &mut [u8],
+    ends: &mut [u64],
+) -> bool {
+    crate::at_capacity!(capacity, print_batch, form, rounds, values, printed, ends)
 }
