@@ -1,7 +1,10 @@
 //! Times the calls beside the original crate's: nanoseconds a value, the least of many turns. Prints a table of ratios.
 
+// printing isn't timed
+#[allow(dead_code)]
 #[path = "../diff/original.rs"]
 mod original;
+#[allow(dead_code)]
 #[path = "../diff/ours.rs"]
 mod ours;
 #[path = "../diff/random.rs"]

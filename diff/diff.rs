@@ -6,6 +6,8 @@ mod random;
 
 use original::COUNT;
 use random::Random;
+use std::fmt::Debug;
+use std::ops::Range;
 
 /// The departures, by name.
 const DEPARTURES: [&str; 3] = [
@@ -25,8 +27,8 @@ const READERS: [&str; 3] = ["try_from_utf8", "from_utf8_lossy", "try_from_raw"];
 const READERS16: [&str; 2] = ["try_from_utf16", "from_utf16_lossy"];
 const RELATIONS: [&str; 2] = ["cmp", "=="];
 const FORMS: [&str; 4] = ["`{}`", "`{:-^9.5}`", "`{:?}`", "`{:?}` of the unvalidated type"];
-const OF_TEXTS: std::ops::Range<usize> = 0..3;
-const OF_ANY_BYTES: std::ops::Range<usize> = 3..4;
+const OF_TEXTS: Range<usize> = 0..3;
+const OF_ANY_BYTES: Range<usize> = 3..4;
 
 fn capacities() -> impl Iterator<Item = usize> {
     (0..=40).chain([64])
@@ -41,7 +43,7 @@ struct Count {
 }
 
 impl Count {
-    fn compare<T: PartialEq + std::fmt::Debug>(&mut self, call: &str, n: usize, given: impl std::fmt::Debug, ours: T, theirs: T, departure: Option<usize>) {
+    fn compare<T: PartialEq + Debug>(&mut self, call: &str, n: usize, given: impl Debug, ours: T, theirs: T, departure: Option<usize>) {
         self.calls += 1;
         if ours == theirs {
             return;
@@ -70,19 +72,22 @@ impl Count {
     }
 }
 
-/// Reads each list of bytes by each reader of bytes, at one capacity.
-fn read8(count: &mut Count, n: usize, lists: &[Vec<u8>]) {
+/// A reader's call for a batch, by capacity, reader and rounds.
+type Read<U> = fn(usize, usize, usize, &[U], &[u32], &mut [u8], &mut [u32]) -> bool;
+
+/// Reads each list by each reader, here and in the original, at one capacity.
+fn read<U: Copy + Debug>(count: &mut Count, n: usize, readers: &[&str], here: Read<U>, there: Read<U>, lists: &[Vec<U>]) {
     for lists in lists.chunks(COUNT) {
         let units = lists.concat();
         let mut starts = vec![0u32];
         for list in lists {
             starts.push(starts[starts.len() - 1] + list.len() as u32);
         }
-        for (reader, call) in READERS.iter().enumerate() {
+        for (reader, call) in readers.iter().enumerate() {
             let mut out = [vec![0u8; COUNT * n], vec![0u8; COUNT * n]];
             let mut faults = [vec![0u32; COUNT], vec![0u32; COUNT]];
-            assert!(ours::read8(n, reader, 1, &units, &starts, &mut out[0], &mut faults[0]));
-            assert!(original::read8(n, reader, 1, &units, &starts, &mut out[1], &mut faults[1]));
+            assert!(here(n, reader, 1, &units, &starts, &mut out[0], &mut faults[0]));
+            assert!(there(n, reader, 1, &units, &starts, &mut out[1], &mut faults[1]));
             for (i, list) in lists.iter().enumerate() {
                 let part = i * n..(i + 1) * n;
                 count.compare(call, n, list, (faults[0][i], &out[0][part.clone()]), (faults[1][i], &out[1][part]), None);
@@ -91,24 +96,12 @@ fn read8(count: &mut Count, n: usize, lists: &[Vec<u8>]) {
     }
 }
 
+fn read8(count: &mut Count, n: usize, lists: &[Vec<u8>]) {
+    read(count, n, &READERS, ours::read8, original::read8, lists);
+}
+
 fn read16(count: &mut Count, n: usize, lists: &[Vec<u16>]) {
-    for lists in lists.chunks(COUNT) {
-        let units = lists.concat();
-        let mut starts = vec![0u32];
-        for list in lists {
-            starts.push(starts[starts.len() - 1] + list.len() as u32);
-        }
-        for (reader, call) in READERS16.iter().enumerate() {
-            let mut out = [vec![0u8; COUNT * n], vec![0u8; COUNT * n]];
-            let mut faults = [vec![0u32; COUNT], vec![0u32; COUNT]];
-            assert!(ours::read16(n, reader, 1, &units, &starts, &mut out[0], &mut faults[0]));
-            assert!(original::read16(n, reader, 1, &units, &starts, &mut out[1], &mut faults[1]));
-            for (i, list) in lists.iter().enumerate() {
-                let part = i * n..(i + 1) * n;
-                count.compare(call, n, list, (faults[0][i], &out[0][part.clone()]), (faults[1][i], &out[1][part]), None);
-            }
-        }
-    }
+    read(count, n, &READERS16, ours::read16, original::read16, lists);
 }
 
 fn padded(texts: &[Vec<u8>], n: usize) -> Vec<u8> {
@@ -142,7 +135,7 @@ fn ask(count: &mut Count, n: usize, texts: &[Vec<u8>]) {
 }
 
 /// Prints each list in some forms: a text, or any bytes.
-fn print(count: &mut Count, n: usize, forms: std::ops::Range<usize>, lists: &[Vec<u8>]) {
+fn print(count: &mut Count, n: usize, forms: Range<usize>, lists: &[Vec<u8>]) {
     for lists in lists.chunks(COUNT) {
         let values = padded(lists, n);
         let room = lists.len() * (9 + 6 * n);
