@@ -13,8 +13,11 @@ use std::ops::Range;
 const DEPARTURES: [&str; 3] = [
     "`is_empty` at capacity 0, where the original panics",
     "`new_unsigned_decimal(0)` at capacity 0, where the original is Ok of the empty text",
-    "the questions on letters in a case, of the empty text",
+    "the questions on letters in a case, of the empty text, where the original is false at some capacities",
 ];
+
+/// What docs/SPEED.md says.
+const LEAST_CALLS: u64 = 26_000_000;
 
 const FEW: [usize; 13] = [0, 1, 3, 4, 5, 8, 9, 12, 16, 17, 24, 32, 64];
 const TARGETS: [usize; 14] = [0, 1, 3, 4, 7, 8, 12, 16, 17, 24, 32, 48, 64, 128];
@@ -121,7 +124,7 @@ fn ask(count: &mut Count, n: usize, texts: &[Vec<u8>]) {
             assert!(ours::ask(n, question, 1, &bytes, &mut answers[0]));
             assert!(original::ask(n, question, 1, &bytes, &mut answers[1]));
             for (i, text) in texts.iter().enumerate() {
-                let departure = (text.is_empty() && question >= 8).then_some(2);
+                let departure = (text.is_empty() && question >= 8 && answers[0][i] == 1).then_some(2);
                 count.compare(call, n, text, answers[0][i], answers[1][i], departure);
             }
         }
@@ -160,7 +163,7 @@ fn decimals(count: &mut Count, n: usize, numbers: &[u32]) {
         assert!(original::decimal(n, 1, numbers, &mut out[1], &mut cuts[1]));
         for (i, number) in numbers.iter().enumerate() {
             let part = i * n..(i + 1) * n;
-            let departure = (n == 0 && *number == 0).then_some(1);
+            let departure = (n == 0 && *number == 0 && cuts[0][i] == 1).then_some(1);
             count.compare("new_unsigned_decimal", n, number, (cuts[0][i], &out[0][part.clone()]), (cuts[1][i], &out[1][part]), departure);
         }
     }
@@ -381,9 +384,10 @@ fn main() {
     for (name, times) in DEPARTURES.iter().zip(count.departed) {
         println!("departs {times} times: {name}");
     }
-    if count.differed > 0 || count.calls < 3_000_000 {
+    if count.differed > 0 {
         println!("{} calls differ", count.differed);
         std::process::exit(1);
     }
+    assert!(count.calls >= LEAST_CALLS, "fewer calls were compared than docs/SPEED.md says");
     println!("no call differs otherwise");
 }
