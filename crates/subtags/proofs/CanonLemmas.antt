@@ -9,7 +9,7 @@ use Rattle.tinystr_words.specs.Classes.{is_alphanumeric}
 use Rattle.subtags.specs.declared.error.LangIdError.TheVariants.{InvalidSubtag}
 use Rattle.subtags.specs.Grammar.{dash, folded_byte, folded, parts, is_script, is_region, is_tail, is_lang_id, IsLangId, canonical_part, canonical_parts, canonical_text, IsCanonical}
 use Rattle.subtags.specs.Parts.{first, language_of, script_of, region_of, joined}
-use Rattle.subtags.specs.Cut.{leading_script, behind_script, last_region}
+use Rattle.subtags.specs.FromFront.{leading_script, behind_script, last_region}
 use Rattle.subtags.proofs.FoldLemmas.{absorbed, folded_twice, folded-canonical_part, is_script_alike, is_region_alike, alphanumeric_alike, language_plain, script_plain, region_plain}
 use Rattle.subtags.proofs.CutLemmas.{parts-folded, parts_plain, parts_before}
 

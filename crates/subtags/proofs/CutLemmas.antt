@@ -8,7 +8,7 @@ use Rattle.tinystr_words.specs.Classes.{is_alphanumeric}
 use Rattle.tinystr_words.specs.Case.{titlecase, uppercase}
 use Rattle.subtags.specs.declared.error.LangIdError.TheVariants.{InvalidSubtag}
 use Rattle.subtags.specs.Grammar.{dash, is_separator, folded_byte, folded, parts, is_script, is_region}
-use Rattle.subtags.specs.Cut.{leading_script, behind_script, last_region}
+use Rattle.subtags.specs.FromFront.{leading_script, behind_script, last_region}
 use Rattle.subtags.proofs.FoldLemmas.{all_from_test, folded_twice, is_script_alike, is_region_alike, region_plain, titlecase-folded, uppercase-folded}
 
 onto_first-map : (f : ℕ → ℕ) (b : ℕ) (ps : List (List ℕ)) → onto_first (f b) (map (map f) ps) ≡ map (map f) (onto_first b ps)

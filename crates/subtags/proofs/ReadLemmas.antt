@@ -7,7 +7,7 @@ use Rattle.subtags.specs.declared.error.LangIdError.TheVariants.{InvalidLanguage
 use Rattle.subtags.specs.Grammar.{dash, folded, parts, is_language, is_script, is_region, is_tail, is_lang_id, IsLangId, canonical_part, canonical_parts, canonical_text, IsCanonical}
 use Rattle.subtags.specs.Parts.{first, language_of, script_of, region_of, joined}
 use Rattle.subtags.specs.Answers.{refusal_of}
-use Rattle.subtags.specs.Cut.{leading_script, behind_script, last_region}
+use Rattle.subtags.specs.FromFront.{leading_script, behind_script, last_region}
 use Rattle.subtags.proofs.FoldLemmas.{folded_twice, is_language_alike, lowercase-folded}
 use Rattle.subtags.proofs.CanonLemmas.{script_read, region_read, tail_refused, is_tail-canonical, joined-parts, parts-canonical_text}
 

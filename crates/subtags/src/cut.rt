@@ -3,7 +3,7 @@
 ghost use Rattle.std.specs.Prelude.{◌≡◌, ◌∷◌, position};
 ghost use Rattle.std.specs.Option.{option_copied};
 ghost use Rattle.subtags.specs.Grammar.{is_separator, folded, parts};
-ghost use Rattle.subtags.specs.Cut.{parts_behind, leading_script, behind_script, last_region};
+ghost use Rattle.subtags.specs.FromFront.{parts_behind, leading_script, behind_script, last_region};
 
 use crate::error::LangIdError;
 use crate::region::Region;
