@@ -1,29 +1,13 @@
 //! Each text, read at each capacity that holds it, has the same length, answers and case changes.
 
+use super::spelled;
 use crate::{VECTORS, Vector};
 use std::process::Abort;
 use std::test::Fail;
 use tinystr::{ParseError, TinyAsciiStr};
 
-fn answers<const N: usize>(text: TinyAsciiStr<N>) -> [bool; 9] {
-    [
-        text.is_ascii_alphabetic(),
-        text.is_ascii_alphanumeric(),
-        text.is_ascii_numeric(),
-        text.is_ascii_lowercase(),
-        text.is_ascii_titlecase(),
-        text.is_ascii_uppercase(),
-        text.is_ascii_alphabetic_lowercase(),
-        text.is_ascii_alphabetic_titlecase(),
-        text.is_ascii_alphabetic_uppercase(),
-    ]
-}
-
 fn gives_answers<const N: usize>(rt: &impl Abort, text: TinyAsciiStr<N>, expected: &str) {
-    assert_eq!(rt; expected.len(), 9);
-    for (answer, letter) in answers(text).iter().zip(expected.as_bytes()) {
-        assert_eq!(rt; *answer, *letter == b'y', "{text} at {N}");
-    }
+    assert_eq!(rt; answers!(text), spelled(expected), "{text} at {N}");
 }
 
 fn has_forms<const N: usize>(rt: &impl Abort, text: TinyAsciiStr<N>, vector: Vector) {
@@ -47,6 +31,7 @@ fn has_forms<const N: usize>(rt: &impl Abort, text: TinyAsciiStr<N>, vector: Vec
     );
 }
 
+// The text, read from units of 16 bits, at the capacity of the value given.
 fn read_wide<const N: usize>(
     _like: TinyAsciiStr<N>,
     text: &str,
@@ -96,11 +81,25 @@ fn texts_answer_alike_at_every_capacity(rt: HostRuntime) -> Result<(), Fail> {
 }
 
 #[test]
-fn texts_on_both_sides_of_a_word(rt: HostRuntime) -> Result<(), Fail> {
+fn seventeen_characters_answer_alike_in_two_words_and_in_more(rt: HostRuntime) -> Result<(), Fail> {
     let seventeen = TinyAsciiStr::<17>::try_from_str("Abcdefghijklmnopq")?;
     gives_answers(&rt, seventeen, "yynnynnyn");
     gives_answers(&rt, seventeen.resize::<32>(), "yynnynnyn");
+    for (text, lower) in [
+        ("Abcdefghijklmnopq", "abcdefghijklmnopq"),
+        ("MacintoshOSX2019", "macintoshosx2019"),
+    ] {
+        let at_17 = TinyAsciiStr::<17>::try_from_str(text)?;
+        let at_32 = TinyAsciiStr::<32>::try_from_str(text)?;
+        assert_eq!(rt; answers!(at_17), answers!(at_32), "{text}");
+        assert_eq!(rt; at_17.to_ascii_lowercase().as_str(), lower);
+        assert_eq!(rt; at_32.to_ascii_lowercase().as_str(), lower);
+    }
+    Ok(())
+}
 
+#[test]
+fn the_last_of_33_characters_is_a_later_one(rt: HostRuntime) -> Result<(), Fail> {
     let late_upper = TinyAsciiStr::<33>::try_from_str("aaaaaaaaaaaaaaaaaaaaaaaaaaaaaaaaZ")?;
     assert_eq!(rt; late_upper.len(), 33);
     gives_answers(&rt, late_upper, "yynnnnnnn");
@@ -110,35 +109,30 @@ fn texts_on_both_sides_of_a_word(rt: HostRuntime) -> Result<(), Fail> {
     );
 
     let titled = TinyAsciiStr::<33>::try_from_str("Aaaaaaaaaaaaaaaaaaaaaaaaaaaaaaaaa")?;
-    assert!(rt; titled.is_ascii_titlecase());
-    assert!(rt; titled.is_ascii_alphabetic_titlecase());
-    assert!(rt; !titled.is_ascii_uppercase());
+    gives_answers(&rt, titled, "yynnynnyn");
+    Ok(())
+}
 
-    let full_word = TinyAsciiStr::<40>::try_from_str("AAAAAAAAAAAAAAAA")?;
-    assert_eq!(rt; full_word.len(), 16);
-    gives_answers(&rt, full_word, "yynnnynny");
-    assert_eq!(rt; full_word.to_ascii_lowercase().as_str(), "aaaaaaaaaaaaaaaa");
+#[test]
+fn a_full_word_of_capitals_before_padding(rt: HostRuntime) -> Result<(), Fail> {
+    let capitals = TinyAsciiStr::<40>::try_from_str("AAAAAAAAAAAAAAAA")?;
+    assert_eq!(rt; capitals.len(), 16);
+    gives_answers(&rt, capitals, "yynnnynny");
+    assert_eq!(rt; capitals.to_ascii_lowercase().as_str(), "aaaaaaaaaaaaaaaa");
+    Ok(())
+}
 
-    let deletes = TinyAsciiStr::<17>::try_from_utf8(&[0x7f; 16])?;
-    assert_eq!(rt; deletes.len(), 16);
-    gives_answers(&rt, deletes, "nnnyyynnn");
+#[test]
+fn the_highest_characters_are_of_no_class_and_stay(rt: HostRuntime) -> Result<(), Fail> {
+    let sixteen = TinyAsciiStr::<17>::try_from_utf8(&[0x7f; 16])?;
+    assert_eq!(rt; sixteen.len(), 16);
+    gives_answers(&rt, sixteen, "nnnyyynnn");
 
-    let four_deletes = TinyAsciiStr::<4>::try_from_utf8(&[0x7f; 4])?;
-    assert_eq!(rt; four_deletes.len(), 4);
-    gives_answers(&rt, four_deletes, "nnnyyynnn");
-    assert_eq!(rt; four_deletes.to_ascii_lowercase(), four_deletes);
-    assert_eq!(rt; four_deletes.to_ascii_titlecase(), four_deletes);
-    assert_eq!(rt; four_deletes.to_ascii_uppercase(), four_deletes);
-
-    for (text, lower) in [
-        ("Abcdefghijklmnopq", "abcdefghijklmnopq"),
-        ("MacintoshOSX2019", "macintoshosx2019"),
-    ] {
-        let at_17 = TinyAsciiStr::<17>::try_from_str(text)?;
-        let at_32 = TinyAsciiStr::<32>::try_from_str(text)?;
-        assert_eq!(rt; answers(at_17), answers(at_32), "{text}");
-        assert_eq!(rt; at_17.to_ascii_lowercase().as_str(), lower);
-        assert_eq!(rt; at_32.to_ascii_lowercase().as_str(), lower);
-    }
+    let four = TinyAsciiStr::<4>::try_from_utf8(&[0x7f; 4])?;
+    assert_eq!(rt; four.len(), 4);
+    gives_answers(&rt, four, "nnnyyynnn");
+    assert_eq!(rt; four.to_ascii_lowercase(), four);
+    assert_eq!(rt; four.to_ascii_titlecase(), four);
+    assert_eq!(rt; four.to_ascii_uppercase(), four);
     Ok(())
 }

@@ -3,6 +3,7 @@
 ghost use Rattle.std.specs.Prelude.{IsTrue, length};
 ghost use Rattle.tinystr_words.specs.Text.{IsText, IsPaddedText};
 
+use super::spelled;
 use crate::{VECTORS, Vector};
 use std::process::Abort;
 use std::test::Fail;
@@ -22,7 +23,7 @@ fn is_whole(bytes: &[u8]) -> bool
     is_text(bytes)
 }
 
-// Whether the bytes are the text and then NULs.
+// The bytes are the text and then NULs.
 fn is_padded(rt: &impl Abort, bytes: &[u8], text: &str) {
     assert!(rt; bytes.starts_with(text.as_bytes()), "{text}");
     assert!(rt;
@@ -31,25 +32,12 @@ fn is_padded(rt: &impl Abort, bytes: &[u8], text: &str) {
     );
 }
 
-// A macro, since each word has a type of its own.
+// A macro, since each word has a type of its own and their common trait is private.
 macro_rules! has_forms {
     ($rt:expr, $word:expr, $vector:expr) => {
         let word = $word;
-        let answers = [
-            word.is_ascii_alphabetic(),
-            word.is_ascii_alphanumeric(),
-            word.is_ascii_numeric(),
-            word.is_ascii_lowercase(),
-            word.is_ascii_titlecase(),
-            word.is_ascii_uppercase(),
-            word.is_ascii_alphabetic_lowercase(),
-            word.is_ascii_alphabetic_titlecase(),
-            word.is_ascii_alphabetic_uppercase(),
-        ];
         assert_eq!($rt; word.len(), $vector.text.len(), "{}", $vector.text);
-        for (answer, letter) in answers.iter().zip($vector.answers.as_bytes()) {
-            assert_eq!($rt; *answer, *letter == b'y', "{}", $vector.text);
-        }
+        assert_eq!($rt; answers!(word), spelled($vector.answers), "{}", $vector.text);
         is_padded($rt, &word.to_ascii_lowercase(), $vector.lower);
         is_padded($rt, &word.to_ascii_titlecase(), $vector.title);
         is_padded($rt, &word.to_ascii_uppercase(), $vector.upper);
@@ -81,7 +69,7 @@ fn in_sixteen(rt: &impl Abort, vector: Vector) -> Result<(), Fail> {
 }
 
 #[test]
-fn texts_in_each_word_that_holds_them(rt: HostRuntime) -> Result<(), Fail> {
+fn texts_answer_alike_in_each_word_that_holds_them(rt: HostRuntime) -> Result<(), Fail> {
     for vector in VECTORS {
         if vector.text.len() <= 4 {
             in_four(&rt, vector)?;
