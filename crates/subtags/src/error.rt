@@ -3,12 +3,13 @@
 use std::error::Error;
 use std::fmt;
 
-/// Why an input is no language identifier.
+/// Why an input is no language identifier, or no language, script or region where one is parsed.
 #[derive(Clone, Copy, Debug, PartialEq, Eq)]
 pub enum LangIdError {
-    /// The first part is no language.
+    /// The first part is no language; or a language was parsed, and the input is none.
     InvalidLanguage,
-    /// The first part is a language, and what stands behind it isn't accepted.
+    /// The first part is a language, and what stands behind it isn't accepted; or a script or a region was parsed, and
+    /// the input is none.
     InvalidSubtag,
 }
 

@@ -17,18 +17,24 @@ fn all_digits(part: &[u8]) -> bool
     part.iter().all(u8::is_ascii_digit)
 }
 
+/// Whether the part is 2, 3 or 5 to 8 letters.
+#[inline]
 pub fn is_language(part: &[u8]) -> bool
     ensures { result ≡ is_language part.now }
 {
     all_letters(part) && matches!(part.len(), 2 | 3 | 5..=8)
 }
 
+/// Whether the part is 4 letters.
+#[inline]
 pub fn is_script(part: &[u8]) -> bool
     ensures { result ≡ is_script part.now }
 {
     all_letters(part) && part.len() == 4
 }
 
+/// Whether the part is 2 letters or 3 digits.
+#[inline]
 pub fn is_region(part: &[u8]) -> bool
     ensures { result ≡ is_region part.now }
 {

@@ -16,7 +16,7 @@ use std::marker::Model;
 use std::str::FromStr;
 use tinystr::{TinyAsciiStr, tinystr};
 
-/// A language identifier, kept as its canonical text and compared by it.
+/// A language identifier of at most 17 bytes, kept as its canonical text, as `zh-Hant-TW`, and compared by it.
 #[derive(Clone, Copy, PartialEq, Eq, PartialOrd, Ord, Hash)]
 pub struct LangId {
     text: TinyAsciiStr<17>,
@@ -36,7 +36,8 @@ impl Model for LangId {
 }
 
 impl LangId {
-    /// Reads an identifier, in any case and with either separator.
+    /// Reads a language, and behind it a script, a region, both or nothing, in any case and with a `-` or a `_` before
+    /// each later part.
     pub fn try_from_utf8(code_units: &[u8]) -> Result<Self, LangIdError>
         ensures accepted { IsOk result ↔ IsLangId code_units.now }
         ensures text { IfOk result (λ id. id ≡ canonical_text code_units.now) }
@@ -53,6 +54,7 @@ impl LangId {
     }
 
     /// The canonical text, which is read back as this identifier.
+    #[inline]
     pub fn to_text(&self) -> TinyAsciiStr<17>
         ensures text { result ≡ self.now }
         ensures canonical { IsCanonical self.now }
@@ -92,6 +94,7 @@ impl FromStr for LangId {
 
     ghost from_str_gives = { IsLangIdRead };
 
+    #[inline]
     fn from_str(s: &str) -> Result<Self, LangIdError> {
         Self::try_from_utf8(s.as_bytes())
     }

@@ -35,7 +35,7 @@ impl Model for Language {
 }
 
 impl Language {
-    /// Reads a language, in any case.
+    /// Reads a language of 2, 3 or 5 to 8 letters in any case, without space around it.
     pub fn try_from_utf8(code_units: &[u8]) -> Option<Self>
         ensures { SomeIff result (IsTrue (is_language code_units.now)) (lowercase code_units.now) }
     {
@@ -49,6 +49,7 @@ impl Language {
     }
 
     /// The text, in lower case.
+    #[inline]
     pub fn as_str(&self) -> &str
         ensures text { result.now ≡ self.now }
         ensures canonical { IsCanonicalPart is_language lowercase self.now }
@@ -56,6 +57,7 @@ impl Language {
         self.text.as_str()
     }
 
+    #[inline]
     pub(crate) fn text(self) -> TinyAsciiStr<8>
         ensures text { result ≡ self }
         ensures canonical { IsCanonicalPart is_language lowercase self }
@@ -71,6 +73,7 @@ impl FromStr for Language {
 
     ghost from_str_gives = { λ s r. r ≡ (if is_language s then Ok (lowercase s) else Err InvalidLanguage) };
 
+    #[inline]
     fn from_str(s: &str) -> Result<Self, LangIdError> {
         Self::try_from_utf8(s.as_bytes()).ok_or(LangIdError::InvalidLanguage)
     }

@@ -35,7 +35,7 @@ impl Model for Region {
 }
 
 impl Region {
-    /// Reads a region, in any case.
+    /// Reads a region of 2 letters in any case or of 3 digits, without space around it.
     pub fn try_from_utf8(code_units: &[u8]) -> Option<Self>
         ensures { SomeIff result (IsTrue (is_region code_units.now)) (uppercase code_units.now) }
     {
@@ -49,6 +49,7 @@ impl Region {
     }
 
     /// The text, in upper case.
+    #[inline]
     pub fn as_str(&self) -> &str
         ensures text { result.now ≡ self.now }
         ensures canonical { IsCanonicalPart is_region uppercase self.now }
@@ -56,6 +57,7 @@ impl Region {
         self.text.as_str()
     }
 
+    #[inline]
     pub(crate) fn text(self) -> TinyAsciiStr<3>
         ensures text { result ≡ self }
         ensures canonical { IsCanonicalPart is_region uppercase self }
@@ -71,6 +73,7 @@ impl FromStr for Region {
 
     ghost from_str_gives = { λ s r. r ≡ (if is_region s then Ok (uppercase s) else Err InvalidSubtag) };
 
+    #[inline]
     fn from_str(s: &str) -> Result<Self, LangIdError> {
         Self::try_from_utf8(s.as_bytes()).ok_or(LangIdError::InvalidSubtag)
     }

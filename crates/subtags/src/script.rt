@@ -35,7 +35,7 @@ impl Model for Script {
 }
 
 impl Script {
-    /// Reads a script, in any case.
+    /// Reads a script of 4 letters in any case, without space around it.
     pub fn try_from_utf8(code_units: &[u8]) -> Option<Self>
         ensures { SomeIff result (IsTrue (is_script code_units.now)) (titlecase code_units.now) }
     {
@@ -49,6 +49,7 @@ impl Script {
     }
 
     /// The text, in title case.
+    #[inline]
     pub fn as_str(&self) -> &str
         ensures text { result.now ≡ self.now }
         ensures canonical { IsCanonicalPart is_script titlecase self.now }
@@ -56,6 +57,7 @@ impl Script {
         self.text.as_str()
     }
 
+    #[inline]
     pub(crate) fn text(self) -> TinyAsciiStr<4>
         ensures text { result ≡ self }
         ensures canonical { IsCanonicalPart is_script titlecase self }
@@ -71,6 +73,7 @@ impl FromStr for Script {
 
     ghost from_str_gives = { λ s r. r ≡ (if is_script s then Ok (titlecase s) else Err InvalidSubtag) };
 
+    #[inline]
     fn from_str(s: &str) -> Result<Self, LangIdError> {
         Self::try_from_utf8(s.as_bytes()).ok_or(LangIdError::InvalidSubtag)
     }

@@ -15,7 +15,7 @@ pub enum Command {
     Locale,
 }
 
-/// A call on a text.
+/// A call on a text: the text or its length, one of the nine questions, or a change of case.
 #[derive(Clone, Copy)]
 pub enum TextCall {
     Text,
@@ -82,7 +82,7 @@ impl Command {
         }
     }
 
-    /// The command that a word names.
+    /// The command that a word names, by its one spelling in lower case.
     #[tactic(auto, unfolding(crate::specs::Words::command_of))]
     pub fn parse(word: &[u8]) -> Option<Command>
         ensures { result ≡ command_of word.now }

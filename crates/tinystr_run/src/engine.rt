@@ -12,7 +12,7 @@ use std::io::{Read, Write};
 /// What kept `run` from its end.
 #[derive(Debug, Drop)]
 pub enum RunError {
-    /// A growth was refused.
+    /// Memory was refused.
     Memory,
     /// A read failed.
     Read,

@@ -196,7 +196,7 @@ fn push_words_reply(
     }
 }
 
-/// Appends the reply to a line.
+/// Appends the reply to a line, given and answered without its line feed.
 #[tactic(auto, unfolding(crate::specs::Reply::reply))]
 pub fn push_reply(out: &mut Vec<u8>, line: &[u8]) -> Result<(), AllocError>
     ensures { OnOk result (out.new.items ≡ out.old.items ++ reply line.now) }

@@ -10,7 +10,7 @@ use std::alloc::{AllocError, Global};
 use tinystr::TinyAsciiStr;
 use tinystr::forms::JsonReadError;
 
-/// The key of a value's member `id`. Where there is no such member, it is no text.
+/// The key, of at most eight characters, in a value's member `id`. A member that isn't there is `NotText`.
 pub fn id_of(value: &Value) -> Result<TinyAsciiStr<8>, JsonReadError>
     ensures accepted { IsOk result ↔ IsSomeAnd
         (option_and_then as_str (get (codes "id") (view value.now))) (λ t. IsStrictText t 8) }

@@ -4,15 +4,21 @@
 /// A text and what is known of it.
 #[derive(Clone, Copy)]
 pub struct Vector {
+    /// At most 17 characters, each a byte from 1 to 127.
     pub text: &'static str,
-    /// `y` or `n` for each question: alphabetic, alphanumeric, numeric, lowercase, titlecase, uppercase, and
-    /// alphabetic in lowercase, titlecase, uppercase.
+    /// Nine letters, `y` or `n` for each question: alphabetic, alphanumeric, numeric, lowercase, titlecase, uppercase,
+    /// and alphabetic in lowercase, titlecase, uppercase.
     pub answers: &'static str,
+    /// The text in lower case.
     pub lower: &'static str,
+    /// The text in title case: its first character in upper case and each later one in lower case.
     pub title: &'static str,
+    /// The text in upper case.
     pub upper: &'static str,
 }
 
+/// The texts, of 0 to 17 characters. Most are those that the Rust crate's own tests ask about; none of the answers was
+/// made by the calls that are tested on them.
 #[rattlefmt::skip]
 pub const VECTORS: [Vector; 33] = [
     Vector { text: "", answers: "yyyyyyyyy", lower: "", title: "", upper: "" },
