@@ -1,3 +1,5 @@
+//! Identifiers and their parts: read, refused, compared, taken apart, parsed and printed.
+
 use crate::{LangId, LangIdError, Language, Region, Script};
 use std::test::Fail;
 
@@ -112,15 +114,21 @@ fn values_are_parsed_and_printed(rt: HostRuntime) -> Result<(), Fail> {
     assert_eq!(rt; shown.as_str(), "zh-Hant-TW zh Hant TW");
     let shown = format!(in rt.alloc(); "{id:?} {language:?} {script:?} {region:?}")?;
     assert_eq!(rt; shown.as_str(), "\"zh-Hant-TW\" \"zh\" \"Hant\" \"TW\"");
+    Ok(())
+}
 
-    let refused = (
-        "abcd".parse::<Language>(),
-        "abc".parse::<Script>(),
-        "abc".parse::<Region>(),
-    );
-    assert_eq!(rt; refused.0, Err(LangIdError::InvalidLanguage));
-    assert_eq!(rt; refused.1, Err(LangIdError::InvalidSubtag));
-    assert_eq!(rt; refused.2, Err(LangIdError::InvalidSubtag));
+#[test]
+fn parts_of_another_form_are_not_parsed(rt: HostRuntime) {
+    let language = "abcd".parse::<Language>();
+    assert_eq!(rt; language, Err(LangIdError::InvalidLanguage));
+    let script = "abc".parse::<Script>();
+    assert_eq!(rt; script, Err(LangIdError::InvalidSubtag));
+    let region = "abc".parse::<Region>();
+    assert_eq!(rt; region, Err(LangIdError::InvalidSubtag));
+}
+
+#[test]
+fn errors_say_what_is_wrong(rt: HostRuntime) -> Result<(), Fail> {
     let shown = format!(in rt.alloc();
         "{}, {}",
         LangIdError::InvalidLanguage,

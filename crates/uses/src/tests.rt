@@ -1,4 +1,4 @@
-//! Each caller, once.
+//! Each caller, once, on what it finds and what it refuses.
 
 use crate::currency::{places_of, set_places};
 use crate::json::{id_of, through_json};
@@ -15,7 +15,7 @@ use tinystr::ule::UleError;
 use tinystr::{ParseError, TinyAsciiStr, TinyStr8};
 
 #[test]
-fn decimal_places_by_code(rt: HostRuntime) -> Result<(), Fail> {
+fn decimal_places_are_looked_up_by_code(rt: HostRuntime) -> Result<(), Fail> {
     let mut table = BTreeMap::new(rt.alloc());
     for (code, places) in [("EUR", 2), ("JPY", 0), ("KWD", 3), ("EUR", 2)] {
         set_places(&mut table, TinyAsciiStr::try_from_str(code)?, places)?;
@@ -33,7 +33,7 @@ fn decimal_places_by_code(rt: HostRuntime) -> Result<(), Fail> {
 }
 
 #[test]
-fn keys_by_text(rt: HostRuntime) -> Result<(), Fail> {
+fn keys_are_asked_by_text(rt: HostRuntime) -> Result<(), Fail> {
     let mut keys = HashSet::new(rt.alloc());
     assert!(rt; matches!(add_key(&mut keys, "en"), Ok(true)));
     assert!(rt; matches!(add_key(&mut keys, "en"), Ok(false)));
@@ -46,7 +46,7 @@ fn keys_by_text(rt: HostRuntime) -> Result<(), Fail> {
 }
 
 #[test]
-fn records_in_place(rt: HostRuntime) {
+fn records_are_read_in_place(rt: HostRuntime) {
     let file = b"Latnab\0\0Cyrl";
     for (index, text) in [
         (0, Some("Latn")),
@@ -72,7 +72,7 @@ fn records_in_place(rt: HostRuntime) {
 }
 
 #[test]
-fn keys_in_json(rt: HostRuntime) -> Result<(), Fail> {
+fn keys_are_found_in_json_and_come_back(rt: HostRuntime) -> Result<(), Fail> {
     for (json, id) in [
         ("{\"id\": \"en-US\"}", Ok("en-US")),
         ("{\"id\": \"ninechars\"}", Err(JsonReadError::InvalidText)),
@@ -91,7 +91,7 @@ fn keys_in_json(rt: HostRuntime) -> Result<(), Fail> {
 }
 
 #[test]
-fn one_locale_in_any_spelling(rt: HostRuntime) -> Result<(), Fail> {
+fn a_locale_is_one_in_any_spelling(rt: HostRuntime) -> Result<(), Fail> {
     let mut pages = BTreeMap::new(rt.alloc());
     pages.insert(LangId::try_from_utf8(b"zh-Hant-TW")?, 12)?;
     for (tag, page) in [
@@ -112,13 +112,13 @@ fn one_locale_in_any_spelling(rt: HostRuntime) -> Result<(), Fail> {
 }
 
 #[test]
-fn script_codes_as_words(rt: HostRuntime) {
-    for (code, is) in [
+fn script_codes_are_asked_as_words(rt: HostRuntime) {
+    for (code, is_code) in [
         (b"Latn", true),
         (b"latn", false),
         (b"Lat\0", false),
         (b"\0\0\0\0", false),
     ] {
-        assert_eq!(rt; is_script_code(code), is);
+        assert_eq!(rt; is_script_code(code), is_code, "{code:?}");
     }
 }

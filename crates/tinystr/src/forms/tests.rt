@@ -1,3 +1,5 @@
+//! The JSON form and the byte form of both types, there and back and refused.
+
 use crate::ascii::TinyAsciiStr;
 use crate::forms::{BytesReadError, FormWriteError, JsonReadError};
 use crate::tinystr;
@@ -24,7 +26,7 @@ fn json_there_and_back<const N: usize>(
 }
 
 #[test]
-fn json_text_and_back(rt: HostRuntime) -> Result<(), Fail> {
+fn texts_come_back_from_json(rt: HostRuntime) -> Result<(), Fail> {
     let alloc = rt.alloc();
     json_there_and_back(&rt, alloc, tinystr!(4, "en")?, r#""en""#)?;
     json_there_and_back(&rt, alloc, tinystr!(4, "Latn")?, r#""Latn""#)?;
@@ -55,7 +57,7 @@ fn json_text_and_back(rt: HostRuntime) -> Result<(), Fail> {
 }
 
 #[test]
-fn json_that_is_refused(rt: HostRuntime) -> Result<(), Fail> {
+fn json_that_is_no_text_of_the_capacity_is_refused(rt: HostRuntime) -> Result<(), Fail> {
     let rows = [
         ("1", JsonReadError::NotText),
         ("null", JsonReadError::NotText),
@@ -96,7 +98,7 @@ fn reads<const N: usize>(rt: &impl Abort, input: &[u8], text: TinyAsciiStr<N>, l
 }
 
 #[test]
-fn bytes_that_are_read(rt: HostRuntime) -> Result<(), Fail> {
+fn bytes_in_front_are_read_and_the_rest_is_handed_back(rt: HostRuntime) -> Result<(), Fail> {
     reads(&rt, b"abcd", tinystr!(4, "abcd")?, b"");
     reads(&rt, b"a\0\0\0", tinystr!(4, "a")?, b"");
     reads(&rt, b"\0\0\0\0", tinystr!(4, "")?, b"");
@@ -107,7 +109,7 @@ fn bytes_that_are_read(rt: HostRuntime) -> Result<(), Fail> {
 }
 
 #[test]
-fn bytes_that_are_refused(rt: HostRuntime) {
+fn bytes_are_refused_for_their_first_fault(rt: HostRuntime) {
     let short = BytesReadError::Length { expected: 4 };
     let rows = [
         (b"\0\x80\0\0".as_slice(), BytesReadError::Null),
@@ -138,7 +140,7 @@ fn byte_form<const N: usize>(rt: &impl Abort, text: TinyAsciiStr<N>, form: [u8; 
 }
 
 #[test]
-fn byte_forms(rt: HostRuntime) -> Result<(), Fail> {
+fn byte_forms_are_padded_texts(rt: HostRuntime) -> Result<(), Fail> {
     byte_form(&rt, tinystr!(16, "verylongstring")?, *b"verylongstring\0\0");
     byte_form(&rt, tinystr!(11, "shortstring")?, *b"shortstring");
     byte_form(
@@ -151,7 +153,7 @@ fn byte_forms(rt: HostRuntime) -> Result<(), Fail> {
 }
 
 #[test]
-fn bytes_that_are_no_text(rt: HostRuntime) {
+fn bytes_that_are_no_text_are_read_and_not_written(rt: HostRuntime) {
     let bytes = UnvalidatedTinyAsciiStr::from_utf8_unchecked([0, 0x41, 0]);
     assert!(rt; matches!(bytes.to_bytes(), Err(FormWriteError::NotAscii)));
     assert!(rt; matches!(bytes.to_json(rt.alloc()), Err(FormWriteError::NotAscii)));
@@ -165,7 +167,7 @@ fn bytes_that_are_no_text(rt: HostRuntime) {
 }
 
 #[test]
-fn any_bytes_are_read(rt: HostRuntime) {
+fn any_bytes_are_read_unless_too_few(rt: HostRuntime) {
     match UnvalidatedTinyAsciiStr::<4>::read_bytes(b"\0\x80\0\0X") {
         Ok((read, rest)) => {
             assert_eq!(rt;

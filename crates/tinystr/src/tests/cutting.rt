@@ -5,7 +5,7 @@ use std::process::Abort;
 use std::test::Fail;
 
 #[test]
-fn a_text_at_another_capacity(rt: HostRuntime) -> Result<(), Fail> {
+fn a_text_is_cut_to_another_capacity(rt: HostRuntime) -> Result<(), Fail> {
     let text = TinyStr8::try_from_str("abcdefg")?;
     assert_eq!(rt; text.resize::<4>().as_str(), "abcd");
     assert_eq!(rt; text.resize::<16>().as_str(), "abcdefg");
@@ -15,7 +15,7 @@ fn a_text_at_another_capacity(rt: HostRuntime) -> Result<(), Fail> {
 }
 
 #[test]
-fn two_texts_joined_and_cut(rt: HostRuntime) -> Result<(), Fail> {
+fn two_texts_are_joined_and_cut(rt: HostRuntime) -> Result<(), Fail> {
     let front = TinyAsciiStr::<6>::try_from_str("abc")?;
     let back = TinyAsciiStr::<6>::try_from_str("defg")?;
     assert_eq!(rt; front.concat::<6, 16>(back).as_str(), "abcdefg");
@@ -52,7 +52,7 @@ fn is_decimal<const N: usize>(
 }
 
 #[test]
-fn decimal_texts_that_fit_and_the_last_digits_of_others(rt: HostRuntime) {
+fn a_decimal_text_is_written_whole_or_its_last_digits_are(rt: HostRuntime) {
     is_decimal(&rt, Decimal::<1>::new_unsigned_decimal(0), Ok("0"));
     is_decimal(&rt, Decimal::<1>::new_unsigned_decimal(9), Ok("9"));
     is_decimal(&rt, Decimal::<1>::new_unsigned_decimal(10), Err("0"));

@@ -6,7 +6,7 @@ use std::collections::HashSet;
 use std::test::Fail;
 
 #[test]
-fn texts_in_their_order(rt: HostRuntime) -> Result<(), Fail> {
+fn texts_are_ordered_byte_by_byte(rt: HostRuntime) -> Result<(), Fail> {
     let texts = ["", "a", "a\x01", "ab", "b"];
     for (i, first) in texts.iter().enumerate() {
         for (j, second) in texts.iter().enumerate() {

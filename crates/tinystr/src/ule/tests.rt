@@ -1,10 +1,12 @@
+//! Packed records, and the bytes that no value has.
+
 use crate::ascii::TinyAsciiStr;
 use crate::error::ParseError;
 use crate::ule::UleError;
 use crate::unvalidated::UnvalidatedTinyAsciiStr;
 
 #[test]
-fn records_that_are_packed(rt: HostRuntime) {
+fn packed_records_are_accepted(rt: HostRuntime) {
     assert_eq!(rt; TinyAsciiStr::<3>::validate_bytes(b"GB\0USD"), Ok(()));
     assert_eq!(rt; TinyAsciiStr::<3>::validate_bytes(b""), Ok(()));
     assert_eq!(rt; TinyAsciiStr::<1>::validate_bytes(&[0]), Ok(()));
@@ -12,7 +14,7 @@ fn records_that_are_packed(rt: HostRuntime) {
 }
 
 #[test]
-fn length_that_is_no_multiple(rt: HostRuntime) {
+fn a_length_that_is_no_multiple_is_refused_first(rt: HostRuntime) {
     let long = Err(UleError::Length { len: 7 });
     assert_eq!(rt; TinyAsciiStr::<3>::validate_bytes(b"GBPUSDx"), long);
     assert_eq!(rt; TinyAsciiStr::<3>::validate_bytes(b"\0GBUSDx"), long);
@@ -27,7 +29,7 @@ fn length_that_is_no_multiple(rt: HostRuntime) {
 }
 
 #[test]
-fn first_bad_record(rt: HostRuntime) {
+fn the_first_bad_record_is_named(rt: HostRuntime) {
     let bad = |index, fault| Err(UleError::Parse { index, fault });
     let null = ParseError::ContainsNull;
     let high = ParseError::NonAscii;
@@ -45,7 +47,7 @@ fn first_bad_record(rt: HostRuntime) {
 }
 
 #[test]
-fn records_of_any_bytes(rt: HostRuntime) {
+fn records_of_any_bytes_are_accepted(rt: HostRuntime) {
     assert_eq!(rt;
         UnvalidatedTinyAsciiStr::<3>::validate_bytes(b"GB\0\0A\0"),
         Ok(())
@@ -54,7 +56,7 @@ fn records_of_any_bytes(rt: HostRuntime) {
 }
 
 #[test]
-fn bytes_that_no_value_has(rt: HostRuntime) {
+fn the_niche_is_no_value(rt: HostRuntime) {
     let refused = Some(ParseError::NonAscii);
     let niche = TinyAsciiStr::<1>::niche_bit_pattern();
     assert_eq!(rt; TinyAsciiStr::try_from_raw(niche).err(), refused);

@@ -1,3 +1,5 @@
+//! Any bytes: made of shorter ones, read as texts, ordered and printed.
+
 use crate::ascii::TinyAsciiStr;
 use crate::error::ParseError;
 use crate::unvalidated::UnvalidatedTinyAsciiStr;
@@ -5,7 +7,7 @@ use std::process::Abort;
 use std::test::Fail;
 
 #[test]
-fn bytes_that_are_no_text(rt: HostRuntime) -> Result<(), Fail> {
+fn bytes_that_are_no_text_are_kept_and_printed_as_a_list(rt: HostRuntime) -> Result<(), Fail> {
     let bytes = UnvalidatedTinyAsciiStr::<3>::try_from_utf8(b"\0A")?;
     assert_eq!(rt;
         bytes,
@@ -17,7 +19,7 @@ fn bytes_that_are_no_text(rt: HostRuntime) -> Result<(), Fail> {
 }
 
 #[test]
-fn bytes_that_are_a_text(rt: HostRuntime) -> Result<(), Fail> {
+fn bytes_that_are_a_text_become_it(rt: HostRuntime) -> Result<(), Fail> {
     let text = TinyAsciiStr::<3>::try_from_utf8(b"ab")?;
     let bytes = UnvalidatedTinyAsciiStr::from_utf8_unchecked(*b"ab\0");
     assert_eq!(rt; bytes.try_into_tinystr(), Ok(text));
@@ -29,7 +31,7 @@ fn bytes_that_are_a_text(rt: HostRuntime) -> Result<(), Fail> {
 }
 
 #[test]
-fn more_bytes_than_fit(rt: HostRuntime) {
+fn more_bytes_than_fit_are_refused(rt: HostRuntime) {
     assert_eq!(rt;
         UnvalidatedTinyAsciiStr::<3>::try_from_utf8(b"abcd"),
         Err(ParseError::TooLong { max: 3, len: 4 })
@@ -41,14 +43,14 @@ fn more_bytes_than_fit(rt: HostRuntime) {
 }
 
 #[test]
-fn no_bytes_at_all(rt: HostRuntime) -> Result<(), Fail> {
+fn no_bytes_are_the_empty_text(rt: HostRuntime) -> Result<(), Fail> {
     let none = UnvalidatedTinyAsciiStr::<0>::default();
     assert_eq!(rt; format!(in rt.alloc(); "{none:?}")?.as_str(), "\"\"");
     assert_eq!(rt; none.try_into_tinystr(), Ok(TinyAsciiStr::default()));
     Ok(())
 }
 
-fn nuls_are_the_empty_text<const N: usize>(rt: &impl Abort, nuls: [u8; N]) {
+fn hold_the_empty_text<const N: usize>(rt: &impl Abort, nuls: [u8; N]) {
     let empty = TinyAsciiStr::<N>::default();
     assert_eq!(rt; TinyAsciiStr::try_from_raw(nuls), Ok(empty), "at {N}");
     assert_eq!(rt;
@@ -61,18 +63,18 @@ fn nuls_are_the_empty_text<const N: usize>(rt: &impl Abort, nuls: [u8; N]) {
 }
 
 #[test]
-fn nuls_alone(rt: HostRuntime) {
-    nuls_are_the_empty_text(&rt, [0; 1]);
-    nuls_are_the_empty_text(&rt, [0; 4]);
-    nuls_are_the_empty_text(&rt, [0; 8]);
-    nuls_are_the_empty_text(&rt, [0; 9]);
-    nuls_are_the_empty_text(&rt, [0; 16]);
-    nuls_are_the_empty_text(&rt, [0; 17]);
-    nuls_are_the_empty_text(&rt, [0; 32]);
+fn nuls_alone_are_the_empty_text(rt: HostRuntime) {
+    hold_the_empty_text(&rt, [0; 1]);
+    hold_the_empty_text(&rt, [0; 4]);
+    hold_the_empty_text(&rt, [0; 8]);
+    hold_the_empty_text(&rt, [0; 9]);
+    hold_the_empty_text(&rt, [0; 16]);
+    hold_the_empty_text(&rt, [0; 17]);
+    hold_the_empty_text(&rt, [0; 32]);
 }
 
 #[test]
-fn order_byte_by_byte(rt: HostRuntime) {
+fn any_bytes_are_ordered_byte_by_byte(rt: HostRuntime) {
     let [first, second, third] = [[0, 0x61], [0x61, 0], [0x61, 0xFF]].map(
         UnvalidatedTinyAsciiStr::from_utf8_unchecked,
     );
@@ -81,7 +83,7 @@ fn order_byte_by_byte(rt: HostRuntime) {
 }
 
 #[test]
-fn control_characters_printed(rt: HostRuntime) -> Result<(), Fail> {
+fn control_characters_are_printed_escaped(rt: HostRuntime) -> Result<(), Fail> {
     let text = TinyAsciiStr::<4>::try_from_utf8(b"\x01\x1B\n\x7F")?;
     let bytes = text.to_unvalidated();
     let shown = format!(in rt.alloc(); "{text:?} {bytes:?}")?;

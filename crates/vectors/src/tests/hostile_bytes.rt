@@ -7,7 +7,9 @@ use tinystr::TinyStr4;
 use tinystr::forms::BytesReadError;
 
 #[test]
-fn each_byte_at_each_position_of_four(rt: HostRuntime) -> Result<(), Fail> {
+fn readers_of_four_bytes_name_the_fault_of_each_byte_at_each_position(
+    rt: HostRuntime,
+) -> Result<(), Fail> {
     for at in 0..4 {
         for byte in 0..=u8::MAX {
             let mut bytes = *b"abcd";
@@ -51,7 +53,7 @@ fn each_byte_at_each_position_of_four(rt: HostRuntime) -> Result<(), Fail> {
 }
 
 #[test]
-fn units_and_replacements_at_the_edges(rt: HostRuntime) -> Result<(), Fail> {
+fn characters_and_replacements_go_up_to_127(rt: HostRuntime) -> Result<(), Fail> {
     assert_eq!(rt;
         TinyStr4::try_from_utf16(&[0x7f])?.as_utf8(),
         b"\x7f".as_slice()

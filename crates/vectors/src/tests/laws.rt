@@ -166,7 +166,7 @@ fn cuts_alike<const N: usize, const M: usize>(
 }
 
 #[test]
-fn case_changes_of_a_text_and_of_its_fronts(rt: HostRuntime) -> Result<(), Fail> {
+fn case_changes_keep_their_laws_and_commute_with_cutting(rt: HostRuntime) -> Result<(), Fail> {
     for text in texts(rt.alloc())? {
         keeps_case_laws(&rt, text);
         keeps_case_laws(&rt, text.resize::<4>());
@@ -186,7 +186,7 @@ fn case_changes_of_a_text_and_of_its_fronts(rt: HostRuntime) -> Result<(), Fail>
 }
 
 #[test]
-fn three_texts_joined_and_cut_in_either_order(rt: HostRuntime) -> Result<(), Fail> {
+fn three_texts_join_and_cut_alike_in_either_order(rt: HostRuntime) -> Result<(), Fail> {
     let alloc = rt.alloc();
     let mut outer = Vec::new(alloc);
     for vector in VECTORS {
