@@ -5,8 +5,17 @@ use crate::error::ParseError::{self, ContainsNull, NonAscii, TooLong};
 use crate::tinystr;
 use std::test::Fail;
 
+fn text_or_fault<const N: usize>(
+    read: &Result<TinyAsciiStr<N>, ParseError>,
+) -> Result<&str, ParseError> {
+    match read {
+        Ok(text) => Ok(text.as_str()),
+        Err(fault) => Err(*fault),
+    }
+}
+
 #[test]
-fn strict_reader_names_the_first_fault(rt: HostRuntime) {
+fn the_strict_reader_names_the_first_fault(rt: HostRuntime) {
     for (bytes, fault) in [
         (&[0, 0x80][..], NonAscii),
         (&[0, 0x61, 0x80], ContainsNull),
@@ -21,7 +30,7 @@ fn strict_reader_names_the_first_fault(rt: HostRuntime) {
 }
 
 #[test]
-fn four_bytes_read_strictly_and_raw(rt: HostRuntime) {
+fn the_strict_and_the_raw_reader_differ_at_nulls(rt: HostRuntime) {
     for (bytes, strict, raw) in [
         (*b"abcd", Ok("abcd"), Ok("abcd")),
         (*b"a\0\0\0", Err(ContainsNull), Ok("a")),
@@ -34,44 +43,25 @@ fn four_bytes_read_strictly_and_raw(rt: HostRuntime) {
         (*b"abc\xff", Err(NonAscii), Err(NonAscii)),
         (*b"ab\0\x80", Err(NonAscii), Err(NonAscii)),
     ] {
-        assert_eq!(rt;
-            TinyStr4::try_from_utf8(&bytes)
-                .as_ref()
-                .map(|t| t.as_str())
-                .map_err(|e| *e),
-            strict,
-            "{bytes:?}"
-        );
-        assert_eq!(rt;
-            TinyStr4::try_from_raw(bytes)
-                .as_ref()
-                .map(|t| t.as_str())
-                .map_err(|e| *e),
-            raw,
-            "{bytes:?}"
-        );
+        let read = TinyStr4::try_from_utf8(&bytes);
+        assert_eq!(rt; text_or_fault(&read), strict, "{bytes:?}");
+        let read = TinyStr4::try_from_raw(bytes);
+        assert_eq!(rt; text_or_fault(&read), raw, "{bytes:?}");
     }
 }
 
 #[test]
-fn raw_reader_takes_padded_texts_alone(rt: HostRuntime) {
-    let read = |raw| TinyAsciiStr::<3>::try_from_raw(raw);
-    assert_eq!(rt;
-        read(*b"GB\0").as_ref().map(|t| t.as_str()).map_err(|e| *e),
-        Ok("GB")
-    );
-    assert_eq!(rt;
-        read(*b"USD").as_ref().map(|t| t.as_str()).map_err(|e| *e),
-        Ok("USD")
-    );
-    assert_eq!(rt; read(*b"\0A\0"), Err(ContainsNull));
-    assert_eq!(rt;
-        TinyStr8::try_from_raw(*b"New York")
-            .as_ref()
-            .map(|t| t.as_str())
-            .map_err(|e| *e),
-        Ok("New York")
-    );
+fn the_raw_reader_takes_padded_texts_alone(rt: HostRuntime) {
+    for (raw, expected) in [
+        (*b"GB\0", Ok("GB")),
+        (*b"USD", Ok("USD")),
+        (*b"\0A\0", Err(ContainsNull)),
+    ] {
+        let read = TinyAsciiStr::<3>::try_from_raw(raw);
+        assert_eq!(rt; text_or_fault(&read), expected, "{raw:?}");
+    }
+    let full = TinyStr8::try_from_raw(*b"New York");
+    assert_eq!(rt; text_or_fault(&full), Ok("New York"));
     assert_eq!(rt;
         TinyAsciiStr::<3>::from_utf8_unchecked(*b"GB\0").as_str(),
         "GB"
@@ -80,13 +70,8 @@ fn raw_reader_takes_padded_texts_alone(rt: HostRuntime) {
 
 #[test]
 fn sixteen_bit_units_are_compared_before_they_are_narrowed(rt: HostRuntime) {
-    assert_eq!(rt;
-        TinyStr4::try_from_utf16(&[0x65, 0x6e])
-            .as_ref()
-            .map(|t| t.as_str())
-            .map_err(|e| *e),
-        Ok("en")
-    );
+    let read = TinyStr4::try_from_utf16(&[0x65, 0x6e]);
+    assert_eq!(rt; text_or_fault(&read), Ok("en"));
     for (units, fault) in [
         (&[0x0161][..], NonAscii),
         (&[0x0100], NonAscii),

@@ -16,7 +16,7 @@ fn replies_to_every_line(rt: HostRuntime) -> Result<(), Fail> {
         ),
         (INPUT, OUTPUT),
     ] {
-        assert_eq!(rt; output(rt.alloc(), input)?.as_slice(), replies);
+        assert_eq!(rt; output(rt.alloc(), input)?.as_slice(), replies, "{input:?}");
     }
     Ok(())
 }
@@ -35,7 +35,7 @@ fn a_line_is_cut_at_its_first_two_spaces(rt: HostRuntime) -> Result<(), Fail> {
         (b"4 len abc\r", b"4\n"),
         (b"8 upper New York", b"NEW YORK\n"),
     ] {
-        assert_eq!(rt; output(rt.alloc(), line)?.as_slice(), reply);
+        assert_eq!(rt; output(rt.alloc(), line)?.as_slice(), reply, "{line:?}");
     }
     Ok(())
 }
@@ -57,7 +57,7 @@ fn the_capacity_is_tested_then_the_command_then_the_text(rt: HostRuntime) -> Res
         (b"4 text \0\x80", b"non ascii\n"),
         (b"4 text a\0", b"contains null\n"),
     ] {
-        assert_eq!(rt; output(rt.alloc(), line)?.as_slice(), reply);
+        assert_eq!(rt; output(rt.alloc(), line)?.as_slice(), reply, "{line:?}");
     }
     Ok(())
 }
@@ -82,7 +82,7 @@ fn a_capacity_is_spelled_in_one_way(rt: HostRuntime) -> Result<(), Fail> {
         (b"64 len a", b"bad capacity\n"),
         (b"99999999999999999999 len a", b"bad capacity\n"),
     ] {
-        assert_eq!(rt; output(rt.alloc(), line)?.as_slice(), reply);
+        assert_eq!(rt; output(rt.alloc(), line)?.as_slice(), reply, "{line:?}");
     }
     Ok(())
 }
@@ -107,7 +107,7 @@ fn each_command_calls_its_own_function(rt: HostRuntime) -> Result<(), Fail> {
         (b"4 alphabetic_uppercase \x7F\x7F\x7F\x7F", b"false\n"),
         (b"0 uppercase", b"true\n"),
     ] {
-        assert_eq!(rt; output(rt.alloc(), line)?.as_slice(), reply);
+        assert_eq!(rt; output(rt.alloc(), line)?.as_slice(), reply, "{line:?}");
     }
     Ok(())
 }
@@ -122,7 +122,7 @@ fn the_lossy_reader_refuses_nothing(rt: HostRuntime) -> Result<(), Fail> {
         (b"4 lossy \x61\x80\xFF\x31", b"a??1\n"),
         (b"7 lossy a", b"bad capacity\n"),
     ] {
-        assert_eq!(rt; output(rt.alloc(), line)?.as_slice(), reply);
+        assert_eq!(rt; output(rt.alloc(), line)?.as_slice(), reply, "{line:?}");
     }
     Ok(())
 }
@@ -143,7 +143,7 @@ fn packed_records_are_counted_or_the_first_bad_one_is_named(rt: HostRuntime) -> 
         (b"0 records ab", b"bad capacity\n"),
         (b"7 records ab", b"bad capacity\n"),
     ] {
-        assert_eq!(rt; output(rt.alloc(), line)?.as_slice(), reply);
+        assert_eq!(rt; output(rt.alloc(), line)?.as_slice(), reply, "{line:?}");
     }
     Ok(())
 }
@@ -163,7 +163,7 @@ fn a_language_identifier_gets_its_canonical_text_at_any_capacity(
         (b"4 locale en-US\0", b"invalid subtag\n"),
         (b"17 locale en--US", b"invalid subtag\n"),
     ] {
-        assert_eq!(rt; output(rt.alloc(), line)?.as_slice(), reply);
+        assert_eq!(rt; output(rt.alloc(), line)?.as_slice(), reply, "{line:?}");
     }
     Ok(())
 }

@@ -3,10 +3,9 @@
 use crate::VECTORS;
 use std::test::Fail;
 use tinystr::TinyAsciiStr;
-use tinystr::forms::BytesReadError;
 
 #[test]
-fn texts_read_back(rt: HostRuntime) -> Result<(), Fail> {
+fn texts_come_back_from_each_form(rt: HostRuntime) -> Result<(), Fail> {
     for vector in VECTORS {
         let text = TinyAsciiStr::<17>::try_from_str(vector.text)?;
         assert_eq!(rt; text.to_unvalidated().try_into_tinystr(), Ok(text));
@@ -19,10 +18,7 @@ fn texts_read_back(rt: HostRuntime) -> Result<(), Fail> {
                 assert_eq!(rt; read, text);
                 assert_eq!(rt; rest, [0xFF; 3].as_slice());
             }
-            Err(fault) => {
-                let refused: BytesReadError = fault;
-                assert!(rt; false, "{refused:?}");
-            }
+            Err(fault) => assert!(rt; false, "{text} {fault:?}"),
         }
     }
     Ok(())
