@@ -13,6 +13,54 @@ const RAW: usize = 2;
 
 const REPLACEMENT: u8 = b'?';
 
+// Reads what is found of each list of a batch, by an expression for a `Result`. It is matched where it is made, since
+// each function that hands such a value on moves it once more.
+macro_rules! read_each {
+    ($rounds:ident, $units:ident, $starts:ident, $texts:ident, $faults:ident, $list:ident => $found:expr, $input:ident => $read:expr) => {
+        let mut made = [TinyAsciiStr::<N>::default(); COUNT];
+        let mut codes = [0u32; COUNT];
+        let count = $starts.len().saturating_sub(1).min(COUNT);
+        for _ in 0..$rounds {
+            for i in 0..count {
+                let range = $starts[i] as usize..$starts[i + 1] as usize;
+                let Some($list) = $units.get(range) else {
+                    break;
+                };
+                let Some($input) = $found else {
+                    break;
+                };
+                match $read {
+                    Ok(text) => {
+                        made[i] = text;
+                        codes[i] = 0;
+                    }
+                    Err(fault) => codes[i] = code_of(fault),
+                }
+            }
+        }
+        write_texts(&made, $texts);
+        write_codes(&codes, $faults);
+    };
+}
+
+// Reads each list of a batch by an expression for a text.
+macro_rules! replace_each {
+    ($rounds:ident, $units:ident, $starts:ident, $texts:ident, $list:ident => $read:expr) => {
+        let mut made = [TinyAsciiStr::<N>::default(); COUNT];
+        let count = $starts.len().saturating_sub(1).min(COUNT);
+        for _ in 0..$rounds {
+            for i in 0..count {
+                let range = $starts[i] as usize..$starts[i + 1] as usize;
+                let Some($list) = $units.get(range) else {
+                    break;
+                };
+                made[i] = $read;
+            }
+        }
+        write_texts(&made, $texts);
+    };
+}
+
 /// Reads each list of bytes by reader number `reader`; false where there is no such reader.
 pub fn read8_batch<const N: usize>(
     reader: usize,
@@ -25,15 +73,15 @@ pub fn read8_batch<const N: usize>(
     requires { N ≤ 128 }
 {
     match reader {
-        READ => read8_each::<N, READ>(rounds, units, starts, texts, faults),
+        READ => read8_each::<N>(rounds, units, starts, texts, faults),
         LOSSY => lossy8_each::<N>(rounds, units, starts, texts),
-        RAW => read8_each::<N, RAW>(rounds, units, starts, texts, faults),
+        RAW => raw_each::<N>(rounds, units, starts, texts, faults),
         _ => return false,
     }
     true
 }
 
-fn read8_each<const N: usize, const READER: usize>(
+fn read8_each<const N: usize>(
     rounds: usize,
     units: &[u8],
     starts: &[u32],
@@ -42,52 +90,26 @@ fn read8_each<const N: usize, const READER: usize>(
 )
     requires { N ≤ 128 }
 {
-    let mut made = [TinyAsciiStr::<N>::default(); COUNT];
-    let mut codes = [0u32; COUNT];
-    let count = starts.len().saturating_sub(1).min(COUNT);
-    for _ in 0..rounds {
-        for i in 0..count {
-            let Some(list) = units.get(starts[i] as usize..starts[i + 1] as usize) else {
-                break;
-            };
-            match read8::<N, READER>(list) {
-                Ok(text) => {
-                    made[i] = text;
-                    codes[i] = 0;
-                }
-                Err(fault) => codes[i] = code_of(fault),
-            }
-        }
-    }
-    write_texts(&made, texts);
-    write_codes(&codes, faults);
+    read_each!(rounds, units, starts, texts, faults, list => Some(list), units => TinyAsciiStr::<N>::try_from_utf8(units));
+}
+
+// Each list has the N bytes of an array.
+fn raw_each<const N: usize>(
+    rounds: usize,
+    units: &[u8],
+    starts: &[u32],
+    texts: &mut [u8],
+    faults: &mut [u32],
+)
+    requires { N ≤ 128 }
+{
+    read_each!(rounds, units, starts, texts, faults, list => list.first_chunk::<N>(), raw => TinyAsciiStr::<N>::try_from_raw(*raw));
 }
 
 fn lossy8_each<const N: usize>(rounds: usize, units: &[u8], starts: &[u32], texts: &mut [u8])
     requires { N ≤ 128 }
 {
-    let mut made = [TinyAsciiStr::<N>::default(); COUNT];
-    let count = starts.len().saturating_sub(1).min(COUNT);
-    for _ in 0..rounds {
-        for i in 0..count {
-            let Some(list) = units.get(starts[i] as usize..starts[i + 1] as usize) else {
-                break;
-            };
-            made[i] = TinyAsciiStr::from_utf8_lossy(list, REPLACEMENT);
-        }
-    }
-    write_texts(&made, texts);
-}
-
-#[inline(always)]
-fn read8<const N: usize, const READER: usize>(list: &[u8]) -> Result<TinyAsciiStr<N>, ParseError> {
-    match READER {
-        READ => TinyAsciiStr::try_from_utf8(list),
-        _ => match list.first_chunk::<N>() {
-            Some(raw) => TinyAsciiStr::try_from_raw(*raw),
-            None => Ok(TinyAsciiStr::default()),
-        },
-    }
+    replace_each!(rounds, units, starts, texts, list => TinyAsciiStr::<N>::from_utf8_lossy(list, REPLACEMENT));
 }
 
 /// The same of units of 16 bits.
@@ -118,41 +140,13 @@ fn read16_each<const N: usize>(
 )
     requires { N ≤ 128 }
 {
-    let mut made = [TinyAsciiStr::<N>::default(); COUNT];
-    let mut codes = [0u32; COUNT];
-    let count = starts.len().saturating_sub(1).min(COUNT);
-    for _ in 0..rounds {
-        for i in 0..count {
-            let Some(list) = units.get(starts[i] as usize..starts[i + 1] as usize) else {
-                break;
-            };
-            match TinyAsciiStr::<N>::try_from_utf16(list) {
-                Ok(text) => {
-                    made[i] = text;
-                    codes[i] = 0;
-                }
-                Err(fault) => codes[i] = code_of(fault),
-            }
-        }
-    }
-    write_texts(&made, texts);
-    write_codes(&codes, faults);
+    read_each!(rounds, units, starts, texts, faults, list => Some(list), units => TinyAsciiStr::<N>::try_from_utf16(units));
 }
 
 fn lossy16_each<const N: usize>(rounds: usize, units: &[u16], starts: &[u32], texts: &mut [u8])
     requires { N ≤ 128 }
 {
-    let mut made = [TinyAsciiStr::<N>::default(); COUNT];
-    let count = starts.len().saturating_sub(1).min(COUNT);
-    for _ in 0..rounds {
-        for i in 0..count {
-            let Some(list) = units.get(starts[i] as usize..starts[i + 1] as usize) else {
-                break;
-            };
-            made[i] = TinyAsciiStr::from_utf16_lossy(list, REPLACEMENT);
-        }
-    }
-    write_texts(&made, texts);
+    replace_each!(rounds, units, starts, texts, list => TinyAsciiStr::<N>::from_utf16_lossy(list, REPLACEMENT));
 }
 
 // 1 for a NUL, 2 for a unit above 127, and 3 for a list that is too long, with both lengths above that.
