@@ -141,7 +141,7 @@ ascii_nuls : (k : ℕ) → Ascii (NULS k)
 ascii_nuls zero = tt
 ascii_nuls (suc k) = (lit< tt, ascii_nuls k)
 
-ascii_padded : (t : List ℕ) (k : ℕ) → IsText t → Ascii (t ++ NULS k)
+pub ascii_padded : (t : List ℕ) (k : ℕ) → IsText t → Ascii (t ++ NULS k)
 ascii_padded [] k x = ascii_nuls k
 ascii_padded (b ∷ t) k x = let h = All-head (IsTextByte) b t x in (omega arith, ascii_padded t k (All-tail (IsTextByte) b t x))
 

@@ -45,7 +45,7 @@ word_add F G i [] = refl
 word_add F G i (b ∷ l) = omega (arith, word_add F G false l)
 
 -- an operation on numbers that is done on each byte apart
-abbrev Bytewise : (ℕ → ℕ → ℕ) → Type 0
+abbrev pub Bytewise : (ℕ → ℕ → ℕ) → Type 0
 Bytewise op = (a b r s : ℕ) → r < 256 → s < 256 → op (r + 256 * a) (s + 256 * b) ≡ op r s + 256 * op a b
 
 Bytewise-from_block : (op : ℕ → ℕ → ℕ) → ((a b r s : ℕ) → r < 256 → s < 256 → op (a * 256 + r) (b * 256 + s) ≡ op a b * 256 + op r s) → Bytewise op
@@ -54,13 +54,16 @@ Bytewise-from_block op block a b r s p q =
     let y : s + 256 * b ≡ b * 256 + s = omega arith in
     rw (x, y) (block a b r s p q ∙ omega arith)
 
+pub and_step : Bytewise bit_and
+and_step = Bytewise-from_block bit_and (and_block 8)
+
 word_bytewise : (op : ℕ → ℕ → ℕ) → Bytewise op → op 0 0 ≡ 0 → (F G : Bool → ℕ → ℕ) → Bytes F → Bytes G → (i : Bool) (l : List ℕ) → Ascii l → op (word (lanes F i l)) (word (lanes G i l)) ≡ word (lanes (λ i b. op (F i b) (G i b)) i l)
 word_bytewise op step zeros F G p q i [] a = zeros
 word_bytewise op step zeros F G p q i (b ∷ l) a =
     step _ _ _ _ (p i b a.0) (q i b a.0) ∙ ap (λ n. op (F i b) (G i b) + 256 * n) (word_bytewise op step zeros F G p q false l a.1)
 
 pub word_and : (F G : Bool → ℕ → ℕ) → Bytes F → Bytes G → (i : Bool) (l : List ℕ) → Ascii l → bit_and (word (lanes F i l)) (word (lanes G i l)) ≡ word (lanes (λ i b. bit_and (F i b) (G i b)) i l)
-word_and = word_bytewise bit_and (Bytewise-from_block bit_and (and_block 8)) refl
+word_and = word_bytewise bit_and and_step refl
 
 pub word_or : (F G : Bool → ℕ → ℕ) → Bytes F → Bytes G → (i : Bool) (l : List ℕ) → Ascii l → bit_or (word (lanes F i l)) (word (lanes G i l)) ≡ word (lanes (λ i b. bit_or (F i b) (G i b)) i l)
 word_or = word_bytewise bit_or (Bytewise-from_block bit_or (or_block 8)) refl

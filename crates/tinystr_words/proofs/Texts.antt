@@ -60,6 +60,12 @@ IsPaddedText-whole t h =
     let none : length t - length t ≡ 0 = omega arith in
     IsPaddedText-made t t (length t) (rw none (sym (append-nil t))) (record { text = h; fits = omega arith })
 
+pub text_of-whole : (t : List ℕ) → IsText t → text_of t ≡ t
+text_of-whole t h =
+    let none : length t - length t ≡ 0 = omega arith in
+    let e : t ≡ pad t (length t) = rw none (sym (append-nil t)) in
+    ap (λ (b : List ℕ). text_of b) e ∙ text_of-pad t (length t) h
+
 pub text_of-made : (bytes t : List ℕ) (n : ℕ) → bytes ≡ pad t n → IsText t → text_of bytes ≡ t
 text_of-made bytes t n made h = ap (λ (b : List ℕ). text_of b) made ∙ text_of-pad t n h
 
@@ -83,6 +89,8 @@ length-text_of-at bytes n fits before here =
     length-text_of bytes ∙ prefix_len_is is_not_nul bytes n 0 fits
     (λ k h. let p = before k h in grind (arith, nat_tests))
     (λ h. let p = here h in grind (arith, nat_tests))
+
+pub ruleset whole_texts = (IsPaddedText-whole, text_of-whole)
 
 pub ruleset padded_texts = (length-text_of-at, take-text_of, length-text_of-le)
 
@@ -149,7 +157,7 @@ take-pad t n w fits le =
     take-joined t (NULS (w - length t)) n ∙ ap₂ (λ (a b : List ℕ). a ++ b) all (take-replicate {X = ℕ} (n - length t) (w - length t) 0 more)
 
 -- NULs in any number behind a text
-padded-nuls : (l t : List ℕ) (k : ℕ) → l ≡ t ++ NULS k → IsText t → IsPaddedText l (length l) × (text_of l ≡ t)
+pub padded-nuls : (l t : List ℕ) (k : ℕ) → l ≡ t ++ NULS k → IsText t → IsPaddedText l (length l) × (text_of l ≡ t)
 padded-nuls l t k e x =
     let long : length l ≡ length t + k = ap length e ∙ omega (arith, length-append t (NULS k), length-replicate {A = ℕ} k 0) in
     let left : length l - length t ≡ k = omega arith in

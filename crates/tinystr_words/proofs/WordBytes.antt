@@ -8,6 +8,7 @@ use Rattle.std.proofs.lemmas.List.{drop-replicate}
 use Rattle.std.proofs.lemmas.List.Elements.{All-head, All-tail}
 use Rattle.std.specs.Simd.Lanes.{Each1}
 use Rattle.std.proofs.lemmas.Simd.{Each1-weaker}
+use Rattle.std.specs.Int.{bytes_low_first, byte_at}
 use Rattle.std.specs.Int.Count.{count_leading_zeros, leading_of_zero}
 use Rattle.tinystr_words.specs.Text.{IsTextByte, IsText, pad}
 use Rattle.tinystr_words.specs.Words.{word, led, lanes_of}
@@ -43,6 +44,20 @@ lanes_append (suc m) n w =
 -- a word's bytes, from those of its two halves
 pub lanes_halves : (n w : ℕ) → lanes_of n (w % 256 ^ n) ++ lanes_of n (w / 256 ^ n) ≡ lanes_of (n + n) w
 lanes_halves n w = ap (λ l. l ++ lanes_of n (w / 256 ^ n)) (lanes_mod n w) ∙ lanes_append n n w
+
+-- std's bytes of a number
+low_first : (i k n : ℕ) → bytes_low_first i k n ≡ lanes_of k (n / 256 ^ i)
+low_first i zero n = refl
+low_first i (suc k) n =
+    let rest : n / 256 ^ suc i ≡ n / 256 ^ i / 256 = ap (λ d. n / d) (pow-suc 256 i) ∙ sym (div-div-eq-div-mul n (256 ^ i) 256) in
+    ap₂ (λ (x : ℕ) (xs : List ℕ). x ∷ xs) (here i) (low_first (suc i) k n ∙ ap (λ m. lanes_of k m) rest)
+  where
+    here : (i : ℕ) → byte_at i n ≡ n / 256 ^ i % 256
+    here zero = omega arith
+    here (suc i) = refl
+
+pub lanes_low_first : (k n : ℕ) → bytes_low_first 0 k n ≡ lanes_of k n
+lanes_low_first k n = low_first 0 k n ∙ ap (λ m. lanes_of k m) (omega arith)
 
 pub lanes_word : (l : List ℕ) → Each1 (λ b. b < 256) l → lanes_of (length l) (word l) ≡ l
 lanes_word [] a = refl
@@ -94,7 +109,7 @@ pub word_below : (b : ℕ) (t : List ℕ) → IsText (b ∷ t) → word (b ∷ t
 word_below b [] x = omega (arith, (All-head (IsTextByte) b [] x).1)
 word_below b (d ∷ t) x = let h = (All-head (IsTextByte) b (d ∷ t) x).1 in omega (arith, pow-suc 256 (length t), word_below d t (All-tail (IsTextByte) b (d ∷ t) x))
 
-pow_256 : (m : ℕ) → 256 ^ m ≡ 2 ^ (8 * m)
+pub pow_256 : (m : ℕ) → 256 ^ m ≡ 2 ^ (8 * m)
 pow_256 zero = refl
 pow_256 (suc m) =
     let e : 8 * suc m ≡ 8 * m + 8 = omega arith in

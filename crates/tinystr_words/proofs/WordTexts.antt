@@ -8,7 +8,7 @@ use Rattle.tinystr_words.specs.Words.{word, led, lanes_of, held, HoldsText}
 use Rattle.tinystr_words.specs.Questions.{answer, in_case}
 use Rattle.tinystr_words.specs.declared.question.Question.{Question}
 use Rattle.tinystr_words.specs.declared.question.Case.{Case}
-use Rattle.tinystr_words.proofs.Texts.{length-pad, text_of-pad, length-text_of-le}
+use Rattle.tinystr_words.proofs.Texts.{IsPaddedText-made, text_of-made, length-pad, text_of-pad, length-text_of-le}
 use Rattle.tinystr_words.proofs.Lanes.{Ascii, Bytes, lanes, everywhere_is}
 use Rattle.tinystr_words.proofs.Formulas.{Formula, IsSafe, on, at, is_safe, ascii_pad, safe_byte, changes_safe, on_pad, question, changed}
 use Rattle.tinystr_words.proofs.WordBytes.{lanes_word, lanes_word_pad, word_nuls, word_ascii, leading_zeros_of}
@@ -43,6 +43,14 @@ held_length {n} {w} h =
     let z : count_leading_zeros (8 * n) w / 8 ≡ n - length t = ap (λ v. count_leading_zeros (8 * n) v / 8) e ∙ leading_zeros_of n t h.text h.fits in
     let fits = h.fits in
     omega arith
+
+pub held_bytes : {n w : ℕ} → HoldsText n w → lanes_of n w ≡ pad (held n w) n
+held_bytes {n} {w} h = ap (λ m. lanes_of n m) h.padded ∙ lanes_word_pad n (held n w) h.text h.fits
+
+pub bytes_held : {n w : ℕ} → HoldsText n w → (bytes : List ℕ) → bytes ≡ lanes_of n w → IsPaddedText bytes n × (text_of bytes ≡ held n w)
+bytes_held {n} {w} h bytes e =
+    let made = e ∙ held_bytes h in
+    (IsPaddedText-made bytes (held n w) n made (record { text = h.text; fits = h.fits }), text_of-made bytes (held n w) n made h.text)
 
 -- ---- its questions and changes
 

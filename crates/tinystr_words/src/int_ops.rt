@@ -1,7 +1,7 @@
 //! Texts in one word each, asked and changed by a few sums over the whole word.
 
-ghost use Rattle.std.specs.Prelude.{◌≡◌, ◌+◌, ◌≤◌, ◌==◌, length, bit_or, bit_and};
-ghost use Rattle.tinystr_words.specs.Text.{IsPaddedText, pad, text_of};
+ghost use Rattle.std.specs.Prelude.{◌≡◌, ◌+◌, ◌≤◌, ◌==◌, length, bit_or, bit_and, MatchOption};
+ghost use Rattle.tinystr_words.specs.Text.{IsText, IsPaddedText, pad, text_of};
 ghost use Rattle.tinystr_words.specs.Classes.{ask, is_upper, is_lower, is_digit, is_alphabetic, is_alphanumeric, is_not_upper, is_not_lower};
 ghost use Rattle.tinystr_words.specs.Case.{lowercase, titlecase, uppercase};
 ghost use Rattle.tinystr_words.specs.Words.{word, led, HoldsText};
@@ -88,6 +88,46 @@ impl<T: Word<LEN>, const LEN: usize> Aligned<T, LEN> {
         Aligned {
             word: T::load(part),
         }
+    }
+
+    /// Takes the text of a part, if it is a text and then NULs.
+    #[inline(always)]
+    pub fn try_from_part(part: &[u8]) -> Option<Self>
+        requires fits { length part.now ≤ LEN }
+        ensures { MatchOption result (¬ IsPaddedText part.now (length part.now))
+            (λ t. IsPaddedText part.now (length part.now) × (t ≡ text_of part.now)) }
+    {
+        let word = T::load(part);
+        if word.faults(word.marks()).equals(T::splat(0)) {
+            Some(Aligned { word })
+        } else {
+            None
+        }
+    }
+
+    /// Takes a part that is a text, with no NUL.
+    #[inline(always)]
+    #[tactic(auto, using(crate::proofs::Texts::whole_texts))]
+    pub fn try_from_text(part: &[u8]) -> Option<Self>
+        requires fits { length part.now ≤ LEN }
+        ensures { MatchOption result (¬ IsText part.now) (λ t. IsText part.now × (t ≡ part.now)) }
+    {
+        let text = Self::try_from_part(part)?;
+        if text.len() == part.len() {
+            Some(text)
+        } else {
+            None
+        }
+    }
+
+    /// The text and then NULs.
+    #[inline(always)]
+    pub fn to_bytes(&self) -> [u8; LEN]
+        ensures bytes { result ≡ pad self.now LEN }
+        ensures padded { IsPaddedText result LEN }
+        ensures text { text_of result ≡ self.now }
+    {
+        self.word.to_le_bytes()
     }
 
     /// The text's length, from how many zeros lead its word: only NULs stand above its last byte.
@@ -207,7 +247,7 @@ impl<T: Word<LEN>, const LEN: usize> Aligned<T, LEN> {
             }
             Case::Upper => word.and(word.case_bits(LOWER, LOWER).not()),
         };
-        changed.to_le_bytes()
+        changed.to_stored_bytes()
     }
 
     /// The text with each letter in lower case, and then NULs.

@@ -84,6 +84,39 @@ fn words_full_of_the_highest_byte(rt: HostRuntime) {
     );
 }
 
+// Reads each beginning of a text that fills the word, and wants its bytes back.
+macro_rules! beginnings_come_back {
+    ($rt:ident, $word:ident, $text:expr) => {
+        for len in 0..$text.len() + 1 {
+            let (part, _) = $text.split_at(len);
+            let word = $word::try_from_text(part).expect(&$rt, "a text");
+            assert_eq!($rt; word.len(), len);
+            let bytes = word.to_bytes();
+            let (front, rest) = bytes.split_at(len);
+            assert_eq!($rt; front, part);
+            assert!($rt; rest.iter().all(|byte| *byte == 0));
+        }
+    };
+}
+
+#[test]
+fn parts_of_each_length_come_back(rt: HostRuntime) {
+    beginnings_come_back!(rt, Aligned4, b"abcd");
+    beginnings_come_back!(rt, Aligned8, b"abcdefgh");
+    beginnings_come_back!(rt, Aligned16, b"abcdefghijklmnop");
+}
+
+#[test]
+fn nulls_are_padding_at_the_end_alone(rt: HostRuntime) {
+    assert!(rt; Aligned8::try_from_part(b"en\0\0\0").is_some());
+    assert!(rt; Aligned8::try_from_text(b"en\0\0\0").is_none());
+    assert!(rt; Aligned8::try_from_part(b"en\0US").is_none());
+    assert!(rt; Aligned8::try_from_part(b"\0en").is_none());
+    assert!(rt; Aligned8::try_from_part(&[0; 8]).is_some());
+    assert!(rt; Aligned8::try_from_part(b"en\xff").is_none());
+    assert!(rt; Aligned8::try_from_part(b"en\0\x80").is_none());
+}
+
 // ---- the lanes on the way
 
 #[test]

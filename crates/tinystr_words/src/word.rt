@@ -1,6 +1,6 @@
 //! An unsigned integer as a word of byte lanes, the first byte lowest.
 
-ghost use Rattle.std.specs.Prelude.{◌≡◌, ◌+◌, ◌-◌, ◌*◌, ◌/◌, ◌^◌, ◌<◌, ◌≤◌, ◌==◌, ℕ, ◌++◌, drop, length, bit_and, bit_or};
+ghost use Rattle.std.specs.Prelude.{◌≡◌, ◌+◌, ◌-◌, ◌*◌, ◌/◌, ◌^◌, ◌<◌, ◌≤◌, ◌==◌, ℕ, length, bit_and, bit_or};
 ghost use Rattle.std.proofs.Common.{lit<, lit≤};
 ghost use Rattle.std.specs.Int.Count.{count_leading_zeros};
 ghost use Rattle.tinystr_words.specs.Words.{word, led, lanes_of};
@@ -33,15 +33,6 @@ pub const DIGIT: Range = Range {
     high: 0x46,
 };
 
-// Puts the source in place of the first bytes.
-#[inline(always)]
-fn write_front(bytes: &mut [u8], src: &[u8])
-    requires { length src.now ≤ length bytes.old }
-    ensures { bytes.new ≡ src.now ++ drop (length src.now) bytes.old }
-{
-    bytes[..src.len()].copy_from_slice(src);
-}
-
 /// An integer of `LEN` bytes.
 pub trait Word<const LEN: usize>: Copy + Drop {
     ghost number: { Self → ℕ };
@@ -53,6 +44,20 @@ pub trait Word<const LEN: usize>: Copy + Drop {
     /// The lanes, the lowest first.
     fn to_le_bytes(self) -> [u8; LEN]
         ensures { result ≡ lanes_of LEN (number self) };
+
+    /// The same bytes for an array in memory: a word of sixteen in halves, since its bytes are stored one at a time.
+    #[inline(always)]
+    fn to_stored_bytes(self) -> [u8; LEN]
+        ensures { result ≡ lanes_of LEN (number self) }
+    {
+        self.to_le_bytes()
+    }
+
+    /// The word whose first lanes are these bytes and whose others are NUL, made in registers: two parts of half a word,
+    /// which may overlap, are all bytes.
+    fn load(src: &[u8]) -> Self
+        requires { length src.now ≤ LEN }
+        ensures { number result ≡ word src.now };
 
     /// How many bits, of all `8 * LEN`, are above the highest that is set.
     fn leading_zeros(self) -> usize
@@ -79,21 +84,13 @@ pub trait Word<const LEN: usize>: Copy + Drop {
     fn quarter(self) -> Self
         ensures { number result ≡ number self / 4 };
 
+    /// Each lane one place lower, without the lowest.
+    fn next_lanes(self) -> Self
+        ensures { number result ≡ number self / 256 };
+
     /// Whether all lanes are the same.
     fn equals(self, other: Self) -> bool
         ensures { result ≡ (number self == number other) };
-
-    /// The word whose first lanes are these bytes and whose others are NUL.
-    #[inline(always)]
-    #[tactic(auto, using(crate::proofs::WordBytes::word_dropped))]
-    fn load(src: &[u8]) -> Self
-        requires { length src.now ≤ LEN }
-        ensures { number result ≡ word src.now }
-    {
-        let mut bytes = [0; LEN];
-        write_front(&mut bytes, src);
-        Self::from_le_bytes(&bytes)
-    }
 
     /// One byte in the first lane, another in each other lane.
     #[inline(always)]
@@ -122,6 +119,28 @@ pub trait Word<const LEN: usize>: Copy + Drop {
             bit_and (number self + word (led LEN 0x7f 0x7f)) (word (led LEN 0x80 0x80)) }
     {
         self.plus(Self::splat(0x7f)).and(Self::splat(0x80))
+    }
+
+    /// The high bit of each lane whose lower bits aren't all clear.
+    #[inline(always)]
+    #[tactic(auto, using(std::proofs::lemmas::Nat::and_le_r))]
+    fn marks(self) -> Self
+        ensures { number result ≡ bit_and
+            (bit_and (number self) (word (led LEN 0x7f 0x7f)) + word (led LEN 0x7f 0x7f))
+            (word (led LEN 0x80 0x80)) }
+    {
+        self.and(Self::splat(0x7f)).present()
+    }
+
+    /// The high bits of the lanes, and the marks of those that stand after a lane without one.
+    #[inline(always)]
+    fn faults(self, marks: Self) -> Self
+        ensures { number result ≡ bit_or
+            (bit_and (number self) (word (led LEN 0x80 0x80)))
+            (bit_and (number marks / 256) (256 ^ LEN - 1 - number marks)) }
+    {
+        let late = marks.next_lanes().and(marks.not());
+        self.and(Self::splat(0x80)).or(late)
     }
 
     /// The high bit of each lane whose byte is outside its range.
@@ -172,6 +191,23 @@ impl Word<4> for u32 {
         u32::to_le_bytes(self)
     }
 
+    // Of one to three bytes, the first, the middle and the last are all.
+    #[inline(always)]
+    fn load(src: &[u8]) -> u32 {
+        let len = src.len();
+        if len == 0 {
+            return 0;
+        }
+        if len >= 4 {
+            return u32::from_le_bytes(*src.first_chunk::<4>().unwrap());
+        }
+        let middle = len / 2;
+        let last = len - 1;
+        u32::from(src[0])
+            | u32::from(src[middle]) << (8 * middle)
+            | u32::from(src[last]) << (8 * last)
+    }
+
     #[inline(always)]
     fn leading_zeros(self) -> usize {
         u32::leading_zeros(self) as usize
@@ -203,6 +239,11 @@ impl Word<4> for u32 {
     }
 
     #[inline(always)]
+    fn next_lanes(self) -> u32 {
+        self >> 8
+    }
+
+    #[inline(always)]
     fn equals(self, other: u32) -> bool {
         self == other
     }
@@ -221,6 +262,17 @@ impl Word<8> for u64 {
     #[inline(always)]
     fn to_le_bytes(self) -> [u8; 8] {
         u64::to_le_bytes(self)
+    }
+
+    #[inline(always)]
+    fn load(src: &[u8]) -> u64 {
+        let len = src.len();
+        if len <= 4 {
+            return u64::from(<u32 as Word<4>>::load(src));
+        }
+        let low = <u32 as Word<4>>::load(&src[..4]);
+        let high = <u32 as Word<4>>::load(&src[len - 4..]);
+        u64::from(low) + (u64::from(high >> (8 * (8 - len))) << 32)
     }
 
     #[inline(always)]
@@ -254,6 +306,11 @@ impl Word<8> for u64 {
     }
 
     #[inline(always)]
+    fn next_lanes(self) -> u64 {
+        self >> 8
+    }
+
+    #[inline(always)]
     fn equals(self, other: u64) -> bool {
         self == other
     }
@@ -272,15 +329,30 @@ impl Word<16> for u128 {
         u128::from_le_bytes(*bytes)
     }
 
-    // By halves, since the sixteen bytes of one number are stored one at a time.
     #[inline(always)]
     fn to_le_bytes(self) -> [u8; 16] {
+        u128::to_le_bytes(self)
+    }
+
+    #[inline(always)]
+    fn to_stored_bytes(self) -> [u8; 16] {
         let low = (self % HALF) as u64;
         let high = (self / HALF) as u64;
         let mut bytes = [0; 16];
         bytes[8..].copy_from_slice(&Word::to_le_bytes(high));
         bytes[..8].copy_from_slice(&Word::to_le_bytes(low));
         bytes
+    }
+
+    #[inline(always)]
+    fn load(src: &[u8]) -> u128 {
+        let len = src.len();
+        if len <= 8 {
+            return u128::from(<u64 as Word<8>>::load(src));
+        }
+        let low = <u64 as Word<8>>::load(&src[..8]);
+        let high = <u64 as Word<8>>::load(&src[len - 8..]);
+        u128::from(low) + (u128::from(high >> (8 * (16 - len))) << 64)
     }
 
     #[inline(always)]
@@ -311,6 +383,11 @@ impl Word<16> for u128 {
     #[inline(always)]
     fn quarter(self) -> u128 {
         self >> 2
+    }
+
+    #[inline(always)]
+    fn next_lanes(self) -> u128 {
+        self >> 8
     }
 
     #[inline(always)]
