@@ -1,10 +1,13 @@
 -- A padded text cut after its first sixteen bytes.
-use Rattle.std.proofs.Common.{◌≡◌, ℕ, ◌+◌, ◌≤◌, Bool, false, ◌&&◌, List, length, take, drop, sym, ap, ◌∙◌, arith, subst}
-use Rattle.std.proofs.lemmas.List.{take-append-drop, length-append, length-take-le}
-use Rattle.tinystr_words.specs.Text.{IsPaddedText, text_of}
+use Rattle.std.proofs.Common.{◌≡◌, ℕ, ◌+◌, ◌<◌, ◌≤◌, Bool, true, false, ◌&&◌, nat_lt, List, [], ◌∷◌, length, refl, take, drop, ◌++◌, ◌-◌, inl, inr, sym, ap, ap₂, ◌∙◌, arith, subst, min}
+use Rattle.std.proofs.lemmas.List.{take-append-drop, length-append, length-take, length-drop, length-take-le, drop_all, append_assoc, append-nil, replicate-append-replicate}
+use Rattle.std.proofs.lemmas.Bool.{cases_lt}
+use Rattle.std.proofs.lemmas.Bool.Decides.{nat_tests}
+use Rattle.std.proofs.lemmas.List.Elements.{All-append}
+use Rattle.tinystr_words.specs.Text.{IsTextByte, IsPaddedText, text_of}
 use Rattle.tinystr_words.specs.declared.question.Question.{Question}
 use Rattle.tinystr_words.specs.Questions.{answer, later_question}
-use Rattle.tinystr_words.proofs.Texts.{IsPaddedText-take, IsPaddedText-drop, text_of-take, text_of-drop}
+use Rattle.tinystr_words.proofs.Texts.{NULS, padded-nuls, IsPaddedText-take, IsPaddedText-drop, text_of-take, text_of-drop}
 use Rattle.tinystr_words.proofs.Parts.{answer-parts}
 use Rattle.tinystr.specs.Cut.{IsCut}
 
@@ -31,3 +34,75 @@ ask_parts l w y q c = rw (c.word_text, c.rest_text) (answer-parts q 15 (text_of 
 
 pub refused : (l w y : List ℕ) (q : Question) (r all : Bool) → IsCut l w y → r ≡ answer q w → r ≡ false → answer q (text_of l) ≡ all → false ≡ all
 refused l w y q r all c answered fails left = sym (rw (← answered, fails) at (ask_parts l w y q c)) ∙ left
+
+-- ---- bytes tested for a padded text, word by word
+
+-- all bytes are a padded text exactly if the rest is, and has no text once the text has ended
+pub record IsSoFar (bytes rest : List ℕ) (ended : Bool) : Type 0 where
+  pub from : IsPaddedText rest (length rest) → (ended ≡ true → text_of rest ≡ []) → IsPaddedText bytes (length bytes)
+  pub to : IsPaddedText bytes (length bytes) → IsPaddedText rest (length rest) × (ended ≡ true → text_of rest ≡ [])
+
+pub IsSoFar-start : (bytes : List ℕ) → IsSoFar bytes bytes false
+IsSoFar-start bytes = record { from = λ p q. p; to = λ p. (p, λ e. cc) }
+
+pub word_refused : (bytes rest x : List ℕ) (ended : Bool) → IsSoFar bytes rest ended → x ≡ take 16 rest → ¬ IsPaddedText x (length x) → ¬ IsPaddedText bytes (length bytes)
+word_refused bytes rest x ended far e bad = λ p. bad (rw e (IsPaddedText-take rest (length rest) 16 (far.to p).0))
+
+pub late_refused : (bytes rest x : List ℕ) → IsSoFar bytes rest true → x ≡ take 16 rest → 0 < length (text_of x) → ¬ IsPaddedText bytes (length bytes)
+late_refused bytes rest x far e some = λ p.
+    let q = far.to p in
+    let none : text_of rest ≡ [] = q.1 refl in
+    let front : text_of x ≡ take 16 (text_of rest) = ap (λ (b : List ℕ). text_of b) e ∙ text_of-take rest (length rest) 16 q.0 in
+    let size = ap (λ (b : List ℕ). length b) front in
+    absurd (omega (arith, ap (λ (b : List ℕ). length b) none, length-take 16 (text_of rest)))
+
+padded-joined : (x y : List ℕ) → IsPaddedText x (length x) → IsPaddedText y (length y) → (length (text_of x) < length x → text_of y ≡ []) → IsPaddedText (x ++ y) (length (x ++ y))
+padded-joined x y p q after =
+    let t = text_of x in
+    let s = text_of y in
+    let a = length x - length t in
+    let b = length y - length s in
+    elim (cases_lt (length t) (length x)) [
+      | inl ended ↦ (
+          let none : s ≡ [] = after ended in
+          let is : x ++ y ≡ t ++ NULS (a + b) =
+          ap₂ (λ (l m : List ℕ). l ++ m) p.padded (q.padded ∙ ap (λ (l : List ℕ). l ++ NULS b) none) ∙ append_assoc t (NULS a) (NULS b) ∙ ap (λ (l : List ℕ). t ++ l) (replicate-append-replicate a b 0) in
+          (padded-nuls (x ++ y) t (a + b) is p.text).0)
+      | inr full ↦ (
+          let zero_left : a ≡ 0 = omega arith in
+          let whole : x ≡ t = p.padded ∙ ap (λ k. t ++ NULS k) zero_left ∙ append-nil t in
+          let is : x ++ y ≡ (t ++ s) ++ NULS b = ap₂ (λ (l m : List ℕ). l ++ m) whole q.padded ∙ sym (append_assoc t s (NULS b)) in
+          (padded-nuls (x ++ y) (t ++ s) b is (All-append IsTextByte t s p.text q.text)).0)
+    ]
+
+no_text : (t : List ℕ) → length t ≡ 0 → t ≡ []
+no_text [] e = refl
+no_text (b ∷ t) e = absurd (omega arith)
+
+-- one more word
+pub next_word : (bytes rest x y : List ℕ) (ended : Bool) (n : ℕ) → IsSoFar bytes rest ended → 16 ≤ length rest → x ≡ take 16 rest → y ≡ drop 16 rest
+    → IsPaddedText x (length x) → n ≡ length (text_of x) → (ended ≡ true → n ≡ 0) → IsSoFar bytes y (nat_lt n 16)
+next_word bytes rest x y ended n far fits e h p is none =
+    let long : length x ≡ 16 = ap (λ (l : List ℕ). length l) e ∙ length-take-le 16 rest fits in
+    let whole : x ++ y ≡ rest = ap₂ (λ (l m : List ℕ). l ++ m) e h ∙ take-append-drop 16 rest in
+    let parts : IsPaddedText rest (length rest) → (text_of x ≡ take 16 (text_of rest)) × (text_of y ≡ drop 16 (text_of rest)) =
+    λ all. (ap (λ (b : List ℕ). text_of b) e ∙ text_of-take rest (length rest) 16 all, ap (λ (b : List ℕ). text_of b) h ∙ text_of-drop rest (length rest) 16 all) in
+    record {
+      from = λ q after.
+          let joined = subst (λ (l : List ℕ). IsPaddedText l (length l)) whole (padded-joined x y p q (λ short. after (grind (arith, nat_tests)))) in
+          let cut = parts joined in
+          far.from joined (λ on.
+          let zero = none on in
+          let here = ap (λ (b : List ℕ). length b) cut.0 in
+          let behind = ap (λ (b : List ℕ). length b) (sym cut.1 ∙ after (grind (arith, nat_tests))) in
+          no_text (text_of rest) (omega (arith, length-take 16 (text_of rest), length-drop 16 (text_of rest))));
+      to = λ all.
+          let q = (far.to all).0 in
+          let cut = parts q in
+          let here = ap (λ (b : List ℕ). length b) cut.0 in (
+            rw h (IsPaddedText-drop rest (length rest) 16 q),
+            λ short.
+                let few : n < 16 = grind (arith, nat_tests) in
+                cut.1 ∙ drop_all 16 (text_of rest) (omega (arith, length-take 16 (text_of rest))),
+          );
+    }

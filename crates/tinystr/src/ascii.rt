@@ -14,11 +14,11 @@ mod questions;
 
 use crate::decimal::write_decimal;
 use crate::error::ParseError;
-use crate::reading::{Unit, fault_of_units, is_padded, lossy_padded, read_all};
+use crate::reading::{Unit, fault_of_units, lossy_padded, read_all};
 use crate::words;
 use std::marker::Model;
 use std::str::FromStr;
-use tinystr_words::int_ops::{Aligned4, Aligned8};
+use tinystr_words::int_ops::{Aligned4, Aligned8, Aligned16};
 
 /// A text of at most `N` bytes, each from 1 to 127, in `N` bytes: the text and then NULs. It takes no memory.
 #[derive(Clone, Copy, Hash)]
@@ -92,7 +92,19 @@ impl<const N: usize> TinyAsciiStr<N> {
         ensures text { IfOk result (λ t. t ≡ code_units.now) }
         ensures fault { IfErr result (λ e. fault_of e ≡ fault_in N code_units.now) }
     {
-        Self::read::<u8>(code_units)
+        if code_units.len() > 16 {
+            return Self::read::<u8>(code_units);
+        }
+        if code_units.len() <= N {
+            if N <= 8 {
+                if let Some(text) = Aligned8::try_from_text(code_units) {
+                    return Ok(Self::cut(&text.to_bytes()));
+                }
+            } else if let Some(text) = Aligned16::try_from_text(code_units) {
+                return Ok(Self::cut(&text.to_bytes()));
+            }
+        }
+        Err(fault_of_units::<u8, N>(code_units))
     }
 
     /// Reads a text of at most `N` units of 16 bits, each a character of its own. A NUL is refused at its end too.
@@ -112,7 +124,7 @@ impl<const N: usize> TinyAsciiStr<N> {
         ensures text { IfOk result (λ t. t ≡ text_of raw.entry) }
         ensures fault { IfErr result (λ e. fault_of e ≡ fault_in N raw.entry) }
     {
-        if is_padded(&raw[..]) {
+        if words::is_padded(&raw[..]) {
             Ok(TinyAsciiStr { bytes: raw })
         } else {
             Err(fault_of_units::<u8, N>(&raw[..]))
@@ -240,7 +252,7 @@ impl<const N: usize> TinyAsciiStr<N> {
         let room = N - len;
         if padded.len() <= room {
             rest[len..len + padded.len()].copy_from_slice(padded);
-        } else {
+        } else if room > 0 {
             rest[len..].copy_from_slice(&padded[..room]);
         }
     }
@@ -278,6 +290,7 @@ impl<const N: usize> TinyAsciiStr<N> {
 impl<const N: usize> Default for TinyAsciiStr<N> {
     ghost is_default = { λ t. t ≡ [] };
 
+    #[inline]
     fn default() -> Self
         ensures { result ≡ [] }
     {
@@ -290,6 +303,7 @@ impl<const N: usize> FromStr for TinyAsciiStr<N> {
 
     ghost from_str_gives = { λ s r. IsStrictRead fault_of s N r };
 
+    #[inline]
     fn from_str(s: &str) -> Result<Self, ParseError> {
         Self::try_from_str(s)
     }

@@ -1,7 +1,7 @@
 //! Units read into padded bytes, and the fault of units that are refused.
 
 ghost use Rattle.std.specs.Prelude.{◌≡◌, ◌+◌, ◌*◌, ◌<◌, ◌≤◌, ◌↔◌, ℕ, map, length, IsTrue, MatchBool, option_map, if◌then◌else◌};
-ghost use Rattle.tinystr_words.specs.Text.{pad, IsText, IsTextByte, IsPaddedText};
+ghost use Rattle.tinystr_words.specs.Text.{pad, IsText, IsTextByte};
 ghost use Rattle.tinystr_words.specs.Reading.{first_fault, fault_in, lossy_byte};
 ghost use Rattle.tinystr.specs.Error.{fault_of};
 ghost use Rattle.tinystr.specs.Reading.{IsReadPart};
@@ -197,19 +197,4 @@ pub fn fault_of_units<U: Unit, const N: usize>(units: &[U]) -> ParseError
         };
     }
     find_fault(units).unwrap_or(ParseError::ContainsNull)
-}
-
-/// Whether the bytes are a text and then NULs. Like a read part it never leaves early.
-#[inline(always)]
-pub fn is_padded(bytes: &[u8]) -> bool
-    ensures { IsTrue result ↔ IsPaddedText bytes.now (length bytes.now) }
-{
-    let mut is_bad = false;
-    let mut is_after_null = false;
-    for byte in bytes {
-        let is_null = *byte == 0;
-        is_bad |= (*byte > 127) | (is_after_null & !is_null);
-        is_after_null = is_null;
-    }
-    !is_bad
 }

@@ -14,7 +14,7 @@ impl<const N: usize> PartialEq for TinyAsciiStr<N> {
     ghost laws = { Prim.search (comparing, rules) };
 
     fn eq(&self, other: &Self) -> bool {
-        // up to sixteen bytes the arrays' own `==` is a loop over bytes
+        // Up to sixteen bytes the arrays' own `==` is a loop over bytes.
         if N <= 16 {
             same(&self.bytes[..], &other.bytes[..])
         } else {

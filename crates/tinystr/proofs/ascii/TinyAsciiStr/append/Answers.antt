@@ -19,16 +19,16 @@ invariant_of-self g c = (all_put g c).0
 pub returns-then-padded-room : goal.returns-then-padded-room
 returns-then-padded-room g c = (all_put g c).1 ∙ ap (λ t. take g.row.N (t ++ text_of c.args.padded.now)) c.self.view_is
 
-room_put : (g : _) (c : goal.After-self-else-padded-room-1 g) → let made = put_mid c.args.len (length c.self.inside.bytes - c.args.len) c.self.inside.bytes c.copy_from_slice-else-padded-room.new.self in
+room_put : (g : _) (c : goal.After-self-then-room-gt0-1 g) → let made = put_mid c.args.len (length c.self.inside.bytes - c.args.len) c.self.inside.bytes c.copy_from_slice-then-room-gt0.new.self in
     IsPaddedText made g.row.N × (text_of made ≡ take g.row.N (text_of c.self.inside.bytes ++ text_of c.args.padded.now))
 room_put g c =
     let long : length c.self.inside.bytes ≡ g.row.N = search rules in
-    put_behind c.self.inside.bytes c.args.padded.now c.copy_from_slice-else-padded-room.new.self g.row.N c.args.len (length c.self.inside.bytes - c.args.len)
+    put_behind c.self.inside.bytes c.args.padded.now c.copy_from_slice-then-room-gt0.new.self g.row.N c.args.len (length c.self.inside.bytes - c.args.len)
     c.self.invariant long (c.requires.at_end ∙ ap length (sym c.self.view_is)) c.requires.fits c.requires.padded
-    (rw long c.copy_from_slice-else-padded-room.ensures.after) (omega arith) (omega arith) (inr (omega arith))
+    (rw long c.copy_from_slice-then-room-gt0.ensures.after) (omega arith) (omega arith) (inr (omega arith))
 
-pub invariant_of-self-else-padded-room : goal.invariant_of-self-else-padded-room
-invariant_of-self-else-padded-room g c = (room_put g c).0
+pub invariant_of-self-then-room-gt0 : goal.invariant_of-self-then-room-gt0
+invariant_of-self-then-room-gt0 g c = (room_put g c).0
 
-pub returns-else-padded-room : goal.returns-else-padded-room
-returns-else-padded-room g c = (room_put g c).1 ∙ ap (λ t. take g.row.N (t ++ text_of c.args.padded.now)) c.self.view_is
+pub returns-then-room-gt0 : goal.returns-then-room-gt0
+returns-then-room-gt0 g c = (room_put g c).1 ∙ ap (λ t. take g.row.N (t ++ text_of c.args.padded.now)) c.self.view_is
