@@ -1,5 +1,5 @@
 -- A padded text cut after its first sixteen bytes.
-use Rattle.std.proofs.Common.{◌≡◌, ℕ, ◌+◌, ◌<◌, ◌≤◌, Bool, true, false, ◌&&◌, nat_lt, List, [], ◌∷◌, length, refl, take, drop, ◌++◌, ◌-◌, inl, inr, sym, ap, ap₂, ◌∙◌, arith, subst, min}
+use Rattle.std.proofs.Common.{◌≡◌, ℕ, ◌+◌, ◌<◌, ◌≤◌, Bool, true, false, ◌&&◌, nat_lt, List, [], ◌∷◌, length, refl, take, drop, ◌++◌, ◌-◌, inl, inr, sym, ap, ap₂, ◌∙◌, arith, subst}
 use Rattle.std.proofs.lemmas.List.{take-append-drop, length-append, length-take, length-drop, length-take-le, drop_all, append_assoc, append-nil, replicate-append-replicate}
 use Rattle.std.proofs.lemmas.Bool.{cases_lt}
 use Rattle.std.proofs.lemmas.Bool.Decides.{nat_tests}
@@ -42,19 +42,8 @@ pub record IsSoFar (bytes rest : List ℕ) (ended : Bool) : Type 0 where
   pub from : IsPaddedText rest (length rest) → (ended ≡ true → text_of rest ≡ []) → IsPaddedText bytes (length bytes)
   pub to : IsPaddedText bytes (length bytes) → IsPaddedText rest (length rest) × (ended ≡ true → text_of rest ≡ [])
 
-pub IsSoFar-start : (bytes : List ℕ) → IsSoFar bytes bytes false
-IsSoFar-start bytes = record { from = λ p q. p; to = λ p. (p, λ e. cc) }
-
 pub word_refused : (bytes rest x : List ℕ) (ended : Bool) → IsSoFar bytes rest ended → x ≡ take 16 rest → ¬ IsPaddedText x (length x) → ¬ IsPaddedText bytes (length bytes)
 word_refused bytes rest x ended far e bad = λ p. bad (rw e (IsPaddedText-take rest (length rest) 16 (far.to p).0))
-
-pub late_refused : (bytes rest x : List ℕ) → IsSoFar bytes rest true → x ≡ take 16 rest → 0 < length (text_of x) → ¬ IsPaddedText bytes (length bytes)
-late_refused bytes rest x far e some = λ p.
-    let q = far.to p in
-    let none : text_of rest ≡ [] = q.1 refl in
-    let front : text_of x ≡ take 16 (text_of rest) = ap (λ (b : List ℕ). text_of b) e ∙ text_of-take rest (length rest) 16 q.0 in
-    let size = ap (λ (b : List ℕ). length b) front in
-    absurd (omega (arith, ap (λ (b : List ℕ). length b) none, length-take 16 (text_of rest)))
 
 padded-joined : (x y : List ℕ) → IsPaddedText x (length x) → IsPaddedText y (length y) → (length (text_of x) < length x → text_of y ≡ []) → IsPaddedText (x ++ y) (length (x ++ y))
 padded-joined x y p q after =

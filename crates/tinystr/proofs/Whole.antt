@@ -28,14 +28,6 @@ tested_more units i j true char inside h is = h
 tested_more units i j false true inside h is = grind (arith, common_steps)
 tested_more units i j false false inside h is = λ text. (let no : false ≡ true = is.1 (text j 0 inside) in grind arith)
 
-tested_joined : (units : List ℕ) (i j k l : ℕ) (first second : Bool) → k ≤ j → Tested first units i j → Tested second units k l → Tested (first || second) units i l
-tested_joined units i j k l true second meet a b = a
-tested_joined units i j k l false true meet a b = b
-tested_joined units i j k l false false meet a b = λ p from to. elim (cases_lt p j) [
-  | inl inside ↦ a p from inside
-  | inr outside ↦ b p (omega arith) to
-]
-
 -- characters are read as they are
 lossy_text : (r : ℕ) (t : List ℕ) → IsText t → map (lossy_byte r) t ≡ t
 lossy_text r [] h = refl
@@ -74,15 +66,3 @@ part_more old bytes units r i j x bad char room inside h is copy =
       read = grind (arith, common_steps);
       kept = grind (arith, common_steps);
     }
-
--- two parts that leave nothing out between them
-pub parts_joined : (old mid new units : List ℕ) (r i j k l : ℕ) (first second : Bool) → k ≤ j → IsReadPart first old mid units r i j → IsReadPart second mid new units r k l
-    → IsReadPart (first || second) old new units r i l
-parts_joined old mid new units r i j k l first second meet a b = record {
-  tested = tested_joined units i j k l first second meet a.tested b.tested;
-  read = λ p from to. elim (cases_lt p j) [
-    | inl inside ↦ b.kept p (a.read p from inside)
-    | inr outside ↦ b.read p (omega arith) to
-  ];
-  kept = λ p h. b.kept p (a.kept p h);
-}

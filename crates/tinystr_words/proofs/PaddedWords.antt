@@ -1,5 +1,5 @@
 -- Words of any bytes: loaded by parts that may overlap, and tested for a text and then NULs.
-use Rattle.std.proofs.Common.{ℕ, zero, suc, ◌+◌, ◌-◌, ◌*◌, ◌/◌, ◌%◌, ◌^◌, ◌<◌, ◌≤◌, ◌≡◌, Bool, true, false, ◌&&◌, ◌||◌, List, [], ◌∷◌, ◌++◌, length, get_or, take, drop, replicate, map, refl, sym, ap, ap₂, ◌∙◌, subst, arith, bit_and, bit_or, nat_eq, nat_lt, Fits, w8, lit<, inl, inr}
+use Rattle.std.proofs.Common.{ℕ, zero, suc, ◌+◌, ◌-◌, ◌*◌, ◌/◌, ◌%◌, ◌^◌, ◌<◌, ◌≤◌, ◌≡◌, Bool, true, ◌||◌, List, [], ◌∷◌, ◌++◌, length, get_or, take, drop, replicate, map, refl, sym, ap, ap₂, ◌∙◌, subst, arith, bit_and, bit_or, nat_eq, nat_lt, Fits, w8, lit<, inl, inr}
 use Rattle.std.proofs.Math.Nat.{pow-suc, mul_comm, mul_assoc, pow-le-pow_right}
 use Rattle.std.proofs.Math.Facts.{Fits-lt-pow}
 use Rattle.std.proofs.lemmas.Bool.{cases_lt}
@@ -11,7 +11,7 @@ use Rattle.std.proofs.lemmas.Nat.{and_le_r, and_or_self, le_or_l, le_or_r, div-m
 use Rattle.std.specs.Simd.Lanes.{Each1}
 use Rattle.std.specs.Int.Bits.{or_self, or_add_and, or_shifted_r}
 use Rattle.std.proofs.lemmas.Simd.{Each1-weaker, Each1-replicate, Each1-from_get_or}
-use Rattle.tinystr_words.specs.Text.{IsTextByte, IsText, IsPaddedText, text_of, pad}
+use Rattle.tinystr_words.specs.Text.{IsTextByte, IsText, IsPaddedText, text_of}
 use Rattle.tinystr_words.specs.Words.{word, led}
 use Rattle.tinystr_words.proofs.Lanes.{decided, and_step}
 use Rattle.tinystr_words.proofs.Texts.{NULS, padded-nuls, IsPaddedText-take}

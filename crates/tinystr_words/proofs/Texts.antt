@@ -1,10 +1,10 @@
 -- Texts in padded arrays.
-use Rattle.std.proofs.Common.{◌≡◌, ◌≢◌, ℕ, ◌+◌, ◌-◌, ◌<◌, ◌≤◌, Bool, List, [], ◌∷◌, ◌++◌, length, get_or, take, drop, set, replicate, sym, ap, ap₂, ◌∙◌, refl, arith, eqb, not, suc, zero}
+use Rattle.std.proofs.Common.{◌≡◌, ◌≢◌, ℕ, ◌+◌, ◌-◌, ◌<◌, ◌≤◌, Bool, List, [], ◌∷◌, ◌++◌, length, get_or, take, drop, replicate, sym, ap, ap₂, ◌∙◌, refl, arith, eqb, not, suc, zero}
 use Rattle.std.proofs.lemmas.Bool.Decides.{nat_tests}
-use Rattle.std.proofs.lemmas.List.{get_or_append_left, get_or-append_right, length-append, length-replicate, take_at, take_all, set_at, ext_get_or, append_assoc, length_push, drop-replicate, take-replicate, append-nil}
+use Rattle.std.proofs.lemmas.List.{get_or_append_left, get_or-append_right, length-append, length-replicate, take_at, take_all, ext_get_or, drop-replicate, take-replicate, append-nil}
 use Rattle.std.proofs.lemmas.List.Sums.{prefix_len_is, prefix_len-le-length}
 use Rattle.std.proofs.lemmas.List.Folds.{length-prefix_len}
-use Rattle.std.proofs.lemmas.List.Elements.{All-weaker, All-push, All-take, All-drop}
+use Rattle.std.proofs.lemmas.List.Elements.{All-weaker, All-take, All-drop}
 use Rattle.std.proofs.lemmas.Str.Ascii.{IsAscii-from_all}
 use Rattle.std.proofs.lemmas.Str.{IsUtf8-from_ascii}
 use Rattle.std.specs.List.{prefix_len}
@@ -106,34 +106,6 @@ IsPaddedText-nul bytes n i h outside =
 
 pub IsUtf8-text : (t : List ℕ) → IsText t → IsUtf8 t
 IsUtf8-text t h = IsUtf8-from_ascii t (IsAscii-from_all t (All-weaker IsTextByte (λ b. b < 128) (λ b c. c.1) t h))
-
--- ---- a character put behind the text of an array
-
-set-nuls : (t : List ℕ) (k i x : ℕ) → length t ≡ i → set (t ++ NULS (suc k)) i x ≡ (t ++ x ∷ []) ++ NULS k
-set-nuls t k i x e = set_at t 0 (NULS k) x i e ∙ sym (append_assoc t (x ∷ []) (NULS k))
-
-set-pad : (t : List ℕ) (n i x : ℕ) → length t ≡ i → i < n → set (pad t n) i x ≡ pad (t ++ x ∷ []) n
-set-pad t n i x e h =
-    let left : n - length t ≡ suc (n - length t - 1) = omega arith in
-    let one_less : n - length (t ++ x ∷ []) ≡ n - length t - 1 = omega (arith, length_push t x) in
-    rw (left, one_less) (set-nuls t (n - length t - 1) i x e)
-
-pushed : (bytes t : List ℕ) (n i x : ℕ) → IsPaddedText bytes n → text_of bytes ≡ t → i ≡ length t → i < n → set bytes i x ≡ pad (t ++ x ∷ []) n
-pushed bytes t n i x h e at room =
-    let here : length (text_of bytes) ≡ i = ap length e ∙ sym at in
-    ap (λ (b : List ℕ). set b i x) h.padded ∙ set-pad (text_of bytes) n i x here room ∙ ap (λ (l : List ℕ). pad (l ++ x ∷ []) n) e
-
-IsText-pushed : (bytes t : List ℕ) (n x : ℕ) → IsPaddedText bytes n → text_of bytes ≡ t → IsTextByte x → IsText (t ++ x ∷ [])
-IsText-pushed bytes t n x h e char = All-push IsTextByte t x (rw e at h.text) char
-
-pub IsPaddedText-push : (bytes t : List ℕ) (n i x : ℕ) → IsPaddedText bytes n → text_of bytes ≡ t → i ≡ length t → i < n → IsTextByte x → IsPaddedText (set bytes i x) n
-IsPaddedText-push bytes t n i x h e at room char =
-    IsPaddedText-made (set bytes i x) (t ++ x ∷ []) n (pushed bytes t n i x h e at room)
-    (record { text = IsText-pushed bytes t n x h e char; fits = omega (arith, length_push t x) })
-
-pub text_of-push : (bytes t : List ℕ) (n i x : ℕ) → IsPaddedText bytes n → text_of bytes ≡ t → i ≡ length t → i < n → IsTextByte x → text_of (set bytes i x) ≡ t ++ x ∷ []
-text_of-push bytes t n i x h e at room char =
-    text_of-made (set bytes i x) (t ++ x ∷ []) n (pushed bytes t n i x h e at room) (IsText-pushed bytes t n x h e char)
 
 -- ---- the parts of lists that are joined, and of padded texts
 

@@ -1,10 +1,9 @@
 -- Words as numbers: their bytes, padding and size.
-use Rattle.std.proofs.Common.{ℕ, zero, suc, ◌+◌, ◌-◌, ◌*◌, ◌/◌, ◌%◌, ◌^◌, ◌<◌, ◌≤◌, ◌≡◌, List, [], ◌∷◌, ◌++◌, length, drop, replicate, refl, sym, ap, ap₂, ◌∙◌, subst, arith, lit<, ⊎_elim}
+use Rattle.std.proofs.Common.{ℕ, zero, suc, ◌+◌, ◌-◌, ◌*◌, ◌/◌, ◌%◌, ◌^◌, ◌<◌, ◌≤◌, ◌≡◌, List, [], ◌∷◌, ◌++◌, length, replicate, refl, sym, ap, ap₂, ◌∙◌, subst, arith, lit<, ⊎_elim}
 use Rattle.std.proofs.Math.Nat.{mul_comm, pow-suc, div-div-eq-div-mul, pow-le-pow_right}
 use Rattle.std.proofs.Math.Arith.{mod-mul}
 use Rattle.std.proofs.lemmas.Nat.{leading_top, pow-add, pow_pos}
 use Rattle.std.proofs.lemmas.Bool.{cases_lt}
-use Rattle.std.proofs.lemmas.List.{drop-replicate}
 use Rattle.std.proofs.lemmas.List.Elements.{All-head, All-tail}
 use Rattle.std.specs.Simd.Lanes.{Each1}
 use Rattle.std.proofs.lemmas.Simd.{Each1-weaker}
@@ -78,9 +77,6 @@ pub word_nuls : (t : List ℕ) (k : ℕ) → word (t ++ NULS k) ≡ word t
 word_nuls [] zero = refl
 word_nuls [] (suc k) = let e : word (NULS k) ≡ 0 = word_nuls [] k in omega arith
 word_nuls (b ∷ t) k = ap (λ n. b + 256 * n) (word_nuls t k)
-
-pub word_dropped : (src : List ℕ) (k n : ℕ) → word (src ++ drop k (NULS n)) ≡ word src
-word_dropped src k n = ap (λ l. word (src ++ l)) (drop-replicate k n 0) ∙ word_nuls src (n - k)
 
 word_low : (l : List ℕ) → Ascii l → word l ≤ word (replicate (length l) 0x7f)
 word_low [] a = omega arith
