@@ -27,7 +27,7 @@ macro_rules! read_each {
                     break;
                 };
                 let Some($input) = $found else {
-                    break;
+                    continue;
                 };
                 match $read {
                     Ok(text) => {
@@ -93,7 +93,7 @@ fn read8_each<const N: usize>(
     read_each!(rounds, units, starts, texts, faults, list => Some(list), units => TinyAsciiStr::<N>::try_from_utf8(units));
 }
 
-// Each list has the N bytes of an array.
+// A list that has no array of N bytes leaves the empty text.
 fn raw_each<const N: usize>(
     rounds: usize,
     units: &[u8],
