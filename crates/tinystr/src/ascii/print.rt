@@ -4,20 +4,20 @@ ghost use Rattle.std.specs.Prelude.{Some};
 ghost use Rattle.std.specs.Fmt.{debug_str};
 
 use crate::ascii::TinyAsciiStr;
-use std::fmt;
+use std::fmt::{Debug, Display, Formatter, Result, Write};
 
-impl<const N: usize> fmt::Display for TinyAsciiStr<N> {
+impl<const N: usize> Display for TinyAsciiStr<N> {
     ghost output = { λ t. Some t };
 
-    fn fmt<W: fmt::Write>(&self, f: &mut fmt::Formatter<W>) -> fmt::Result {
-        fmt::Display::fmt(self.as_str(), f)
+    fn fmt<W: Write>(&self, f: &mut Formatter<W>) -> Result {
+        Display::fmt(self.as_str(), f)
     }
 }
 
-impl<const N: usize> fmt::Debug for TinyAsciiStr<N> {
+impl<const N: usize> Debug for TinyAsciiStr<N> {
     ghost debug_output = { debug_str };
 
-    fn fmt<W: fmt::Write>(&self, f: &mut fmt::Formatter<W>) -> fmt::Result {
-        fmt::Debug::fmt(self.as_str(), f)
+    fn fmt<W: Write>(&self, f: &mut Formatter<W>) -> Result {
+        Debug::fmt(self.as_str(), f)
     }
 }
