@@ -14,10 +14,11 @@ mod questions;
 
 use crate::decimal::write_decimal;
 use crate::error::ParseError;
-use crate::reading::{Unit, fault_of_units, lossy_padded, read_all};
+use crate::reading::{fault_of_units, lossy_padded, read_all};
 use crate::words;
 use std::marker::Model;
 use std::str::FromStr;
+use tinystr_words::Unit;
 use tinystr_words::int_ops::{Aligned4, Aligned8, Aligned16};
 
 /// A text of at most `N` bytes, each from 1 to 127, in `N` bytes: the text and then NULs. It takes no memory.
@@ -58,9 +59,9 @@ impl<const N: usize> TinyAsciiStr<N> {
         TinyAsciiStr { bytes: [0; N] }
     }
 
-    // The text of the units, or why there is none.
+    // The text of the units, by parts, or why there is none.
     #[inline(always)]
-    fn read<U: Unit>(units: &[U]) -> Result<Self, ParseError>
+    fn read_long<U: Unit>(units: &[U]) -> Result<Self, ParseError>
         ensures accepted { IsOk result ↔ IsStrictText (map U.number units.now) N }
         ensures text { IfOk result (λ t. t ≡ map U.number units.now) }
         ensures fault { IfErr result (λ e. fault_of e ≡ fault_in N (map U.number units.now)) }
@@ -73,6 +74,28 @@ impl<const N: usize> TinyAsciiStr<N> {
             return Err(fault_of_units::<U, N>(units));
         }
         Ok(TinyAsciiStr { bytes })
+    }
+
+    // The text of the units, in a word where it holds them, or why there is none.
+    #[inline(always)]
+    fn read<U: Unit>(units: &[U]) -> Result<Self, ParseError>
+        ensures accepted { IsOk result ↔ IsStrictText (map U.number units.now) N }
+        ensures text { IfOk result (λ t. t ≡ map U.number units.now) }
+        ensures fault { IfErr result (λ e. fault_of e ≡ fault_in N (map U.number units.now)) }
+    {
+        if units.len() > 16 {
+            return Self::read_long(units);
+        }
+        if units.len() <= N {
+            if N <= 8 {
+                if let Some(text) = Aligned8::try_from_text(units) {
+                    return Ok(Self::cut(&text.to_bytes()));
+                }
+            } else if let Some(text) = Aligned16::try_from_text(units) {
+                return Ok(Self::cut(&text.to_bytes()));
+            }
+        }
+        Err(fault_of_units::<U, N>(units))
     }
 
     /// Reads a text of at most `N` bytes. A NUL is refused at its end too.
@@ -92,19 +115,7 @@ impl<const N: usize> TinyAsciiStr<N> {
         ensures text { IfOk result (λ t. t ≡ code_units.now) }
         ensures fault { IfErr result (λ e. fault_of e ≡ fault_in N code_units.now) }
     {
-        if code_units.len() > 16 {
-            return Self::read::<u8>(code_units);
-        }
-        if code_units.len() <= N {
-            if N <= 8 {
-                if let Some(text) = Aligned8::try_from_text(code_units) {
-                    return Ok(Self::cut(&text.to_bytes()));
-                }
-            } else if let Some(text) = Aligned16::try_from_text(code_units) {
-                return Ok(Self::cut(&text.to_bytes()));
-            }
-        }
-        Err(fault_of_units::<u8, N>(code_units))
+        Self::read::<u8>(code_units)
     }
 
     /// Reads a text of at most `N` units of 16 bits, each a character of its own. A NUL is refused at its end too.

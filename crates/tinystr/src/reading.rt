@@ -7,62 +7,7 @@ ghost use Rattle.tinystr.specs.Error.{fault_of};
 ghost use Rattle.tinystr.specs.Reading.{IsReadPart};
 
 use crate::error::ParseError;
-
-/// A unit that a reader takes: a byte, or a 16-bit number.
-pub trait Unit: Copy {
-    ghost number: { Self → ℕ };
-
-    fn code(self) -> u16
-        ensures { result ≡ number self };
-
-    fn is_character(self) -> bool
-        ensures { IsTrue result ↔ IsTextByte (number self) };
-
-    /// The byte of a character, and any byte for another unit.
-    fn low_byte(self) -> u8
-        ensures { IsTextByte (number self) → result ≡ number self };
-}
-
-// How many units from 1 on are characters.
-const CHARACTERS: u8 = 0x7f;
-
-impl Unit for u8 {
-    ghost number = { λ unit. unit };
-
-    #[inline(always)]
-    fn code(self) -> u16 {
-        u16::from(self)
-    }
-
-    #[inline(always)]
-    fn is_character(self) -> bool {
-        self.wrapping_sub(1) < CHARACTERS
-    }
-
-    #[inline(always)]
-    fn low_byte(self) -> u8 {
-        self
-    }
-}
-
-impl Unit for u16 {
-    ghost number = { λ unit. unit };
-
-    #[inline(always)]
-    fn code(self) -> u16 {
-        self
-    }
-
-    #[inline(always)]
-    fn is_character(self) -> bool {
-        self.wrapping_sub(1) < u16::from(CHARACTERS)
-    }
-
-    #[inline(always)]
-    fn low_byte(self) -> u8 {
-        (self % 256) as u8
-    }
-}
+use tinystr_words::Unit;
 
 // The byte of a character, or the replacement.
 #[inline(always)]

@@ -60,12 +60,6 @@ IsPaddedText-whole t h =
     let none : length t - length t ≡ 0 = omega arith in
     IsPaddedText-made t t (length t) (rw none (sym (append-nil t))) (record { text = h; fits = omega arith })
 
-pub text_of-whole : (t : List ℕ) → IsText t → text_of t ≡ t
-text_of-whole t h =
-    let none : length t - length t ≡ 0 = omega arith in
-    let e : t ≡ pad t (length t) = rw none (sym (append-nil t)) in
-    ap (λ (b : List ℕ). text_of b) e ∙ text_of-pad t (length t) h
-
 pub text_of-made : (bytes t : List ℕ) (n : ℕ) → bytes ≡ pad t n → IsText t → text_of bytes ≡ t
 text_of-made bytes t n made h = ap (λ (b : List ℕ). text_of b) made ∙ text_of-pad t n h
 
@@ -89,8 +83,6 @@ length-text_of-at bytes n fits before here =
     length-text_of bytes ∙ prefix_len_is is_not_nul bytes n 0 fits
     (λ k h. let p = before k h in grind (arith, nat_tests))
     (λ h. let p = here h in grind (arith, nat_tests))
-
-pub ruleset whole_texts = (IsPaddedText-whole, text_of-whole)
 
 pub ruleset padded_texts = (length-text_of-at, take-text_of, length-text_of-le)
 

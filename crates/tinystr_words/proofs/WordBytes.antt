@@ -44,6 +44,21 @@ lanes_append (suc m) n w =
 pub lanes_halves : (n w : ℕ) → lanes_of n (w % 256 ^ n) ++ lanes_of n (w / 256 ^ n) ≡ lanes_of (n + n) w
 lanes_halves n w = ap (λ l. l ++ lanes_of n (w / 256 ^ n)) (lanes_mod n w) ∙ lanes_append n n w
 
+-- sixteen bytes, from those of pieces
+pub lanes_pieces : (w : ℕ) → w < 256 ^ 16
+    → lanes_of 4 (w % 256 ^ 4) ++ (lanes_of 2 (w / 256 ^ 4 % 256 ^ 2) ++ (w / 256 ^ 6 % 256) ∷ (lanes_of 8 (w / 256 ^ 7 % 256 ^ 8) ++ w / 256 ^ 15 ∷ [])) ≡ lanes_of 16 w
+lanes_pieces w small =
+    let second : w / 256 ^ 4 / 256 ^ 2 ≡ w / 256 ^ 6 = omega arith in
+    let third : w / 256 ^ 6 / 256 ≡ w / 256 ^ 7 = omega arith in
+    let top : w / 256 ^ 15 ≡ w / 256 ^ 7 / 256 ^ 8 % 256 = omega arith in
+    let back : lanes_of 8 (w / 256 ^ 7 % 256 ^ 8) ++ w / 256 ^ 15 ∷ [] ≡ lanes_of 9 (w / 256 ^ 7) =
+    ap₂ (λ (l : List ℕ) x. l ++ x ∷ []) (lanes_mod 8 (w / 256 ^ 7)) top ∙ lanes_append 8 1 (w / 256 ^ 7) in
+    let middle : lanes_of 2 (w / 256 ^ 4 % 256 ^ 2) ++ lanes_of 10 (w / 256 ^ 6) ≡ lanes_of 12 (w / 256 ^ 4) =
+    ap₂ (λ (l : List ℕ) x. l ++ lanes_of 10 x) (lanes_mod 2 (w / 256 ^ 4)) (sym second) ∙ lanes_append 2 10 (w / 256 ^ 4) in
+    let from_six : (w / 256 ^ 6 % 256) ∷ (lanes_of 8 (w / 256 ^ 7 % 256 ^ 8) ++ w / 256 ^ 15 ∷ []) ≡ lanes_of 10 (w / 256 ^ 6) =
+    ap (λ (l : List ℕ). (w / 256 ^ 6 % 256) ∷ l) (back ∙ ap (λ x. lanes_of 9 x) (sym third)) in
+    ap₂ (λ (l : List ℕ) m. l ++ m) (lanes_mod 4 w) (ap (λ (l : List ℕ). lanes_of 2 (w / 256 ^ 4 % 256 ^ 2) ++ l) from_six ∙ middle) ∙ lanes_append 4 12 w
+
 -- std's bytes of a number
 low_first : (i k n : ℕ) → bytes_low_first i k n ≡ lanes_of k (n / 256 ^ i)
 low_first i zero n = refl

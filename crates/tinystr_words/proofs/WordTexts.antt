@@ -16,13 +16,13 @@ use Rattle.tinystr_words.proofs.Kernels.{kernel, passed, kernel_asks, change, ch
 
 -- ---- a word from a padded text
 
-text_word : (n : ℕ) (t : List ℕ) → IsText t → length t ≤ n → held n (word t) ≡ t
+pub text_word : (n : ℕ) (t : List ℕ) → IsText t → length t ≤ n → held n (word t) ≡ t
 unfolding held
 text_word n t x le =
     let k : lanes_of n (word t) ≡ pad t n = ap (λ m. lanes_of n m) (sym (word_nuls t (n - length t))) ∙ lanes_word_pad n t x le in
     ap (λ (l : List ℕ). text_of l) k ∙ text_of-pad t n x
 
-holds_text : (n : ℕ) (t : List ℕ) → IsText t → length t ≤ n → HoldsText n (word t)
+pub holds_text : (n : ℕ) (t : List ℕ) → IsText t → length t ≤ n → HoldsText n (word t)
 holds_text n t x le =
     let e = text_word n t x le in
     let z : word (pad t n) ≡ word t = word_nuls t (n - length t) in

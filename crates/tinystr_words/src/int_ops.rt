@@ -1,6 +1,6 @@
 //! Texts in one word each, asked and changed by a few sums over the whole word.
 
-ghost use Rattle.std.specs.Prelude.{◌≡◌, ◌+◌, ◌≤◌, ◌==◌, length, bit_or, bit_and, MatchOption};
+ghost use Rattle.std.specs.Prelude.{◌≡◌, ◌+◌, ◌≤◌, ◌==◌, length, map, bit_or, bit_and, MatchOption};
 ghost use Rattle.tinystr_words.specs.Text.{IsText, IsPaddedText, pad, text_of};
 ghost use Rattle.tinystr_words.specs.Classes.{ask, is_upper, is_lower, is_digit, is_alphabetic, is_alphanumeric, is_not_upper, is_not_lower};
 ghost use Rattle.tinystr_words.specs.Case.{lowercase, titlecase, uppercase};
@@ -8,6 +8,7 @@ ghost use Rattle.tinystr_words.specs.Words.{word, led, HoldsText};
 ghost use Rattle.tinystr_words.specs.Questions.{answer, in_case};
 
 use crate::question::{Case, Question};
+use crate::unit::{Unit, is_text};
 use crate::word::{DIGIT, LOWER, UPPER, Word};
 use std::marker::Model;
 
@@ -105,16 +106,17 @@ impl<T: Word<LEN>, const LEN: usize> Aligned<T, LEN> {
         }
     }
 
-    /// Takes a part that is a text, with no NUL.
+    /// Takes units that are a text, with no NUL.
     #[inline(always)]
-    #[tactic(auto, using(crate::proofs::Texts::whole_texts))]
-    pub fn try_from_text(part: &[u8]) -> Option<Self>
-        requires fits { length part.now ≤ LEN }
-        ensures { MatchOption result (¬ IsText part.now) (λ t. IsText part.now × (t ≡ part.now)) }
+    pub fn try_from_text<U: Unit>(units: &[U]) -> Option<Self>
+        requires fits { length units.now ≤ LEN }
+        ensures { MatchOption result (¬ IsText (map U.number units.now))
+            (λ t. IsText (map U.number units.now) × (t ≡ map U.number units.now)) }
     {
-        let text = Self::try_from_part(part)?;
-        if text.len() == part.len() {
-            Some(text)
+        if is_text(units) {
+            Some(Aligned {
+                word: T::load(units),
+            })
         } else {
             None
         }

@@ -5,9 +5,11 @@
 pub mod int_ops;
 pub mod laws;
 mod question;
+mod unit;
 mod word;
 
 pub use question::{Case, Question};
+pub use unit::Unit;
 
 #[cfg(test)]
 mod tests;

@@ -1,9 +1,11 @@
 //! An unsigned integer as a word of byte lanes, the first byte lowest.
 
-ghost use Rattle.std.specs.Prelude.{◌≡◌, ◌+◌, ◌-◌, ◌*◌, ◌/◌, ◌^◌, ◌<◌, ◌≤◌, ◌==◌, ℕ, length, bit_and, bit_or};
+ghost use Rattle.std.specs.Prelude.{◌≡◌, ◌+◌, ◌-◌, ◌*◌, ◌/◌, ◌%◌, ◌^◌, ◌<◌, ◌≤◌, ◌==◌, ℕ, length, map, bit_and, bit_or};
 ghost use Rattle.std.proofs.Common.{lit<, lit≤};
 ghost use Rattle.std.specs.Int.Count.{count_leading_zeros};
 ghost use Rattle.tinystr_words.specs.Words.{word, led, lanes_of};
+
+use crate::unit::Unit;
 
 /// A range of bytes below 0x80, by what is added to a byte so that its high bit says where it lies.
 #[derive(Clone, Copy)]
@@ -53,11 +55,11 @@ pub trait Word<const LEN: usize>: Copy + Drop {
         self.to_le_bytes()
     }
 
-    /// The word whose first lanes are these bytes and whose others are NUL, made in registers: two parts of half a word,
-    /// which may overlap, are all bytes.
-    fn load(src: &[u8]) -> Self
+    /// The word whose first lanes are the lowest bytes of these units and whose others are NUL, made in registers: two
+    /// parts of half a word, which may overlap, are all units.
+    fn load<U: Unit>(src: &[U]) -> Self
         requires { length src.now ≤ LEN }
-        ensures { number result ≡ word src.now };
+        ensures { number result ≡ word (map (λ u. U.number u % 256) src.now) };
 
     /// How many bits, of all `8 * LEN`, are above the highest that is set.
     fn leading_zeros(self) -> usize
@@ -191,21 +193,26 @@ impl Word<4> for u32 {
         u32::to_le_bytes(self)
     }
 
-    // Of one to three bytes, the first, the middle and the last are all.
+    // Of one to three units, the first, the middle and the last are all.
     #[inline(always)]
-    fn load(src: &[u8]) -> u32 {
+    fn load<U: Unit>(src: &[U]) -> u32 {
         let len = src.len();
         if len == 0 {
             return 0;
         }
         if len >= 4 {
-            return u32::from_le_bytes(*src.first_chunk::<4>().unwrap());
+            return u32::from_le_bytes([
+                src[0].low_byte(),
+                src[1].low_byte(),
+                src[2].low_byte(),
+                src[3].low_byte(),
+            ]);
         }
         let middle = len / 2;
         let last = len - 1;
-        u32::from(src[0])
-            | u32::from(src[middle]) << (8 * middle)
-            | u32::from(src[last]) << (8 * last)
+        u32::from(src[0].low_byte())
+            | u32::from(src[middle].low_byte()) << (8 * middle)
+            | u32::from(src[last].low_byte()) << (8 * last)
     }
 
     #[inline(always)]
@@ -265,7 +272,7 @@ impl Word<8> for u64 {
     }
 
     #[inline(always)]
-    fn load(src: &[u8]) -> u64 {
+    fn load<U: Unit>(src: &[U]) -> u64 {
         let len = src.len();
         if len <= 4 {
             return u64::from(<u32 as Word<4>>::load(src));
@@ -329,9 +336,17 @@ impl Word<16> for u128 {
         u128::from_le_bytes(*bytes)
     }
 
+    // In pieces that end at the bytes 7 and 15, where the compiler cuts a `Result` of a text and an error of two
+    // numbers: each then stays in a register.
     #[inline(always)]
     fn to_le_bytes(self) -> [u8; 16] {
-        u128::to_le_bytes(self)
+        let mut bytes = [0; 16];
+        bytes[15] = (self >> 120) as u8;
+        bytes[7..15].copy_from_slice(&(((self >> 56) % (1 << 64)) as u64).to_le_bytes());
+        bytes[6] = ((self >> 48) % (1 << 8)) as u8;
+        bytes[4..6].copy_from_slice(&(((self >> 32) % (1 << 16)) as u16).to_le_bytes());
+        bytes[..4].copy_from_slice(&((self % (1 << 32)) as u32).to_le_bytes());
+        bytes
     }
 
     #[inline(always)]
@@ -345,7 +360,7 @@ impl Word<16> for u128 {
     }
 
     #[inline(always)]
-    fn load(src: &[u8]) -> u128 {
+    fn load<U: Unit>(src: &[U]) -> u128 {
         let len = src.len();
         if len <= 8 {
             return u128::from(<u64 as Word<8>>::load(src));

@@ -1,10 +1,10 @@
 use Rattle.std.proofs.Common.{arith}
-use Rattle.tinystr_words.proofs.PaddedWords.{IsBytes-fit, joined_halves}
+use Rattle.tinystr_words.proofs.Loading.{loaded}
 use Rattle.tinystr_words.proofs.word.U64Word8.load.Goals as goal
 
 pub returns : goal.returns
-returns c =
-    let joined = joined_halves 4 c.args.src.now (IsBytes-fit c.args.src.now c.type_inv.src) (omega arith) c.requires in
+returns g c =
+    let joined = loaded g.U.Unit.number 4 c.args.src.now (omega arith) c.requires in
     let low = c.from-2.ensures in
     let high = c.from-3.ensures in
     let first = c.load-low.ensures in

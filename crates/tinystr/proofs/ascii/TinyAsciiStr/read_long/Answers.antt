@@ -3,8 +3,8 @@ use Rattle.std.proofs.lemmas.List.{length-map}
 use Rattle.tinystr_words.specs.Text.{pad, IsText}
 use Rattle.tinystr_words.proofs.Texts.{IsPaddedText-made, text_of-made}
 use Rattle.tinystr.proofs.Whole.{read_text}
-use Rattle.tinystr.proofs.ascii.TinyAsciiStr.read.Goals as goal
-use Rattle.tinystr.proofs.ascii.TinyAsciiStr.read.Goals.{Else-read_all}
+use Rattle.tinystr.proofs.ascii.TinyAsciiStr.read_long.Goals as goal
+use Rattle.tinystr.proofs.ascii.TinyAsciiStr.read_long.Goals.{Else-read_all}
 
 made : (g : _) (c : Else-read_all g) → let units = map g.U.Unit.number c.args.units.now in IsText units × (c.read_all.new.bytes ≡ pad units g.row.N)
 made g c =

@@ -1,0 +1,21 @@
+use Rattle.std.proofs.Common.{map, arith}
+use Rattle.std.proofs.lemmas.List.{length-map}
+use Rattle.tinystr_words.proofs.Loading.{low_of_text}
+use Rattle.tinystr_words.proofs.WordTexts.{text_word, holds_text}
+use Rattle.tinystr_words.proofs.int_ops.Aligned.try_from_text.Goals as goal
+
+pub invariant_of-result : goal.invariant_of-result
+invariant_of-result g c =
+    let number = g.U.Unit.number in
+    let text = c.is_text.ensures.0 c.if-is_text.true in
+    rw (c.load.ensures, low_of_text number c.args.units.now text)
+    (holds_text g.row.LEN (map number c.args.units.now) text (omega (arith, length-map c.args.units.now number)))
+
+pub returns-then-is_text : goal.returns-then-is_text
+returns-then-is_text g c =
+    let number = g.U.Unit.number in
+    let text = c.is_text.ensures.0 c.if-is_text.true in (
+      text,
+      rw (c.load.ensures, low_of_text number c.args.units.now text)
+          (text_word g.row.LEN (map number c.args.units.now) text (omega (arith, length-map c.args.units.now number))),
+    )

@@ -1,0 +1,100 @@
+//! Units that readers take, and whether they are characters.
+
+ghost use Rattle.std.specs.Prelude.{◌≡◌, ◌*◌, ◌%◌, ◌≤◌, ◌↔◌, ℕ, length, map, IsTrue};
+ghost use Rattle.tinystr_words.specs.Text.{IsText, IsTextByte};
+
+/// A unit that a reader takes: a byte, or a 16-bit number.
+pub trait Unit: Copy {
+    ghost number: { Self → ℕ };
+
+    fn code(self) -> u16
+        ensures { result ≡ number self };
+
+    fn is_character(self) -> bool
+        ensures { IsTrue result ↔ IsTextByte (number self) };
+
+    /// The lowest eight bits, which are all of a character.
+    fn low_byte(self) -> u8
+        ensures { result ≡ number self % 256 };
+}
+
+// How many units from 1 on are characters.
+const CHARACTERS: u8 = 0x7f;
+
+impl Unit for u8 {
+    ghost number = { λ unit. unit };
+
+    #[inline(always)]
+    fn code(self) -> u16 {
+        u16::from(self)
+    }
+
+    #[inline(always)]
+    fn is_character(self) -> bool {
+        self.wrapping_sub(1) < CHARACTERS
+    }
+
+    #[inline(always)]
+    fn low_byte(self) -> u8 {
+        self
+    }
+}
+
+impl Unit for u16 {
+    ghost number = { λ unit. unit };
+
+    #[inline(always)]
+    fn code(self) -> u16 {
+        self
+    }
+
+    #[inline(always)]
+    fn is_character(self) -> bool {
+        self.wrapping_sub(1) < u16::from(CHARACTERS)
+    }
+
+    #[inline(always)]
+    fn low_byte(self) -> u8 {
+        (self % 256) as u8
+    }
+}
+
+// It never leaves early, so that the compiler can test a part of a known length at once.
+#[inline(always)]
+fn is_part_of_text<U: Unit>(part: &[U]) -> bool
+    ensures { IsTrue result ↔ IsText (map U.number part.now) }
+{
+    let mut is_text = true;
+    for unit in part {
+        is_text &= unit.is_character();
+    }
+    is_text
+}
+
+// By the first and the last `count` units, which are all.
+#[inline(always)]
+fn is_text_by_ends<U: Unit>(units: &[U], count: usize) -> bool
+    requires least { count ≤ length units.now }
+    requires most { length units.now ≤ 2 * count }
+    ensures { IsTrue result ↔ IsText (map U.number units.now) }
+{
+    is_part_of_text(&units[..count]) & is_part_of_text(&units[units.len() - count..])
+}
+
+/// Whether at most sixteen units are a text.
+#[inline(always)]
+pub fn is_text<U: Unit>(units: &[U]) -> bool
+    requires { length units.now ≤ 16 }
+    ensures { IsTrue result ↔ IsText (map U.number units.now) }
+{
+    let len = units.len();
+    if len > 8 {
+        is_text_by_ends(units, 8)
+    } else if len >= 4 {
+        is_text_by_ends(units, 4)
+    } else if len >= 2 {
+        is_text_by_ends(units, 2)
+    } else {
+        len == 0 || is_text_by_ends(units, 1)
+    }
+}
