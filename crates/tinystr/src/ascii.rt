@@ -135,11 +135,15 @@ impl<const N: usize> TinyAsciiStr<N> {
         ensures text { IfOk result (λ t. t ≡ text_of raw.entry) }
         ensures fault { IfErr result (λ e. fault_of e ≡ fault_in N raw.entry) }
     {
-        if words::is_padded(&raw[..]) {
-            Ok(TinyAsciiStr { bytes: raw })
-        } else {
-            Err(fault_of_units::<u8, N>(&raw[..]))
+        if 8 < N && N <= 16 {
+            // the word's own bytes, since the array would be moved in pieces that fit no register
+            if let Some(text) = Aligned16::try_from_part(&raw[..]) {
+                return Ok(Self::cut(&text.to_bytes()));
+            }
+        } else if words::is_padded(&raw[..]) {
+            return Ok(TinyAsciiStr { bytes: raw });
         }
+        Err(fault_of_units::<u8, N>(&raw[..]))
     }
 
     // The first units, with the replacement for each that is no character.

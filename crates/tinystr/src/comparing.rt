@@ -3,7 +3,6 @@
 ghost use Rattle.std.specs.Prelude.{◌≡◌, ◌<◌, length};
 ghost use Rattle.std.specs.Cmp.Lexicographic.{slice_cmp};
 ghost use Rattle.std.specs.Ordering.{nat_cmp};
-ghost use Rattle.std.specs.Str.{bytes_eq};
 ghost use Rattle.std.specs.Int.{from_be_bytes, w64};
 ghost use Rattle.tinystr_words.specs.Text.{pad};
 
@@ -28,15 +27,6 @@ pub fn order(left: &[u8], right: &[u8]) -> Ordering
         right_rest = right_more;
     }
     number(&widened(left_rest)).cmp(&number(&widened(right_rest)))
-}
-
-/// Whether two lists of bytes that are equally long are one list.
-#[inline(always)]
-pub fn same(left: &[u8], right: &[u8]) -> bool
-    requires { length left.now ≡ length right.now }
-    ensures { result ≡ bytes_eq left.now right.now }
-{
-    order(left, right).is_eq()
 }
 
 // The number that eight bytes spell, the greatest first.

@@ -1,6 +1,7 @@
 //! Texts in one word each, asked and changed by a few sums over the whole word.
 
 ghost use Rattle.std.specs.Prelude.{◌≡◌, ◌+◌, ◌≤◌, ◌==◌, length, map, bit_or, bit_and, MatchOption};
+ghost use Rattle.std.specs.Str.{bytes_eq};
 ghost use Rattle.tinystr_words.specs.Text.{IsText, IsPaddedText, pad, text_of};
 ghost use Rattle.tinystr_words.specs.Classes.{ask, is_upper, is_lower, is_digit, is_alphabetic, is_alphanumeric, is_not_upper, is_not_lower};
 ghost use Rattle.tinystr_words.specs.Case.{lowercase, titlecase, uppercase};
@@ -130,6 +131,14 @@ impl<T: Word<LEN>, const LEN: usize> Aligned<T, LEN> {
         ensures text { text_of result ≡ self.now }
     {
         self.word.to_le_bytes()
+    }
+
+    /// Whether the other text is the same.
+    #[inline(always)]
+    pub fn equals(&self, other: &Self) -> bool
+        ensures { result ≡ bytes_eq self.now other.now }
+    {
+        self.word.equals(other.word)
     }
 
     /// The text's length, from how many zeros lead its word: only NULs stand above its last byte.

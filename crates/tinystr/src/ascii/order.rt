@@ -1,8 +1,9 @@
 //! Equality and order of values, which are those of their texts.
 
 use crate::ascii::TinyAsciiStr;
-use crate::comparing::{order, same};
+use crate::comparing::order;
 use std::cmp::Ordering;
+use tinystr_words::int_ops::{Aligned4, Aligned8, Aligned16};
 
 impl<const N: usize> PartialEq for TinyAsciiStr<N> {
     ghost use Rattle.std.proofs.Common.{rules};
@@ -15,10 +16,15 @@ impl<const N: usize> PartialEq for TinyAsciiStr<N> {
 
     fn eq(&self, other: &Self) -> bool {
         // Up to sixteen bytes the arrays' own `==` is a loop over bytes.
-        if N <= 16 {
-            same(&self.bytes[..], &other.bytes[..])
+        let (left, right) = (&self.bytes, &other.bytes);
+        if N <= 4 {
+            Aligned4::from_ascii_bytes(left).equals(&Aligned4::from_ascii_bytes(right))
+        } else if N <= 8 {
+            Aligned8::from_ascii_bytes(left).equals(&Aligned8::from_ascii_bytes(right))
+        } else if N <= 16 {
+            Aligned16::from_ascii_bytes(left).equals(&Aligned16::from_ascii_bytes(right))
         } else {
-            self.bytes == other.bytes
+            left == right
         }
     }
 }
