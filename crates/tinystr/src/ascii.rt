@@ -279,9 +279,9 @@ impl<const N: usize> TinyAsciiStr<N> {
         requires { IsPaddedText padded.now (length padded.now) }
         ensures { result ≡ take N (text_of padded.now) }
     {
-        let mut bytes = [0; N];
-        put(&mut bytes[..], padded);
-        TinyAsciiStr { bytes }
+        let mut text = Self::default();
+        text.append(0, padded);
+        text
     }
 
     /// The text at another capacity, cut where it is longer.
@@ -289,7 +289,9 @@ impl<const N: usize> TinyAsciiStr<N> {
     pub fn resize<const M: usize>(self) -> TinyAsciiStr<M>
         ensures { result ≡ take M self.entry }
     {
-        TinyAsciiStr::<M>::cut(&self.bytes[..])
+        let mut bytes = [0; M];
+        put(&mut bytes[..], &self.bytes[..]);
+        TinyAsciiStr { bytes }
     }
 
     /// The two texts joined, cut where they are longer than `Q` bytes together.

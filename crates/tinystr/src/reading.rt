@@ -101,13 +101,18 @@ pub fn read_all<U: Unit>(bytes: &mut [u8], units: &[U], replacement: u8) -> bool
 }
 
 /// The units, with the replacement for each that is no character, and then NULs.
-#[inline]
+#[inline(always)]
 pub fn lossy_padded<U: Unit, const N: usize>(units: &[U], replacement: u8) -> [u8; N]
     requires { length units.now ≤ N }
     ensures { result ≡ pad (map (lossy_byte replacement) (map U.number units.now)) N }
 {
     let mut bytes = [0; N];
-    read_all(&mut bytes[..], units, replacement);
+    if units.len() == N {
+        // a part of a known length, which nothing overlaps
+        read_part::<U, N>(&mut bytes[..], units, replacement, 0);
+    } else {
+        read_all(&mut bytes[..], units, replacement);
+    }
     bytes
 }
 
