@@ -12,6 +12,7 @@ mod order;
 mod print;
 mod questions;
 
+use crate::copying::put;
 use crate::decimal::write_decimal;
 use crate::error::ParseError;
 use crate::reading::{fault_of_units, lossy_padded, read_all};
@@ -274,9 +275,9 @@ impl<const N: usize> TinyAsciiStr<N> {
         requires { IsPaddedText padded.now (length padded.now) }
         ensures { result ≡ take N (text_of padded.now) }
     {
-        let mut text = Self::default();
-        text.append(0, padded);
-        text
+        let mut bytes = [0; N];
+        put(&mut bytes[..], padded);
+        TinyAsciiStr { bytes }
     }
 
     /// The text at another capacity, cut where it is longer.

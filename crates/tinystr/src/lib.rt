@@ -4,6 +4,7 @@
 
 pub mod ascii;
 mod comparing;
+mod copying;
 mod decimal;
 pub mod error;
 pub mod forms;
