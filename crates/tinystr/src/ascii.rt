@@ -275,9 +275,9 @@ impl<const N: usize> TinyAsciiStr<N> {
         requires { IsPaddedText padded.now (length padded.now) }
         ensures { result ≡ take N (text_of padded.now) }
     {
-        let mut bytes = [0; N];
-        put(&mut bytes[..], padded);
-        TinyAsciiStr { bytes }
+        let mut text = Self::default();
+        text.append(0, padded);
+        text
     }
 
     /// The text at another capacity, cut where it is longer.
@@ -285,7 +285,9 @@ impl<const N: usize> TinyAsciiStr<N> {
     pub fn resize<const M: usize>(self) -> TinyAsciiStr<M>
         ensures { result ≡ take M self.entry }
     {
-        TinyAsciiStr::<M>::cut(&self.bytes[..])
+        let mut bytes = [0; M];
+        put(&mut bytes[..], &self.bytes[..]);
+        TinyAsciiStr { bytes }
     }
 
     /// The two texts joined, cut where they are longer than `Q` bytes together.
@@ -293,6 +295,16 @@ impl<const N: usize> TinyAsciiStr<N> {
     pub fn concat<const M: usize, const Q: usize>(self, other: TinyAsciiStr<M>) -> TinyAsciiStr<Q>
         ensures { result ≡ take Q (self.entry ++ other.entry) }
     {
+        let front = &self.bytes[..N.min(Q)];
+        let back = &other.bytes[..M.min(Q)];
+        if Q <= 8 {
+            let text = Aligned8::from_part(front).joined(&Aligned8::from_part(back));
+            return TinyAsciiStr::<Q>::cut(&text.to_bytes());
+        }
+        if Q <= 16 {
+            let text = Aligned16::from_part(front).joined(&Aligned16::from_part(back));
+            return TinyAsciiStr::<Q>::cut(&text.to_bytes());
+        }
         let mut text = self.resize::<Q>();
         text.append(self.len().min(Q), &other.bytes[..]);
         text
