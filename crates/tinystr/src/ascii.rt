@@ -299,6 +299,16 @@ impl<const N: usize> TinyAsciiStr<N> {
     pub fn concat<const M: usize, const Q: usize>(self, other: TinyAsciiStr<M>) -> TinyAsciiStr<Q>
         ensures { result ≡ take Q (self.entry ++ other.entry) }
     {
+        let front = &self.bytes[..N.min(Q)];
+        let back = &other.bytes[..M.min(Q)];
+        if Q <= 8 {
+            let text = Aligned8::from_part(front).joined(&Aligned8::from_part(back));
+            return TinyAsciiStr::<Q>::cut(&text.to_bytes());
+        }
+        if Q <= 16 {
+            let text = Aligned16::from_part(front).joined(&Aligned16::from_part(back));
+            return TinyAsciiStr::<Q>::cut(&text.to_bytes());
+        }
         let mut text = self.resize::<Q>();
         text.append(self.len().min(Q), &other.bytes[..]);
         text

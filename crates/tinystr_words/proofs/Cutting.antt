@@ -16,7 +16,7 @@ titlecase-take (suc m) [] = refl
 titlecase-take (suc m) (b ∷ t) = ap (λ (l : List ℕ). raise b ∷ l) (lowercase-take m t)
 
 -- what a cut of the first part, or of the second, leaves of the front
-take-front : (a b : List ℕ) (p q : ℕ) → q ≤ p → take q (take p a ++ b) ≡ take q (a ++ b)
+pub take-front : (a b : List ℕ) (p q : ℕ) → q ≤ p → take q (take p a ++ b) ≡ take q (a ++ b)
 take-front [] b zero q le = refl
 take-front [] b (suc p) q le = refl
 take-front (d ∷ a) b zero zero le = refl
@@ -24,7 +24,7 @@ take-front (d ∷ a) b zero (suc q) le = absurd (omega arith)
 take-front (d ∷ a) b (suc p) zero le = refl
 take-front (d ∷ a) b (suc p) (suc q) le = ap (λ (l : List ℕ). d ∷ l) (take-front a b p q (omega arith))
 
-take-back : (a b : List ℕ) (r q : ℕ) → q ≤ r → take q (a ++ take r b) ≡ take q (a ++ b)
+pub take-back : (a b : List ℕ) (r q : ℕ) → q ≤ r → take q (a ++ take r b) ≡ take q (a ++ b)
 take-back [] b r q le = take-take q r b le
 take-back (d ∷ a) b r zero le = refl
 take-back (d ∷ a) b r (suc q) le = ap (λ (l : List ℕ). d ∷ l) (take-back a b r q (omega arith))

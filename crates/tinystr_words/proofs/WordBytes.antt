@@ -17,7 +17,7 @@ use Rattle.tinystr_words.proofs.Formulas.{ascii_pad}
 
 -- ---- the bytes of a word
 
-pow_256-pos : (n : ℕ) → 0 < 256 ^ n
+pub pow_256-pos : (n : ℕ) → 0 < 256 ^ n
 pow_256-pos zero = lit< tt
 pow_256-pos (suc n) = omega (arith, pow-suc 256 n, pow_256-pos n)
 

@@ -1,6 +1,6 @@
 //! Texts in one word each, asked and changed by a few sums over the whole word.
 
-ghost use Rattle.std.specs.Prelude.{◌≡◌, ◌+◌, ◌≤◌, ◌==◌, length, map, bit_or, bit_and, MatchOption};
+ghost use Rattle.std.specs.Prelude.{◌≡◌, ◌+◌, ◌≤◌, ◌==◌, ◌++◌, length, map, take, bit_or, bit_and, MatchOption};
 ghost use Rattle.std.specs.Str.{bytes_eq};
 ghost use Rattle.tinystr_words.specs.Text.{IsText, IsPaddedText, pad, text_of};
 ghost use Rattle.tinystr_words.specs.Classes.{ask, is_upper, is_lower, is_digit, is_alphabetic, is_alphanumeric, is_not_upper, is_not_lower};
@@ -147,6 +147,20 @@ impl<T: Word<LEN>, const LEN: usize> Aligned<T, LEN> {
         ensures { result ≡ length self.now }
     {
         LEN - self.word.leading_zeros() / 8
+    }
+
+    /// The text and then another, cut where they are longer than `LEN` bytes together.
+    #[inline(always)]
+    pub fn joined(&self, other: &Self) -> Self
+        ensures { result ≡ take LEN (self.now ++ other.now) }
+    {
+        let len = self.len();
+        if len == LEN {
+            return Aligned { word: self.word };
+        }
+        Aligned {
+            word: self.word.plus(other.word.behind(len)),
+        }
     }
 
     /// The answer of the method that the question names, as `is_ascii_titlecase` for `Titlecase`.

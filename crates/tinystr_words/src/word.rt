@@ -90,6 +90,11 @@ pub trait Word<const LEN: usize>: Copy + Drop {
     fn next_lanes(self) -> Self
         ensures { number result ≡ number self / 256 };
 
+    /// Each lane so many places higher, behind NULs. Those past the last place are lost.
+    fn behind(self, lanes: usize) -> Self
+        requires { lanes < LEN }
+        ensures { number result ≡ number self * 256 ^ lanes % 256 ^ LEN };
+
     /// Whether all lanes are the same.
     fn equals(self, other: Self) -> bool
         ensures { result ≡ (number self == number other) };
@@ -251,6 +256,11 @@ impl Word<4> for u32 {
     }
 
     #[inline(always)]
+    fn behind(self, lanes: usize) -> u32 {
+        self << (8 * lanes)
+    }
+
+    #[inline(always)]
     fn equals(self, other: u32) -> bool {
         self == other
     }
@@ -315,6 +325,11 @@ impl Word<8> for u64 {
     #[inline(always)]
     fn next_lanes(self) -> u64 {
         self >> 8
+    }
+
+    #[inline(always)]
+    fn behind(self, lanes: usize) -> u64 {
+        self << (8 * lanes)
     }
 
     #[inline(always)]
@@ -403,6 +418,11 @@ impl Word<16> for u128 {
     #[inline(always)]
     fn next_lanes(self) -> u128 {
         self >> 8
+    }
+
+    #[inline(always)]
+    fn behind(self, lanes: usize) -> u128 {
+        self << (8 * lanes)
     }
 
     #[inline(always)]

@@ -1,0 +1,59 @@
+-- A word whose text is followed by that of another.
+use Rattle.std.proofs.Common.{ℕ, ◌+◌, ◌-◌, ◌*◌, ◌/◌, ◌%◌, ◌^◌, ◌<◌, ◌≤◌, ◌≡◌, List, [], ◌∷◌, ◌++◌, length, take, drop, sym, ap, ap₂, ◌∙◌, arith, lit<, inl, inr}
+use Rattle.std.proofs.Math.Nat.{mul_comm, pow-le-pow_right, mul-mod_left, mod-eq_of_lt, add-mul-mod_self_left}
+use Rattle.std.proofs.Math.Arith.{mod-mul}
+use Rattle.std.proofs.Math.Seq.{take-append_seam, drop-append_seam}
+use Rattle.std.proofs.lemmas.Nat.{pow-add, div-mul-add}
+use Rattle.std.proofs.lemmas.Bool.{cases_lt}
+use Rattle.std.proofs.lemmas.List.{take_all, length-take, length-append}
+use Rattle.std.proofs.lemmas.List.Elements.{All-append, All-take, All-head, All-tail}
+use Rattle.tinystr_words.specs.Text.{IsText, IsTextByte}
+use Rattle.tinystr_words.specs.Words.{word, held, HoldsText}
+use Rattle.tinystr_words.proofs.Texts.{take-joined}
+use Rattle.tinystr_words.proofs.WordBytes.{word_nuls, pow_256-pos}
+use Rattle.tinystr_words.proofs.PaddedWords.{IsBytes, IsBytes-take, word_split, word-lt}
+use Rattle.tinystr_words.proofs.WordTexts.{text_word, holds_text}
+
+word-append : (t s : List ℕ) → word (t ++ s) ≡ word t + 256 ^ length t * word s
+word-append t s =
+    rw (take-append_seam t s, drop-append_seam t s) at (word_split (length t) (t ++ s) (omega (arith, length-append t s)))
+
+word_lt-pow : (s : List ℕ) (n : ℕ) → IsBytes s → length s ≤ n → word s < 256 ^ n
+word_lt-pow s n h le = let k : 256 ^ length s ≤ 256 ^ n = pow-le-pow_right {n = 256} (lit< tt) le in omega (arith, word-lt s h)
+
+text_bytes : (t : List ℕ) → IsText t → IsBytes t
+text_bytes [] x = tt
+text_bytes (b ∷ t) x = let h = (All-head IsTextByte b t x).1 in (omega (arith, h), text_bytes t (All-tail IsTextByte b t x))
+
+-- the lowest lanes
+word-mod : (s : List ℕ) (n : ℕ) → IsBytes s → word s % 256 ^ n ≡ word (take n s)
+word-mod s n h =
+    let front : word (take n s) < 256 ^ n = word_lt-pow (take n s) n (IsBytes-take n s h) (omega (arith, length-take n s)) in
+    elim (cases_lt n (length s)) [
+      | inl more ↦ ap (λ w. w % 256 ^ n) (word_split n s (omega arith)) ∙ add-mul-mod_self_left (word (take n s)) (256 ^ n) (word (drop n s)) ∙ mod-eq_of_lt front
+      | inr all ↦ rw (take_all n s all) (mod-eq_of_lt (rw (take_all n s all) at front))
+    ]
+
+-- the second text stands behind the first, and what has no room is lost
+behind : (s : List ℕ) (len n : ℕ) → IsBytes s → len ≤ n → word s * 256 ^ len % 256 ^ n ≡ 256 ^ len * word (take (n - len) s)
+behind s len n h le =
+    let k : 256 ^ n ≡ 256 ^ (n - len) * 256 ^ len = ap (λ m. 256 ^ m) (omega arith) ∙ pow-add 256 (n - len) len in
+    let one = pow_256-pos len in
+    let up : word s * 256 ^ len / 256 ^ len ≡ word s = ap (λ m. m / 256 ^ len) (omega arith) ∙ div-mul-add (word s) (256 ^ len) 0 one in
+    let none = mul-mod_left (word s) (256 ^ len) in
+    rw k (mod-mul (word s * 256 ^ len) (pow_256-pos (n - len)) one ∙ rw (up, none, word-mod s (n - len) h) (omega (arith, mul_comm (256 ^ len) (word (take (n - len) s)))))
+
+pub joined : {n w v : ℕ} → HoldsText n w → HoldsText n v → (len : ℕ) → len ≡ length (held n w)
+    → let both = w + v * 256 ^ len % 256 ^ n in let t = take n (held n w ++ held n v) in (both < 256 ^ n) × HoldsText n both × (held n both ≡ t)
+joined {n} {w} {v} p q len is =
+    let t = held n w in
+    let s = held n v in
+    let both : List ℕ = take n (t ++ s) in
+    let text : IsText both = All-take IsTextByte n (t ++ s) (All-append IsTextByte t s p.text q.text) in
+    let fits : length both ≤ n = omega (arith, length-take n (t ++ s)) in
+    let cut : both ≡ t ++ take (n - len) s = take-joined t s n ∙ ap₂ (λ (l m : List ℕ). l ++ m) (take_all n t p.fits) (ap (λ m. take (n - m) s) (sym is)) in
+    let sum : w + v * 256 ^ len % 256 ^ n ≡ word both =
+    ap₂ (λ (x y : ℕ). x + y * 256 ^ len % 256 ^ n) (p.padded ∙ word_nuls t (n - length t)) (q.padded ∙ word_nuls s (n - length s))
+    ∙ ap (λ m. word t + m) (behind s len n (text_bytes s q.text) (omega (arith, is, p.fits)))
+    ∙ sym (ap word cut ∙ word-append t (take (n - len) s) ∙ ap (λ m. word t + 256 ^ m * word (take (n - len) s)) (sym is)) in
+    rw sum (word_lt-pow both n (text_bytes both text) fits, holds_text n both text fits, text_word n both text fits)
