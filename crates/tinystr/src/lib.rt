@@ -4,7 +4,6 @@
 
 pub mod ascii;
 mod comparing;
-mod decimal;
 pub mod error;
 pub mod forms;
 pub mod laws;
