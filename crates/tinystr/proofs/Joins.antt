@@ -1,6 +1,6 @@
--- A padded text put behind another, and a padded text cut out of written digits.
-use Rattle.std.proofs.Common.{◌≡◌, ℕ, ◌+◌, ◌-◌, ◌<◌, ◌≤◌, ◌⊎◌, inl, inr, List, [], ◌++◌, length, get_or, take, drop, map, sym, ap, ◌∙◌, arith}
-use Rattle.std.proofs.lemmas.List.{take-append-drop, append_assoc, take_all, drop_all, length-take-le, length-append, length-drop, drop-drop, replicate-append-replicate, take-map}
+-- A padded text put behind another.
+use Rattle.std.proofs.Common.{◌≡◌, ℕ, ◌+◌, ◌-◌, ◌≤◌, ◌⊎◌, inl, inr, List, [], ◌++◌, length, get_or, take, drop, map, sym, ap, ◌∙◌, arith}
+use Rattle.std.proofs.lemmas.List.{take-append-drop, append_assoc, take_all, drop_all, length-take-le, length-append, length-drop, replicate-append-replicate, take-map}
 use Rattle.std.proofs.lemmas.List.Elements.{All-append, All-take, All-map}
 use Rattle.std.proofs.lemmas.Slice.{take-put_mid, drop-put_mid}
 use Rattle.std.proofs.lemmas.Bool.{cases_lt}
@@ -78,42 +78,3 @@ made_lossy bytes units r n h made =
     let short : take n (map (lossy_byte r) units) ≡ lossy units r n = take-map (lossy_byte r) n units in
     let text : IsText (map (lossy_byte r) units) = All-map IsTextByte (lossy_byte r) units (λ i d inside. lossy_char r (get_or units i d) h) in
     rw short at (made_of bytes (map (lossy_byte r) units) n (rw short made) text)
-
--- digits and then ten NULs, at the end of twenty bytes
-pub length-digits : (d t : List ℕ) (start : ℕ) → drop start d ≡ t ++ NULS 10 → length d ≡ 20 → start < 10 → start + length t ≡ 10
-length-digits d t start e len before =
-    let written = ap length e ∙ length-append t (NULS 10) in
-    omega (arith, written, length-drop start d)
-
--- ten of those bytes
-pub ten_from : (d t : List ℕ) (start from ten : ℕ) → drop start d ≡ t ++ NULS 10 → length d ≡ 20 → start < 10 → IsText t → start ≤ from → from ≤ 10 → ten ≡ 10
-    → IsPaddedText (take ten (drop from d)) (length (take ten (drop from d))) × (text_of (take ten (drop from d)) ≡ drop (from - start) t)
-ten_from d t start from ten e len before h after inside is_ten = (
-  rw same at (IsPaddedText-take (drop k all) (length (drop k all)) ten rest),
-  rw same at (text_of-take (drop k all) (length (drop k all)) ten rest ∙ ap (λ (l : List ℕ). take ten l) text
-      ∙ take_all ten (drop k t) (omega (arith, length-drop k t, length-digits d t start e len before))),
-)
-  where
-    k : ℕ
-    k = from - start
-
-    all : List ℕ
-    all = drop start d
-
-    long : length all ≡ length t + 10
-    long = ap length e ∙ length-append t (NULS 10)
-
-    written : all ≡ pad t (length all)
-    written = e ∙ (let nuls : 10 ≡ length all - length t = omega (arith, long) in ap (λ m. t ++ NULS m) nuls)
-
-    whole : IsPaddedText all (length all)
-    whole = IsPaddedText-made all t (length all) written (record { text = h; fits = omega (arith, long) })
-
-    rest : IsPaddedText (drop k all) (length (drop k all))
-    rest = IsPaddedText-drop all (length all) k whole
-
-    same : drop k all ≡ drop from d
-    same = drop-drop k start d ∙ (let sum : start + k ≡ from = omega arith in ap (λ m. drop m d) sum)
-
-    text : text_of (drop k all) ≡ drop k t
-    text = text_of-drop all (length all) k whole ∙ ap (λ (l : List ℕ). drop k l) (text_of-made all t (length all) written h)

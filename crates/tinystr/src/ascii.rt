@@ -13,14 +13,13 @@ mod print;
 mod questions;
 
 use crate::copying::put;
-use crate::decimal::write_decimal;
 use crate::error::ParseError;
 use crate::reading::{fault_of_units, lossy_padded, read_all};
 use crate::words;
 use std::marker::Model;
 use std::str::FromStr;
 use tinystr_words::Unit;
-use tinystr_words::int_ops::{Aligned4, Aligned8, Aligned16};
+use tinystr_words::int_ops::{Aligned4, Aligned8, Aligned16, decimal_fits};
 
 /// A text of at most `N` bytes, each from 1 to 127, in `N` bytes: the text and then NULs. It takes no memory.
 #[derive(Clone, Copy, Hash)]
@@ -193,11 +192,11 @@ impl<const N: usize> TinyAsciiStr<N> {
         ensures digits { IfOk result (λ t. t ≡ decimal number) }
         ensures last_digits { IfErr result (λ t. t ≡ last N (decimal number)) }
     {
-        let mut digits = [0; 20];
-        let start = write_decimal(number, &mut digits);
-        let from = start.max(10_usize.saturating_sub(N));
-        let text = Self::cut(&digits[from..from + 10]);
-        if from == start { Ok(text) } else { Err(text) }
+        if decimal_fits(number, N) {
+            Ok(Self::cut(&Aligned16::from_decimal(number).to_bytes()))
+        } else {
+            Err(Self::cut(&Aligned16::from_last_digits(number, N).to_bytes()))
+        }
     }
 
     /// The length of the text in bytes.

@@ -5,7 +5,6 @@
 pub mod ascii;
 mod comparing;
 mod copying;
-mod decimal;
 pub mod error;
 pub mod forms;
 pub mod laws;

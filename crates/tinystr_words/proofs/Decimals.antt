@@ -1,11 +1,12 @@
--- Decimal digits written from the right.
-use Rattle.std.proofs.Common.{◌≡◌, ℕ, ◌+◌, ◌-◌, ◌/◌, ◌%◌, ◌^◌, ◌<◌, ◌≤◌, List, [], ◌∷◌, ◌++◌, length, drop, set, sym, ap, ◌∙◌, arith, suc, zero}
+-- Decimal digits: they are a text, and a word takes them two at a time, the last ones first.
+use Rattle.std.proofs.Common.{◌≡◌, ℕ, ◌+◌, ◌/◌, ◌%◌, ◌^◌, ◌<◌, ◌≤◌, List, [], ◌∷◌, ◌++◌, refl, ap, ap₂, ◌*◌, ◌∙◌, arith, lit<}
+use Rattle.std.proofs.Math.Nat.{pow-le-pow_right, mul-le-mul_right}
 use Rattle.std.specs.Fmt.{decimal}
 use Rattle.std.proofs.lemmas.Fmt.{decimal_step, decimal_digit}
-use Rattle.std.proofs.lemmas.List.{drop-set, append_assoc}
 use Rattle.std.proofs.lemmas.Fmt.{decimal_by_steps}
 use Rattle.std.proofs.lemmas.List.Elements.{All-push, All-nil}
 use Rattle.tinystr_words.specs.Text.{IsTextByte, IsText}
+use Rattle.tinystr_words.specs.Words.{word}
 use Rattle.std.proofs.lemmas.Grind.{pow_more}
 
 IsTextByte-digit : (d : ℕ) → d < 10 → IsTextByte (48 + d)
@@ -18,22 +19,55 @@ IsText-decimal n h =
     (λ d ds big text. All-push IsTextByte ds (48 + d % 10) text (IsTextByte-digit (d % 10) (omega arith)))
     n h
 
-pub room_below : (r s : ℕ) → 10 ≤ r → r < 10 ^ (s + 1) → 0 < s
-room_below r zero h l = absurd (omega arith)
-room_below r (suc s) h l = omega arith
+-- ---- digits in a word
 
-pub room_turn : (r s : ℕ) → 0 < s → r < 10 ^ (s + 1) → r / 10 < 10 ^ (s - 1 + 1)
-room_turn r s h l =
-    let same : s - 1 + 1 ≡ s = omega arith in
-    rw same (omega (arith, pow_more 10 s))
+-- the word of a list whose last byte stands below the bytes of another word
+abbrev pub before : List ℕ → ℕ → ℕ
+before [] w = w
+before (b ∷ l) w = b + 256 * before l w
 
--- one more digit written in front of what is written
-pub decimal_turn : (all : List ℕ) (r s : ℕ) (ds : List ℕ) → 10 ≤ r → r < 2 ^ 64 → s < length ds → 0 < s → all ≡ decimal r ++ drop (s + 1) ds → all ≡ decimal (r / 10) ++ drop (s - 1 + 1) (set ds s (48 + r % 10))
-decimal_turn all r s ds big fits inside pos e =
-    let same : s - 1 + 1 ≡ s = omega arith in
-    rw (same, drop-set ds s (48 + r % 10) inside)
-    (e ∙ ap (λ (l : List ℕ). l ++ drop (s + 1) ds) (decimal_step r big fits) ∙ append_assoc (decimal (r / 10)) ((48 + r % 10) ∷ []) (drop (s + 1) ds))
+pub word_before : (l : List ℕ) → word l ≡ before l 0
+word_before [] = refl
+word_before (b ∷ l) = ap (λ n. b + 256 * n) (word_before l)
 
-pub decimal_last : (all : List ℕ) (r s : ℕ) (ds : List ℕ) → r < 10 → s < length ds → all ≡ decimal r ++ drop (s + 1) ds → drop s (set ds s (48 + r)) ≡ all
-decimal_last all r s ds small inside e =
-    drop-set ds s (48 + r) inside ∙ sym (e ∙ ap (λ (l : List ℕ). l ++ drop (s + 1) ds) (decimal_digit r small))
+before_end : (l : List ℕ) (d w : ℕ) → before (l ++ d ∷ []) w ≡ before l (d + 256 * w)
+before_end [] d w = refl
+before_end (b ∷ l) d w = ap (λ n. b + 256 * n) (before_end l d w)
+
+pub before_digit : (r w : ℕ) → 10 ≤ r → r < 2 ^ 64 → before (decimal r) w ≡ before (decimal (r / 10)) (48 + r % 10 + 256 * w)
+before_digit r w big fits = ap (λ (l : List ℕ). before l w) (decimal_step r big fits) ∙ before_end (decimal (r / 10)) (48 + r % 10) w
+
+pub before_two : (r w : ℕ) → 100 ≤ r → r < 2 ^ 64 → before (decimal r) w ≡ before (decimal (r / 100)) (65536 * w + (48 + r % 100 / 10 + 256 * (48 + r % 100 % 10)))
+before_two r w big fits =
+    let again : r / 10 / 10 ≡ r / 100 = omega arith in
+    let pair : 48 + r / 10 % 10 + 256 * (48 + r % 10 + 256 * w) ≡ 65536 * w + (48 + r % 100 / 10 + 256 * (48 + r % 100 % 10)) = omega arith in
+    before_digit r w (omega arith) fits ∙ before_digit (r / 10) (48 + r % 10 + 256 * w) (omega arith) (omega arith)
+    ∙ ap₂ (λ n v. before (decimal n) v) again pair
+
+pub before_one : (r w : ℕ) → r < 10 → before (decimal r) w ≡ 256 * w + (r + 48)
+before_one r w small = ap (λ (l : List ℕ). before l w) (decimal_digit r small) ∙ omega arith
+
+pub before_last : (r w : ℕ) → 10 ≤ r → r < 100 → before (decimal r) w ≡ 65536 * w + (48 + r / 10 + 256 * (48 + r % 10))
+before_last r w big small =
+    before_digit r w big (omega arith) ∙ before_one (r / 10) (48 + r % 10 + 256 * w) (omega arith) ∙ omega arith
+
+-- ---- the room that the steps leave
+
+pub room_next : (last pair i : ℕ) → last < 65536 ^ i → pair < 65536 → 65536 * last + pair < 65536 ^ (i + 1)
+room_next last pair i room small = omega (arith, pow_more 65536 i)
+
+pub room_fits : (last i : ℕ) → i ≤ 4 → last < 65536 ^ i → last < 2 ^ 64
+room_fits last i some room =
+    let most : 65536 ^ i ≤ 65536 ^ 4 = pow-le-pow_right {n = 65536} (lit< tt) some in
+    omega arith
+
+pub enough_next : (r i n : ℕ) → r * 100 ^ i ≤ n → r / 100 * 100 ^ (i + 1) ≤ n
+enough_next r i n enough =
+    let less : (r / 100 * 100) * 100 ^ i ≤ r * 100 ^ i = mul-le-mul_right (100 ^ i) (omega arith) in
+    rw (pow_more 100 i) (omega arith)
+
+pub enough_small : (r i n : ℕ) → 4 ≤ i → i ≤ 4 → n < 2 ^ 32 → r * 100 ^ i ≤ n → r < 100
+enough_small r i n from to small enough =
+    let four : i ≡ 4 = omega arith in
+    let steps = rw four at enough in
+    omega arith

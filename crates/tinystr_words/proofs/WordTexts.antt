@@ -1,9 +1,11 @@
 -- Words that hold texts: what is asked of them, and the texts of changed words.
-use Rattle.std.proofs.Common.{Bool, true, false, ℕ, ◌-◌, ◌*◌, ◌/◌, ◌<◌, ◌≤◌, ◌≡◌, List, [], ◌∷◌, length, nat_eq, sym, ap, ◌∙◌, subst, arith, refl, suc}
+use Rattle.std.proofs.Common.{Bool, true, false, ℕ, ◌-◌, ◌*◌, ◌/◌, ◌<◌, ◌≤◌, ◌≡◌, List, [], ◌∷◌, length, drop, nat_eq, sym, ap, ◌∙◌, subst, arith, refl, suc}
 use Rattle.std.proofs.lemmas.Bool.{ltb-true}
+use Rattle.std.proofs.lemmas.List.{length-drop}
+use Rattle.std.proofs.lemmas.List.Elements.{All-head, All-drop}
 use Rattle.std.specs.Simd.Lanes.{Each1}
 use Rattle.std.specs.Int.Count.{count_leading_zeros}
-use Rattle.tinystr_words.specs.Text.{IsText, IsPaddedText, pad, text_of}
+use Rattle.tinystr_words.specs.Text.{IsTextByte, IsText, IsPaddedText, pad, text_of}
 use Rattle.tinystr_words.specs.Words.{word, led, lanes_of, held, HoldsText}
 use Rattle.tinystr_words.specs.Questions.{answer, in_case}
 use Rattle.tinystr_words.specs.declared.question.Question.{Question}
@@ -46,6 +48,17 @@ held_length {n} {w} h =
 
 pub held_bytes : {n w : ℕ} → HoldsText n w → lanes_of n w ≡ pad (held n w) n
 held_bytes {n} {w} h = ap (λ m. lanes_of n m) h.padded ∙ lanes_word_pad n (held n w) h.text h.fits
+
+word_rest : (t : List ℕ) → IsText t → word t / 256 ≡ word (drop 1 t)
+word_rest [] x = omega arith
+word_rest (b ∷ t) x = let byte = All-head IsTextByte b t x in omega arith
+
+-- a word without its lowest byte
+pub rest_word : (n : ℕ) (t : List ℕ) → IsText t → length t ≤ n → HoldsText n (word t / 256) × (held n (word t / 256) ≡ drop 1 t)
+rest_word n t x le =
+    let rest = All-drop IsTextByte 1 t x in
+    let fits : length (drop 1 t) ≤ n = omega (arith, length-drop 1 t) in
+    rw (word_rest t x) (holds_text n (drop 1 t) rest fits, text_word n (drop 1 t) rest fits)
 
 pub bytes_held : {n w : ℕ} → HoldsText n w → (bytes : List ℕ) → bytes ≡ lanes_of n w → IsPaddedText bytes n × (text_of bytes ≡ held n w)
 bytes_held {n} {w} h bytes e =

@@ -1,13 +1,16 @@
 //! Texts in one word each, asked and changed by a few sums over the whole word.
 
-ghost use Rattle.std.specs.Prelude.{◌≡◌, ◌+◌, ◌≤◌, ◌==◌, ◌++◌, length, map, take, bit_or, bit_and, MatchOption};
+ghost use Rattle.std.specs.Prelude.{◌≡◌, ◌+◌, ◌<◌, ◌≤◌, ◌==◌, ◌++◌, length, map, take, bit_or, bit_and, MatchOption, IsTrue, ◌↔◌};
+ghost use Rattle.std.specs.Fmt.{decimal};
 ghost use Rattle.std.specs.Str.{bytes_eq};
 ghost use Rattle.tinystr_words.specs.Text.{IsText, IsPaddedText, pad, text_of};
 ghost use Rattle.tinystr_words.specs.Classes.{ask, is_upper, is_lower, is_digit, is_alphabetic, is_alphanumeric, is_not_upper, is_not_lower};
 ghost use Rattle.tinystr_words.specs.Case.{lowercase, titlecase, uppercase};
 ghost use Rattle.tinystr_words.specs.Words.{word, led, HoldsText};
+ghost use Rattle.tinystr_words.specs.Decimal.{last};
 ghost use Rattle.tinystr_words.specs.Questions.{answer, in_case};
 
+use crate::decimal::decimal_word;
 use crate::question::{Case, Question};
 use crate::unit::{Unit, is_text};
 use crate::word::{DIGIT, LOWER, UPPER, Word};
@@ -297,5 +300,37 @@ impl<T: Word<LEN>, const LEN: usize> Aligned<T, LEN> {
         ensures { result ≡ pad (uppercase self.now) LEN }
     {
         self.in_case(Case::Upper)
+    }
+}
+
+/// Whether the decimal text of a number has at most so many digits.
+#[inline(always)]
+pub fn decimal_fits(number: u32, most: usize) -> bool
+    ensures { IsTrue result ↔ (length (decimal number) ≤ most) }
+{
+    most >= 10 || (most > 0 && number < 10u32.pow(most as u32))
+}
+
+impl Aligned<u128, 16> {
+    /// The shortest decimal text of a number.
+    #[inline(always)]
+    pub fn from_decimal(number: u32) -> Self
+        ensures { result ≡ decimal number }
+    {
+        Aligned {
+            word: decimal_word(number),
+        }
+    }
+
+    /// The last digits of a number that has more: a 1 stands in front of them while they are made, to keep their zeros.
+    #[inline(always)]
+    pub fn from_last_digits(number: u32, count: usize) -> Self
+        requires { count < length (decimal number) }
+        ensures { result ≡ last count (decimal number) }
+    {
+        let limit = 10u32.pow(count as u32);
+        Aligned {
+            word: decimal_word(limit + number % limit).next_lanes(),
+        }
     }
 }

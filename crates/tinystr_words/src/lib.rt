@@ -2,6 +2,7 @@
 //! texts in words of 32, 64 and 128 bits.
 #![tactic(auto)]
 
+mod decimal;
 pub mod int_ops;
 pub mod laws;
 mod question;

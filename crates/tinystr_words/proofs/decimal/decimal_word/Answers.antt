@@ -1,0 +1,40 @@
+use Rattle.std.proofs.Common.{◌+◌, ◌*◌, ◌<◌, ◌∙◌, sym, arith}
+use Rattle.std.specs.Fmt.{decimal}
+use Rattle.tinystr_words.proofs.Decimals.{word_before, before_two, before_one, before_last, room_next, room_fits, enough_next, enough_small}
+use Rattle.tinystr_words.proofs.decimal.decimal_word.Goals as goal
+use Rattle.tinystr_words.proofs.decimal.decimal_word.Goals.{else-loop-i-test, then-loop-i-test+then-rest-lt100}
+
+pub overflow_mul-last : goal.overflow_mul-last
+overflow_mul-last c =
+    let next = room_next c.loop-i.last 0 c.loop-i.i c.loop-i.invariant.room (omega arith) in
+    let fits = room_fits (65536 * c.loop-i.last + 0) (c.loop-i.i + 1) (omega arith) next in
+    omega arith
+
+pub overflow_add-last : goal.overflow_add-last
+overflow_add-last c =
+    let next = room_next c.loop-i.last c.from.result c.loop-i.i c.loop-i.invariant.room (omega arith) in
+    let fits = room_fits (65536 * c.loop-i.last + c.from.result) (c.loop-i.i + 1) (omega arith) next in
+    omega arith
+
+pub loop-i-preserved : goal.loop-i-preserved
+loop-i-preserved c =
+    let pair = c.from.ensures ∙ c.two_digits.ensures in
+    record {
+      room = room_next c.loop-i.last c.from.result c.loop-i.i c.loop-i.invariant.room (omega arith);
+      enough = enough_next c.loop-i.rest c.loop-i.i c.args.number c.loop-i.invariant.enough;
+      written = c.loop-i.invariant.written ∙ rw pair (before_two c.loop-i.rest c.loop-i.last (omega arith) (omega arith));
+    }
+
+pub returns-then-rest-lt10 : goal.returns-then-rest-lt10
+returns-then-rest-lt10 c =
+    rw (c.from-then-rest-lt10.ensures, c.from-then-rest-lt10-2.ensures)
+    (sym (word_before (decimal c.args.number) ∙ c.loop-i.invariant.written ∙ before_one c.loop-i.rest c.loop-i.last c.if-rest-lt10.true))
+
+pub returns-else-rest-lt10 : goal.returns-else-rest-lt10
+returns-else-rest-lt10 c =
+    let small : c.loop-i.rest < 100 = elim c.loop-i-test.branch [
+      | else-loop-i-test w ↦ enough_small c.loop-i.rest c.loop-i.i c.args.number w.loop-i-test.false (omega arith) (omega arith) c.loop-i.invariant.enough
+      | then-loop-i-test+then-rest-lt100 w ↦ w.if-rest-lt100.true
+    ] in
+    rw (c.from-else-rest-lt10.ensures, c.from-else-rest-lt10-2.ensures, c.two_digits-else-rest-lt10.ensures)
+    (sym (word_before (decimal c.args.number) ∙ c.loop-i.invariant.written ∙ before_last c.loop-i.rest c.loop-i.last c.if-rest-lt10.false small))
