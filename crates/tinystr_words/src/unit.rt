@@ -16,6 +16,11 @@ pub trait Unit: Copy {
     /// The lowest eight bits, which are all of a character.
     fn low_byte(self) -> u8
         ensures { result ≡ number self % 256 };
+
+    /// Those of four units.
+    fn four_low_bytes(units: &[Self]) -> [u8; 4]
+        requires { length units.now ≡ 4 }
+        ensures { result ≡ map (λ unit. number unit % 256) units.now };
 }
 
 // How many units from 1 on are characters.
@@ -38,6 +43,11 @@ impl Unit for u8 {
     fn low_byte(self) -> u8 {
         self
     }
+
+    #[inline(always)]
+    fn four_low_bytes(units: &[u8]) -> [u8; 4] {
+        *units.first_chunk::<4>().unwrap()
+    }
 }
 
 impl Unit for u16 {
@@ -56,6 +66,16 @@ impl Unit for u16 {
     #[inline(always)]
     fn low_byte(self) -> u8 {
         (self % 256) as u8
+    }
+
+    #[inline(always)]
+    fn four_low_bytes(units: &[u16]) -> [u8; 4] {
+        [
+            units[0].low_byte(),
+            units[1].low_byte(),
+            units[2].low_byte(),
+            units[3].low_byte(),
+        ]
     }
 }
 

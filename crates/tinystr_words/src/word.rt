@@ -206,12 +206,7 @@ impl Word<4> for u32 {
             return 0;
         }
         if len >= 4 {
-            return u32::from_le_bytes([
-                src[0].low_byte(),
-                src[1].low_byte(),
-                src[2].low_byte(),
-                src[3].low_byte(),
-            ]);
+            return u32::from_le_bytes(U::four_low_bytes(src));
         }
         let middle = len / 2;
         let last = len - 1;

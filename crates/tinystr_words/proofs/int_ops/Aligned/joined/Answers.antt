@@ -1,4 +1,4 @@
-use Rattle.std.proofs.Common.{◌∙◌, ◌≡◌, ◌++◌, length, take, sym, ap, ap₂, List, ℕ}
+use Rattle.std.proofs.Common.{◌∙◌, length, sym, ap, List, ℕ}
 use Rattle.tinystr_words.proofs.Joining.{joined}
 use Rattle.tinystr_words.proofs.int_ops.Aligned.joined.Goals as goal
 
