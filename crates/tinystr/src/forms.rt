@@ -163,6 +163,3 @@ fn find_byte_fault(input: &[u8], expected: usize) -> Option<BytesReadError>
     }
     None
 }
-
-#[cfg(test)]
-mod tests;

@@ -17,6 +17,3 @@ mod words;
 pub use ascii::{TinyAsciiStr, TinyStr4, TinyStr8, TinyStr16};
 pub use error::ParseError;
 pub use unvalidated::UnvalidatedTinyAsciiStr;
-
-#[cfg(test)]
-mod tests;

@@ -66,6 +66,3 @@ impl<const N: usize> UnvalidatedTinyAsciiStr<N> {
         Ok(())
     }
 }
-
-#[cfg(test)]
-mod tests;

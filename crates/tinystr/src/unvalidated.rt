@@ -143,6 +143,3 @@ impl<const N: usize> fmt::Debug for UnvalidatedTinyAsciiStr<N> {
         }
     }
 }
-
-#[cfg(test)]
-mod tests;

@@ -1,9 +1,9 @@
 //! Equality, order and hash of values.
 
-use crate::ascii::TinyStr4;
 use std::cmp::Ordering;
 use std::collections::HashSet;
 use std::test::Fail;
+use tinystr::TinyStr4;
 
 #[test]
 fn texts_are_ordered_byte_by_byte(rt: HostRuntime) -> Result<(), Fail> {

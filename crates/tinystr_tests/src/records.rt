@@ -1,9 +1,7 @@
 //! Packed records, and the bytes that no value has.
 
-use crate::ascii::TinyAsciiStr;
-use crate::error::ParseError;
-use crate::ule::UleError;
-use crate::unvalidated::UnvalidatedTinyAsciiStr;
+use tinystr::ule::UleError;
+use tinystr::{ParseError, TinyAsciiStr, UnvalidatedTinyAsciiStr};
 
 #[test]
 fn packed_records_are_accepted(rt: HostRuntime) {

@@ -1,13 +1,11 @@
 //! The JSON form and the byte form of both types, there and back and refused.
 
-use crate::ascii::TinyAsciiStr;
-use crate::forms::{BytesReadError, FormWriteError, JsonReadError};
-use crate::tinystr;
-use crate::unvalidated::UnvalidatedTinyAsciiStr;
 use serde_json::Value;
 use std::alloc::Global;
 use std::process::Abort;
 use std::test::Fail;
+use tinystr::forms::{BytesReadError, FormWriteError, JsonReadError};
+use tinystr::{TinyAsciiStr, UnvalidatedTinyAsciiStr, tinystr};
 
 fn json_there_and_back<const N: usize>(
     rt: &impl Abort,

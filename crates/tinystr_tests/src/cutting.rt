@@ -1,8 +1,8 @@
 //! Cutting, joining and decimal texts.
 
-use crate::ascii::{TinyAsciiStr, TinyStr4, TinyStr8, TinyStr16};
 use std::process::Abort;
 use std::test::Fail;
+use tinystr::{TinyAsciiStr, TinyStr4, TinyStr8, TinyStr16};
 
 #[test]
 fn a_text_is_cut_to_another_capacity(rt: HostRuntime) -> Result<(), Fail> {

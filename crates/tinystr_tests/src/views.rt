@@ -1,8 +1,8 @@
 //! Views of values.
 
-use crate::ascii::{TinyAsciiStr, TinyStr4, TinyStr16};
 use std::process::Abort;
 use std::test::Fail;
+use tinystr::{TinyAsciiStr, TinyStr4, TinyStr16};
 
 fn is_empty_text<const N: usize>(rt: &impl Abort, text: TinyAsciiStr<N>) {
     assert_eq!(rt; text.len(), 0);

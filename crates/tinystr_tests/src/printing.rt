@@ -1,8 +1,7 @@
 //! Printed forms, and the texts of the errors.
 
-use crate::ascii::{TinyAsciiStr, TinyStr4, TinyStr8};
-use crate::error::ParseError;
 use std::test::Fail;
+use tinystr::{ParseError, TinyAsciiStr, TinyStr4, TinyStr8};
 
 #[test]
 fn values_print_as_their_texts(rt: HostRuntime) -> Result<(), Fail> {

@@ -1,9 +1,8 @@
 //! What each reader takes, and the first fault of what it refuses.
 
-use crate::ascii::{TinyAsciiStr, TinyStr4, TinyStr8};
-use crate::error::ParseError::{self, ContainsNull, NonAscii, TooLong};
-use crate::tinystr;
 use std::test::Fail;
+use tinystr::ParseError::{self, ContainsNull, NonAscii, TooLong};
+use tinystr::{TinyAsciiStr, TinyStr4, TinyStr8, tinystr};
 
 fn text_or_fault<const N: usize>(
     read: &Result<TinyAsciiStr<N>, ParseError>,

@@ -1,10 +1,8 @@
 //! Any bytes: made of shorter ones, read as texts, ordered and printed.
 
-use crate::ascii::TinyAsciiStr;
-use crate::error::ParseError;
-use crate::unvalidated::UnvalidatedTinyAsciiStr;
 use std::process::Abort;
 use std::test::Fail;
+use tinystr::{ParseError, TinyAsciiStr, UnvalidatedTinyAsciiStr};
 
 #[test]
 fn bytes_that_are_no_text_are_kept_and_printed_as_a_list(rt: HostRuntime) -> Result<(), Fail> {
