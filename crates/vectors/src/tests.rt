@@ -26,6 +26,13 @@ mod laws;
 mod original;
 mod words;
 
+use tinystr::TinyAsciiStr;
+
+/// The answers of a value.
+fn answers_of<const N: usize>(text: TinyAsciiStr<N>) -> [bool; 9] {
+    answers!(text)
+}
+
 /// The answers that nine letters spell, `y` for true.
 fn spelled(letters: &str) -> [bool; 9] {
     let mut answers = [false; 9];

@@ -1,5 +1,6 @@
 //! The thirteen calls beside a plain loop over the characters.
 
+use super::answers_of;
 use std::process::Abort;
 use std::test::Fail;
 use tinystr::TinyAsciiStr;
@@ -28,26 +29,36 @@ fn plain_answers(text: &[u8]) -> [bool; 9] {
     answers
 }
 
+// Each byte of the changed text is the one there in upper case, or in lower case.
+fn is_changed<const N: usize>(
+    rt: &impl Abort,
+    changed: TinyAsciiStr<N>,
+    bytes: &[u8],
+    raises_first: bool,
+    raises_later: bool,
+) {
+    assert_eq!(rt; changed.len(), bytes.len());
+    for (i, byte) in bytes.iter().enumerate() {
+        let raises = if i == 0 { raises_first } else { raises_later };
+        let expected = if raises {
+            byte.to_ascii_uppercase()
+        } else {
+            byte.to_ascii_lowercase()
+        };
+        assert_eq!(rt;
+            changed.as_utf8().get(i),
+            Some(&expected),
+            "{changed:?} at {N}"
+        );
+    }
+}
+
 fn is_plain<const N: usize>(rt: &impl Abort, text: TinyAsciiStr<N>, bytes: &[u8]) {
     assert_eq!(rt; text.len(), bytes.len());
-    assert_eq!(rt; answers!(text), plain_answers(bytes), "{text:?} at {N}");
-    let lower = text.to_ascii_lowercase();
-    let title = text.to_ascii_titlecase();
-    let upper = text.to_ascii_uppercase();
-    assert_eq!(rt; lower.len(), bytes.len());
-    assert_eq!(rt; title.len(), bytes.len());
-    assert_eq!(rt; upper.len(), bytes.len());
-    for (i, byte) in bytes.iter().enumerate() {
-        let first = i == 0;
-        let (lowered, raised) = (byte.to_ascii_lowercase(), byte.to_ascii_uppercase());
-        assert_eq!(rt; lower.as_utf8().get(i), Some(&lowered), "{text:?} at {N}");
-        assert_eq!(rt;
-            title.as_utf8().get(i),
-            Some(if first { &raised } else { &lowered }),
-            "{text:?} at {N}"
-        );
-        assert_eq!(rt; upper.as_utf8().get(i), Some(&raised), "{text:?} at {N}");
-    }
+    assert_eq!(rt; answers_of(text), plain_answers(bytes), "{text:?} at {N}");
+    is_changed(rt, text.to_ascii_lowercase(), bytes, false, false);
+    is_changed(rt, text.to_ascii_titlecase(), bytes, true, false);
+    is_changed(rt, text.to_ascii_uppercase(), bytes, true, true);
 }
 
 // Each byte at each position of a text, at the capacity of the value given and at 32.

@@ -1,12 +1,12 @@
 //! Each text comes back from each of its forms.
 
-use crate::VECTORS;
+use crate::vectors;
 use std::test::Fail;
 use tinystr::TinyAsciiStr;
 
 #[test]
 fn texts_come_back_from_each_form(rt: HostRuntime) -> Result<(), Fail> {
-    for vector in VECTORS {
+    for vector in vectors() {
         let text = TinyAsciiStr::<17>::try_from_str(vector.text)?;
         assert_eq!(rt; text.to_unvalidated().try_into_tinystr(), Ok(text));
         let json = text.to_json(rt.alloc())?;

@@ -1,6 +1,6 @@
 //! Each law of the definitions, computed by the calls that mean them, on each text and its neighbours.
 
-use crate::VECTORS;
+use crate::vectors;
 use std::alloc::Global;
 use std::collections::HashSet;
 use std::process::Abort;
@@ -30,7 +30,7 @@ fn push_neighbours(texts: &mut Vec<Text>, text: Text) -> Result<(), Fail> {
 // Each text and its neighbours.
 fn texts(alloc: Global) -> Result<Vec<Text>, Fail> {
     let mut texts = Vec::new(alloc);
-    for vector in VECTORS {
+    for vector in vectors() {
         let text = Text::try_from_str(vector.text)?;
         texts.push(text)?;
         push_neighbours(&mut texts, text)?;
@@ -189,7 +189,7 @@ fn case_changes_keep_their_laws_and_commute_with_cutting(rt: HostRuntime) -> Res
 fn three_texts_join_and_cut_alike_in_either_order(rt: HostRuntime) -> Result<(), Fail> {
     let alloc = rt.alloc();
     let mut outer = Vec::new(alloc);
-    for vector in VECTORS {
+    for vector in vectors() {
         outer.push(Text::try_from_str(vector.text)?)?;
     }
     for b in texts(alloc)? {
