@@ -1,6 +1,6 @@
 -- A text that was read as a whole, and its array.
-use Rattle.std.proofs.Common.{◌≡◌, ◌+◌, ◌-◌, ◌<◌, ◌≤◌, ℕ, List, [], ◌∷◌, Bool, true, false, ◌||◌, not, set, IsTrue, ◌↔◌, length, get_or, map, refl, sym, ap, ap₂, ◌∙◌, arith, inl, inr}
-use Rattle.std.proofs.lemmas.List.{ext_get_or, get_or_past, get_or_append_left, get_or-append_right, get_or-map, length-map}
+use Rattle.std.proofs.Common.{◌≡◌, ◌+◌, ◌-◌, ◌<◌, ◌≤◌, ℕ, List, [], ◌∷◌, ◌++◌, Bool, true, false, ◌||◌, not, set, IsTrue, ◌↔◌, length, get_or, map, refl, sym, ap, ap₂, ◌∙◌, arith, inl, inr}
+use Rattle.std.proofs.lemmas.List.{append-nil, ext_get_or, get_or_past, get_or_append_left, get_or-append_right, get_or-map, length-map}
 use Rattle.std.proofs.lemmas.List.Elements.{All-from_get_or, All-head, All-tail}
 use Rattle.std.proofs.lemmas.Bool.{cases_lt}
 use Rattle.std.specs.Prelude.{MatchBool}
@@ -19,6 +19,12 @@ padded_at units n k =
       | inr outside ↦ get_or-append_right units (NULS (n - length units)) (length units) k 0 refl (omega arith)
           ∙ get_or-nuls (n - length units) (k - length units) ∙ sym (get_or_past units k 0 (omega arith))
     ]
+
+-- what is long enough isn't padded
+pub pad_full : (t : List ℕ) (n : ℕ) → n ≤ length t → pad t n ≡ t
+pad_full t n long =
+    let none : n - length t ≡ 0 = omega arith in
+    ap (λ m. t ++ NULS m) none ∙ append-nil t
 
 abbrev Tested : Bool → List ℕ → ℕ → ℕ → Type 0
 Tested is_bad units i j = MatchBool is_bad (¬ IsText units) ((k : ℕ) → i ≤ k → k < j → IsTextByte (get_or units k 0))

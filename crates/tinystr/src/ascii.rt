@@ -12,7 +12,7 @@ mod order;
 mod print;
 mod questions;
 
-use crate::copying::put;
+use crate::copying::{put, put_both};
 use crate::error::ParseError;
 use crate::reading::{fault_of_units, lossy_padded, read_all};
 use crate::words;
@@ -152,9 +152,8 @@ impl<const N: usize> TinyAsciiStr<N> {
         requires { IsTextByte replacement }
         ensures { result ≡ lossy (map U.number units.now) replacement N }
     {
-        let kept = &units[..N.min(units.len())];
         TinyAsciiStr {
-            bytes: lossy_padded(kept, replacement),
+            bytes: lossy_padded(units, replacement),
         }
     }
 
@@ -307,6 +306,12 @@ impl<const N: usize> TinyAsciiStr<N> {
         if Q <= 16 {
             let text = Aligned16::from_part(front).joined(&Aligned16::from_part(back));
             return TinyAsciiStr::<Q>::cut(&text.to_bytes());
+        }
+        if N % 8 == 0 && self.len() == N {
+            // both lengths are known when the program is built, so that no byte goes through memory
+            let mut bytes = [0; Q];
+            put_both(&mut bytes[..], &self.bytes[..], &other.bytes[..]);
+            return TinyAsciiStr { bytes };
         }
         let mut text = self.resize::<Q>();
         text.append(self.len().min(Q), &other.bytes[..]);

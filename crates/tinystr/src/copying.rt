@@ -16,3 +16,13 @@ pub fn put(bytes: &mut [u8], src: &[u8])
     }
     bytes[at..len].copy_from_slice(&src[at..len]);
 }
+
+/// Copies the bytes of one and then of another, as far as there is room.
+#[inline(always)]
+pub fn put_both(bytes: &mut [u8], front: &[u8], back: &[u8])
+    ensures { bytes.new ≡ take (length bytes.old) (front.now ++ back.now) ++ drop (length (front.now ++ back.now)) bytes.old }
+{
+    put(bytes, front);
+    let end = front.len().min(bytes.len());
+    put(&mut bytes[end..], back);
+}

@@ -2,7 +2,7 @@
 
 ghost use Rattle.std.specs.Prelude.{◌≡◌, ◌+◌, ◌*◌, ◌<◌, ◌≤◌, ◌↔◌, ℕ, map, length, IsTrue, MatchBool, option_map, if◌then◌else◌};
 ghost use Rattle.tinystr_words.specs.Text.{pad, IsText, IsTextByte};
-ghost use Rattle.tinystr_words.specs.Reading.{first_fault, fault_in, lossy_byte};
+ghost use Rattle.tinystr_words.specs.Reading.{first_fault, fault_in, lossy, lossy_byte};
 ghost use Rattle.tinystr.specs.Error.{fault_of};
 ghost use Rattle.tinystr.specs.Reading.{IsReadPart};
 
@@ -100,19 +100,27 @@ pub fn read_all<U: Unit>(bytes: &mut [u8], units: &[U], replacement: u8) -> bool
     }
 }
 
-/// The units, with the replacement for each that is no character, and then NULs.
+// `N` units in an array of their own, which the compiler keeps in registers.
 #[inline(always)]
-pub fn lossy_padded<U: Unit, const N: usize>(units: &[U], replacement: u8) -> [u8; N]
-    requires { length units.now ≤ N }
-    ensures { result ≡ pad (map (lossy_byte replacement) (map U.number units.now)) N }
+fn lossy_chunk<U: Unit, const N: usize>(units: &[U], replacement: u8) -> [u8; N]
+    requires { length units.now ≡ N }
+    ensures { result ≡ map (lossy_byte replacement) (map U.number units.now) }
 {
     let mut bytes = [0; N];
-    if units.len() == N {
-        // a part of a known length, which nothing overlaps
-        read_part::<U, N>(&mut bytes[..], units, replacement, 0);
-    } else {
-        read_all(&mut bytes[..], units, replacement);
+    read_part::<U, N>(&mut bytes[..], units, replacement, 0);
+    bytes
+}
+
+/// The first `N` units, with the replacement for each that is no character, and then NULs.
+#[inline(always)]
+pub fn lossy_padded<U: Unit, const N: usize>(units: &[U], replacement: u8) -> [u8; N]
+    ensures { result ≡ pad (lossy (map U.number units.now) replacement N) N }
+{
+    if units.len() >= N {
+        return lossy_chunk(&units[..N], replacement);
     }
+    let mut bytes = [0; N];
+    read_all(&mut bytes[..], units, replacement);
     bytes
 }
 

@@ -1,4 +1,6 @@
-use Rattle.std.proofs.Common.{◌++◌, ◌∙◌, List, ℕ, take, ap, ap₂, arith}
+use Rattle.std.proofs.Common.{◌≡◌, ◌++◌, ◌∙◌, List, ℕ, length, take, ap, ap₂, sym, subst, rules, arith}
+use Rattle.tinystr_words.specs.Text.{IsPaddedText, text_of}
+use Rattle.tinystr.proofs.Copies.{both_copied}
 use Rattle.tinystr.proofs.Fronts.{front_padded, fronts_joined}
 use Rattle.tinystr.proofs.ascii.TinyAsciiStr.concat.Goals as goal
 
@@ -27,3 +29,19 @@ returns-then-this-le16 g c =
     ∙ ap₂ (λ (a b : List ℕ). take 16 (a ++ b)) c.from_part-then-this-le16.ensures c.from_part-then-this-le16-2.ensures)
     ∙ fronts_joined c.self.inside.bytes c.other.inside.bytes g.row.N g.row.M c.min.result c.min-2.result g.row.Q 16 c.self.invariant c.other.invariant c.min.ensures c.min-2.ensures c.if-this-le16.true
     ∙ ap₂ (λ (a b : List ℕ). take g.row.Q (a ++ b)) c.self.view_is c.other.view_is
+
+full_put : (g : _) (c : goal.After-bytes-then-len-1 g)
+    → IsPaddedText c.put_both.new.bytes g.row.Q × (text_of c.put_both.new.bytes ≡ take g.row.Q (text_of c.self.inside.bytes ++ text_of c.other.inside.bytes))
+full_put g c =
+    let front : length c.self.inside.bytes ≡ g.row.N = search rules in
+    let back : length c.other.inside.bytes ≡ g.row.M = search rules in
+    both_copied c.put_both.new.bytes c.self.inside.bytes c.other.inside.bytes g.row.Q
+    (subst (λ n. IsPaddedText c.self.inside.bytes n) (sym front) c.self.invariant)
+    (front ∙ sym c.if-len.true ∙ c.len.ensures.len ∙ ap length (sym c.self.view_is))
+    (subst (λ n. IsPaddedText c.other.inside.bytes n) (sym back) c.other.invariant) c.put_both.ensures
+
+pub invariant_of-result : goal.invariant_of-result
+invariant_of-result g c = (full_put g c).0
+
+pub returns-then-len : goal.returns-then-len
+returns-then-len g c = (full_put g c).1 ∙ ap₂ (λ (a b : List ℕ). take g.row.Q (a ++ b)) c.self.view_is c.other.view_is
