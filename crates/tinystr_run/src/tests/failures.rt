@@ -4,57 +4,70 @@ ghost use Rattle.std.specs.Prelude.{Some};
 
 use super::{INPUT, OUTPUT};
 use crate::engine::{RunError, run};
+use std::alloc::Global;
 use std::io::{self, ErrorKind, Read, Write};
 use std::test::Fail;
 
-/// Gives one byte a read, and fails at the read after so many.
+// The kinds of error that a caller may take for passing, and another.
+const KINDS: [ErrorKind; 3] = [
+    ErrorKind::Interrupted,
+    ErrorKind::WouldBlock,
+    ErrorKind::Other,
+];
+
+/// Gives one byte a read, fails at the read after so many, and would go on after it.
 #[derive(Drop)]
 struct FailingReader<'a> {
     bytes: &'a [u8],
-    reads_left: usize,
+    failing_read: usize,
     kind: ErrorKind,
+    reads: usize,
 }
 
 impl Read for FailingReader<'_> {
     ghost remaining = { λ r. Some r.bytes.now };
 
     fn read(&mut self, buf: &mut [u8]) -> io::Result<usize> {
-        if self.reads_left == 0 {
+        let read = self.reads;
+        self.reads = read.saturating_add(1);
+        if read == self.failing_read {
             return Err(self.kind.into());
         }
-        self.reads_left -= 1;
         let room = buf.len().min(1);
         self.bytes.read(&mut buf[..room])
     }
 }
 
 /// What a `FailingWriter` answers where it fails.
-#[derive(Clone, Copy, Drop)]
+#[derive(Clone, Copy, Debug, Drop)]
 enum Fault {
     Error(ErrorKind),
     TakesNothing,
 }
 
-/// Takes one byte a write, and fails at the write after so many, or at the flush.
+/// Takes one byte a write, fails at the write after so many, or at the first flush, and would go on after it.
 #[derive(Drop)]
 struct FailingWriter {
     taken: Vec<u8>,
-    writes_left: usize,
+    failing_write: usize,
     fault: Fault,
     flush_error: Option<ErrorKind>,
+    writes: usize,
+    flushes: usize,
 }
 
 impl Write for FailingWriter {
     ghost contents = { λ w. Some w.taken.items };
 
     fn write(&mut self, buf: &[u8]) -> io::Result<usize> {
-        if self.writes_left == 0 {
+        let write = self.writes;
+        self.writes = write.saturating_add(1);
+        if write == self.failing_write {
             return match self.fault {
                 Fault::Error(kind) => Err(kind.into()),
                 Fault::TakesNothing => Ok(0),
             };
         }
-        self.writes_left -= 1;
         if buf.is_empty() {
             return Ok(0);
         }
@@ -63,63 +76,93 @@ impl Write for FailingWriter {
     }
 
     fn flush(&mut self) -> io::Result<()> {
-        match self.flush_error {
+        self.flushes = self.flushes.saturating_add(1);
+        match self.flush_error.take() {
             Some(kind) => Err(kind.into()),
             None => Ok(()),
         }
     }
 }
 
-#[test]
-fn a_failed_read_writes_nothing(rt: HostRuntime) -> Result<(), Fail> {
-    for kind in [ErrorKind::Interrupted, ErrorKind::Other] {
-        // The last read finds the end.
-        for reads_left in 0..INPUT.len() + 2 {
-            let mut reader = FailingReader {
-                bytes: INPUT,
-                reads_left,
-                kind,
-            };
-            let mut out = Vec::new(rt.alloc());
-            let outcome = run(rt.alloc(), &mut reader, &mut out);
-            if reads_left <= INPUT.len() {
-                assert!(rt; matches!(outcome, Err(RunError::Read)));
-                assert!(rt; out.is_empty());
-            } else {
-                outcome?;
-                assert_eq!(rt; out.as_slice(), OUTPUT);
-            }
-        }
+// Whether a run asks for no read after the failing one and writes nothing, or writes all where no read fails.
+fn ends_at_the_failing_read(alloc: Global, failing_read: usize, kind: ErrorKind) -> bool {
+    let mut reader = FailingReader {
+        bytes: INPUT,
+        failing_read,
+        kind,
+        reads: 0,
+    };
+    let mut out = Vec::new(alloc);
+    let outcome = run(alloc, &mut reader, &mut out);
+    // The last read finds the end.
+    if failing_read <= INPUT.len() {
+        matches!(outcome, Err(RunError::Read)) && reader.reads == failing_read + 1 && out.is_empty()
+    } else {
+        outcome.is_ok() && reader.reads == INPUT.len() + 1 && out.as_slice() == OUTPUT
     }
-    Ok(())
 }
 
 #[test]
-fn a_failed_write_or_flush_leaves_a_beginning(rt: HostRuntime) -> Result<(), Fail> {
+fn a_failed_read_writes_nothing(rt: HostRuntime) {
+    for kind in KINDS {
+        for failing_read in 0..INPUT.len() + 2 {
+            let ends = ends_at_the_failing_read(rt.alloc(), failing_read, kind);
+            assert!(rt; ends, "{kind:?} at read {failing_read}");
+        }
+    }
+}
+
+// Whether a run asks for nothing after the failing write or flush, or for one flush where none fails, and has written
+// what the writer took.
+fn ends_at_the_failing_write(
+    alloc: Global,
+    failing_write: usize,
+    fault: Fault,
+    flush_error: Option<ErrorKind>,
+) -> bool {
+    let mut writer = FailingWriter {
+        taken: Vec::new(alloc),
+        failing_write,
+        fault,
+        flush_error,
+        writes: 0,
+        flushes: 0,
+    };
+    let outcome = run(alloc, &mut &INPUT[..], &mut writer);
+    let taken = writer.taken.as_slice();
+    if failing_write < OUTPUT.len() {
+        matches!(outcome, Err(RunError::Write))
+            && taken == &OUTPUT[..failing_write]
+            && writer.writes == failing_write + 1
+            && writer.flushes == 0
+    } else {
+        let answers = match outcome {
+            Ok(()) => flush_error.is_none(),
+            Err(RunError::Write) => flush_error.is_some(),
+            Err(_) => false,
+        };
+        answers && taken == OUTPUT && writer.writes == OUTPUT.len() && writer.flushes == 1
+    }
+}
+
+#[test]
+fn a_failed_write_or_flush_leaves_a_beginning(rt: HostRuntime) {
     for fault in [
         Fault::Error(ErrorKind::Interrupted),
+        Fault::Error(ErrorKind::WouldBlock),
         Fault::Error(ErrorKind::Other),
         Fault::TakesNothing,
     ] {
-        for writes_left in 0..OUTPUT.len() + 1 {
-            for flush_error in [None, Some(ErrorKind::Interrupted), Some(ErrorKind::Other)] {
-                let mut writer = FailingWriter {
-                    taken: Vec::new(rt.alloc()),
-                    writes_left,
-                    fault,
-                    flush_error,
-                };
-                let outcome = run(rt.alloc(), &mut &INPUT[..], &mut writer);
-                if writes_left < OUTPUT.len() || flush_error.is_some() {
-                    assert!(rt; matches!(outcome, Err(RunError::Write)));
-                } else {
-                    outcome?;
-                }
-                assert_eq!(rt; writer.taken.as_slice(), &OUTPUT[..writes_left]);
+        for flush_error in [None, Some(KINDS[0]), Some(KINDS[1]), Some(KINDS[2])] {
+            for failing_write in 0..OUTPUT.len() + 1 {
+                let ends = ends_at_the_failing_write(rt.alloc(), failing_write, fault, flush_error);
+                assert!(rt;
+                    ends,
+                    "{fault:?} at write {failing_write}, {flush_error:?} at the flush"
+                );
             }
         }
     }
-    Ok(())
 }
 
 // For `rt try --test --fail-alloc N`, which refuses the growth N: then nothing is written and the answer is `Memory`.

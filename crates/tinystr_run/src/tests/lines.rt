@@ -1,150 +1,202 @@
 //! Each line and its reply.
 
 use super::{INPUT, OUTPUT, output};
+use crate::engine::RunError;
+use std::alloc::Global;
+use std::process::Abort;
 use std::test::Fail;
+
+// Whether what stands before the row's first tab gets what stands after it.
+fn is_answered(alloc: Global, row: &[u8]) -> Result<bool, RunError> {
+    let mut parts = row.splitn(2, |byte| *byte == b'\t');
+    let (Some(input), Some(replies)) = (parts.next(), parts.next()) else {
+        return Ok(false);
+    };
+    Ok(output(alloc, input)?.as_slice() == replies)
+}
+
+fn check(rt: &impl Abort, alloc: Global, row: &[u8]) -> Result<(), RunError> {
+    assert!(rt; is_answered(alloc, row)?, "{}", row.escape_ascii());
+    Ok(())
+}
+
+// Each row is a line, a tab and the reply, and ends at a line feed.
+fn check_rows(rt: &impl Abort, alloc: Global, rows: &[u8]) -> Result<(), RunError> {
+    for row in rows.split_inclusive(|byte| *byte == b'\n') {
+        check(rt, alloc, row)?;
+    }
+    Ok(())
+}
 
 #[test]
 fn replies_to_every_line(rt: HostRuntime) -> Result<(), Fail> {
-    for (input, replies) in [
-        (&b""[..], &b""[..]),
-        (b"\n\n", b"bad line\nbad line\n"),
-        (b"4 len abc", b"3\n"),
-        (b"4 len abc\n", b"3\n"),
-        (
-            b"4 lower tEsT\n4 text abcde\n16 len MacintoshOSX2019\n0 text\n",
-            b"test\ntoo long 5 > 4\n16\n\n",
-        ),
-        (INPUT, OUTPUT),
+    for row in [
+        &b"\t"[..],
+        b"\n\n\tbad line\nbad line\n",
+        b"4 len abc\t3\n",
+        b"4 len abc\n\t3\n",
+        b"4 lower tEsT\n4 text abcde\n16 len MacintoshOSX2019\n0 text\n\ttest\ntoo long 5 > 4\n16\n\n",
     ] {
-        assert_eq!(rt; output(rt.alloc(), input)?.as_slice(), replies, "{input:?}");
+        check(&rt, rt.alloc(), row)?;
     }
+    assert!(rt; output(rt.alloc(), INPUT)?.as_slice() == OUTPUT);
     Ok(())
 }
 
 #[test]
 fn a_line_is_cut_at_its_first_two_spaces(rt: HostRuntime) -> Result<(), Fail> {
-    for (line, reply) in [
-        (&b"4"[..], &b"bad line\n"[..]),
-        (b"\0", b"bad line\n"),
-        (b"\r", b"bad line\n"),
-        (b"   ", b"bad capacity\n"),
-        (b" 4 len a", b"bad capacity\n"),
-        (b"4 ", b"bad command\n"),
-        (b"4  len a", b"bad command\n"),
-        (b"4 text  a", b" a\n"),
-        (b"4 len abc\r", b"4\n"),
-        (b"8 upper New York", b"NEW YORK\n"),
-    ] {
-        assert_eq!(rt; output(rt.alloc(), line)?.as_slice(), reply, "{line:?}");
-    }
+    let rows = b"4\tbad line
+\0\tbad line
+\r\tbad line
+   \tbad capacity
+ 4 len a\tbad capacity
+4 \tbad command
+4  len a\tbad command
+4 text  a\t a
+4 len abc\r\t4
+8 upper New York\tNEW YORK
+";
+    check_rows(&rt, rt.alloc(), rows)?;
     Ok(())
 }
 
 #[test]
 fn the_capacity_is_tested_then_the_command_then_the_text(rt: HostRuntime) -> Result<(), Fail> {
-    for (line, reply) in [
-        (&b"7 shout"[..], &b"bad capacity\n"[..]),
-        (b"0 shout", b"bad command\n"),
-        (b"4 shout abcde", b"bad command\n"),
-        (b"4 LEN a", b"bad command\n"),
-        (b"0 len a", b"too long 1 > 0\n"),
-        (b"4 len \x80\x80\x80\x80\x80", b"too long 5 > 4\n"),
-        (
-            b"32 len aaaaaaaaaaaaaaaaaaaaaaaaaaaaaaaaa",
-            b"too long 33 > 32\n",
-        ),
-        (b"4 len \xFF", b"non ascii\n"),
-        (b"4 text \0\x80", b"non ascii\n"),
-        (b"4 text a\0", b"contains null\n"),
-    ] {
-        assert_eq!(rt; output(rt.alloc(), line)?.as_slice(), reply, "{line:?}");
-    }
+    let rows = b"7 shout\tbad capacity
+0 shout\tbad command
+4 shout abcde\tbad command
+4 LEN a\tbad command
+0 len a\ttoo long 1 > 0
+4 len \x80\x80\x80\x80\x80\ttoo long 5 > 4
+32 len aaaaaaaaaaaaaaaaaaaaaaaaaaaaaaaaa\ttoo long 33 > 32
+4 len \xFF\tnon ascii
+4 text \0\x80\tnon ascii
+4 text a\0\tcontains null
+";
+    check_rows(&rt, rt.alloc(), rows)?;
     Ok(())
 }
 
 #[test]
 fn a_capacity_is_spelled_in_one_way(rt: HostRuntime) -> Result<(), Fail> {
-    for (line, reply) in [
-        (&b"0 len"[..], &b"0\n"[..]),
-        (b"1 len a", b"1\n"),
-        (b"2 len a", b"1\n"),
-        (b"3 len a", b"1\n"),
-        (b"4 len a", b"1\n"),
-        (b"5 len a", b"1\n"),
-        (b"8 len a", b"1\n"),
-        (b"9 len a", b"1\n"),
-        (b"16 len a", b"1\n"),
-        (b"17 len MacintoshOSX2019", b"16\n"),
-        (b"32 text abc", b"abc\n"),
-        (b"04 len a", b"bad capacity\n"),
-        (b"+4 len a", b"bad capacity\n"),
-        (b"7 len a", b"bad capacity\n"),
-        (b"64 len a", b"bad capacity\n"),
-        (b"99999999999999999999 len a", b"bad capacity\n"),
+    let rows = b"0 len\t0
+1 len a\t1
+2 len a\t1
+3 len a\t1
+4 len a\t1
+5 len a\t1
+8 len a\t1
+9 len a\t1
+16 len a\t1
+17 len MacintoshOSX2019\t16
+32 text abc\tabc
+04 len a\tbad capacity
+032 len a\tbad capacity
++4 len a\tbad capacity
+6 len a\tbad capacity
+7 len a\tbad capacity
+10 len a\tbad capacity
+12 len a\tbad capacity
+15 len a\tbad capacity
+18 len a\tbad capacity
+31 len a\tbad capacity
+33 len a\tbad capacity
+64 len a\tbad capacity
+99999999999999999999 len a\tbad capacity
+";
+    check_rows(&rt, rt.alloc(), rows)?;
+    Ok(())
+}
+
+#[test]
+fn each_capacity_holds_as_many_characters_as_it_says(rt: HostRuntime) -> Result<(), Fail> {
+    let letters = "aaaaaaaaaaaaaaaaaaaaaaaaaaaaaaaaa";
+    for capacity in "0 1 2 3 4 5 8 9 16 17 32".split(' ') {
+        let row = format!(in rt.alloc(); "{capacity} len {letters}\ttoo long 33 > {capacity}\n")?;
+        check(&rt, rt.alloc(), row.as_bytes())?;
+    }
+    Ok(())
+}
+
+#[test]
+fn each_question_answers_for_itself(rt: HostRuntime) -> Result<(), Fail> {
+    let questions = "alphabetic alphanumeric numeric lowercase titlecase uppercase \
+        alphabetic_lowercase alphabetic_titlecase alphabetic_uppercase";
+    // The answers to one question are those to no other.
+    for (text, answers) in [
+        ("tEsT", "yynnnnnnn"),
+        ("419", "nyyyyynnn"),
+        ("AR", "yynnnynny"),
+        ("Hans", "yynnynnyn"),
+        ("en", "yynynnynn"),
     ] {
-        assert_eq!(rt; output(rt.alloc(), line)?.as_slice(), reply, "{line:?}");
+        for (question, answer) in questions.split(' ').zip(answers.as_bytes()) {
+            let reply = if *answer == b'y' { "true" } else { "false" };
+            let row = format!(in rt.alloc(); "4 {question} {text}\t{reply}\n")?;
+            check(&rt, rt.alloc(), row.as_bytes())?;
+        }
     }
     Ok(())
 }
 
 #[test]
 fn each_command_calls_its_own_function(rt: HostRuntime) -> Result<(), Fail> {
-    for (line, reply) in [
-        (&b"4 lower tEsT"[..], &b"test\n"[..]),
-        (b"4 title tEsT", b"Test\n"),
-        (b"4 upper tEsT", b"TEST\n"),
-        (b"4 alphanumeric tEsT", b"true\n"),
-        (b"4 numeric tEsT", b"false\n"),
-        (b"16 title MacintoshOSX2019", b"Macintoshosx2019\n"),
-        (b"17 alphabetic MacintoshOSX2019", b"false\n"),
-        (b"4 lowercase 001z", b"true\n"),
-        (b"4 uppercase 001z", b"false\n"),
-        (b"8 titlecase 001z", b"true\n"),
-        (b"8 alphabetic_titlecase 001z", b"false\n"),
-        (b"17 title abcdefghijklmnopq", b"Abcdefghijklmnopq\n"),
-        (b"32 alphabetic_lowercase abcdefghijklmnopq", b"true\n"),
-        (b"32 alphabetic_titlecase Abcdefghijklmnopq", b"true\n"),
-        (b"4 alphabetic_uppercase \x7F\x7F\x7F\x7F", b"false\n"),
-        (b"0 uppercase", b"true\n"),
-    ] {
-        assert_eq!(rt; output(rt.alloc(), line)?.as_slice(), reply, "{line:?}");
-    }
+    let rows = b"4 lower tEsT\ttest
+4 title tEsT\tTest
+4 upper tEsT\tTEST
+8 lower Hans\thans
+8 title Hans\tHans
+8 upper Hans\tHANS
+17 lower MacintoshOSX2019\tmacintoshosx2019
+17 title MacintoshOSX2019\tMacintoshosx2019
+17 upper MacintoshOSX2019\tMACINTOSHOSX2019
+4 alphanumeric tEsT\ttrue
+4 numeric tEsT\tfalse
+16 title MacintoshOSX2019\tMacintoshosx2019
+17 alphabetic MacintoshOSX2019\tfalse
+4 lowercase 001z\ttrue
+4 uppercase 001z\tfalse
+8 titlecase 001z\ttrue
+8 alphabetic_titlecase 001z\tfalse
+17 title abcdefghijklmnopq\tAbcdefghijklmnopq
+32 alphabetic_lowercase abcdefghijklmnopq\ttrue
+32 alphabetic_titlecase Abcdefghijklmnopq\ttrue
+4 alphabetic_uppercase \x7F\x7F\x7F\x7F\tfalse
+0 uppercase\ttrue
+";
+    check_rows(&rt, rt.alloc(), rows)?;
     Ok(())
 }
 
 #[test]
 fn the_lossy_reader_refuses_nothing(rt: HostRuntime) -> Result<(), Fail> {
-    for (line, reply) in [
-        (&b"2 lossy toolong"[..], &b"to\n"[..]),
-        (b"0 lossy abc", b"\n"),
-        (b"4 lossy \x61\0\xC3\xA9\x7A", b"a???\n"),
-        (b"4 lossy oh\0o", b"oh?o\n"),
-        (b"4 lossy \x61\x80\xFF\x31", b"a??1\n"),
-        (b"7 lossy a", b"bad capacity\n"),
-    ] {
-        assert_eq!(rt; output(rt.alloc(), line)?.as_slice(), reply, "{line:?}");
-    }
+    let rows = b"2 lossy toolong\tto
+0 lossy abc\t
+4 lossy \x61\0\xC3\xA9\x7A\ta???
+4 lossy oh\0o\toh?o
+4 lossy \x61\x80\xFF\x31\ta??1
+7 lossy a\tbad capacity
+";
+    check_rows(&rt, rt.alloc(), rows)?;
     Ok(())
 }
 
 #[test]
 fn packed_records_are_counted_or_the_first_bad_one_is_named(rt: HostRuntime) -> Result<(), Fail> {
-    for (line, reply) in [
-        (&b"3 records GBPUSD"[..], &b"ok 2\n"[..]),
-        (b"3 records", b"ok 0\n"),
-        (b"1 records \0\0\0", b"ok 3\n"),
-        (b"3 records GBPUSDx", b"bad length 7\n"),
-        (b"32 records abc", b"bad length 3\n"),
-        (b"2 records ab\x80", b"bad length 3\n"),
-        (b"3 records GB\0\0A\0", b"bad record 1 contains null\n"),
-        (b"1 records \x80", b"bad record 0 non ascii\n"),
-        (b"2 records ab\0\x80\x80a", b"bad record 1 non ascii\n"),
-        (b"0 records", b"bad capacity\n"),
-        (b"0 records ab", b"bad capacity\n"),
-        (b"7 records ab", b"bad capacity\n"),
-    ] {
-        assert_eq!(rt; output(rt.alloc(), line)?.as_slice(), reply, "{line:?}");
-    }
+    let rows = b"3 records GBPUSD\tok 2
+3 records\tok 0
+1 records \0\0\0\tok 3
+3 records GBPUSDx\tbad length 7
+32 records abc\tbad length 3
+2 records ab\x80\tbad length 3
+3 records GB\0\0A\0\tbad record 1 contains null
+1 records \x80\tbad record 0 non ascii
+2 records ab\0\x80\x80a\tbad record 1 non ascii
+0 records\tbad capacity
+0 records ab\tbad capacity
+7 records ab\tbad capacity
+";
+    check_rows(&rt, rt.alloc(), rows)?;
     Ok(())
 }
 
@@ -152,18 +204,16 @@ fn packed_records_are_counted_or_the_first_bad_one_is_named(rt: HostRuntime) -> 
 fn a_language_identifier_gets_its_canonical_text_at_any_capacity(
     rt: HostRuntime,
 ) -> Result<(), Fail> {
-    for (line, reply) in [
-        (&b"4 locale EN_latn-us"[..], &b"en-Latn-US\n"[..]),
-        (b"0 locale es-419", b"es-419\n"),
-        (b"32 locale abcdefgh-Latn-419", b"abcdefgh-Latn-419\n"),
-        (b"7 locale en", b"bad capacity\n"),
-        (b"4 locale", b"invalid language\n"),
-        (b"4 locale en US", b"invalid language\n"),
-        (b"4 locale en\x80", b"invalid language\n"),
-        (b"4 locale en-US\0", b"invalid subtag\n"),
-        (b"17 locale en--US", b"invalid subtag\n"),
-    ] {
-        assert_eq!(rt; output(rt.alloc(), line)?.as_slice(), reply, "{line:?}");
-    }
+    let rows = b"4 locale EN_latn-us\ten-Latn-US
+0 locale es-419\tes-419
+32 locale abcdefgh-Latn-419\tabcdefgh-Latn-419
+7 locale en\tbad capacity
+4 locale\tinvalid language
+4 locale en US\tinvalid language
+4 locale en\x80\tinvalid language
+4 locale en-US\0\tinvalid subtag
+17 locale en--US\tinvalid subtag
+";
+    check_rows(&rt, rt.alloc(), rows)?;
     Ok(())
 }
