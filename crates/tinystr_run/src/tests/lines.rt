@@ -2,7 +2,7 @@
 
 use super::{INPUT, OUTPUT, output};
 use crate::engine::RunError;
-use std::alloc::Global;
+use std::alloc::{AllocError, Global};
 use std::process::Abort;
 use std::test::Fail;
 
@@ -110,19 +110,58 @@ fn a_capacity_is_spelled_in_one_way(rt: HostRuntime) -> Result<(), Fail> {
 
 #[test]
 fn each_capacity_holds_as_many_characters_as_it_says(rt: HostRuntime) -> Result<(), Fail> {
-    let letters = "aaaaaaaaaaaaaaaaaaaaaaaaaaaaaaaaa";
-    for capacity in "0 1 2 3 4 5 8 9 16 17 32".split(' ') {
-        let row = format!(in rt.alloc(); "{capacity} len {letters}\ttoo long 33 > {capacity}\n")?;
-        check(&rt, rt.alloc(), row.as_bytes())?;
+    let rows = b"0 len aaaaaaaaaaaaaaaaaaaaaaaaaaaaaaaaa\ttoo long 33 > 0
+1 len aaaaaaaaaaaaaaaaaaaaaaaaaaaaaaaaa\ttoo long 33 > 1
+2 len aaaaaaaaaaaaaaaaaaaaaaaaaaaaaaaaa\ttoo long 33 > 2
+3 len aaaaaaaaaaaaaaaaaaaaaaaaaaaaaaaaa\ttoo long 33 > 3
+4 len aaaaaaaaaaaaaaaaaaaaaaaaaaaaaaaaa\ttoo long 33 > 4
+5 len aaaaaaaaaaaaaaaaaaaaaaaaaaaaaaaaa\ttoo long 33 > 5
+8 len aaaaaaaaaaaaaaaaaaaaaaaaaaaaaaaaa\ttoo long 33 > 8
+9 len aaaaaaaaaaaaaaaaaaaaaaaaaaaaaaaaa\ttoo long 33 > 9
+16 len aaaaaaaaaaaaaaaaaaaaaaaaaaaaaaaaa\ttoo long 33 > 16
+17 len aaaaaaaaaaaaaaaaaaaaaaaaaaaaaaaaa\ttoo long 33 > 17
+32 len aaaaaaaaaaaaaaaaaaaaaaaaaaaaaaaaa\ttoo long 33 > 32
+";
+    check_rows(&rt, rt.alloc(), rows)?;
+    Ok(())
+}
+
+// The row of a question about a text; the letter y stands for `true`.
+fn question_row(
+    alloc: Global,
+    question: &str,
+    text: &str,
+    letter: u8,
+) -> Result<Vec<u8>, AllocError> {
+    let mut row = b"4 ".to_vec(alloc)?;
+    row.extend_from_slice(question.as_bytes())?;
+    row.extend_from_slice(b" ")?;
+    row.extend_from_slice(text.as_bytes())?;
+    row.extend_from_slice(if letter == b'y' {
+        b"\ttrue\n"
+    } else {
+        b"\tfalse\n"
+    })?;
+    Ok(row)
+}
+
+fn check_questions(
+    rt: &impl Abort,
+    alloc: Global,
+    text: &str,
+    answers: &str,
+) -> Result<(), RunError> {
+    let questions = "alphabetic alphanumeric numeric lowercase titlecase uppercase \
+        alphabetic_lowercase alphabetic_titlecase alphabetic_uppercase";
+    for (question, letter) in questions.split(' ').zip(answers.as_bytes()) {
+        check(rt, alloc, &question_row(alloc, question, text, *letter)?)?;
     }
     Ok(())
 }
 
 #[test]
 fn each_question_answers_for_itself(rt: HostRuntime) -> Result<(), Fail> {
-    let questions = "alphabetic alphanumeric numeric lowercase titlecase uppercase \
-        alphabetic_lowercase alphabetic_titlecase alphabetic_uppercase";
-    // The answers to one question are those to no other.
+    // No two questions have the same answers.
     for (text, answers) in [
         ("tEsT", "yynnnnnnn"),
         ("419", "nyyyyynnn"),
@@ -130,11 +169,7 @@ fn each_question_answers_for_itself(rt: HostRuntime) -> Result<(), Fail> {
         ("Hans", "yynnynnyn"),
         ("en", "yynynnynn"),
     ] {
-        for (question, answer) in questions.split(' ').zip(answers.as_bytes()) {
-            let reply = if *answer == b'y' { "true" } else { "false" };
-            let row = format!(in rt.alloc(); "4 {question} {text}\t{reply}\n")?;
-            check(&rt, rt.alloc(), row.as_bytes())?;
-        }
+        check_questions(&rt, rt.alloc(), text, answers)?;
     }
     Ok(())
 }
