@@ -84,21 +84,45 @@ impl Write for FailingWriter {
     }
 }
 
-// Whether a run asks for no read after the failing one and writes nothing, or writes all where no read fails.
-fn ends_at_the_failing_read(alloc: Global, failing_read: usize, kind: ErrorKind) -> bool {
+// A read or write that none comes to.
+const NEVER: usize = usize::MAX;
+
+// Runs over a reader that fails so, and answers how often it was read, too.
+fn run_and_count_reads(
+    alloc: Global,
+    failing_read: usize,
+    kind: ErrorKind,
+    writer: &mut FailingWriter,
+) -> (Result<(), RunError>, usize) {
     let mut reader = FailingReader {
         bytes: INPUT,
         failing_read,
         kind,
         reads: 0,
     };
-    let mut out = Vec::new(alloc);
-    let outcome = run(alloc, &mut reader, &mut out);
+    let outcome = run(alloc, &mut reader, writer);
+    (outcome, reader.reads)
+}
+
+// Whether a run asks for nothing after the failing read, or writes all where no read fails.
+fn ends_at_the_failing_read(alloc: Global, failing_read: usize, kind: ErrorKind) -> bool {
+    let mut writer = FailingWriter {
+        taken: Vec::new(alloc),
+        failing_write: NEVER,
+        fault: Fault::TakesNothing,
+        flush_error: None,
+        writes: 0,
+        flushes: 0,
+    };
+    let (outcome, reads) = run_and_count_reads(alloc, failing_read, kind, &mut writer);
     // The last read finds the end.
     if failing_read <= INPUT.len() {
-        matches!(outcome, Err(RunError::Read)) && reader.reads == failing_read + 1 && out.is_empty()
+        matches!(outcome, Err(RunError::Read))
+            && reads == failing_read + 1
+            && writer.writes == 0
+            && writer.flushes == 0
     } else {
-        outcome.is_ok() && reader.reads == INPUT.len() + 1 && out.as_slice() == OUTPUT
+        outcome.is_ok() && reads == INPUT.len() + 1 && writer.taken.as_slice() == OUTPUT
     }
 }
 
@@ -128,7 +152,10 @@ fn ends_at_the_failing_write(
         writes: 0,
         flushes: 0,
     };
-    let outcome = run(alloc, &mut &INPUT[..], &mut writer);
+    let (outcome, reads) = run_and_count_reads(alloc, NEVER, ErrorKind::Other, &mut writer);
+    if reads != INPUT.len() + 1 {
+        return false;
+    }
     let taken = writer.taken.as_slice();
     if failing_write < OUTPUT.len() {
         matches!(outcome, Err(RunError::Write))
