@@ -17,6 +17,3 @@ pub use lang_id::LangId;
 pub use language::Language;
 pub use region::Region;
 pub use script::Script;
-
-#[cfg(test)]
-mod tests;

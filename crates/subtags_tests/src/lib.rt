@@ -1,0 +1,12 @@
+//! The tests of `subtags`, each over its public calls. They stand apart from it, since a crate with tests is proved once
+//! more with them.
+#![tactic(auto)]
+
+#[cfg(test)]
+mod order;
+#[cfg(test)]
+mod parts;
+#[cfg(test)]
+mod printing;
+#[cfg(test)]
+mod reading;

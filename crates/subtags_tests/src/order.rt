@@ -1,0 +1,68 @@
+//! Values, compared and cloned.
+
+use std::cmp::Ordering;
+use std::str::FromStr;
+use subtags::{LangId, LangIdError, Language, Region, Script};
+
+#[test]
+fn identifiers_compare_as_their_texts(rt: HostRuntime) {
+    assert!(rt; are_in_order::<LangId>("en en-Latn en-Latn-US en-US enx"));
+}
+
+#[test]
+fn parts_compare_as_their_texts(rt: HostRuntime) {
+    assert!(rt; are_in_order::<Language>("de en enx"));
+    assert!(rt; are_in_order::<Script>("Cyrl Hans Latn"));
+    assert!(rt; are_in_order::<Region>("001 419 DE US"));
+}
+
+/// Whether the words are values, each less than those behind it.
+fn are_in_order<T: FromStr<Err = LangIdError> + Ord + Drop>(words: &str) -> bool {
+    for (i, first) in words.split_whitespace().enumerate() {
+        for (j, second) in words.split_whitespace().enumerate() {
+            let (Ok(first), Ok(second)) = (first.parse::<T>(), second.parse::<T>()) else {
+                return false;
+            };
+            if !compare_as(&first, &second, i.cmp(&j)) {
+                return false;
+            }
+        }
+    }
+    true
+}
+
+fn compare_as<T: Ord>(a: &T, b: &T, order: Ordering) -> bool {
+    a.cmp(b) == order
+        && a.partial_cmp(b) == Some(order)
+        && (a < b) == (order == Ordering::Less)
+        && (a > b) == (order == Ordering::Greater)
+        && (a == b) == (order == Ordering::Equal)
+}
+
+#[test]
+fn spellings_of_one_identifier_are_equal(rt: HostRuntime) {
+    let (id, other) = ("EN_latn-us".parse::<LangId>(), "en-Latn_US".parse());
+    assert!(rt; id.is_ok() && id == other);
+}
+
+#[test]
+fn a_clone_is_its_original(rt: HostRuntime) {
+    assert!(rt; is_cloned::<LangId>("en") && is_cloned::<LangId>("zh-Hant-TW"));
+    assert!(rt; is_cloned::<Language>("en") && is_cloned::<Language>("abcdefgh"));
+    assert!(rt; is_cloned::<Script>("Latn") && is_cloned::<Script>("Hant"));
+    assert!(rt; is_cloned::<Region>("US") && is_cloned::<Region>("419"));
+}
+
+fn is_cloned<T: FromStr<Err = LangIdError> + Clone + PartialEq + Drop>(text: &str) -> bool {
+    text.parse::<T>().is_ok_and(|value| is_its_clone(&value))
+}
+
+fn is_its_clone<T: Clone + PartialEq + Drop>(value: &T) -> bool {
+    matches!(value.clone(), Ok(clone) if clone == *value)
+}
+
+#[test]
+fn errors_are_told_apart_and_cloned(rt: HostRuntime) {
+    let (language, subtag) = (LangIdError::InvalidLanguage, LangIdError::InvalidSubtag);
+    assert!(rt; language != subtag && is_its_clone(&language) && is_its_clone(&subtag));
+}

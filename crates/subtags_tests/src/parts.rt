@@ -1,0 +1,87 @@
+//! The parts, each read alone and those of an identifier.
+
+use std::str::FromStr;
+use subtags::{LangId, LangIdError, Language, Region, Script};
+
+#[test]
+fn each_part_has_its_form(rt: HostRuntime) {
+    let languages = "EN=en abcd= a= abcdef=abcdef abcdefg=abcdefg abcdefgh=abcdefgh abcdefghi=";
+    for row in languages.split_whitespace() {
+        assert!(rt; is_language_or_none(row), "{row}");
+    }
+    for row in "hANT=Hant Han1=".split_whitespace() {
+        assert!(rt; is_script_or_none(row), "{row}");
+    }
+    for row in "us=US 419=419 41= u1= u12= 1234=".split_whitespace() {
+        assert!(rt; is_region_or_none(row), "{row}");
+    }
+}
+
+/// Whether what stands before the `=` is read as the language behind it, or as none where nothing stands there.
+fn is_language_or_none(row: &str) -> bool {
+    let (input, text) = row.split_once('=').unwrap_or(("", row));
+    match Language::try_from_utf8(input.as_bytes()) {
+        Some(language) => language.as_str() == text,
+        None => text.is_empty(),
+    }
+}
+
+fn is_script_or_none(row: &str) -> bool {
+    let (input, text) = row.split_once('=').unwrap_or(("", row));
+    match Script::try_from_utf8(input.as_bytes()) {
+        Some(script) => script.as_str() == text,
+        None => text.is_empty(),
+    }
+}
+
+fn is_region_or_none(row: &str) -> bool {
+    let (input, text) = row.split_once('=').unwrap_or(("", row));
+    match Region::try_from_utf8(input.as_bytes()) {
+        Some(region) => region.as_str() == text,
+        None => text.is_empty(),
+    }
+}
+
+#[test]
+fn parts_of_another_form_are_not_parsed(rt: HostRuntime) {
+    assert!(rt; is_not_parsed::<Language>("abcd", LangIdError::InvalidLanguage));
+    assert!(rt; is_not_parsed::<Script>("abc", LangIdError::InvalidSubtag));
+    assert!(rt; is_not_parsed::<Region>("abc", LangIdError::InvalidSubtag));
+}
+
+fn is_not_parsed<T: FromStr<Err = LangIdError> + Drop>(text: &str, error: LangIdError) -> bool {
+    text.parse::<T>().err() == Some(error)
+}
+
+#[test]
+fn an_identifier_gives_its_parts(rt: HostRuntime) {
+    let rows = "en/en// es-419/es//419 EN_latn/en/Latn/ abcdefgh_hANT_tw/abcdefgh/Hant/TW";
+    for row in rows.split_whitespace() {
+        assert!(rt; has_its_parts(row), "{row}");
+    }
+}
+
+/// Whether the identifier in front has the language, the script and the region behind it, nothing for none.
+fn has_its_parts(row: &str) -> bool {
+    let mut words = row.split('/');
+    let Ok(id) = words.next().unwrap_or("").parse::<LangId>() else {
+        return false;
+    };
+    words.next() == Some(id.language().as_str())
+        && words.next().is_some_and(|text| is_script(id, text))
+        && words.next().is_some_and(|text| is_region(id, text))
+}
+
+fn is_script(id: LangId, text: &str) -> bool {
+    match id.script() {
+        Some(script) => script.as_str() == text,
+        None => text.is_empty(),
+    }
+}
+
+fn is_region(id: LangId, text: &str) -> bool {
+    match id.region() {
+        Some(region) => region.as_str() == text,
+        None => text.is_empty(),
+    }
+}
