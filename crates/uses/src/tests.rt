@@ -1,12 +1,13 @@
-//! Each caller, once, on what it finds and what it refuses.
+//! Each caller on what it finds and what it refuses, each refusal told by its case.
 
-use crate::currency::{places_of, set_places};
+use crate::currency::{Places, places_of, set_places};
 use crate::json::{id_of, through_json};
-use crate::keys::{add_key, has_key};
-use crate::locale::{is_same_locale, page_of};
+use crate::keys::{KeyError, Keys, add_key, has_key};
+use crate::locale::{Pages, is_same_locale, page_of};
 use crate::packed::record;
 use crate::script_code::is_script_code;
 use serde_json::Value;
+use std::alloc::Global;
 use std::collections::{BTreeMap, HashSet};
 use std::test::Fail;
 use subtags::LangId;
@@ -15,110 +16,149 @@ use tinystr::ule::UleError;
 use tinystr::{ParseError, TinyAsciiStr, TinyStr8};
 
 #[test]
-fn decimal_places_are_looked_up_by_code(rt: HostRuntime) -> Result<(), Fail> {
+fn decimal_places_are_looked_up_by_code(rt: HostRuntime) {
     let mut table = BTreeMap::new(rt.alloc());
-    for (code, places) in [("EUR", 2), ("JPY", 0), ("KWD", 3), ("EUR", 2)] {
-        set_places(&mut table, TinyAsciiStr::try_from_str(code)?, places)?;
+    for row in "EUR=2 JPY=0 KWD=3 EUR=2".split_whitespace() {
+        assert!(rt; is_set(&mut table, row), "{row}");
     }
-    assert_eq!(rt; table.len(), 3);
-    for (code, places) in [
-        ("EUR", Some(2)),
-        ("JPY", Some(0)),
-        ("eur", None),
-        ("EURO", None),
-    ] {
-        assert_eq!(rt; places_of(&table, code), places, "{code}");
+    assert!(rt; table.len() == 3);
+    for row in "EUR=2 JPY=0 KWD=3 eur= EURO=".split_whitespace() {
+        assert!(rt; has_its_places(&table, row), "{row}");
     }
-    Ok(())
+}
+
+fn is_set(table: &mut Places, row: &str) -> bool {
+    let Some((code, places)) = row.split_once('=') else {
+        return false;
+    };
+    match (TinyAsciiStr::try_from_str(code), places.parse()) {
+        (Ok(code), Ok(places)) => set_places(table, code, places).is_ok(),
+        _ => false,
+    }
+}
+
+/// Whether the code before the `=` has the places behind it, or none where nothing stands there.
+fn has_its_places(table: &Places, row: &str) -> bool {
+    let Some((code, places)) = row.split_once('=') else {
+        return false;
+    };
+    places_of(table, code) == places.parse().ok()
 }
 
 #[test]
-fn keys_are_asked_by_text(rt: HostRuntime) -> Result<(), Fail> {
+fn keys_are_asked_by_text(rt: HostRuntime) {
     let mut keys = HashSet::new(rt.alloc());
     assert!(rt; matches!(add_key(&mut keys, "en"), Ok(true)));
     assert!(rt; matches!(add_key(&mut keys, "en"), Ok(false)));
-    assert!(rt; add_key(&mut keys, "ninechars").is_err());
-    assert_eq!(rt; keys.len(), 1);
-    for (text, has) in [("en", true), ("EN", false), ("ninechars", false)] {
-        assert_eq!(rt; has_key(&keys, text), has, "{text}");
+    assert!(rt; keys.len() == 1 && has_key(&keys, "en"));
+    for text in "EN|ninechars||en\0|\u{e9}".split('|') {
+        assert!(rt; !has_key(&keys, text), "{text:?}");
     }
-    Ok(())
+}
+
+#[test]
+fn what_is_no_key_is_refused_for_its_fault(rt: HostRuntime) {
+    let mut keys = HashSet::new(rt.alloc());
+    let too_long = |len| ParseError::TooLong { max: 8, len };
+    assert!(rt; is_no_key(&mut keys, "ninechars", too_long(9)));
+    assert!(rt; is_no_key(&mut keys, "\0ninechars", too_long(10)));
+    assert!(rt; is_no_key(&mut keys, "en\0US", ParseError::ContainsNull));
+    assert!(rt; is_no_key(&mut keys, "caf\u{e9}", ParseError::NonAscii));
+    assert!(rt; keys.is_empty());
+}
+
+fn is_no_key(keys: &mut Keys, text: &str, fault: ParseError) -> bool {
+    matches!(add_key(keys, text), Err(KeyError::Text(found)) if found == fault)
 }
 
 #[test]
 fn records_are_read_in_place(rt: HostRuntime) {
     let file = b"Latnab\0\0Cyrl";
-    for (index, text) in [
-        (0, Some("Latn")),
-        (1, Some("ab")),
-        (2, Some("Cyrl")),
-        (3, None),
-    ] {
-        match record(file, index) {
-            Ok(Some(found)) => assert_eq!(rt; Some(found.as_str()), text),
-            found => assert!(rt; found.is_ok() && text.is_none()),
-        }
+    for (index, text) in "Latn ab Cyrl".split_whitespace().enumerate() {
+        assert!(rt; has_record(file, index, text), "{text}");
     }
-    assert!(rt; matches!(record(b"Latna", 0), Err(UleError::Length { len: 5 })));
-    assert!(rt;
-        matches!(
-            record(b"Latna\0b\0", 0),
-            Err(UleError::Parse {
-                index: 1,
-                fault: ParseError::ContainsNull
-            })
-        )
-    );
+    assert!(rt; record(file, 3) == Ok(None));
+}
+
+fn has_record(file: &[u8], index: usize, text: &str) -> bool {
+    matches!(record(file, index), Ok(Some(found)) if found.as_str() == text)
 }
 
 #[test]
-fn keys_are_found_in_json_and_come_back(rt: HostRuntime) -> Result<(), Fail> {
-    for (json, id) in [
-        ("{\"id\": \"en-US\"}", Ok("en-US")),
-        ("{\"id\": \"ninechars\"}", Err(JsonReadError::InvalidText)),
-        ("{\"id\": 7}", Err(JsonReadError::NotText)),
-        ("{}", Err(JsonReadError::NotText)),
-        ("\"en-US\"", Err(JsonReadError::NotText)),
-    ] {
-        match id_of(&Value::from_str(rt.alloc(), json)?) {
-            Ok(found) => assert_eq!(rt; Ok(found.as_str()), id),
-            Err(fault) => assert_eq!(rt; Err(fault), id),
-        }
+fn a_file_is_refused_for_its_length_or_its_first_bad_record(rt: HostRuntime) {
+    assert!(rt; is_refused(b"Latna", UleError::Length { len: 5 }));
+    assert!(rt; is_refused(b"\0a\x80", UleError::Length { len: 3 }));
+    let bad = |index, fault| UleError::Parse { index, fault };
+    let null = ParseError::ContainsNull;
+    let high = ParseError::NonAscii;
+    assert!(rt; is_refused(b"Latna\0b\0", bad(1, null)));
+    assert!(rt; is_refused(b"a\0b\0Lat\x80", bad(0, null)));
+    assert!(rt; is_refused(b"Lat\x80a\0b\0", bad(0, high)));
+    assert!(rt; is_refused(b"LatnCyrl\xff\0\0\0", bad(2, high)));
+}
+
+/// Whether each record of the file, and none past its end, is refused for the error.
+fn is_refused(file: &[u8], error: UleError) -> bool {
+    record(file, 0) == Err(error) && record(file, 1) == Err(error) && record(file, 9) == Err(error)
+}
+
+#[test]
+fn keys_are_found_in_json_and_come_back(rt: HostRuntime) {
+    let has_id = |json, id| has_id(rt.alloc(), json, id);
+    assert!(rt; has_id(r#"{"id": "en-US"}"#, Ok("en-US")));
+    assert!(rt; has_id(r#"{"key": "de", "id": ""}"#, Ok("")));
+    for json in r#"{"id": 7}|{"id": null}|{"id": ["en-US"]}|{}|"en-US"|["id"]"#.split('|') {
+        assert!(rt; has_id(json, Err(JsonReadError::NotText)), "{json}");
     }
-    let key = TinyStr8::try_from_str("en-US")?;
-    assert_eq!(rt; through_json(&key, rt.alloc())?, Ok(key));
-    Ok(())
+    for json in r#"{"id": "ninechars"}|{"id": "en\u0000US"}|{"id": "caf\u00e9"}"#.split('|') {
+        assert!(rt; has_id(json, Err(JsonReadError::InvalidText)), "{json}");
+    }
+    for text in "en-US||abcdefgh|\"\\/\n\u{1}\u{7f}".split('|') {
+        assert!(rt; comes_back(rt.alloc(), text), "{text:?}");
+    }
+}
+
+fn has_id(alloc: Global, json: &str, id: Result<&str, JsonReadError>) -> bool {
+    let Ok(value) = Value::from_str(alloc, json) else {
+        return false;
+    };
+    match id_of(&value) {
+        Ok(found) => id == Ok(found.as_str()),
+        Err(fault) => id == Err(fault),
+    }
+}
+
+fn comes_back(alloc: Global, text: &str) -> bool {
+    let Ok(key) = TinyStr8::try_from_str(text) else {
+        return false;
+    };
+    matches!(through_json(&key, alloc), Ok(Ok(back)) if back == key)
 }
 
 #[test]
 fn a_locale_is_one_in_any_spelling(rt: HostRuntime) -> Result<(), Fail> {
     let mut pages = BTreeMap::new(rt.alloc());
     pages.insert(LangId::try_from_utf8(b"zh-Hant-TW")?, 12)?;
-    for (tag, page) in [
-        ("zh-Hant-TW", Some(12)),
-        ("ZH_hant_tw", Some(12)),
-        ("zh-TW", None),
-        ("zh--TW", None),
-    ] {
-        assert_eq!(rt; page_of(&pages, tag.as_bytes()), page, "{tag}");
-        assert_eq!(rt;
-            is_same_locale(tag.as_bytes(), b"zh-hant-tw"),
-            page.is_some(),
-            "{tag}"
-        );
+    for tag in "zh-Hant-TW ZH_hant_tw".split_whitespace() {
+        assert!(rt; has_page(&pages, tag, Some(12)), "{tag}");
+    }
+    for tag in "zh-TW zh--TW".split_whitespace() {
+        assert!(rt; has_page(&pages, tag, None), "{tag}");
     }
     assert!(rt; !is_same_locale(b"zh--TW", b"zh--TW"));
     Ok(())
 }
 
+/// Whether the tag has the page, and names the locale of the page where it has one.
+fn has_page(pages: &Pages, tag: &str, page: Option<u32>) -> bool {
+    page_of(pages, tag.as_bytes()) == page
+        && is_same_locale(tag.as_bytes(), b"zh-hant-tw") == page.is_some()
+}
+
 #[test]
 fn script_codes_are_asked_as_words(rt: HostRuntime) {
-    for (code, is_code) in [
-        (b"Latn", true),
-        (b"latn", false),
-        (b"Lat\0", false),
-        (b"\0\0\0\0", false),
-    ] {
-        assert_eq!(rt; is_script_code(code), is_code, "{code:?}");
-    }
+    assert!(rt; is_script_code(b"Latn"));
+    assert!(rt; !is_script_code(b"latn"), "in lower case");
+    assert!(rt; !is_script_code(b"Lat\0"), "too short");
+    assert!(rt; !is_script_code(b"\0\0\0\0"), "empty");
 }
