@@ -48,12 +48,17 @@ fn has_its_places(table: &Places, row: &str) -> bool {
 #[test]
 fn keys_are_asked_by_text(rt: HostRuntime) {
     let mut keys = HashSet::new(rt.alloc());
-    assert!(rt; matches!(add_key(&mut keys, "en"), Ok(true)));
-    assert!(rt; matches!(add_key(&mut keys, "en"), Ok(false)));
+    assert!(rt; is_key(&mut keys, "en", true));
+    assert!(rt; is_key(&mut keys, "en", false));
     assert!(rt; keys.len() == 1 && has_key(&keys, "en"));
     for text in "EN|ninechars||en\0|\u{e9}".split('|') {
         assert!(rt; !has_key(&keys, text), "{text:?}");
     }
+}
+
+/// Whether the text is a key, and is added where it is new.
+fn is_key(keys: &mut Keys, text: &str, new: bool) -> bool {
+    matches!(add_key(keys, text), Ok(added) if added == new)
 }
 
 #[test]
@@ -103,18 +108,24 @@ fn is_refused(file: &[u8], error: UleError) -> bool {
 }
 
 #[test]
-fn keys_are_found_in_json_and_come_back(rt: HostRuntime) {
-    let has_id = |json, id| has_id(rt.alloc(), json, id);
-    assert!(rt; has_id(r#"{"id": "en-US"}"#, Ok("en-US")));
-    assert!(rt; has_id(r#"{"key": "de", "id": ""}"#, Ok("")));
+fn keys_are_found_in_json(rt: HostRuntime) {
+    assert!(rt; has_id(rt.alloc(), r#"{"id": "en-US"}"#, Ok("en-US")));
+    assert!(rt; has_id(rt.alloc(), r#"{"key": "de", "id": ""}"#, Ok("")));
+}
+
+#[test]
+fn what_is_no_key_in_json_is_refused_for_its_kind(rt: HostRuntime) {
     for json in r#"{"id": 7}|{"id": null}|{"id": ["en-US"]}|{}|"en-US"|["id"]"#.split('|') {
-        assert!(rt; has_id(json, Err(JsonReadError::NotText)), "{json}");
+        assert!(rt;
+            has_id(rt.alloc(), json, Err(JsonReadError::NotText)),
+            "{json}"
+        );
     }
     for json in r#"{"id": "ninechars"}|{"id": "en\u0000US"}|{"id": "caf\u00e9"}"#.split('|') {
-        assert!(rt; has_id(json, Err(JsonReadError::InvalidText)), "{json}");
-    }
-    for text in "en-US||abcdefgh|\"\\/\n\u{1}\u{7f}".split('|') {
-        assert!(rt; comes_back(rt.alloc(), text), "{text:?}");
+        assert!(rt;
+            has_id(rt.alloc(), json, Err(JsonReadError::InvalidText)),
+            "{json}"
+        );
     }
 }
 
@@ -125,6 +136,13 @@ fn has_id(alloc: Global, json: &str, id: Result<&str, JsonReadError>) -> bool {
     match id_of(&value) {
         Ok(found) => id == Ok(found.as_str()),
         Err(fault) => id == Err(fault),
+    }
+}
+
+#[test]
+fn keys_come_back_from_json(rt: HostRuntime) {
+    for text in "en-US||abcdefgh|\"\\/\n\u{1}\u{7f}".split('|') {
+        assert!(rt; comes_back(rt.alloc(), text), "{text:?}");
     }
 }
 
