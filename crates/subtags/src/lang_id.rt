@@ -1,7 +1,7 @@
 //! Language identifiers.
 
 ghost use Rattle.std.specs.Prelude.{◌≡◌, ◌+◌, ◌≤◌, ◌∷◌, ◌++◌, length, Some, IsOk, IfOk, IfErr, ◌↔◌};
-ghost use Rattle.std.specs.Fmt.{debug_str};
+ghost use Rattle.std.specs.Fmt.{debug_str, styled_text};
 ghost use Rattle.subtags.specs.Grammar.{dash, folded, IsLangId, IsCanonical, canonical_text};
 ghost use Rattle.subtags.specs.Parts.{language_of, script_of, region_of, joined};
 ghost use Rattle.subtags.specs.Answers.{refusal_of, IsLangIdRead};
@@ -102,6 +102,8 @@ impl FromStr for LangId {
 
 impl fmt::Display for LangId {
     ghost output = { λ id. Some id };
+
+    ghost styled_output = { λ id s. Some (styled_text s id) };
 
     fn fmt<W: fmt::Write>(&self, f: &mut fmt::Formatter<W>) -> fmt::Result {
         fmt::Display::fmt(&self.text, f)

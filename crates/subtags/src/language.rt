@@ -1,7 +1,7 @@
 //! Languages.
 
 ghost use Rattle.std.specs.Prelude.{◌≡◌, IsTrue, Some, SomeIff, Ok, Err, if◌then◌else◌};
-ghost use Rattle.std.specs.Fmt.{debug_str};
+ghost use Rattle.std.specs.Fmt.{debug_str, styled_text};
 ghost use Rattle.tinystr_words.specs.Case.{lowercase};
 ghost use Rattle.subtags.specs.Grammar.{is_language};
 ghost use Rattle.subtags.specs.Parts.{IsCanonicalPart};
@@ -81,6 +81,8 @@ impl FromStr for Language {
 
 impl fmt::Display for Language {
     ghost output = { λ language. Some language };
+
+    ghost styled_output = { λ language s. Some (styled_text s language) };
 
     fn fmt<W: fmt::Write>(&self, f: &mut fmt::Formatter<W>) -> fmt::Result {
         fmt::Display::fmt(&self.text, f)

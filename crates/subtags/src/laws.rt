@@ -1,6 +1,6 @@
 //! Laws of language identifiers. A function with an empty body has the law as its contract.
 
-ghost use Rattle.std.specs.Prelude.{◌≡◌, ℕ, List, Ok, map, IsTrue, ◌↔◌};
+ghost use Rattle.std.specs.Prelude.{◌≡◌, ℕ, List, Ok, Some, map, IsTrue, ◌↔◌};
 ghost use Rattle.std.specs.List.{slice_split};
 ghost use Rattle.std.specs.Ordering.{nat_cmp};
 ghost use Rattle.std.specs.Cmp.Lexicographic.{slice_cmp};
@@ -44,42 +44,73 @@ pub fn read_back(id: &LangId) -> Result<LangId, LangIdError>
     LangId::try_from_utf8(id.to_text().as_utf8())
 }
 
-/// Identifiers are equal exactly if their texts are, and are ordered as their texts.
-pub fn identifier_order(id: &LangId, other: &LangId) -> (bool, Ordering)
+/// Identifiers are equal exactly if their texts are, and are ordered as their texts: by `cmp`, `partial_cmp` and `<`.
+pub fn identifier_order(id: &LangId, other: &LangId) -> (bool, Ordering, Option<Ordering>, bool)
     ensures equal { IsTrue result.0 ↔ (id.now ≡ other.now) }
     ensures order { result.1 ≡ slice_cmp nat_cmp id.now other.now }
     ensures before { (result.1 ≡ Less) ↔ IsBefore id.now other.now }
+    ensures partial { result.2 ≡ Some result.1 }
+    ensures less { IsTrue result.3 ↔ IsBefore id.now other.now }
 {
     tinystr_words::laws::order_compared();
-    (id == other, id.cmp(other))
+    (
+        id == other,
+        id.cmp(other),
+        id.partial_cmp(other),
+        id < other,
+    )
 }
 
 /// The same of languages.
-pub fn language_order(language: &Language, other: &Language) -> (bool, Ordering)
+pub fn language_order(
+    language: &Language,
+    other: &Language,
+) -> (bool, Ordering, Option<Ordering>, bool)
     ensures equal { IsTrue result.0 ↔ (language.now ≡ other.now) }
     ensures order { result.1 ≡ slice_cmp nat_cmp language.now other.now }
     ensures before { (result.1 ≡ Less) ↔ IsBefore language.now other.now }
+    ensures partial { result.2 ≡ Some result.1 }
+    ensures less { IsTrue result.3 ↔ IsBefore language.now other.now }
 {
     tinystr_words::laws::order_compared();
-    (language == other, language.cmp(other))
+    (
+        language == other,
+        language.cmp(other),
+        language.partial_cmp(other),
+        language < other,
+    )
 }
 
 /// The same of scripts.
-pub fn script_order(script: &Script, other: &Script) -> (bool, Ordering)
+pub fn script_order(script: &Script, other: &Script) -> (bool, Ordering, Option<Ordering>, bool)
     ensures equal { IsTrue result.0 ↔ (script.now ≡ other.now) }
     ensures order { result.1 ≡ slice_cmp nat_cmp script.now other.now }
     ensures before { (result.1 ≡ Less) ↔ IsBefore script.now other.now }
+    ensures partial { result.2 ≡ Some result.1 }
+    ensures less { IsTrue result.3 ↔ IsBefore script.now other.now }
 {
     tinystr_words::laws::order_compared();
-    (script == other, script.cmp(other))
+    (
+        script == other,
+        script.cmp(other),
+        script.partial_cmp(other),
+        script < other,
+    )
 }
 
 /// The same of regions.
-pub fn region_order(region: &Region, other: &Region) -> (bool, Ordering)
+pub fn region_order(region: &Region, other: &Region) -> (bool, Ordering, Option<Ordering>, bool)
     ensures equal { IsTrue result.0 ↔ (region.now ≡ other.now) }
     ensures order { result.1 ≡ slice_cmp nat_cmp region.now other.now }
     ensures before { (result.1 ≡ Less) ↔ IsBefore region.now other.now }
+    ensures partial { result.2 ≡ Some result.1 }
+    ensures less { IsTrue result.3 ↔ IsBefore region.now other.now }
 {
     tinystr_words::laws::order_compared();
-    (region == other, region.cmp(other))
+    (
+        region == other,
+        region.cmp(other),
+        region.partial_cmp(other),
+        region < other,
+    )
 }

@@ -1,7 +1,7 @@
 //! Regions.
 
 ghost use Rattle.std.specs.Prelude.{◌≡◌, IsTrue, Some, SomeIff, Ok, Err, if◌then◌else◌};
-ghost use Rattle.std.specs.Fmt.{debug_str};
+ghost use Rattle.std.specs.Fmt.{debug_str, styled_text};
 ghost use Rattle.tinystr_words.specs.Case.{uppercase};
 ghost use Rattle.subtags.specs.Grammar.{is_region};
 ghost use Rattle.subtags.specs.Parts.{IsCanonicalPart};
@@ -81,6 +81,8 @@ impl FromStr for Region {
 
 impl fmt::Display for Region {
     ghost output = { λ region. Some region };
+
+    ghost styled_output = { λ region s. Some (styled_text s region) };
 
     fn fmt<W: fmt::Write>(&self, f: &mut fmt::Formatter<W>) -> fmt::Result {
         fmt::Display::fmt(&self.text, f)

@@ -1,7 +1,7 @@
 //! Scripts.
 
 ghost use Rattle.std.specs.Prelude.{◌≡◌, IsTrue, Some, SomeIff, Ok, Err, if◌then◌else◌};
-ghost use Rattle.std.specs.Fmt.{debug_str};
+ghost use Rattle.std.specs.Fmt.{debug_str, styled_text};
 ghost use Rattle.tinystr_words.specs.Case.{titlecase};
 ghost use Rattle.subtags.specs.Grammar.{is_script};
 ghost use Rattle.subtags.specs.Parts.{IsCanonicalPart};
@@ -81,6 +81,8 @@ impl FromStr for Script {
 
 impl fmt::Display for Script {
     ghost output = { λ script. Some script };
+
+    ghost styled_output = { λ script s. Some (styled_text s script) };
 
     fn fmt<W: fmt::Write>(&self, f: &mut fmt::Formatter<W>) -> fmt::Result {
         fmt::Display::fmt(&self.text, f)

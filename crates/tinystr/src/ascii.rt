@@ -249,6 +249,7 @@ impl<const N: usize> TinyAsciiStr<N> {
     pub fn all_bytes(&self) -> &[u8; N]
         ensures bytes { result.now ≡ pad self.now N }
         ensures padded { IsPaddedText result.now N }
+        ensures text { text_of result.now ≡ self.now }
     {
         &self.bytes
     }

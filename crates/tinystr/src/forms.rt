@@ -66,6 +66,7 @@ impl<const N: usize> TinyAsciiStr<N> {
     pub fn to_bytes(&self) -> [u8; N]
         ensures bytes { result ≡ pad self.now N }
         ensures padded { IsPaddedText result N }
+        ensures text { text_of result ≡ self.now }
     {
         *self.all_bytes()
     }

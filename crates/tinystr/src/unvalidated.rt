@@ -108,6 +108,7 @@ impl<const N: usize> TinyAsciiStr<N> {
     pub fn to_unvalidated(self) -> UnvalidatedTinyAsciiStr<N>
         ensures bytes { result ≡ pad self.entry N }
         ensures padded { IsPaddedText result N }
+        ensures text { text_of result ≡ self.entry }
     {
         UnvalidatedTinyAsciiStr::from_utf8_unchecked(*self.all_bytes())
     }

@@ -1,13 +1,15 @@
 //! Printing of values, as their texts are printed.
 
 ghost use Rattle.std.specs.Prelude.{Some};
-ghost use Rattle.std.specs.Fmt.{debug_str};
+ghost use Rattle.std.specs.Fmt.{debug_str, styled_text};
 
 use crate::ascii::TinyAsciiStr;
 use std::fmt::{Debug, Display, Formatter, Result, Write};
 
 impl<const N: usize> Display for TinyAsciiStr<N> {
     ghost output = { λ t. Some t };
+
+    ghost styled_output = { λ t s. Some (styled_text s t) };
 
     fn fmt<W: Write>(&self, f: &mut Formatter<W>) -> Result {
         Display::fmt(self.as_str(), f)
