@@ -101,14 +101,18 @@ pub word_ascii : (l : List ℕ) → Ascii l → word l ≤ word (led (length l) 
 word_ascii [] a = omega arith
 word_ascii (b ∷ l) a = let h : b < 128 = a.0 in omega (arith, word_low l a.1)
 
--- a lane of at most 0x7f leaves room for 0x7f more
-room_after : (n c : ℕ) → c ≤ 0x7f → word (replicate n c) + word (replicate n 0x7f) < 256 ^ n
+-- a lane of at most 0x80 leaves room for 0x7f more
+room_after : (n c : ℕ) → c ≤ 0x80 → word (replicate n c) + word (replicate n 0x7f) < 256 ^ n
 room_after zero c h = omega arith
 room_after (suc n) c h = omega (arith, pow-suc 256 n, room_after n c h)
 
 pub led_room : (n a c : ℕ) → a ≤ 0x7f → c ≤ 0x7f → word (led n a c) + word (led n 0x7f 0x7f) < 256 ^ n
 led_room zero a c h k = omega arith
-led_room (suc n) a c h k = omega (arith, pow-suc 256 n, room_after n c k)
+led_room (suc n) a c h k = omega (arith, pow-suc 256 n, room_after n c (omega arith))
+
+pub mark_room : (n c : ℕ) → c ≤ 0x80 → word (led n c c) + word (led n 0x7f 0x7f) < 256 ^ n
+mark_room zero c h = omega arith
+mark_room (suc n) c h = omega (arith, pow-suc 256 n, room_after n c h)
 
 -- ---- the length of a text, by the leading zeros of its word
 

@@ -13,7 +13,7 @@ ghost use Rattle.tinystr_words.specs.Questions.{answer, in_case};
 use crate::decimal::decimal_word;
 use crate::question::{Case, Question};
 use crate::unit::{Unit, is_text};
-use crate::word::{DIGIT, LOWER, UPPER, Word};
+use crate::word::{DIGIT, LOWER, NOT_NUL, UPPER, Word};
 use std::marker::Model;
 
 /// A text of at most `LEN` bytes, each from 1 to 127: its bytes and then NULs, in one word.
@@ -57,7 +57,7 @@ fn folded<T: Word<LEN>, const LEN: usize>(text: T) -> T
 fn marks_no_byte<T: Word<LEN>, const LEN: usize>(marks: T, text: T) -> bool
     requires { T.number text ≤ word (led LEN 0x7f 0x7f) }
     ensures { result ≡ (bit_and (T.number marks)
-        (bit_and (T.number text + word (led LEN 0x7f 0x7f)) (word (led LEN 0x80 0x80)))
+        (bit_and (T.number text + word (led LEN NOT_NUL NOT_NUL)) (word (led LEN 0x80 0x80)))
         == word (led LEN 0 0)) }
 {
     marks.and(text.present()).equals(T::splat(0))

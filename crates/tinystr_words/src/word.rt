@@ -35,6 +35,9 @@ pub const DIGIT: Range = Range {
     high: 0x46,
 };
 
+/// What is added to a byte below 0x80 so that its high bit says that it isn't NUL.
+pub const NOT_NUL: u8 = 0x7f;
+
 /// An integer of `LEN` bytes.
 pub trait Word<const LEN: usize>: Copy + Drop {
     ghost number: { Self → ℕ };
@@ -119,13 +122,13 @@ pub trait Word<const LEN: usize>: Copy + Drop {
 
     /// The high bit of each lane that isn't NUL.
     #[inline(always)]
-    #[tactic(auto, using(crate::proofs::WordBytes::led_room))]
+    #[tactic(auto, using(crate::proofs::WordBytes::mark_room))]
     fn present(self) -> Self
         requires { number self ≤ word (led LEN 0x7f 0x7f) }
         ensures { number result ≡
-            bit_and (number self + word (led LEN 0x7f 0x7f)) (word (led LEN 0x80 0x80)) }
+            bit_and (number self + word (led LEN NOT_NUL NOT_NUL)) (word (led LEN 0x80 0x80)) }
     {
-        self.plus(Self::splat(0x7f)).and(Self::splat(0x80))
+        self.plus(Self::splat(NOT_NUL)).and(Self::splat(0x80))
     }
 
     /// The high bit of each lane whose lower bits aren't all clear.
@@ -133,7 +136,7 @@ pub trait Word<const LEN: usize>: Copy + Drop {
     #[tactic(auto, using(std::proofs::lemmas::Nat::and_le_r))]
     fn marks(self) -> Self
         ensures { number result ≡ bit_and
-            (bit_and (number self) (word (led LEN 0x7f 0x7f)) + word (led LEN 0x7f 0x7f))
+            (bit_and (number self) (word (led LEN 0x7f 0x7f)) + word (led LEN NOT_NUL NOT_NUL))
             (word (led LEN 0x80 0x80)) }
     {
         self.and(Self::splat(0x7f)).present()
