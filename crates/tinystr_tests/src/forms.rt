@@ -2,114 +2,167 @@
 
 use serde_json::Value;
 use std::alloc::Global;
-use std::process::Abort;
 use std::test::Fail;
 use tinystr::forms::{BytesReadError, FormWriteError, JsonReadError};
 use tinystr::{TinyAsciiStr, UnvalidatedTinyAsciiStr, tinystr};
 
-fn json_there_and_back<const N: usize>(
-    rt: &impl Abort,
-    alloc: Global,
-    text: TinyAsciiStr<N>,
-    compact: &str,
-) -> Result<(), Fail> {
-    let value = text.to_json(alloc)?;
-    assert_eq!(rt; value.to_string(alloc)?.as_str(), compact);
-    assert_eq!(rt; TinyAsciiStr::from_json(&value), Ok(text));
+fn is_printed(alloc: Global, value: &Value, compact: &str) -> bool {
+    match value.to_string(alloc) {
+        Ok(printed) => printed.as_str() == compact,
+        Err(_) => false,
+    }
+}
+
+// Whether both types give the compact JSON text, and are read back from their values.
+fn comes_back<const N: usize>(alloc: Global, text: TinyAsciiStr<N>, compact: &str) -> bool {
     let bytes = text.to_unvalidated();
-    let value = bytes.to_json(alloc)?;
-    assert_eq!(rt; value.to_string(alloc)?.as_str(), compact);
-    assert_eq!(rt; UnvalidatedTinyAsciiStr::from_json(&value), Ok(bytes));
-    Ok(())
+    match (text.to_json(alloc), bytes.to_json(alloc)) {
+        (Ok(value), Ok(same)) => {
+            is_printed(alloc, &value, compact)
+                && is_printed(alloc, &same, compact)
+                && TinyAsciiStr::from_json(&value) == Ok(text)
+                && UnvalidatedTinyAsciiStr::from_json(&same) == Ok(bytes)
+        }
+        _ => false,
+    }
+}
+
+// The same of a text, read at the capacity of the value given.
+fn read_comes_back<const N: usize>(
+    alloc: Global,
+    text: &str,
+    _like: TinyAsciiStr<N>,
+    compact: &str,
+) -> bool {
+    match TinyAsciiStr::<N>::try_from_str(text) {
+        Ok(text) => comes_back(alloc, text, compact),
+        Err(_) => false,
+    }
 }
 
 #[test]
-fn texts_come_back_from_json(rt: HostRuntime) -> Result<(), Fail> {
+fn texts_of_one_word_come_back_from_json(rt: HostRuntime) {
     let alloc = rt.alloc();
-    json_there_and_back(&rt, alloc, tinystr!(4, "en")?, r#""en""#)?;
-    json_there_and_back(&rt, alloc, tinystr!(4, "Latn")?, r#""Latn""#)?;
-    json_there_and_back(&rt, alloc, tinystr!(8, "calendar")?, r#""calendar""#)?;
-    json_there_and_back(
-        &rt,
-        alloc,
-        tinystr!(16, "verylongstring")?,
-        r#""verylongstring""#,
-    )?;
-    json_there_and_back(&rt, alloc, tinystr!(11, "shortstring")?, r#""shortstring""#)?;
-    json_there_and_back(
-        &rt,
-        alloc,
-        tinystr!(24, "veryveryverylongstring")?,
-        r#""veryveryverylongstring""#,
-    )?;
-    json_there_and_back(&rt, alloc, tinystr!(4, "")?, r#""""#)?;
-    json_there_and_back(&rt, alloc, tinystr!(0, "")?, r#""""#)?;
-    json_there_and_back(&rt, alloc, tinystr!(4, "a\"b")?, r#""a\"b""#)?;
-    json_there_and_back(
-        &rt,
-        alloc,
-        tinystr!(4, "\x01\x1B\n\x7F")?,
-        "\"\\u0001\\u001b\\n\x7F\"",
-    )?;
-    Ok(())
+    let four = TinyAsciiStr::<4>::default();
+    let eight = TinyAsciiStr::<8>::default();
+    assert!(rt; read_comes_back(alloc, "en", four, r#""en""#));
+    assert!(rt; read_comes_back(alloc, "Latn", four, r#""Latn""#));
+    assert!(rt; read_comes_back(alloc, "calendar", eight, r#""calendar""#));
+    assert!(rt; read_comes_back(alloc, "", four, r#""""#));
+    assert!(rt; read_comes_back(alloc, "", TinyAsciiStr::<0>::default(), r#""""#));
+}
+
+#[test]
+fn longer_texts_come_back_from_json(rt: HostRuntime) {
+    let alloc = rt.alloc();
+    let eleven = TinyAsciiStr::<11>::default();
+    let sixteen = TinyAsciiStr::<16>::default();
+    let twenty_four = TinyAsciiStr::<24>::default();
+    assert!(rt; read_comes_back(alloc, "shortstring", eleven, r#""shortstring""#));
+    assert!(rt; read_comes_back(alloc, "verylongstring", sixteen, r#""verylongstring""#));
+    let compact = r#""veryveryverylongstring""#;
+    assert!(rt; read_comes_back(alloc, "veryveryverylongstring", twenty_four, compact));
+}
+
+// Sixty-four letters in the quotes of JSON.
+const LETTERS: &str = r#""abcdefghijklmnopqrstuvwxyzABCDEFGHIJKLMNOPQRSTUVWXYZabcdefghijkl""#;
+
+// Whether as many letters as fit the capacity of the value given come back.
+fn letters_come_back<const N: usize>(alloc: Global, _like: TinyAsciiStr<N>) -> bool {
+    let letters = TinyAsciiStr::<N>::from_utf8_lossy(&LETTERS.as_bytes()[1..], b'?');
+    match format!(in alloc; "\"{letters}\"") {
+        Ok(compact) => letters.len() == N && comes_back(alloc, letters, compact.as_str()),
+        Err(_) => false,
+    }
+}
+
+#[test]
+fn full_texts_come_back_from_json(rt: HostRuntime) {
+    let alloc = rt.alloc();
+    assert!(rt; letters_come_back(alloc, TinyAsciiStr::<17>::default()));
+    assert!(rt; letters_come_back(alloc, TinyAsciiStr::<24>::default()));
+    assert!(rt; letters_come_back(alloc, TinyAsciiStr::<32>::default()));
+    assert!(rt; letters_come_back(alloc, TinyAsciiStr::<33>::default()));
+    assert!(rt;
+        read_comes_back(
+            alloc,
+            LETTERS.trim_matches('"'),
+            TinyAsciiStr::<64>::default(),
+            LETTERS
+        )
+    );
+}
+
+#[test]
+fn characters_that_json_escapes_come_back(rt: HostRuntime) {
+    let alloc = rt.alloc();
+    let four = TinyAsciiStr::<4>::default();
+    assert!(rt; read_comes_back(alloc, "a\"b", four, r#""a\"b""#));
+    let compact = "\"\\u0001\\u001b\\n\x7F\"";
+    assert!(rt; read_comes_back(alloc, "\x01\x1B\n\x7F", four, compact));
+}
+
+// Whether both types refuse the JSON at 4 so.
+fn is_refused_by_both(alloc: Global, compact: &str, refusal: JsonReadError) -> bool {
+    match Value::from_str(alloc, compact) {
+        Ok(value) => {
+            TinyAsciiStr::<4>::from_json(&value) == Err(refusal)
+                && UnvalidatedTinyAsciiStr::<4>::from_json(&value) == Err(refusal)
+        }
+        Err(_) => false,
+    }
 }
 
 #[test]
 fn json_that_is_no_text_of_the_capacity_is_refused(rt: HostRuntime) -> Result<(), Fail> {
-    let rows = [
+    for (compact, refusal) in [
         ("1", JsonReadError::NotText),
         ("null", JsonReadError::NotText),
         (r#"["en"]"#, JsonReadError::NotText),
         (r#""abcde""#, JsonReadError::InvalidText),
         (r#""a\u0000""#, JsonReadError::InvalidText),
         ("\"é\"", JsonReadError::InvalidText),
-    ];
-    for (compact, refusal) in rows {
-        let value = Value::from_str(rt.alloc(), compact)?;
-        assert_eq!(rt;
-            TinyAsciiStr::<4>::from_json(&value),
-            Err(refusal),
-            "{compact}"
-        );
-        assert_eq!(rt;
-            UnvalidatedTinyAsciiStr::<4>::from_json(&value),
-            Err(refusal),
+    ] {
+        assert!(rt;
+            is_refused_by_both(rt.alloc(), compact, refusal),
             "{compact}"
         );
     }
     let value = Value::from_str(rt.alloc(), r#""a""#)?;
-    assert_eq!(rt;
-        TinyAsciiStr::<0>::from_json(&value),
-        Err(JsonReadError::InvalidText)
-    );
+    let read = TinyAsciiStr::<0>::from_json(&value);
+    assert!(rt; read == Err(JsonReadError::InvalidText));
     Ok(())
 }
 
-fn reads<const N: usize>(rt: &impl Abort, input: &[u8], text: TinyAsciiStr<N>, left: &[u8]) {
+// Whether the text is read in front of the input, and this is left.
+fn is_read_in_front<const N: usize>(input: &[u8], text: TinyAsciiStr<N>, left: &[u8]) -> bool {
     match TinyAsciiStr::<N>::read_bytes(input) {
-        Ok((read, rest)) => {
-            assert_eq!(rt; read, text);
-            assert_eq!(rt; rest, left, "after {text}");
-        }
-        Err(fault) => assert!(rt; false, "{text} {fault:?}"),
+        Ok((read, rest)) => read == text && rest == left,
+        Err(_) => false,
     }
 }
 
 #[test]
 fn bytes_in_front_are_read_and_the_rest_is_handed_back(rt: HostRuntime) -> Result<(), Fail> {
-    reads(&rt, b"abcd", tinystr!(4, "abcd")?, b"");
-    reads(&rt, b"a\0\0\0", tinystr!(4, "a")?, b"");
-    reads(&rt, b"\0\0\0\0", tinystr!(4, "")?, b"");
-    reads(&rt, b"abcde", tinystr!(4, "abcd")?, b"e");
-    reads(&rt, b"enXY", tinystr!(2, "en")?, b"XY");
-    reads(&rt, b"ab", tinystr!(0, "")?, b"ab");
+    assert!(rt; is_read_in_front(b"abcd", tinystr!(4, "abcd")?, b""));
+    assert!(rt; is_read_in_front(b"a\0\0\0", tinystr!(4, "a")?, b""));
+    assert!(rt; is_read_in_front(b"\0\0\0\0", tinystr!(4, "")?, b""));
+    assert!(rt; is_read_in_front(b"abcde", tinystr!(4, "abcd")?, b"e"));
+    assert!(rt; is_read_in_front(b"enXY", tinystr!(2, "en")?, b"XY"));
+    assert!(rt; is_read_in_front(b"ab", tinystr!(0, "")?, b"ab"));
     Ok(())
+}
+
+fn is_refused(input: &[u8], refusal: BytesReadError) -> bool {
+    match TinyAsciiStr::<4>::read_bytes(input) {
+        Ok(_) => false,
+        Err(fault) => fault == refusal,
+    }
 }
 
 #[test]
 fn bytes_are_refused_for_their_first_fault(rt: HostRuntime) {
-    let short = BytesReadError::Length { expected: 4 };
-    let rows = [
+    for (input, refusal) in [
         (b"\0\x80\0\0".as_slice(), BytesReadError::Null),
         (b"\0a\x80\0", BytesReadError::Null),
         (b"a\x80\0b", BytesReadError::NonAscii),
@@ -117,37 +170,40 @@ fn bytes_are_refused_for_their_first_fault(rt: HostRuntime) {
         (b"\x80\0a\0", BytesReadError::NonAscii),
         (b"abc\xFF", BytesReadError::NonAscii),
         (b"ab\0\x80", BytesReadError::Null),
-        (b"", short),
-        (b"a", short),
-        (b"a\0", short),
-        (b"\0\0", short),
+        (b"", BytesReadError::Length { expected: 4 }),
+        (b"a", BytesReadError::Length { expected: 4 }),
+        (b"a\0", BytesReadError::Length { expected: 4 }),
+        (b"\0\0", BytesReadError::Length { expected: 4 }),
         (b"\x80", BytesReadError::NonAscii),
         (b"\0a", BytesReadError::Null),
-    ];
-    for (input, refusal) in rows {
-        match TinyAsciiStr::<4>::read_bytes(input) {
-            Ok((read, _)) => assert!(rt; false, "{read} from {input:?}"),
-            Err(fault) => assert_eq!(rt; fault, refusal, "{input:?}"),
-        }
+    ] {
+        assert!(rt; is_refused(input, refusal), "{input:?}");
     }
 }
 
-fn byte_form<const N: usize>(rt: &impl Abort, text: TinyAsciiStr<N>, form: [u8; N]) {
-    assert_eq!(rt; text.to_bytes(), form);
-    reads(rt, &form, text, b"");
+// Whether the text's byte form is this one, and is read back.
+fn is_byte_form<const N: usize>(text: TinyAsciiStr<N>, form: [u8; N]) -> bool {
+    text.to_bytes() == form && is_read_in_front(&form, text, b"")
 }
 
 #[test]
 fn byte_forms_are_padded_texts(rt: HostRuntime) -> Result<(), Fail> {
-    byte_form(&rt, tinystr!(16, "verylongstring")?, *b"verylongstring\0\0");
-    byte_form(&rt, tinystr!(11, "shortstring")?, *b"shortstring");
-    byte_form(
-        &rt,
-        tinystr!(24, "veryveryverylongstring")?,
-        *b"veryveryverylongstring\0\0",
-    );
-    byte_form(&rt, tinystr!(0, "")?, []);
+    assert!(rt; is_byte_form(tinystr!(16, "verylongstring")?, *b"verylongstring\0\0"));
+    assert!(rt; is_byte_form(tinystr!(11, "shortstring")?, *b"shortstring"));
+    let long = tinystr!(24, "veryveryverylongstring")?;
+    assert!(rt; is_byte_form(long, *b"veryveryverylongstring\0\0"));
+    assert!(rt; is_byte_form(tinystr!(0, "")?, []));
     Ok(())
+}
+
+// Whether any bytes are read in front of the input, and this is left.
+fn are_read_unless_too_few<const N: usize>(input: &[u8], bytes: [u8; N], left: &[u8]) -> bool {
+    match UnvalidatedTinyAsciiStr::<N>::read_bytes(input) {
+        Ok((read, rest)) => {
+            read == UnvalidatedTinyAsciiStr::from_utf8_unchecked(bytes) && rest == left
+        }
+        Err(_) => false,
+    }
 }
 
 #[test]
@@ -155,38 +211,22 @@ fn bytes_that_are_no_text_are_read_and_not_written(rt: HostRuntime) {
     let bytes = UnvalidatedTinyAsciiStr::from_utf8_unchecked([0, 0x41, 0]);
     assert!(rt; matches!(bytes.to_bytes(), Err(FormWriteError::NotAscii)));
     assert!(rt; matches!(bytes.to_json(rt.alloc()), Err(FormWriteError::NotAscii)));
-    match UnvalidatedTinyAsciiStr::<3>::read_bytes(&[0, 0x41, 0]) {
-        Ok((read, rest)) => {
-            assert_eq!(rt; read, bytes);
-            assert_eq!(rt; rest, b"".as_slice());
-        }
-        Err(_) => assert!(rt; false),
+    assert!(rt; are_read_unless_too_few(&[0, 0x41, 0], [0, 0x41, 0], b""));
+}
+
+fn are_too_few(input: &[u8]) -> bool {
+    match UnvalidatedTinyAsciiStr::<4>::read_bytes(input) {
+        Ok(_) => false,
+        Err(fault) => fault == BytesReadError::Length { expected: 4 },
     }
 }
 
 #[test]
 fn any_bytes_are_read_unless_too_few(rt: HostRuntime) {
-    match UnvalidatedTinyAsciiStr::<4>::read_bytes(b"\0\x80\0\0X") {
-        Ok((read, rest)) => {
-            assert_eq!(rt;
-                read,
-                UnvalidatedTinyAsciiStr::from_utf8_unchecked(*b"\0\x80\0\0")
-            );
-            assert_eq!(rt; rest, b"X".as_slice());
-        }
-        Err(_) => assert!(rt; false),
-    }
-    for input in [b"abc", b"\0\x80a", b"\0\0\0"] {
-        match UnvalidatedTinyAsciiStr::<4>::read_bytes(input) {
-            Ok(_) => assert!(rt; false),
-            Err(fault) => assert_eq!(rt; fault, BytesReadError::Length { expected: 4 }),
-        }
-    }
+    assert!(rt; are_read_unless_too_few(b"\0\x80\0\0X", *b"\0\x80\0\0", b"X"));
+    assert!(rt; are_too_few(b"abc") && are_too_few(b"\0\x80a") && are_too_few(b"\0\0\0"));
     let text = UnvalidatedTinyAsciiStr::from_utf8_unchecked(*b"ab\0");
-    match text.to_bytes() {
-        Ok(bytes) => assert_eq!(rt; bytes, *b"ab\0"),
-        Err(_) => assert!(rt; false),
-    }
+    assert!(rt; matches!(text.to_bytes(), Ok(bytes) if bytes == *b"ab\0"));
 }
 
 // The three tests below are run with each allocation refused in turn, and print what they met.
@@ -195,7 +235,7 @@ fn any_bytes_are_read_unless_too_few(rt: HostRuntime) {
 fn want_of_memory_for_a_text(rt: HostRuntime) -> Result<(), Fail> {
     let text = TinyAsciiStr::<4>::try_from_utf8(b"ab")?;
     let given = text.to_json(rt.alloc());
-    assert_eq!(rt; text.as_utf8(), b"ab".as_slice());
+    assert!(rt; text.to_bytes() == *b"ab\0\0");
     match given {
         Ok(_) => println!(rt; "text given")?,
         Err(_) => println!(rt; "text refused")?,
@@ -207,10 +247,7 @@ fn want_of_memory_for_a_text(rt: HostRuntime) -> Result<(), Fail> {
 fn want_of_memory_for_bytes(rt: HostRuntime) -> Result<(), Fail> {
     let bytes = UnvalidatedTinyAsciiStr::from_utf8_unchecked(*b"ab\0");
     let given = bytes.to_json(rt.alloc());
-    assert_eq!(rt;
-        bytes,
-        UnvalidatedTinyAsciiStr::from_utf8_unchecked(*b"ab\0")
-    );
+    assert!(rt; bytes == UnvalidatedTinyAsciiStr::from_utf8_unchecked(*b"ab\0"));
     match given {
         Ok(_) => println!(rt; "bytes given")?,
         Err(FormWriteError::Memory(_)) => println!(rt; "bytes refused")?,

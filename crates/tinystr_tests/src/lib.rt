@@ -5,6 +5,8 @@
 #[cfg(test)]
 mod cutting;
 #[cfg(test)]
+mod errors;
+#[cfg(test)]
 mod forms;
 #[cfg(test)]
 mod order;

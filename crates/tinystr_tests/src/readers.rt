@@ -4,12 +4,17 @@ use std::test::Fail;
 use tinystr::ParseError::{self, ContainsNull, NonAscii, TooLong};
 use tinystr::{TinyAsciiStr, TinyStr4, TinyStr8, tinystr};
 
-fn text_or_fault<const N: usize>(
-    read: &Result<TinyAsciiStr<N>, ParseError>,
-) -> Result<&str, ParseError> {
-    match read {
-        Ok(text) => Ok(text.as_str()),
-        Err(fault) => Err(*fault),
+// Whether the reader took exactly this text, or refused for this fault.
+fn is_read<const N: usize>(
+    read: Result<TinyAsciiStr<N>, ParseError>,
+    expected: Result<&str, ParseError>,
+) -> bool {
+    match (read, expected) {
+        (Ok(text), Ok(expected)) => {
+            text.as_str() == expected && text.is_empty() == expected.is_empty()
+        }
+        (Err(fault), Err(expected)) => fault == expected,
+        _ => false,
     }
 }
 
@@ -21,11 +26,22 @@ fn the_strict_reader_names_the_first_fault(rt: HostRuntime) {
         (&[0x61, 0], ContainsNull),
         (&[0x80; 5], TooLong { max: 4, len: 5 }),
     ] {
-        assert_eq!(rt; TinyStr4::try_from_utf8(bytes), Err(fault), "{bytes:?}");
+        assert!(rt;
+            is_read(TinyStr4::try_from_utf8(bytes), Err(fault)),
+            "{bytes:?}"
+        );
     }
-    let short = TinyAsciiStr::<2>::try_from_str("abc");
-    assert_eq!(rt; short, Err(TooLong { max: 2, len: 3 }));
-    assert_eq!(rt; "abc".parse::<TinyAsciiStr<2>>(), short);
+}
+
+#[test]
+fn texts_are_read_and_parsed_as_they_are_spelled(rt: HostRuntime) {
+    let long = Err(TooLong { max: 2, len: 3 });
+    assert!(rt; is_read(TinyAsciiStr::<2>::try_from_str("abc"), long));
+    assert!(rt; is_read("abc".parse::<TinyAsciiStr<2>>(), long));
+    assert!(rt; is_read("GB".parse::<TinyAsciiStr<2>>(), Ok("GB")));
+    // bytes are counted, and not characters
+    let accents = TinyStr4::try_from_str("ééé");
+    assert!(rt; is_read(accents, Err(TooLong { max: 4, len: 6 })));
 }
 
 #[test]
@@ -42,10 +58,9 @@ fn the_strict_and_the_raw_reader_differ_at_nulls(rt: HostRuntime) {
         (*b"abc\xff", Err(NonAscii), Err(NonAscii)),
         (*b"ab\0\x80", Err(NonAscii), Err(NonAscii)),
     ] {
-        let read = TinyStr4::try_from_utf8(&bytes);
-        assert_eq!(rt; text_or_fault(&read), strict, "{bytes:?}");
-        let read = TinyStr4::try_from_raw(bytes);
-        assert_eq!(rt; text_or_fault(&read), raw, "{bytes:?}");
+        let is_right = is_read(TinyStr4::try_from_utf8(&bytes), strict)
+            && is_read(TinyStr4::try_from_raw(bytes), raw);
+        assert!(rt; is_right, "{bytes:?}");
     }
 }
 
@@ -56,29 +71,40 @@ fn the_raw_reader_takes_padded_texts_alone(rt: HostRuntime) {
         (*b"USD", Ok("USD")),
         (*b"\0A\0", Err(ContainsNull)),
     ] {
-        let read = TinyAsciiStr::<3>::try_from_raw(raw);
-        assert_eq!(rt; text_or_fault(&read), expected, "{raw:?}");
+        assert!(rt;
+            is_read(TinyAsciiStr::<3>::try_from_raw(raw), expected),
+            "{raw:?}"
+        );
     }
-    let full = TinyStr8::try_from_raw(*b"New York");
-    assert_eq!(rt; text_or_fault(&full), Ok("New York"));
-    assert_eq!(rt;
-        TinyAsciiStr::<3>::from_utf8_unchecked(*b"GB\0").as_str(),
-        "GB"
-    );
+    let unchecked = TinyAsciiStr::<3>::from_utf8_unchecked(*b"GB\0");
+    assert_eq!(rt; unchecked.as_str(), "GB");
+}
+
+#[test]
+fn a_text_that_fills_its_array_is_read_asked_and_changed(rt: HostRuntime) -> Result<(), Fail> {
+    let city = TinyStr8::try_from_raw(*b"New York")?;
+    assert!(rt; is_read(Ok(city), Ok("New York")));
+    assert!(rt; is_read(Ok(city.to_ascii_uppercase()), Ok("NEW YORK")));
+    assert!(rt; is_read(Ok(city.to_ascii_lowercase()), Ok("new york")));
+    assert!(rt; is_read(Ok(city.to_ascii_titlecase()), Ok("New york")));
+    assert!(rt; !city.is_ascii_alphanumeric() && !city.is_ascii_titlecase());
+    Ok(())
 }
 
 #[test]
 fn sixteen_bit_units_are_compared_before_they_are_narrowed(rt: HostRuntime) {
-    let read = TinyStr4::try_from_utf16(&[0x65, 0x6e]);
-    assert_eq!(rt; text_or_fault(&read), Ok("en"));
-    for (units, fault) in [
-        (&[0x0161][..], NonAscii),
-        (&[0x0100], NonAscii),
-        (&[0, 0x0161], NonAscii),
-        (&[0, 0x61, 0x0161], ContainsNull),
-        (&[0xffff; 5], TooLong { max: 4, len: 5 }),
+    for (units, expected) in [
+        (&[0x65, 0x6e][..], Ok("en")),
+        (&[0x0161], Err(NonAscii)),
+        (&[0x0100], Err(NonAscii)),
+        (&[0, 0x0161], Err(NonAscii)),
+        (&[0, 0x61, 0x0161], Err(ContainsNull)),
+        (&[0xffff; 5], Err(TooLong { max: 4, len: 5 })),
     ] {
-        assert_eq!(rt; TinyStr4::try_from_utf16(units), Err(fault), "{units:?}");
+        assert!(rt;
+            is_read(TinyStr4::try_from_utf16(units), expected),
+            "{units:?}"
+        );
     }
 }
 
@@ -92,38 +118,29 @@ fn lossy_readers_replace_each_bad_unit(rt: HostRuntime) {
         (b"", ""),
         (b"a\x80\xff1", "a??1"),
     ] {
-        assert_eq!(rt;
-            TinyStr4::from_utf8_lossy(bytes, b'?').as_str(),
-            text,
-            "{bytes:?}"
-        );
+        let read = TinyStr4::from_utf8_lossy(bytes, b'?');
+        assert!(rt; is_read(Ok(read), Ok(text)), "{bytes:?}");
     }
     let grin = [0x61, 0xd83d, 0xde00, 0x7a];
-    assert_eq!(rt; TinyStr4::from_utf16_lossy(&grin, b'?').as_str(), "a??z");
-    assert_eq!(rt;
-        TinyAsciiStr::<3>::from_utf16_lossy(&grin, b'?').as_str(),
-        "a??"
-    );
+    assert!(rt; is_read(Ok(TinyStr4::from_utf16_lossy(&grin, b'?')), Ok("a??z")));
+    let cut = TinyAsciiStr::<3>::from_utf16_lossy(&grin, b'?');
+    assert!(rt; is_read(Ok(cut), Ok("a??")));
 }
 
 #[test]
-fn a_literal_is_read_at_its_capacity(rt: HostRuntime) -> Result<(), Fail> {
-    let foobar = tinystr!(8, "foobar")?;
-    assert_eq!(rt; foobar.as_str(), "foobar");
-    let foobarbaz = tinystr!(12, "foobarbaz")?;
-    assert_eq!(rt; foobarbaz.as_str(), "foobarbaz");
-    assert_eq!(rt; tinystr!(2, "abc"), Err(TooLong { max: 2, len: 3 }));
-    Ok(())
+fn a_literal_is_read_at_its_capacity(rt: HostRuntime) {
+    assert!(rt; is_read(tinystr!(8, "foobar"), Ok("foobar")));
+    assert!(rt; is_read(tinystr!(12, "foobarbaz"), Ok("foobarbaz")));
+    assert!(rt; is_read(tinystr!(2, "abc"), Err(TooLong { max: 2, len: 3 })));
 }
 
 #[test]
 fn capacity_zero_holds_the_empty_text_alone(rt: HostRuntime) {
     type Empty = TinyAsciiStr<0>;
-    let empty: Result<Empty, ParseError> = Ok(Empty::default());
-    assert_eq!(rt; Empty::try_from_utf8(&[0]), Err(TooLong { max: 0, len: 1 }));
-    assert_eq!(rt; Empty::try_from_str(""), empty);
-    assert_eq!(rt; Empty::try_from_utf16(&[]), empty);
-    assert_eq!(rt; Empty::try_from_raw([]), empty);
-    assert_eq!(rt; Empty::from_utf8_lossy(b"abc", b'?').as_str(), "");
-    assert_eq!(rt; Empty::from_utf8_unchecked([]).as_str(), "");
+    assert!(rt; is_read(Empty::try_from_utf8(&[0]), Err(TooLong { max: 0, len: 1 })));
+    assert!(rt; is_read(Empty::try_from_str(""), Ok("")));
+    assert!(rt; is_read(Empty::try_from_utf16(&[]), Ok("")));
+    assert!(rt; is_read(Empty::try_from_raw([]), Ok("")));
+    assert!(rt; is_read(Ok(Empty::from_utf8_lossy(b"abc", b'?')), Ok("")));
+    assert!(rt; is_read(Ok(Empty::from_utf8_unchecked([])), Ok("")));
 }

@@ -5,61 +5,66 @@ use tinystr::{ParseError, TinyAsciiStr, UnvalidatedTinyAsciiStr};
 
 #[test]
 fn packed_records_are_accepted(rt: HostRuntime) {
-    assert_eq!(rt; TinyAsciiStr::<3>::validate_bytes(b"GB\0USD"), Ok(()));
-    assert_eq!(rt; TinyAsciiStr::<3>::validate_bytes(b""), Ok(()));
-    assert_eq!(rt; TinyAsciiStr::<1>::validate_bytes(&[0]), Ok(()));
-    assert_eq!(rt; TinyAsciiStr::<1>::validate_bytes(&[0, 0, 0]), Ok(()));
+    let answers = [
+        TinyAsciiStr::<3>::validate_bytes(b"GB\0USD"),
+        TinyAsciiStr::<3>::validate_bytes(b""),
+        TinyAsciiStr::<1>::validate_bytes(&[0]),
+        TinyAsciiStr::<1>::validate_bytes(&[0, 0, 0]),
+        UnvalidatedTinyAsciiStr::<3>::validate_bytes(b"GB\0\0A\0"),
+        UnvalidatedTinyAsciiStr::<3>::validate_bytes(b""),
+    ];
+    assert_eq!(rt; answers, [Ok(()); 6]);
 }
 
 #[test]
 fn a_length_that_is_no_multiple_is_refused_first(rt: HostRuntime) {
-    let long = Err(UleError::Length { len: 7 });
-    assert_eq!(rt; TinyAsciiStr::<3>::validate_bytes(b"GBPUSDx"), long);
-    assert_eq!(rt; TinyAsciiStr::<3>::validate_bytes(b"\0GBUSDx"), long);
-    assert_eq!(rt;
+    let answers = [
+        TinyAsciiStr::<3>::validate_bytes(b"GBPUSDx"),
+        TinyAsciiStr::<3>::validate_bytes(b"\0GBUSDx"),
         UnvalidatedTinyAsciiStr::<3>::validate_bytes(b"GBPUSDx"),
-        long
-    );
-    let short = Err(UleError::Length { len: 3 });
-    assert_eq!(rt; TinyAsciiStr::<2>::validate_bytes(b"\x80ab"), short);
-    assert_eq!(rt; TinyAsciiStr::<2>::validate_bytes(b"ab\x80"), short);
-    assert_eq!(rt; TinyAsciiStr::<32>::validate_bytes(b"abc"), short);
+    ];
+    assert_eq!(rt; answers, [Err(UleError::Length { len: 7 }); 3]);
+    let answers = [
+        TinyAsciiStr::<2>::validate_bytes(b"\x80ab"),
+        TinyAsciiStr::<2>::validate_bytes(b"ab\x80"),
+        TinyAsciiStr::<32>::validate_bytes(b"abc"),
+    ];
+    assert_eq!(rt; answers, [Err(UleError::Length { len: 3 }); 3]);
+}
+
+fn bad(index: usize, fault: ParseError) -> Result<(), UleError> {
+    Err(UleError::Parse { index, fault })
 }
 
 #[test]
 fn the_first_bad_record_is_named(rt: HostRuntime) {
-    let bad = |index, fault| Err(UleError::Parse { index, fault });
-    let null = ParseError::ContainsNull;
-    let high = ParseError::NonAscii;
-    assert_eq!(rt;
+    let answers = [
         TinyAsciiStr::<3>::validate_bytes(b"GB\0\0A\0"),
-        bad(1, null)
-    );
-    assert_eq!(rt;
+        TinyAsciiStr::<2>::validate_bytes(b"\0a"),
         TinyAsciiStr::<2>::validate_bytes(b"ab\0\x80\x80a"),
-        bad(1, high)
-    );
-    assert_eq!(rt; TinyAsciiStr::<2>::validate_bytes(b"\0a"), bad(0, null));
-    assert_eq!(rt; TinyAsciiStr::<1>::validate_bytes(b"a\x80"), bad(1, high));
-    assert_eq!(rt; TinyAsciiStr::<1>::validate_bytes(b"\x80"), bad(0, high));
+        TinyAsciiStr::<1>::validate_bytes(b"a\x80"),
+        TinyAsciiStr::<1>::validate_bytes(b"\x80"),
+    ];
+    let expected = [
+        bad(1, ParseError::ContainsNull),
+        bad(0, ParseError::ContainsNull),
+        bad(1, ParseError::NonAscii),
+        bad(1, ParseError::NonAscii),
+        bad(0, ParseError::NonAscii),
+    ];
+    assert_eq!(rt; answers, expected);
 }
 
-#[test]
-fn records_of_any_bytes_are_accepted(rt: HostRuntime) {
-    assert_eq!(rt;
-        UnvalidatedTinyAsciiStr::<3>::validate_bytes(b"GB\0\0A\0"),
-        Ok(())
-    );
-    assert_eq!(rt; UnvalidatedTinyAsciiStr::<3>::validate_bytes(b""), Ok(()));
+// Whether the pattern at the capacity of the value given is bytes 255, and is refused.
+fn is_no_value<const N: usize>(_like: TinyAsciiStr<N>) -> bool {
+    let niche = TinyAsciiStr::<N>::niche_bit_pattern();
+    niche == [255; N] && TinyAsciiStr::try_from_raw(niche) == Err(ParseError::NonAscii)
 }
 
 #[test]
 fn the_niche_is_no_value(rt: HostRuntime) {
-    let refused = Some(ParseError::NonAscii);
-    let niche = TinyAsciiStr::<1>::niche_bit_pattern();
-    assert_eq!(rt; TinyAsciiStr::try_from_raw(niche).err(), refused);
-    let niche = TinyAsciiStr::<4>::niche_bit_pattern();
-    assert_eq!(rt; TinyAsciiStr::try_from_raw(niche).err(), refused);
-    let niche = TinyAsciiStr::<17>::niche_bit_pattern();
-    assert_eq!(rt; TinyAsciiStr::try_from_raw(niche).err(), refused);
+    assert_eq!(rt; TinyAsciiStr::<0>::niche_bit_pattern(), []);
+    assert!(rt; is_no_value(TinyAsciiStr::<1>::default()));
+    assert!(rt; is_no_value(TinyAsciiStr::<4>::default()));
+    assert!(rt; is_no_value(TinyAsciiStr::<17>::default()));
 }

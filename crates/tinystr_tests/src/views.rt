@@ -1,37 +1,48 @@
 //! Views of values.
 
-use std::process::Abort;
 use std::test::Fail;
-use tinystr::{TinyAsciiStr, TinyStr4, TinyStr16};
+use tinystr::{TinyAsciiStr, TinyStr4, TinyStr8, TinyStr16};
 
-fn is_empty_text<const N: usize>(rt: &impl Abort, text: TinyAsciiStr<N>) {
-    assert_eq!(rt; text.len(), 0);
-    assert!(rt; text.is_empty());
-    assert_eq!(rt; text.as_str(), "");
-    assert_eq!(rt; text.as_utf8(), b"".as_slice());
-    assert_eq!(rt; text.all_bytes().as_slice(), [0; N].as_slice());
+fn is_empty_text<const N: usize>(text: TinyAsciiStr<N>) -> bool {
+    text.len() == 0
+        && text.is_empty()
+        && text.as_str().is_empty()
+        && text.as_utf8().is_empty()
+        && *text.all_bytes() == [0; N]
+        && text == TinyAsciiStr::default()
 }
 
 #[test]
-fn the_empty_text_at_every_kind_of_capacity(rt: HostRuntime) {
-    is_empty_text(&rt, TinyAsciiStr::<0>::default());
-    is_empty_text(&rt, TinyAsciiStr::<4>::default());
-    is_empty_text(&rt, TinyAsciiStr::<8>::default());
-    is_empty_text(&rt, TinyAsciiStr::<9>::default());
-    is_empty_text(&rt, TinyAsciiStr::<17>::default());
-    is_empty_text(&rt, <TinyStr4 as Default>::default());
+fn the_empty_text_at_every_kind_of_capacity(rt: HostRuntime) -> Result<(), Fail> {
+    assert!(rt; is_empty_text(TinyAsciiStr::<0>::default()));
+    assert!(rt; is_empty_text(TinyAsciiStr::<4>::default()));
+    assert!(rt; is_empty_text(TinyAsciiStr::<8>::default()));
+    assert!(rt; is_empty_text(TinyAsciiStr::<9>::default()));
+    assert!(rt; is_empty_text(TinyAsciiStr::<17>::default()));
+    assert!(rt; is_empty_text(<TinyStr4 as Default>::default()));
+    assert!(rt; is_empty_text(TinyAsciiStr::<0>::try_from_str("")?));
+    assert!(rt; is_empty_text(TinyStr4::try_from_str("")?));
+    assert!(rt; is_empty_text(TinyAsciiStr::try_from_raw([0; 17])?));
+    Ok(())
+}
+
+// Whether the value shows the text by each view, and its padding by the last.
+fn shows<const N: usize>(value: TinyAsciiStr<N>, text: &str, padded: &[u8]) -> bool {
+    value.len() == text.len()
+        && value.is_empty() == text.is_empty()
+        && value.as_utf8() == text.as_bytes()
+        && value.as_str() == text
+        && value.all_bytes().as_slice() == padded
 }
 
 #[test]
 fn views_show_the_text_and_its_padding(rt: HostRuntime) -> Result<(), Fail> {
     let en = TinyStr4::try_from_str("en")?;
-    assert_eq!(rt; en.len(), 2);
-    assert!(rt; !en.is_empty());
-    assert_eq!(rt; en.as_utf8(), b"en".as_slice());
-    assert_eq!(rt; en.as_str(), "en");
-    assert_eq!(rt; en.all_bytes().as_slice(), b"en\0\0".as_slice());
+    assert!(rt; shows(en, "en", b"en\0\0"));
     let full = TinyStr16::try_from_str("MacintoshOSX2019")?;
-    assert_eq!(rt; full.len(), 16);
-    assert_eq!(rt; full.as_str(), "MacintoshOSX2019");
+    assert!(rt; shows(full, "MacintoshOSX2019", b"MacintoshOSX2019"));
+    let city = TinyStr8::try_from_raw(*b"New York")?;
+    assert!(rt; shows(city, "New York", b"New York"));
+    assert!(rt; shows(city.clone()?, "New York", b"New York"));
     Ok(())
 }

@@ -7,10 +7,8 @@ pub mod int_ops;
 pub mod laws;
 mod question;
 mod unit;
-mod word;
+#[doc(hidden)]
+pub mod word;
 
 pub use question::{Case, Question};
 pub use unit::Unit;
-
-#[cfg(test)]
-mod tests;

@@ -1,9 +1,22 @@
 //! Words and values, asked about the texts of the table, about their neighbours and about bytes that no text has.
 
+mod every_byte;
+mod every_capacity;
+mod forms;
+mod hostile_bytes;
+mod lanes;
+mod laws;
+mod original;
+mod words;
+
+use tinystr::TinyAsciiStr;
+use tinystr_words::int_ops::Aligned;
+use tinystr_words::word::Word;
+
 /// The answers of a text or a word, in the order of `Vector::answers`.
 macro_rules! answers {
     ($text:expr) => {{
-        let text = &$text;
+        let text = $text;
         [
             text.is_ascii_alphabetic(),
             text.is_ascii_alphanumeric(),
@@ -18,26 +31,21 @@ macro_rules! answers {
     }};
 }
 
-mod every_byte;
-mod every_capacity;
-mod forms;
-mod hostile_bytes;
-mod laws;
-mod original;
-mod words;
-
-use tinystr::TinyAsciiStr;
-
 /// The answers of a value.
-fn answers_of<const N: usize>(text: TinyAsciiStr<N>) -> [bool; 9] {
+fn answers_of<const N: usize>(text: &TinyAsciiStr<N>) -> [bool; 9] {
     answers!(text)
 }
 
-/// The answers that nine letters spell, `y` for true.
-fn spelled(letters: &str) -> [bool; 9] {
-    let mut answers = [false; 9];
-    for (answer, letter) in answers.iter_mut().zip(letters.as_bytes()) {
-        *answer = *letter == b'y';
-    }
-    answers
+/// The answers of a word.
+fn word_answers<T: Word<LEN>, const LEN: usize>(word: &Aligned<T, LEN>) -> [bool; 9] {
+    answers!(word)
+}
+
+fn letter(answer: bool) -> u8 {
+    if answer { b'y' } else { b'n' }
+}
+
+/// Whether nine letters spell the answers, `y` for true.
+fn are_spelled(answers: [bool; 9], letters: &str) -> bool {
+    answers.map(letter).as_slice() == letters.as_bytes()
 }

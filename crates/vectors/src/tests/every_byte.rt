@@ -5,80 +5,84 @@ use std::process::Abort;
 use std::test::Fail;
 use tinystr::TinyAsciiStr;
 
+// The answers of a text of one character, or of a later character.
+fn plain_answers_of(byte: u8, is_first: bool) -> [bool; 9] {
+    let upper = byte.is_ascii_uppercase();
+    let lower = byte.is_ascii_lowercase();
+    let digit = byte.is_ascii_digit();
+    [
+        upper || lower,
+        upper || lower || digit,
+        digit,
+        !upper,
+        if is_first { !lower } else { !upper },
+        !lower,
+        lower,
+        if is_first { upper } else { lower },
+        upper,
+    ]
+}
+
 fn plain_answers(text: &[u8]) -> [bool; 9] {
     let mut answers = [true; 9];
     for (i, byte) in text.iter().enumerate() {
-        let upper = byte.is_ascii_uppercase();
-        let lower = byte.is_ascii_lowercase();
-        let digit = byte.is_ascii_digit();
-        let passes = [
-            upper || lower,
-            upper || lower || digit,
-            digit,
-            !upper,
-            if i == 0 { !lower } else { !upper },
-            !lower,
-            lower,
-            if i == 0 { upper } else { lower },
-            upper,
-        ];
-        for (answer, pass) in answers.iter_mut().zip(passes) {
-            *answer = *answer && pass;
+        let passes = plain_answers_of(*byte, i == 0);
+        for question in 0..9 {
+            answers[question] &= passes[question];
         }
     }
     answers
 }
 
-// Each byte of the changed text is the one there in upper case, or in lower case.
-fn is_changed<const N: usize>(
-    rt: &impl Abort,
-    changed: TinyAsciiStr<N>,
-    bytes: &[u8],
-    raises_first: bool,
-    raises_later: bool,
-) {
-    assert_eq!(rt; changed.len(), bytes.len());
-    for (i, byte) in bytes.iter().enumerate() {
+// The text with its first byte and its later ones in upper or in lower case, and then NULs.
+fn plain_change(text: &[u8], raises_first: bool, raises_later: bool) -> [u8; 32] {
+    let mut changed = [0; 32];
+    for i in 0..text.len().min(32) {
         let raises = if i == 0 { raises_first } else { raises_later };
-        let expected = if raises {
-            byte.to_ascii_uppercase()
+        changed[i] = if raises {
+            text[i].to_ascii_uppercase()
         } else {
-            byte.to_ascii_lowercase()
+            text[i].to_ascii_lowercase()
         };
-        assert_eq!(rt;
-            changed.as_utf8().get(i),
-            Some(&expected),
-            "{changed:?} at {N}"
-        );
+    }
+    changed
+}
+
+fn is_plain<const N: usize>(text: TinyAsciiStr<N>, bytes: &[u8]) -> bool {
+    text.len() == bytes.len()
+        && answers_of(&text) == plain_answers(bytes)
+        && text.to_ascii_lowercase().resize::<32>().to_bytes() == plain_change(bytes, false, false)
+        && text.to_ascii_titlecase().resize::<32>().to_bytes() == plain_change(bytes, true, false)
+        && text.to_ascii_uppercase().resize::<32>().to_bytes() == plain_change(bytes, true, true)
+}
+
+// Whether the bytes are read at the capacity of the value given and at 32, and are answered there as by a plain loop.
+fn are_plain<const N: usize>(bytes: &[u8], _like: TinyAsciiStr<N>) -> bool {
+    match (
+        TinyAsciiStr::<N>::try_from_utf8(bytes),
+        TinyAsciiStr::<32>::try_from_utf8(bytes),
+    ) {
+        (Ok(text), Ok(wide)) => is_plain(text, bytes) && is_plain(wide, bytes),
+        _ => false,
     }
 }
 
-fn is_plain<const N: usize>(rt: &impl Abort, text: TinyAsciiStr<N>, bytes: &[u8]) {
-    assert_eq!(rt; text.len(), bytes.len());
-    assert_eq!(rt; answers_of(text), plain_answers(bytes), "{text:?} at {N}");
-    is_changed(rt, text.to_ascii_lowercase(), bytes, false, false);
-    is_changed(rt, text.to_ascii_titlecase(), bytes, true, false);
-    is_changed(rt, text.to_ascii_uppercase(), bytes, true, true);
-}
-
-// Each byte at each position of a text, at the capacity of the value given and at 32.
-fn each_byte<const N: usize>(rt: &impl Abort, base: TinyAsciiStr<N>) -> Result<(), Fail> {
+// Each byte at each position of a text.
+fn each_byte<const N: usize>(rt: &impl Abort, base: TinyAsciiStr<N>) {
     for at in 0..base.len() {
         for byte in 1..128u8 {
-            let mut bytes = *base.all_bytes();
+            let mut bytes = base.to_bytes();
             bytes[at] = byte;
             let text = &bytes[..base.len()];
-            is_plain(rt, TinyAsciiStr::<N>::try_from_utf8(text)?, text);
-            is_plain(rt, TinyAsciiStr::<32>::try_from_utf8(text)?, text);
+            assert!(rt; are_plain(text, base), "byte {byte} at {at} of {base}");
         }
     }
-    Ok(())
 }
 
 #[test]
 fn each_byte_at_each_position_is_answered_as_by_a_plain_loop(rt: HostRuntime) -> Result<(), Fail> {
-    each_byte(&rt, TinyAsciiStr::<8>::try_from_str("abcdefgh")?)?;
-    each_byte(&rt, TinyAsciiStr::<16>::try_from_str("MacintoshOSX2019")?)?;
-    each_byte(&rt, TinyAsciiStr::<17>::try_from_str("abcdefghijklmnopq")?)?;
+    each_byte(&rt, TinyAsciiStr::<8>::try_from_str("abcdefgh")?);
+    each_byte(&rt, TinyAsciiStr::<16>::try_from_str("MacintoshOSX2019")?);
+    each_byte(&rt, TinyAsciiStr::<17>::try_from_str("abcdefghijklmnopq")?);
     Ok(())
 }

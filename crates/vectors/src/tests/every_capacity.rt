@@ -1,135 +1,84 @@
 //! Each text, read at each capacity that holds it, has the same length, answers and case changes.
 
-use super::{answers_of, spelled};
-use crate::{Vector, vectors};
-use std::process::Abort;
+use super::{answers_of, are_spelled};
+use crate::table::{EDGES, TEXTS, Vector, vectors};
 use std::test::Fail;
 use tinystr::{ParseError, TinyAsciiStr};
 
-fn gives_answers<const N: usize>(rt: &impl Abort, text: TinyAsciiStr<N>, expected: &str) {
-    assert_eq!(rt; answers_of(text), spelled(expected), "{text} at {N}");
+fn has_forms<const N: usize>(text: TinyAsciiStr<N>, vector: &Vector) -> bool {
+    text.as_str() == vector.text
+        && text.len() == vector.text.len()
+        && are_spelled(answers_of(&text), vector.answers)
+        && text.to_ascii_lowercase().as_str() == vector.lower
+        && text.to_ascii_titlecase().as_str() == vector.title
+        && text.to_ascii_uppercase().as_str() == vector.upper
 }
 
-fn has_forms<const N: usize>(rt: &impl Abort, text: TinyAsciiStr<N>, vector: Vector) {
-    assert_eq!(rt; text.as_str(), vector.text);
-    assert_eq!(rt; text.len(), vector.text.len(), "{text} at {N}");
-    gives_answers(rt, text, vector.answers);
-    assert_eq!(rt;
-        text.to_ascii_lowercase().as_str(),
-        vector.lower,
-        "{text} at {N}"
-    );
-    assert_eq!(rt;
-        text.to_ascii_titlecase().as_str(),
-        vector.title,
-        "{text} at {N}"
-    );
-    assert_eq!(rt;
-        text.to_ascii_uppercase().as_str(),
-        vector.upper,
-        "{text} at {N}"
-    );
+// The text, read again from units of 16 bits.
+fn read_wide<const N: usize>(text: TinyAsciiStr<N>) -> Result<TinyAsciiStr<N>, ParseError> {
+    let front = text.resize::<33>();
+    let units = front.to_bytes().map(u16::from);
+    TinyAsciiStr::try_from_utf16(&units[..front.len()])
 }
 
-// The text, read from units of 16 bits, at the capacity of the value given.
-fn read_wide<const N: usize>(
-    _like: TinyAsciiStr<N>,
-    text: &str,
-) -> Result<TinyAsciiStr<N>, ParseError> {
-    let mut units = [0u16; 32];
-    let bytes = text.as_bytes();
-    for (unit, byte) in units.iter_mut().zip(bytes) {
-        *unit = u16::from(*byte);
-    }
-    TinyAsciiStr::try_from_utf16(&units[..bytes.len().min(32)])
-}
-
-// How many texts fit the capacity of the value given; each has its forms there.
-fn agrees<const N: usize>(rt: &impl Abort, empty: TinyAsciiStr<N>) -> Result<usize, Fail> {
-    for vector in vectors() {
-        if vector.text.len() <= empty.all_bytes().len() {
-            has_forms(rt, TinyAsciiStr::<N>::try_from_str(vector.text)?, vector);
-            has_forms(rt, read_wide(empty, vector.text)?, vector);
+// Whether the vector's text, read at the capacity of the value given, has its forms there.
+fn is_right<const N: usize>(vector: &Vector, _like: TinyAsciiStr<N>) -> bool {
+    match TinyAsciiStr::<N>::try_from_str(vector.text) {
+        Ok(text) => {
+            has_forms(text, vector)
+                && has_forms(text.resize::<40>(), vector)
+                && read_wide(text).is_ok_and(|wide| has_forms(wide, vector))
         }
+        Err(_) => false,
     }
-    Ok(
-        vectors()
-            .iter()
-            .filter(|vector| vector.text.len() <= N)
-            .count(),
-    )
+}
+
+// The first text that the capacity of the value given holds and that isn't right there.
+fn first_wrong<const N: usize>(vectors: &[Vector], like: TinyAsciiStr<N>) -> Option<&'static str> {
+    let wrong = vectors
+        .iter()
+        .find(|vector| vector.text.len() <= N && !is_right(vector, like))?;
+    Some(wrong.text)
 }
 
 #[test]
 fn texts_answer_alike_at_every_capacity(rt: HostRuntime) -> Result<(), Fail> {
-    assert_eq!(rt; agrees(&rt, TinyAsciiStr::<0>::default())?, 1);
-    assert_eq!(rt; agrees(&rt, TinyAsciiStr::<2>::default())?, 11);
-    assert_eq!(rt; agrees(&rt, TinyAsciiStr::<3>::default())?, 17);
-    agrees(&rt, TinyAsciiStr::<4>::default())?;
-    agrees(&rt, TinyAsciiStr::<5>::default())?;
-    agrees(&rt, TinyAsciiStr::<8>::default())?;
-    agrees(&rt, TinyAsciiStr::<9>::default())?;
-    assert_eq!(rt; agrees(&rt, TinyAsciiStr::<16>::default())?, 32);
-    assert_eq!(rt; agrees(&rt, TinyAsciiStr::<17>::default())?, 33);
-    agrees(&rt, TinyAsciiStr::<24>::default())?;
-    agrees(&rt, TinyAsciiStr::<32>::default())?;
-    assert_eq!(rt; agrees(&rt, TinyAsciiStr::<33>::default())?, 33);
-    Ok(())
-}
-
-#[test]
-fn seventeen_characters_answer_alike_in_two_words_and_in_more(rt: HostRuntime) -> Result<(), Fail> {
-    let seventeen = TinyAsciiStr::<17>::try_from_str("Abcdefghijklmnopq")?;
-    gives_answers(&rt, seventeen, "yynnynnyn");
-    gives_answers(&rt, seventeen.resize::<32>(), "yynnynnyn");
-    for (text, lower) in [
-        ("Abcdefghijklmnopq", "abcdefghijklmnopq"),
-        ("MacintoshOSX2019", "macintoshosx2019"),
+    let vectors = vectors(rt.alloc(), TEXTS)?;
+    let vectors = vectors.as_slice();
+    assert_eq!(rt; vectors.len(), 33);
+    for wrong in [
+        first_wrong(vectors, TinyAsciiStr::<0>::default()),
+        first_wrong(vectors, TinyAsciiStr::<2>::default()),
+        first_wrong(vectors, TinyAsciiStr::<3>::default()),
+        first_wrong(vectors, TinyAsciiStr::<4>::default()),
+        first_wrong(vectors, TinyAsciiStr::<5>::default()),
+        first_wrong(vectors, TinyAsciiStr::<8>::default()),
+        first_wrong(vectors, TinyAsciiStr::<9>::default()),
+        first_wrong(vectors, TinyAsciiStr::<16>::default()),
+        first_wrong(vectors, TinyAsciiStr::<17>::default()),
+        first_wrong(vectors, TinyAsciiStr::<24>::default()),
+        first_wrong(vectors, TinyAsciiStr::<32>::default()),
+        first_wrong(vectors, TinyAsciiStr::<33>::default()),
     ] {
-        let at_17 = TinyAsciiStr::<17>::try_from_str(text)?;
-        let at_32 = TinyAsciiStr::<32>::try_from_str(text)?;
-        assert_eq!(rt; answers_of(at_17), answers_of(at_32), "{text}");
-        assert_eq!(rt; at_17.to_ascii_lowercase().as_str(), lower);
-        assert_eq!(rt; at_32.to_ascii_lowercase().as_str(), lower);
+        assert_eq!(rt; wrong, None);
     }
     Ok(())
 }
 
 #[test]
-fn the_last_of_33_characters_is_a_later_one(rt: HostRuntime) -> Result<(), Fail> {
-    let late_upper = TinyAsciiStr::<33>::try_from_str("aaaaaaaaaaaaaaaaaaaaaaaaaaaaaaaaZ")?;
-    assert_eq!(rt; late_upper.len(), 33);
-    gives_answers(&rt, late_upper, "yynnnnnnn");
-    assert_eq!(rt;
-        late_upper.to_ascii_titlecase().as_str(),
-        "Aaaaaaaaaaaaaaaaaaaaaaaaaaaaaaaaz"
-    );
-
-    let titled = TinyAsciiStr::<33>::try_from_str("Aaaaaaaaaaaaaaaaaaaaaaaaaaaaaaaaa")?;
-    gives_answers(&rt, titled, "yynnynnyn");
-    Ok(())
-}
-
-#[test]
-fn a_full_word_of_capitals_before_padding(rt: HostRuntime) -> Result<(), Fail> {
-    let capitals = TinyAsciiStr::<40>::try_from_str("AAAAAAAAAAAAAAAA")?;
-    assert_eq!(rt; capitals.len(), 16);
-    gives_answers(&rt, capitals, "yynnnynny");
-    assert_eq!(rt; capitals.to_ascii_lowercase().as_str(), "aaaaaaaaaaaaaaaa");
-    Ok(())
-}
-
-#[test]
-fn the_highest_characters_are_of_no_class_and_stay(rt: HostRuntime) -> Result<(), Fail> {
-    let sixteen = TinyAsciiStr::<17>::try_from_utf8(&[0x7f; 16])?;
-    assert_eq!(rt; sixteen.len(), 16);
-    gives_answers(&rt, sixteen, "nnnyyynnn");
-
-    let four = TinyAsciiStr::<4>::try_from_utf8(&[0x7f; 4])?;
-    assert_eq!(rt; four.len(), 4);
-    gives_answers(&rt, four, "nnnyyynnn");
-    assert_eq!(rt; four.to_ascii_lowercase(), four);
-    assert_eq!(rt; four.to_ascii_titlecase(), four);
-    assert_eq!(rt; four.to_ascii_uppercase(), four);
+fn texts_at_the_edges_of_words_answer_alike(rt: HostRuntime) -> Result<(), Fail> {
+    let vectors = vectors(rt.alloc(), EDGES)?;
+    let vectors = vectors.as_slice();
+    assert_eq!(rt; vectors.len(), 6);
+    for wrong in [
+        first_wrong(vectors, TinyAsciiStr::<4>::default()),
+        first_wrong(vectors, TinyAsciiStr::<16>::default()),
+        first_wrong(vectors, TinyAsciiStr::<17>::default()),
+        first_wrong(vectors, TinyAsciiStr::<32>::default()),
+        first_wrong(vectors, TinyAsciiStr::<33>::default()),
+        first_wrong(vectors, TinyAsciiStr::<40>::default()),
+    ] {
+        assert_eq!(rt; wrong, None);
+    }
     Ok(())
 }

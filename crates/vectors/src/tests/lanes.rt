@@ -1,0 +1,148 @@
+//! Words on their way from constants to answers, lane by lane, and the ends of each width.
+
+use super::word_answers;
+use tinystr_words::int_ops::{Aligned, Aligned4, Aligned8, Aligned16};
+use tinystr_words::word::{DIGIT, LOWER, UPPER, Word};
+
+// Whether the word has these answers and this length, and each case change gives the bytes.
+fn stays<T: Word<LEN>, const LEN: usize>(
+    word: &Aligned<T, LEN>,
+    answers: [bool; 9],
+    bytes: [u8; LEN],
+    len: usize,
+) -> bool {
+    word.len() == len
+        && word_answers(word) == answers
+        && word.to_ascii_lowercase() == bytes
+        && word.to_ascii_titlecase() == bytes
+        && word.to_ascii_uppercase() == bytes
+}
+
+#[test]
+fn the_array_of_no_bytes_is_the_empty_text(rt: HostRuntime) {
+    let yes = [true; 9];
+    assert!(rt; stays(&Aligned4::from_ascii_bytes(b""), yes, [0; 4], 0));
+    assert!(rt; stays(&Aligned8::from_ascii_bytes(b""), yes, [0; 8], 0));
+    assert!(rt; stays(&Aligned16::from_ascii_bytes(b""), yes, [0; 16], 0));
+}
+
+#[test]
+fn words_full_of_the_highest_byte(rt: HostRuntime) {
+    let answers = [false, false, false, true, true, true, false, false, false];
+    assert!(rt;
+        stays(
+            &Aligned4::from_ascii_bytes(&[0x7f; 4]),
+            answers,
+            [0x7f; 4],
+            4
+        )
+    );
+    assert!(rt;
+        stays(
+            &Aligned8::from_ascii_bytes(&[0x7f; 8]),
+            answers,
+            [0x7f; 8],
+            8
+        )
+    );
+    assert!(rt;
+        stays(
+            &Aligned16::from_ascii_bytes(&[0x7f; 16]),
+            answers,
+            [0x7f; 16],
+            16
+        )
+    );
+}
+
+#[test]
+fn arrays_at_their_own_length(rt: HostRuntime) {
+    let en = Aligned4::from_ascii_bytes(b"en");
+    let raised = [
+        en.to_ascii_uppercase(),
+        Aligned4::from_ascii_bytes(b"z{").to_ascii_uppercase(),
+    ];
+    assert_eq!(rt; raised, [[0x45, 0x4e, 0, 0], [0x5a, 0x7b, 0, 0]]);
+    assert!(rt; !Aligned4::from_ascii_bytes(b"3:").is_ascii_numeric());
+    let calendar = Aligned8::from_ascii_bytes(b"calendar");
+    assert_eq!(rt; calendar.to_ascii_titlecase(), *b"Calendar");
+    assert_eq!(rt; [en.len(), calendar.len()], [2, 8]);
+}
+
+#[test]
+fn lanes_of_a_title(rt: HostRuntime) {
+    let word = u32::load(b"tEsT");
+    let bits = word.case_bits(LOWER, UPPER);
+    assert_eq!(rt; word, 0x54734574);
+    assert_eq!(rt;
+        [
+            word.plus(u32::led(LOWER.low, UPPER.low)),
+            word.plus(u32::led(LOWER.high, UPPER.high)),
+            bits,
+            word.or(bits),
+        ]
+        .map(Word::to_le_bytes),
+        [
+            [0x93, 0x84, 0xb2, 0x93],
+            [0x79, 0x6a, 0x98, 0x79],
+            [0x20, 0x20, 0, 0x20],
+            *b"test",
+        ]
+    );
+    let title = Aligned4::from_ascii_bytes(b"tEsT").to_ascii_titlecase();
+    assert_eq!(rt; title, *b"Test");
+}
+
+#[test]
+fn lanes_of_a_colon(rt: HostRuntime) {
+    let word = u32::load(b"3:");
+    let marks = word.outside(DIGIT, DIGIT).and(u32::splat(0x80));
+    assert_eq!(rt; word, 0x3a33);
+    assert_eq!(rt;
+        [
+            word.plus(u32::splat(DIGIT.low)),
+            word.plus(u32::splat(DIGIT.high)),
+            marks,
+            word.present(),
+            marks.and(word.present()),
+        ]
+        .map(Word::to_le_bytes),
+        [
+            [0x83, 0x8a, 0x50, 0x50],
+            [0x79, 0x80, 0x46, 0x46],
+            [0, 0x80, 0x80, 0x80],
+            [0x80, 0x80, 0, 0],
+            [0, 0x80, 0, 0],
+        ]
+    );
+}
+
+#[test]
+fn lanes_of_a_brace(rt: HostRuntime) {
+    let word = u32::load(b"z{");
+    let bits = word.case_bits(LOWER, LOWER);
+    assert_eq!(rt; word, 0x7b7a);
+    assert_eq!(rt;
+        [
+            word.plus(u32::splat(LOWER.low)),
+            word.plus(u32::splat(LOWER.high)),
+            bits,
+            word.and(bits.not()),
+        ]
+        .map(Word::to_le_bytes),
+        [
+            [0x99, 0x9a, 0x1f, 0x1f],
+            [0x7f, 0x80, 0x05, 0x05],
+            [0x20, 0, 0, 0],
+            [0x5a, 0x7b, 0, 0],
+        ]
+    );
+}
+
+#[test]
+fn leading_zeros_of_a_length(rt: HostRuntime) {
+    let word = u32::load(b"en");
+    assert_eq!(rt; word, 0x00006e65);
+    assert_eq!(rt; Word::leading_zeros(word), 17);
+    assert_eq!(rt; Aligned4::from_ascii_bytes(b"en").len(), 2);
+}
