@@ -68,6 +68,14 @@ impl<const N: usize> PartialOrd for UnvalidatedTinyAsciiStr<N> {
 }
 
 impl<const N: usize> UnvalidatedTinyAsciiStr<N> {
+    /// The bytes that are all NUL.
+    #[inline]
+    pub fn default() -> Self
+        ensures { result ≡ replicate N 0 }
+    {
+        UnvalidatedTinyAsciiStr { bytes: [0; N] }
+    }
+
     /// The bytes and then NULs. Refuses by `TooLong` alone.
     pub fn try_from_utf8(bytes: &[u8]) -> Result<Self, ParseError>
         ensures accepted { IsOk result ↔ (length bytes.now ≤ N) }
@@ -75,12 +83,13 @@ impl<const N: usize> UnvalidatedTinyAsciiStr<N> {
         ensures fault { IfErr result (λ e. e ≡ ParseError.TooLong N (length bytes.now)) }
     {
         let len = bytes.len();
-        if len > N {
-            return Err(ParseError::TooLong { max: N, len });
+        if len <= N {
+            let mut padded = [0; N];
+            padded[..len].copy_from_slice(bytes);
+            Ok(UnvalidatedTinyAsciiStr { bytes: padded })
+        } else {
+            Err(ParseError::TooLong { max: N, len })
         }
-        let mut padded = [0; N];
-        padded[..len].copy_from_slice(bytes);
-        Ok(UnvalidatedTinyAsciiStr { bytes: padded })
     }
 
     /// These bytes, whatever they are.
@@ -130,7 +139,7 @@ impl<const N: usize> Default for UnvalidatedTinyAsciiStr<N> {
     fn default() -> Self
         ensures { result ≡ replicate N 0 }
     {
-        UnvalidatedTinyAsciiStr { bytes: [0; N] }
+        UnvalidatedTinyAsciiStr::<N>::default()
     }
 }
 
