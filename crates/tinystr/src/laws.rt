@@ -1,14 +1,11 @@
 //! Laws of the type, each a function whose contract is the law.
 
-ghost use Rattle.std.specs.Prelude.{◌≡◌, ◌<◌, ◌↔◌, Ok, Err, IsTrue, IfOk};
+ghost use Rattle.std.specs.Prelude.{◌≡◌, ◌<◌, ◌↔◌, Ok, Err, IsTrue};
 ghost use Rattle.std.specs.declared.cmp.Ordering.TheVariants.{Less, Equal};
 ghost use Rattle.tinystr_words.specs.Order.{IsBefore};
 
 use crate::ascii::TinyAsciiStr;
 use crate::error::ParseError;
-use crate::forms::JsonReadError;
-use serde_json::Value;
-use std::alloc::{AllocError, Global};
 use std::cmp::Ordering;
 
 /// Texts are equal exactly if they are one text, and one is less exactly if it stands before the other.
@@ -31,19 +28,6 @@ pub fn unvalidated_back<const N: usize>(
     ensures { result ≡ Ok text.entry }
 {
     text.to_unvalidated().try_into_tinystr()
-}
-
-/// The JSON value of a text reads back as the text.
-pub fn json_back<const N: usize>(
-    text: &TinyAsciiStr<N>,
-    alloc: Global,
-) -> Result<Result<TinyAsciiStr<N>, JsonReadError>, AllocError>
-    ensures { IfOk result (λ read. read ≡ Ok text.now) }
-{
-    // Its contract says that the text fits.
-    let _ = text.as_utf8();
-    let value = text.to_json(alloc)?;
-    Ok(TinyAsciiStr::from_json(&value))
 }
 
 /// The bit pattern that no text has is refused as no ASCII.

@@ -24,13 +24,13 @@ pub fn id_of(value: &Value) -> Result<TinyAsciiStr<8>, JsonReadError>
 }
 
 /// A key, through JSON and back. Only memory can stop it.
-pub fn through_json(
-    key: &TinyAsciiStr<8>,
+pub fn through_json<const N: usize>(
+    key: &TinyAsciiStr<N>,
     alloc: Global,
-) -> Result<Result<TinyAsciiStr<8>, JsonReadError>, AllocError>
+) -> Result<Result<TinyAsciiStr<N>, JsonReadError>, AllocError>
     ensures { IfOk result (λ back. back ≡ Ok key.now) }
 {
-    // Its contract says that the key is a text of at most 8 bytes.
+    // Its contract says that the key is a text that fits.
     let _ = key.as_utf8();
     let value = key.to_json(alloc)?;
     Ok(TinyAsciiStr::from_json(&value))
