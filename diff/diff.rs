@@ -239,19 +239,20 @@ fn texts(random: &mut Random, n: usize, how_many: usize) -> Vec<Vec<u8>> {
         .collect()
 }
 
-/// Prints a few answers of the original as rows of the table in `crates/vectors/src/tests/original.rt`.
+/// Prints a few answers of the original as the rows of the three tables in `crates/vectors/src/tests/original.rt`.
 fn print_sample() {
     use tinystr::{ParseError, TinyAsciiStr};
     let mut random = Random(1);
     for _ in 0..16 {
         let len = random.below(11);
-        let units = hostile(&mut random, len);
-        let read = match TinyAsciiStr::<8>::try_from_utf8(&units) {
-            Ok(text) => format!("Ok({:?})", text.as_str()),
-            Err(ParseError::TooLong { max, len }) => format!("Err(ParseError::TooLong {{ max: {max}, len: {len} }})"),
-            Err(fault) => format!("Err(ParseError::{fault:?})"),
+        let list = hostile(&mut random, len);
+        let strict = match TinyAsciiStr::<8>::try_from_utf8(&list) {
+            Ok(text) => text.as_utf8().escape_ascii().to_string(),
+            Err(ParseError::TooLong { .. }) => "!TooLong".to_string(),
+            Err(fault) => format!("!{fault:?}"),
         };
-        println!("    Read {{ units: &{units:?}, read: {read}, lossy: {:?} }},", TinyAsciiStr::<8>::from_utf8_lossy(&units, b'?').as_str());
+        let lossy = TinyAsciiStr::<8>::from_utf8_lossy(&list, b'?');
+        println!("{}|{strict}|{}", list.escape_ascii(), lossy.as_utf8().escape_ascii());
     }
     for _ in 0..8 {
         let number = (random.next() as u32) >> random.below(32);
@@ -261,7 +262,7 @@ fn print_sample() {
     for _ in 0..8 {
         let [first, second] = [0; 2].map(|_| { let len = random.below(7); text(&mut random, len).into_iter().map(|b| b"abZ"[b as usize % 3]).collect::<Vec<u8>>() });
         let [a, b] = [&first, &second].map(|t| TinyAsciiStr::<6>::try_from_utf8(t).unwrap());
-        println!("    Pair {{ first: {:?}, second: {:?}, joined: {:?}, order: Ordering::{:?} }},", a.as_str(), b.as_str(), a.concat::<6, 8>(b).as_str(), a.cmp(&b));
+        println!("{}|{}|{}|{:?}", a.as_str(), b.as_str(), a.concat::<6, 8>(b).as_str(), a.cmp(&b));
     }
 }
 
