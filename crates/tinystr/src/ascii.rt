@@ -254,8 +254,8 @@ impl<const N: usize> TinyAsciiStr<N> {
         &self.bytes
     }
 
-    // Puts what fits of a padded text behind the text. No other step writes into the padding. Where the lengths of both
-    // arrays are known when the program is built and the text fits, it is a copy of a known length.
+    // Puts what fits of a padded text, its NULs too, behind the text. Where the lengths of both arrays are known when the
+    // program is built and the text fits, it is a copy of a known length.
     #[inline(always)]
     fn append(&mut self, len: usize, padded: &[u8])
         requires at_end { len ≡ length self.old }
