@@ -83,110 +83,12 @@ impl<T: Word<LEN>, const LEN: usize> Aligned<T, LEN> {
         Self::from_part(src)
     }
 
-    /// Takes the text of a part of a longer array.
-    #[inline(always)]
-    pub fn from_part(part: &[u8]) -> Self
-        requires fits { length part.now ≤ LEN }
-        requires padded { IsPaddedText part.now (length part.now) }
-        ensures { result ≡ text_of part.now }
-    {
-        Aligned {
-            word: T::load(part),
-        }
-    }
-
-    /// Takes the text of a part, if it is a text and then NULs.
-    #[inline(always)]
-    pub fn try_from_part(part: &[u8]) -> Option<Self>
-        requires fits { length part.now ≤ LEN }
-        ensures { MatchOption result (¬ IsPaddedText part.now (length part.now))
-            (λ t. IsPaddedText part.now (length part.now) × (t ≡ text_of part.now)) }
-    {
-        let word = T::load(part);
-        if word.faults(word.marks()).equals(T::splat(0)) {
-            Some(Aligned { word })
-        } else {
-            None
-        }
-    }
-
-    /// Takes units that are a text, with no NUL.
-    #[inline(always)]
-    pub fn try_from_text<U: Unit>(units: &[U]) -> Option<Self>
-        requires fits { length units.now ≤ LEN }
-        ensures { MatchOption result (¬ IsText (map U.number units.now))
-            (λ t. IsText (map U.number units.now) × (t ≡ map U.number units.now)) }
-    {
-        if is_text(units) {
-            Some(Aligned {
-                word: T::load(units),
-            })
-        } else {
-            None
-        }
-    }
-
-    /// The text and then NULs.
-    #[inline(always)]
-    pub fn to_bytes(&self) -> [u8; LEN]
-        ensures bytes { result ≡ pad self.now LEN }
-        ensures padded { IsPaddedText result LEN }
-        ensures text { text_of result ≡ self.now }
-    {
-        self.word.to_le_bytes()
-    }
-
-    /// Whether the other text is the same.
-    #[inline(always)]
-    pub fn equals(&self, other: &Self) -> bool
-        ensures { result ≡ bytes_eq self.now other.now }
-    {
-        self.word.equals(other.word)
-    }
-
     /// The text's length, from how many zeros lead its word: only NULs stand above its last byte.
     #[inline(always)]
     pub fn len(&self) -> usize
         ensures { result ≡ length self.now }
     {
         LEN - self.word.leading_zeros() / 8
-    }
-
-    /// The text and then another, cut where they are longer than `LEN` bytes together.
-    #[inline(always)]
-    pub fn joined(&self, other: &Self) -> Self
-        ensures { result ≡ take LEN (self.now ++ other.now) }
-    {
-        let len = self.len();
-        if len == LEN {
-            return Aligned { word: self.word };
-        }
-        Aligned {
-            word: self.word.plus(other.word.behind(len)),
-        }
-    }
-
-    /// The answer of the method that the question names, as `is_ascii_titlecase` for `Titlecase`.
-    #[inline(always)]
-    pub fn asks(&self, question: Question) -> bool
-        ensures { result ≡ answer question self.now }
-    {
-        let word = self.word;
-        match question {
-            Question::Alphabetic => marks_no_byte(folded(word).outside(LOWER, LOWER), word),
-            Question::Alphanumeric => {
-                let not_letter = folded(word).outside(LOWER, LOWER);
-                let not_digit = word.outside(DIGIT, DIGIT);
-                marks_no_byte(not_letter.and(not_digit), word)
-            }
-            Question::Numeric => marks_no_byte(word.outside(DIGIT, DIGIT), word),
-            Question::Lowercase => marks_every_lane(word.outside(UPPER, UPPER)),
-            Question::Titlecase => marks_every_lane(word.outside(LOWER, UPPER)),
-            Question::Uppercase => marks_every_lane(word.outside(LOWER, LOWER)),
-            Question::AlphabeticLowercase => marks_no_byte(word.outside(LOWER, LOWER), word),
-            Question::AlphabeticTitlecase => marks_no_byte(word.outside(UPPER, LOWER), word),
-            Question::AlphabeticUppercase => marks_no_byte(word.outside(UPPER, UPPER), word),
-        }
     }
 
     /// Whether each byte is a letter; so it is of the empty text, here and in the other questions.
@@ -261,23 +163,6 @@ impl<T: Word<LEN>, const LEN: usize> Aligned<T, LEN> {
         self.asks(Question::AlphabeticUppercase)
     }
 
-    /// The bytes of the method that the case names, as `to_ascii_titlecase` for `Title`.
-    #[inline(always)]
-    pub fn in_case(&self, case: Case) -> [u8; LEN]
-        ensures { result ≡ pad (in_case case self.now) LEN }
-    {
-        let word = self.word;
-        let changed = match case {
-            Case::Lower => word.or(word.case_bits(UPPER, UPPER)),
-            Case::Title => {
-                let bits = word.case_bits(LOWER, UPPER);
-                word.or(bits).and(T::led(0x20, 0).and(bits).not())
-            }
-            Case::Upper => word.and(word.case_bits(LOWER, LOWER).not()),
-        };
-        changed.to_stored_bytes()
-    }
-
     /// The text with each letter in lower case, and then NULs.
     #[inline(always)]
     pub fn to_ascii_lowercase(&self) -> [u8; LEN]
@@ -300,6 +185,124 @@ impl<T: Word<LEN>, const LEN: usize> Aligned<T, LEN> {
         ensures { result ≡ pad (uppercase self.now) LEN }
     {
         self.in_case(Case::Upper)
+    }
+}
+
+// What stands from here on is there for `tinystr`, which holds its values in words and joins, compares and writes them so.
+impl<T: Word<LEN>, const LEN: usize> Aligned<T, LEN> {
+    /// Takes the text of a part of a longer array.
+    #[inline(always)]
+    pub fn from_part(part: &[u8]) -> Self
+        requires fits { length part.now ≤ LEN }
+        requires padded { IsPaddedText part.now (length part.now) }
+        ensures { result ≡ text_of part.now }
+    {
+        Aligned {
+            word: T::load(part),
+        }
+    }
+
+    /// Takes the text of a part, if it is a text and then NULs.
+    #[inline(always)]
+    pub fn try_from_part(part: &[u8]) -> Option<Self>
+        requires fits { length part.now ≤ LEN }
+        ensures { MatchOption result (¬ IsPaddedText part.now (length part.now))
+            (λ t. IsPaddedText part.now (length part.now) × (t ≡ text_of part.now)) }
+    {
+        let word = T::load(part);
+        if word.faults(word.marks()).equals(T::splat(0)) {
+            Some(Aligned { word })
+        } else {
+            None
+        }
+    }
+
+    /// Takes units that are a text, with no NUL.
+    #[inline(always)]
+    pub fn try_from_text<U: Unit>(units: &[U]) -> Option<Self>
+        requires fits { length units.now ≤ LEN }
+        ensures { MatchOption result (¬ IsText (map U.number units.now))
+            (λ t. IsText (map U.number units.now) × (t ≡ map U.number units.now)) }
+    {
+        if is_text(units) {
+            Some(Aligned {
+                word: T::load(units),
+            })
+        } else {
+            None
+        }
+    }
+
+    /// The text and then NULs.
+    #[inline(always)]
+    pub fn to_bytes(&self) -> [u8; LEN]
+        ensures bytes { result ≡ pad self.now LEN }
+        ensures padded { IsPaddedText result LEN }
+        ensures text { text_of result ≡ self.now }
+    {
+        self.word.to_le_bytes()
+    }
+
+    /// Whether the other text is the same.
+    #[inline(always)]
+    pub fn equals(&self, other: &Self) -> bool
+        ensures { result ≡ bytes_eq self.now other.now }
+    {
+        self.word.equals(other.word)
+    }
+
+    /// The text and then another, cut where they are longer than `LEN` bytes together.
+    #[inline(always)]
+    pub fn joined(&self, other: &Self) -> Self
+        ensures { result ≡ take LEN (self.now ++ other.now) }
+    {
+        let len = self.len();
+        if len == LEN {
+            return Aligned { word: self.word };
+        }
+        Aligned {
+            word: self.word.plus(other.word.behind(len)),
+        }
+    }
+
+    /// The answer of the method that the question names, as `is_ascii_titlecase` for `Titlecase`.
+    #[inline(always)]
+    pub fn asks(&self, question: Question) -> bool
+        ensures { result ≡ answer question self.now }
+    {
+        let word = self.word;
+        match question {
+            Question::Alphabetic => marks_no_byte(folded(word).outside(LOWER, LOWER), word),
+            Question::Alphanumeric => {
+                let not_letter = folded(word).outside(LOWER, LOWER);
+                let not_digit = word.outside(DIGIT, DIGIT);
+                marks_no_byte(not_letter.and(not_digit), word)
+            }
+            Question::Numeric => marks_no_byte(word.outside(DIGIT, DIGIT), word),
+            Question::Lowercase => marks_every_lane(word.outside(UPPER, UPPER)),
+            Question::Titlecase => marks_every_lane(word.outside(LOWER, UPPER)),
+            Question::Uppercase => marks_every_lane(word.outside(LOWER, LOWER)),
+            Question::AlphabeticLowercase => marks_no_byte(word.outside(LOWER, LOWER), word),
+            Question::AlphabeticTitlecase => marks_no_byte(word.outside(UPPER, LOWER), word),
+            Question::AlphabeticUppercase => marks_no_byte(word.outside(UPPER, UPPER), word),
+        }
+    }
+
+    /// The bytes of the method that the case names, as `to_ascii_titlecase` for `Title`.
+    #[inline(always)]
+    pub fn in_case(&self, case: Case) -> [u8; LEN]
+        ensures { result ≡ pad (in_case case self.now) LEN }
+    {
+        let word = self.word;
+        let changed = match case {
+            Case::Lower => word.or(word.case_bits(UPPER, UPPER)),
+            Case::Title => {
+                let bits = word.case_bits(LOWER, UPPER);
+                word.or(bits).and(T::led(0x20, 0).and(bits).not())
+            }
+            Case::Upper => word.and(word.case_bits(LOWER, LOWER).not()),
+        };
+        changed.to_stored_bytes()
     }
 }
 
