@@ -124,8 +124,8 @@ pub fn lossy_padded<U: Unit, const N: usize>(units: &[U], replacement: u8) -> [u
     bytes
 }
 
-/// The fault at the first position whose unit is above 127, or is a character after a NUL.
-pub fn find_fault<U: Unit>(units: &[U]) -> Option<ParseError>
+// The fault at the first position whose unit is above 127, or is a character after a NUL.
+fn find_fault<U: Unit>(units: &[U]) -> Option<ParseError>
     ensures { option_map fault_of result ≡ first_fault (map U.number units.now) }
 {
     let mut is_after_null = false;

@@ -7,7 +7,6 @@ ghost use Rattle.tinystr.specs.Records.{RefusesRecords};
 
 use crate::ascii::TinyAsciiStr;
 use crate::error::ParseError;
-use crate::reading::find_fault;
 use crate::unvalidated::UnvalidatedTinyAsciiStr;
 
 /// Why bytes are no packed records.
@@ -33,8 +32,8 @@ impl<const N: usize> TinyAsciiStr<N> {
         let mut rest = bytes;
         let mut index = 0;
         while rest.len() >= N {
-            let (record, more) = rest.split_at(N);
-            if let Some(fault) = find_fault(record) {
+            let (record, more) = rest.split_first_chunk::<N>().unwrap();
+            if let Err(fault) = Self::try_from_raw(*record) {
                 return Err(UleError::Parse { index, fault });
             }
             rest = more;

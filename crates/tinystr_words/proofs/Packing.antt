@@ -1,16 +1,15 @@
 -- Packed records, one by one.
-use Rattle.std.proofs.Common.{◌≡◌, ℕ, suc, zero, ◌<◌, ◌≤◌, ◌+◌, ◌*◌, ◌%◌, List, [], ◌∷◌, ◌++◌, length, take, drop, Some, None, refl, ap₂, sym, ◌∙◌, arith, below_more}
+use Rattle.std.proofs.Common.{◌≡◌, ℕ, suc, zero, ◌<◌, ◌≤◌, ◌+◌, ◌*◌, ◌%◌, List, [], ◌∷◌, ◌++◌, length, take, drop, refl, ap₂, sym, ◌∙◌, arith, below_more}
 use Rattle.std.specs.List.{All, flat_map}
 use Rattle.std.proofs.Math.Nat.{mul-mod_left, suc-mul, zero-mul}
 use Rattle.std.proofs.Math.Seq.{drop-append-add}
 use Rattle.std.proofs.lemmas.Nat.{mod-mul-add}
-use Rattle.std.proofs.lemmas.List.{map-id, length-append, length-drop, length-take-le, drop-drop, take_at, take-append-drop}
+use Rattle.std.proofs.lemmas.List.{length-append, length-drop, drop-drop, take_at, take-append-drop}
 use Rattle.std.proofs.lemmas.List.Elements.{All-nil, All-cons, All-head, All-tail}
 use Rattle.tinystr_words.specs.Text.{IsStrictText, IsPaddedText, text_of, pad}
-use Rattle.tinystr_words.specs.Reading.{Fault, first_fault, fault_in}
+use Rattle.tinystr_words.specs.Reading.{fault_in}
 use Rattle.tinystr_words.specs.Packed.{IsPacked, record_at, IsFirstBad}
 use Rattle.tinystr_words.proofs.Texts.{IsPaddedText-pad, length-pad}
-use Rattle.tinystr_words.proofs.Readers.{IsPaddedText-clean, first_fault-padded, fault_in-fits}
 
 abbrev padded : ℕ → List ℕ → List ℕ
 padded n t = pad t n
@@ -73,26 +72,25 @@ pub IsChecked-none : (bytes : List ℕ) (n : ℕ) → IsChecked bytes n 0 bytes
 IsChecked-none bytes n = record { left = rw zero-mul refl; seen = omega (arith, zero-mul n); good = λ k h. absurd (omega arith) }
 
 -- the next record is a padded text
-pub IsChecked-more : (bytes rest more : List ℕ) (n i : ℕ) → IsChecked bytes n i rest → more ≡ drop n rest → n ≤ length rest → first_fault (take n rest) ≡ None → IsChecked bytes n (i + 1) more
-IsChecked-more bytes rest more n i h behind inside clean =
+pub IsChecked-more : (bytes rest more raw : List ℕ) (n i : ℕ) → IsChecked bytes n i rest → raw ≡ take n rest → more ≡ drop n rest → n ≤ length rest → IsPaddedText raw n → IsChecked bytes n (i + 1) more
+IsChecked-more bytes rest more raw n i h first behind inside padded =
     let next : (i + 1) * n ≡ i * n + n = omega arith in
     record {
       left = rw (next, ← drop-drop n (i * n) bytes, ← h.left) behind;
       seen = rw behind (omega (arith, h.seen, length-drop n rest));
-      good = below_more _ _ h.good (rw (← h.left) (IsPaddedText-clean (take n rest) n (length-take-le n rest inside) clean));
+      good = below_more _ _ h.good (rw (← h.left, ← first) padded);
     }
 
 -- the next record is bad
-pub IsFirstBad-next : (bytes rest raw : List ℕ) (n i : ℕ) (fault : Fault) → IsChecked bytes n i rest → raw ≡ take n rest → length raw ≡ n → 0 < n → n ≤ length rest → first_fault raw ≡ Some fault → IsFirstBad bytes n i
-IsFirstBad-next bytes rest raw n i fault h first whole some inside found = record {
+pub IsFirstBad-next : (bytes rest raw : List ℕ) (n i : ℕ) → IsChecked bytes n i rest → raw ≡ take n rest → 0 < n → n ≤ length rest → ¬ IsPaddedText raw n → IsFirstBad bytes n i
+IsFirstBad-next bytes rest raw n i h first some inside unpadded = record {
   inside = omega (arith, h.seen);
-  bad = λ padded. (let none = first_fault-padded raw n (rw (← h.left, ← first) at padded) in cc);
+  bad = λ padded. unpadded (rw (← h.left, ← first) at padded);
   before = h.good;
 }
 
-pub fault_in-next : (bytes rest raw : List ℕ) (n i : ℕ) (fault : Fault) → IsChecked bytes n i rest → raw ≡ take n rest → length raw ≡ n → first_fault raw ≡ Some fault → fault ≡ fault_in n (record_at n bytes i)
-fault_in-next bytes rest raw n i fault h first whole found =
-    rw (← h.left, ← first) (sym (rw found at (fault_in-fits n raw (omega arith))))
+pub fault_in-next : (bytes rest raw : List ℕ) (n i : ℕ) → IsChecked bytes n i rest → raw ≡ take n rest → fault_in n raw ≡ fault_in n (record_at n bytes i)
+fault_in-next bytes rest raw n i h first = rw (← h.left, ← first) refl
 
 -- no record is left
 pub IsPacked-checked : (bytes rest : List ℕ) (n i : ℕ) → IsChecked bytes n i rest → length bytes % n ≡ 0 → length rest < n → IsPacked bytes n
@@ -103,4 +101,4 @@ IsPacked-checked bytes rest n i h whole short =
 pub IsFirstBad-unpacked : (bytes : List ℕ) (n i : ℕ) → IsFirstBad bytes n i → ¬ IsPacked bytes n
 IsFirstBad-unpacked bytes n i h packed = h.bad (IsPacked-record bytes n i packed h.inside)
 
-pub ruleset packing = (map-id, IsChecked-none, IsFirstBad-next, fault_in-next, IsPacked-checked, IsFirstBad-unpacked, IsPacked-length)
+pub ruleset packing = (IsChecked-none, IsChecked-more, IsFirstBad-next, fault_in-next, IsPacked-checked, IsFirstBad-unpacked, IsPacked-length)
