@@ -80,13 +80,12 @@ impl<const N: usize> TinyAsciiStr<N> {
         ensures rest { IfOk result (λ read. read.1.now ≡ drop N input.now) }
         ensures fault { IfErr result (λ e. byte_fault N input.now ≡ Some (byte_fault_of e)) }
     {
-        match find_byte_fault(input, N) {
-            Some(fault) => Err(fault),
-            None => {
-                let (raw, rest) = input.split_first_chunk::<N>().unwrap();
-                Ok((Self::from_utf8_unchecked(*raw), rest))
+        if let Some((raw, rest)) = input.split_first_chunk::<N>() {
+            if let Ok(text) = Self::try_from_raw(*raw) {
+                return Ok((text, rest));
             }
         }
+        Err(find_byte_fault(input, N).unwrap_or(BytesReadError::Length { expected: N }))
     }
 }
 

@@ -90,17 +90,21 @@ IsPaddedText-read n input none =
     (first_fault-clean (take n input) (λ k inside.
     is_faulty-take n input k (omega arith) ∙ (clean_at n input k (byte_fault-none_at n input none k (omega arith))).1))
 
+pub byte_fault-first_padded : (n : ℕ) (input : List ℕ) → n ≤ length input → IsPaddedText (take n input) n → byte_fault n input ≡ None
+byte_fault-first_padded n input enough padded =
+    let long = length-take-le n input enough in
+    byte_fault-none n input (λ k below.
+    at_clean n input k (omega arith)
+    (sym (is_faulty-take n input k below) ∙ clean_from (take n input) (first_fault-padded (take n input) n padded) k (omega arith)))
+
 pub byte_fault-padded : (t rest : List ℕ) (n : ℕ) → IsStrictText t n → byte_fault n (pad t n ++ rest) ≡ None
 byte_fault-padded t rest n h =
     let long = length-pad t n h.fits in
-    let first = take_at (pad t n) rest n long in
-    byte_fault-none n (pad t n ++ rest) (λ k below.
-    at_clean n (pad t n ++ rest) k (omega (arith, length-append (pad t n) rest))
-    (sym (is_faulty-take n (pad t n ++ rest) k below) ∙ rw first
-    (clean_from (pad t n) (first_fault-padded (pad t n) n (IsPaddedText-pad t n h)) k (omega arith))))
+    byte_fault-first_padded n (pad t n ++ rest) (omega (arith, length-append (pad t n) rest))
+    (rw (take_at (pad t n) rest n long) (IsPaddedText-pad t n h))
 
 -- a pass over the first n bytes
 pub ruleset byte_pass = (byte_fault-short, byte_fault-null, byte_fault-high, byte_fault-whole, get_or-take, length-take-le)
 
 -- what the reader takes of bytes with no fault
-pub ruleset byte_reading = (enough_from, IsPaddedText-read)
+pub ruleset byte_reading = (enough_from, IsPaddedText-read, byte_fault-first_padded)
