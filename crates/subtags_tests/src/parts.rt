@@ -5,14 +5,15 @@ use subtags::{LangId, LangIdError, Language, Region, Script};
 
 #[test]
 fn each_part_has_its_form(rt: HostRuntime) {
-    let languages = "EN=en abcd= a= abcdef=abcdef abcdefg=abcdefg abcdefgh=abcdefgh abcdefghi=";
+    let languages = "EN=en abcd= a= abcdef=abcdef abcdefg=abcdefg abcdefgh=abcdefgh abcdefghi= \
+                     ABCDEFGH=abcdefgh ijklmnop=ijklmnop IJKLMNOP=ijklmnop qrstuvwx=qrstuvwx QRSTUVWX=qrstuvwx yzYZ= yzYZy=yzyzy";
     for row in languages.split_whitespace() {
         assert!(rt; is_language_or_none(row), "{row}");
     }
     for row in "hANT=Hant Han1=".split_whitespace() {
         assert!(rt; is_script_or_none(row), "{row}");
     }
-    for row in "us=US 419=419 41= u1= u12= 1234=".split_whitespace() {
+    for row in "us=US 419=419 036=036 258=258 797=797 41= u1= u12= 1234=".split_whitespace() {
         assert!(rt; is_region_or_none(row), "{row}");
     }
 }

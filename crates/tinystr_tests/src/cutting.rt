@@ -15,6 +15,8 @@ fn a_text_is_cut_to_another_capacity(rt: HostRuntime) -> Result<(), Fail> {
     assert!(rt; is_text(text.resize::<16>(), "abcdefg"));
     assert!(rt; is_text(text.resize::<0>(), ""));
     assert!(rt; is_text(TinyAsciiStr::<0>::default().resize::<4>(), ""));
+    let text = TinyAsciiStr::<40>::try_from_str("abcdefghijklmnopqrstuvwxyz")?;
+    assert!(rt; is_text(text.resize::<20>(), "abcdefghijklmnopqrst"));
     Ok(())
 }
 
@@ -28,6 +30,7 @@ fn two_texts_are_joined_and_cut(rt: HostRuntime) -> Result<(), Fail> {
     assert!(rt; is_text(front.concat::<6, 7>(back), "abcdefg"));
     assert!(rt; is_text(front.concat::<6, 6>(back), "abcdef"));
     assert!(rt; is_text(front.concat::<6, 2>(back), "ab"));
+    assert!(rt; is_text(front.resize::<8>().concat::<6, 17>(back), "abcdefg"));
     Ok(())
 }
 
@@ -41,6 +44,8 @@ fn a_full_text_is_joined_and_cut(rt: HostRuntime) -> Result<(), Fail> {
     let none = TinyAsciiStr::<0>::default();
     let two = TinyAsciiStr::<2>::try_from_str("ab")?;
     assert!(rt; is_text(none.concat::<2, 4>(two), "ab"));
+    let long = TinyAsciiStr::<25>::try_from_str("abcdefghijklmnopqrstuvwxy")?;
+    assert!(rt; is_text(long.concat::<2, 17>(two), "abcdefghijklmnopq"));
     Ok(())
 }
 
@@ -65,6 +70,8 @@ fn a_decimal_text_is_written_whole(rt: HostRuntime) {
     assert!(rt; is_decimal(10, Ok("10"), Decimal::<2>::default()));
     assert!(rt; is_decimal(0, Ok("0"), Decimal::<4>::default()));
     assert!(rt; is_decimal(456, Ok("456"), Decimal::<3>::default()));
+    assert!(rt; is_decimal(99999, Ok("99999"), Decimal::<5>::default()));
+    assert!(rt; is_decimal(99999999, Ok("99999999"), Decimal::<8>::default()));
     assert!(rt; is_decimal(4294967295, Ok("4294967295"), Decimal::<10>::default()));
     assert!(rt; is_decimal(7, Ok("7"), Decimal::<40>::default()));
 }
@@ -74,6 +81,8 @@ fn the_last_digits_are_written_of_a_number_that_has_more(rt: HostRuntime) {
     assert!(rt; is_decimal(10, Err("0"), Decimal::<1>::default()));
     assert!(rt; is_decimal(456, Err("56"), Decimal::<2>::default()));
     assert!(rt; is_decimal(100, Err("00"), Decimal::<2>::default()));
+    assert!(rt; is_decimal(100000, Err("00000"), Decimal::<5>::default()));
+    assert!(rt; is_decimal(100000000, Err("00000000"), Decimal::<8>::default()));
     assert!(rt; is_decimal(1000000000, Err("000000000"), Decimal::<9>::default()));
     assert!(rt; is_decimal(4294967295, Err("294967295"), Decimal::<9>::default()));
     assert!(rt; is_decimal(7, Err(""), Decimal::<0>::default()));

@@ -54,6 +54,11 @@ fn cases_of_an_error_are_told_apart(rt: HostRuntime) -> Result<(), Fail> {
         },
     ])?;
     assert!(rt; are_apart, "of records");
+    let not_ascii = FormWriteError::NotAscii.clone()?;
+    let memory = FormWriteError::Memory(AllocError).clone()?;
+    let are_cloned = matches!(not_ascii, FormWriteError::NotAscii)
+        && matches!(memory, FormWriteError::Memory(_));
+    assert!(rt; are_cloned, "of writing");
     Ok(())
 }
 

@@ -3,7 +3,7 @@
 use std::cmp::Ordering;
 use std::collections::HashSet;
 use std::test::Fail;
-use tinystr::TinyStr4;
+use tinystr::{TinyAsciiStr, TinyStr4};
 
 fn are_ordered(order: Ordering, first: &str, second: &str) -> bool {
     match (
@@ -31,6 +31,37 @@ fn texts_are_ordered_byte_by_byte(rt: HostRuntime) {
             );
         }
     }
+}
+
+// Whether a text that fills the capacity of the value given stands before the one that is greater at any one position.
+fn is_less_at_each_position<const N: usize>(_like: TinyAsciiStr<N>) -> bool {
+    let less = TinyAsciiStr::<N>::from_utf8_lossy(&[b'a'; 40], b'?');
+    for at in 0..N {
+        let mut bytes = less.to_bytes();
+        bytes[at] = b'b';
+        let greater = TinyAsciiStr::try_from_raw(bytes);
+        if !greater.is_ok_and(|greater| is_before(less, greater)) {
+            return false;
+        }
+    }
+    less == less
+}
+
+fn is_before<const N: usize>(less: TinyAsciiStr<N>, greater: TinyAsciiStr<N>) -> bool {
+    less != greater
+        && less < greater
+        && less.cmp(&greater) == Ordering::Less
+        && greater.cmp(&less) == Ordering::Greater
+}
+
+#[test]
+fn texts_are_told_apart_at_each_position(rt: HostRuntime) {
+    assert!(rt; is_less_at_each_position(TinyAsciiStr::<3>::default()));
+    assert!(rt; is_less_at_each_position(TinyAsciiStr::<7>::default()));
+    assert!(rt; is_less_at_each_position(TinyAsciiStr::<8>::default()));
+    assert!(rt; is_less_at_each_position(TinyAsciiStr::<12>::default()));
+    assert!(rt; is_less_at_each_position(TinyAsciiStr::<16>::default()));
+    assert!(rt; is_less_at_each_position(TinyAsciiStr::<40>::default()));
 }
 
 #[test]

@@ -2,6 +2,7 @@
 
 use std::test::Fail;
 use tinystr::ParseError::{self, ContainsNull, NonAscii, TooLong};
+use tinystr::forms::BytesReadError;
 use tinystr::{TinyAsciiStr, TinyStr4, TinyStr8, tinystr};
 
 // Whether the reader took exactly this text, or refused for this fault.
@@ -106,6 +107,108 @@ fn sixteen_bit_units_are_compared_before_they_are_narrowed(rt: HostRuntime) {
             "{units:?}"
         );
     }
+}
+
+// The bits of a unit that no character has.
+const HIGHER_BITS: [u16; 9] = [
+    0x80, 0x100, 0x200, 0x400, 0x800, 0x1000, 0x2000, 0x4000, 0x8000,
+];
+
+#[test]
+fn a_sixteen_bit_unit_with_any_higher_bit_is_no_character(rt: HostRuntime) {
+    for bit in HIGHER_BITS {
+        let is_refused = is_read(TinyStr4::try_from_utf16(&[bit]), Err(NonAscii))
+            && is_read(TinyStr4::try_from_utf16(&[bit | 0x61]), Err(NonAscii));
+        assert!(rt; is_refused, "{bit}");
+    }
+}
+
+// Whether each strict reader refuses the bytes for the fault, at the capacity of the value given.
+fn is_refused<const N: usize>(
+    bytes: &[u8],
+    units: &[u16],
+    fault: ParseError,
+    _like: TinyAsciiStr<N>,
+) -> bool {
+    TinyAsciiStr::<N>::try_from_utf8(bytes) == Err(fault)
+        && TinyAsciiStr::<N>::try_from_utf16(units) == Err(fault)
+}
+
+// Whether each lossy reader gives the text, with the replacement 127.
+fn is_shown<const N: usize>(
+    bytes: &[u8],
+    units: &[u16],
+    text: &[u8],
+    _like: TinyAsciiStr<N>,
+) -> bool {
+    TinyAsciiStr::<N>::from_utf8_lossy(bytes, 127).as_utf8() == text
+        && TinyAsciiStr::<N>::from_utf16_lossy(units, 127).as_utf8() == text
+}
+
+// Whether each reader refuses the bytes or gives the text, at a long capacity and at a short one that holds them.
+fn are_found(bytes: &[u8], units: &[u16], fault: ParseError, text: &[u8]) -> bool {
+    let long = TinyAsciiStr::<40>::default();
+    let short = TinyStr8::default();
+    is_refused(bytes, units, fault, long)
+        && is_shown(bytes, units, text, long)
+        && (bytes.len() > 8 || is_refused(bytes, units, fault, short))
+        && (bytes.len() > 8 || is_shown(bytes, units, text, short))
+}
+
+// Whether a bad byte there, in so many letters, is refused and replaced.
+fn is_found(byte: u8, fault: ParseError, at: usize, len: usize) -> bool {
+    let mut bytes = [b'a'; 40];
+    let mut text = [b'a'; 40];
+    if at >= len || len > 40 {
+        return false;
+    }
+    bytes[at] = byte;
+    text[at] = 127;
+    let units = bytes.map(u16::from);
+    are_found(&bytes[..len], &units[..len], fault, &text[..len])
+}
+
+#[test]
+fn a_bad_byte_is_found_at_each_position_of_each_length(rt: HostRuntime) {
+    for len in 1..41 {
+        for at in 0..len {
+            let is_right = is_found(0x80, NonAscii, at, len) && is_found(0, ContainsNull, at, len);
+            assert!(rt; is_right, "{at} of {len}");
+        }
+    }
+}
+
+fn is_no_byte_form<const N: usize>(bytes: [u8; N], refusal: BytesReadError) -> bool {
+    match TinyAsciiStr::<N>::read_bytes(&bytes) {
+        Ok(_) => false,
+        Err(fault) => fault == refusal,
+    }
+}
+
+// Whether the raw reader and that of the byte form refuse a byte above 127 at each position, and a letter after NULs.
+fn are_refused_at_each_position<const N: usize>(_like: TinyAsciiStr<N>) -> bool {
+    for at in 1..N {
+        let mut high = [b'a'; N];
+        high[at] = 0x80;
+        let mut late = [0; N];
+        late[at] = b'a';
+        if TinyAsciiStr::try_from_raw(high) != Err(NonAscii)
+            || TinyAsciiStr::try_from_raw(late) != Err(ContainsNull)
+            || !is_no_byte_form(high, BytesReadError::NonAscii)
+            || !is_no_byte_form(late, BytesReadError::Null)
+        {
+            return false;
+        }
+    }
+    true
+}
+
+#[test]
+fn padded_bytes_are_refused_for_a_bad_byte_at_each_position(rt: HostRuntime) {
+    assert!(rt; are_refused_at_each_position(TinyAsciiStr::<7>::default()));
+    assert!(rt; are_refused_at_each_position(TinyAsciiStr::<12>::default()));
+    assert!(rt; are_refused_at_each_position(TinyAsciiStr::<17>::default()));
+    assert!(rt; are_refused_at_each_position(TinyAsciiStr::<40>::default()));
 }
 
 #[test]

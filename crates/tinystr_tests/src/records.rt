@@ -55,6 +55,13 @@ fn the_first_bad_record_is_named(rt: HostRuntime) {
     assert_eq!(rt; answers, expected);
 }
 
+#[test]
+fn records_past_the_two_hundred_and_fifty_fifth_are_counted(rt: HostRuntime) {
+    let mut bytes = [b'a'; 300];
+    bytes[299] = 0x80;
+    assert!(rt; TinyAsciiStr::<1>::validate_bytes(&bytes) == bad(299, ParseError::NonAscii));
+}
+
 // Whether the pattern at the capacity of the value given is bytes 255, and is refused.
 fn is_no_value<const N: usize>(_like: TinyAsciiStr<N>) -> bool {
     let niche = TinyAsciiStr::<N>::niche_bit_pattern();

@@ -7,7 +7,7 @@ use crate::locale::{Pages, is_same_locale, page_of};
 use crate::packed::record;
 use crate::script_code::is_script_code;
 use serde_json::Value;
-use std::alloc::Global;
+use std::alloc::{AllocError, Global};
 use std::collections::{BTreeMap, HashSet};
 use std::test::Fail;
 use subtags::LangId;
@@ -74,6 +74,15 @@ fn what_is_no_key_is_refused_for_its_fault(rt: HostRuntime) {
 
 fn is_no_key(keys: &mut Keys, text: &str, fault: ParseError) -> bool {
     matches!(add_key(keys, text), Err(KeyError::Text(found)) if found == fault)
+}
+
+#[test]
+fn refusals_of_a_key_are_cloned_and_printed_by_their_names(rt: HostRuntime) -> Result<(), Fail> {
+    let text = KeyError::Text(ParseError::NonAscii).clone()?;
+    let memory = KeyError::Memory(AllocError).clone()?;
+    let printed = format!(in rt.alloc(); "{text:?} {memory:?}")?;
+    assert!(rt; printed.as_str() == "Text(NonAscii) Memory(AllocError)");
+    Ok(())
 }
 
 #[test]

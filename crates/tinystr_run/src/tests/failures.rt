@@ -104,6 +104,14 @@ fn run_and_count_reads(
     (outcome, reader.reads)
 }
 
+#[test]
+fn what_kept_a_run_from_its_end_is_printed_by_its_name(rt: HostRuntime) -> Result<(), Fail> {
+    let errors = [RunError::Memory, RunError::Read, RunError::Write];
+    let printed = format!(in rt.alloc(); "{errors:?}")?;
+    assert!(rt; printed.as_str() == "[Memory, Read, Write]");
+    Ok(())
+}
+
 // Whether a run asks for nothing after the failing read, or writes all where no read fails.
 fn ends_at_the_failing_read(alloc: Global, failing_read: usize, kind: ErrorKind) -> bool {
     let mut writer = FailingWriter {

@@ -43,6 +43,15 @@ fn replies_to_every_line(rt: HostRuntime) -> Result<(), Fail> {
     Ok(())
 }
 
+// Reads take at most 4096 bytes.
+#[test]
+fn an_input_of_many_reads_is_answered_to_its_end(rt: HostRuntime) -> Result<(), Fail> {
+    let input = b"4 len abc\n".repeat(rt.alloc(), 1000)?;
+    let replies = b"3\n".repeat(rt.alloc(), 1000)?;
+    assert!(rt; output(rt.alloc(), &input)? == replies);
+    Ok(())
+}
+
 #[test]
 fn a_line_is_cut_at_its_first_two_spaces(rt: HostRuntime) -> Result<(), Fail> {
     let rows = b"4\tbad line
@@ -54,6 +63,7 @@ fn a_line_is_cut_at_its_first_two_spaces(rt: HostRuntime) -> Result<(), Fail> {
 4  len a\tbad command
 4 text  a\t a
 4 len abc\r\t4
+4 len a \t2
 8 upper New York\tNEW YORK
 ";
     check_rows(&rt, rt.alloc(), rows)?;
@@ -209,6 +219,7 @@ fn the_lossy_reader_refuses_nothing(rt: HostRuntime) -> Result<(), Fail> {
 0 lossy abc\t
 4 lossy \x61\0\xC3\xA9\x7A\ta???
 4 lossy oh\0o\toh?o
+17 lossy MacintoshOSX2019\xFF\tMacintoshOSX2019?
 4 lossy \x61\x80\xFF\x31\ta??1
 7 lossy a\tbad capacity
 ";
@@ -221,6 +232,8 @@ fn packed_records_are_counted_or_the_first_bad_one_is_named(rt: HostRuntime) -> 
     let rows = b"3 records GBPUSD\tok 2
 3 records\tok 0
 1 records \0\0\0\tok 3
+1 records aaaaaaaaaaaa\tok 12
+1 records aaaaaaaaaaa\x80\tbad record 11 non ascii
 3 records GBPUSDx\tbad length 7
 32 records abc\tbad length 3
 2 records ab\x80\tbad length 3
