@@ -81,7 +81,9 @@ fn each_byte<const N: usize>(rt: &impl Abort, base: TinyAsciiStr<N>) {
 
 #[test]
 fn each_byte_at_each_position_is_answered_as_by_a_plain_loop(rt: HostRuntime) -> Result<(), Fail> {
+    each_byte(&rt, TinyAsciiStr::<7>::try_from_str("abcdefg")?);
     each_byte(&rt, TinyAsciiStr::<8>::try_from_str("abcdefgh")?);
+    each_byte(&rt, TinyAsciiStr::<12>::try_from_str("FromIntegral")?);
     each_byte(&rt, TinyAsciiStr::<16>::try_from_str("MacintoshOSX2019")?);
     each_byte(&rt, TinyAsciiStr::<17>::try_from_str("abcdefghijklmnopq")?);
     Ok(())
