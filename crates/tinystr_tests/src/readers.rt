@@ -155,17 +155,21 @@ fn are_found(bytes: &[u8], units: &[u16], fault: ParseError, text: &[u8]) -> boo
         && (bytes.len() > 8 || is_shown(bytes, units, text, short))
 }
 
+// Forty letters with another byte at that position.
+fn letters_but(byte: u8, at: usize) -> [u8; 40] {
+    let mut bytes = [b'a'; 40];
+    if at < 40 {
+        bytes[at] = byte;
+    }
+    bytes
+}
+
 // Whether a bad byte there, in so many letters, is refused and replaced.
 fn is_found(byte: u8, fault: ParseError, at: usize, len: usize) -> bool {
-    let mut bytes = [b'a'; 40];
-    let mut text = [b'a'; 40];
-    if at >= len || len > 40 {
-        return false;
-    }
-    bytes[at] = byte;
-    text[at] = 127;
+    let bytes = letters_but(byte, at);
+    let text = letters_but(127, at);
     let units = bytes.map(u16::from);
-    are_found(&bytes[..len], &units[..len], fault, &text[..len])
+    len <= 40 && are_found(&bytes[..len], &units[..len], fault, &text[..len])
 }
 
 #[test]
