@@ -16,4 +16,5 @@ mod words;
 
 pub use ascii::{TinyAsciiStr, TinyStr4, TinyStr8, TinyStr16};
 pub use error::ParseError;
+pub use tinystr_words::{Case, Question};
 pub use unvalidated::UnvalidatedTinyAsciiStr;

@@ -30,6 +30,10 @@ pub record IsPaddedText (bytes : List ℕ) (n : ℕ) : Type 0 where
   pub fits : length (text_of bytes) ≤ n
   pub padded : bytes ≡ pad (text_of bytes) n
 
+-- all of the bytes are a text and then NULs
+abbrev pub IsPadded : List ℕ → Type 0
+IsPadded bytes = IsPaddedText bytes (length bytes)
+
 -- ---- the same facts, as tests that compute
 
 abbrev pub is_character : ℕ → Bool

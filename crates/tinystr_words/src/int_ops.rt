@@ -188,7 +188,7 @@ impl<T: Word<LEN>, const LEN: usize> Aligned<T, LEN> {
     }
 }
 
-// What stands from here on is there for `tinystr`, which holds its values in words and joins, compares and writes them so.
+// What stands from here on is there for `tinystr`, which reads, joins and compares its values by words.
 impl<T: Word<LEN>, const LEN: usize> Aligned<T, LEN> {
     /// Takes the text of a part of a longer array.
     #[inline(always)]

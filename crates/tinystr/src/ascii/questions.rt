@@ -11,9 +11,9 @@ use tinystr_words::int_ops::{Aligned4, Aligned8};
 use tinystr_words::{Case, Question};
 
 impl<const N: usize> TinyAsciiStr<N> {
-    // The answer to a question by name.
+    /// The answer to a question by name, as `is_ascii_titlecase` to `Titlecase`.
     #[inline(always)]
-    fn asks(&self, question: Question) -> bool
+    pub fn ask(&self, question: Question) -> bool
         ensures { result ≡ answer question self.now }
     {
         if N <= 4 {
@@ -25,9 +25,9 @@ impl<const N: usize> TinyAsciiStr<N> {
         }
     }
 
-    // The text in a case by name.
+    /// The text in a case by name, as `to_ascii_titlecase` in `Title`.
     #[inline(always)]
-    fn in_case(self, case: Case) -> Self
+    pub fn in_case(self, case: Case) -> Self
         ensures { result ≡ in_case case self.entry }
     {
         let mut bytes = self.bytes;
@@ -48,7 +48,7 @@ impl<const N: usize> TinyAsciiStr<N> {
     pub fn is_ascii_alphabetic(&self) -> bool
         ensures { result ≡ ask is_alphabetic is_alphabetic self.now }
     {
-        self.asks(Question::Alphabetic)
+        self.ask(Question::Alphabetic)
     }
 
     /// Whether each byte is a letter or a digit.
@@ -56,7 +56,7 @@ impl<const N: usize> TinyAsciiStr<N> {
     pub fn is_ascii_alphanumeric(&self) -> bool
         ensures { result ≡ ask is_alphanumeric is_alphanumeric self.now }
     {
-        self.asks(Question::Alphanumeric)
+        self.ask(Question::Alphanumeric)
     }
 
     /// Whether each byte is a digit.
@@ -64,7 +64,7 @@ impl<const N: usize> TinyAsciiStr<N> {
     pub fn is_ascii_numeric(&self) -> bool
         ensures { result ≡ ask is_digit is_digit self.now }
     {
-        self.asks(Question::Numeric)
+        self.ask(Question::Numeric)
     }
 
     /// Whether no byte is an upper-case letter; bytes that are no letters pass.
@@ -72,7 +72,7 @@ impl<const N: usize> TinyAsciiStr<N> {
     pub fn is_ascii_lowercase(&self) -> bool
         ensures { result ≡ ask is_not_upper is_not_upper self.now }
     {
-        self.asks(Question::Lowercase)
+        self.ask(Question::Lowercase)
     }
 
     /// Whether the first byte is no lower-case letter and no later one an upper-case one; bytes that are no letters pass.
@@ -80,7 +80,7 @@ impl<const N: usize> TinyAsciiStr<N> {
     pub fn is_ascii_titlecase(&self) -> bool
         ensures { result ≡ ask is_not_lower is_not_upper self.now }
     {
-        self.asks(Question::Titlecase)
+        self.ask(Question::Titlecase)
     }
 
     /// Whether no byte is a lower-case letter; bytes that are no letters pass.
@@ -88,7 +88,7 @@ impl<const N: usize> TinyAsciiStr<N> {
     pub fn is_ascii_uppercase(&self) -> bool
         ensures { result ≡ ask is_not_lower is_not_lower self.now }
     {
-        self.asks(Question::Uppercase)
+        self.ask(Question::Uppercase)
     }
 
     /// Whether each byte is a lower-case letter.
@@ -96,7 +96,7 @@ impl<const N: usize> TinyAsciiStr<N> {
     pub fn is_ascii_alphabetic_lowercase(&self) -> bool
         ensures { result ≡ ask is_lower is_lower self.now }
     {
-        self.asks(Question::AlphabeticLowercase)
+        self.ask(Question::AlphabeticLowercase)
     }
 
     /// Whether the first byte is an upper-case letter and each later one a lower-case one.
@@ -104,7 +104,7 @@ impl<const N: usize> TinyAsciiStr<N> {
     pub fn is_ascii_alphabetic_titlecase(&self) -> bool
         ensures { result ≡ ask is_upper is_lower self.now }
     {
-        self.asks(Question::AlphabeticTitlecase)
+        self.ask(Question::AlphabeticTitlecase)
     }
 
     /// Whether each byte is an upper-case letter.
@@ -112,7 +112,7 @@ impl<const N: usize> TinyAsciiStr<N> {
     pub fn is_ascii_alphabetic_uppercase(&self) -> bool
         ensures { result ≡ ask is_upper is_upper self.now }
     {
-        self.asks(Question::AlphabeticUppercase)
+        self.ask(Question::AlphabeticUppercase)
     }
 
     /// The text with each letter in lower case.
