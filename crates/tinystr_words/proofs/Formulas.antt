@@ -15,7 +15,7 @@ use Rattle.tinystr_words.specs.declared.question.Case.{Case}
 use Rattle.tinystr_words.specs.declared.question.Case.TheVariants.{Lower, Title, Upper}
 use Rattle.tinystr_words.proofs.Texts.{NULS, length-pad}
 use Rattle.tinystr_words.proofs.Parts.{first_change, later_change, length-in_case}
-use Rattle.tinystr_words.proofs.Lanes.{both_true, everywhere, everywhere_is, Ascii, lanes, word_add, word_and, word_or, word_not, word_quarter, same_words, holds}
+use Rattle.tinystr_words.proofs.Lanes.{both_true, everywhere, everywhere_is, Ascii, lanes, lanes_zip2, plus_step, and_step, or_step, word_not, word_quarter, same_words, holds}
 
 -- a formula over a word, as `(w + u(0x50)) & H` is `both (plus itself (each 0x50)) (each 0x80)`
 pub data Formula : Type 0 where
@@ -91,17 +91,17 @@ pub lanewise : (f : Formula) (l : List ℕ) → Ascii l → IsSafe f → on f (l
 lanewise itself l a s = word_itself true l
 lanewise (lead x c) l a s = ap word (lanes_led x c l)
 lanewise (plus f g) l a s =
-    let e = lanewise f l a (λ i b h. (both_true (is_safe f i b) _ (s i b h)).0) in
-    let k = lanewise g l a (λ i b h. (both_true (is_safe g i b) _ (both_true (is_safe f i b) _ (s i b h)).1).0) in
-    rw (e, k) (word_add (at f) (at g) true l)
+    let p = λ (i : Bool) (b : ℕ) (h : b < 128). (both_true (is_safe f i b) _ (s i b h)).0 in
+    let q = λ (i : Bool) (b : ℕ) (h : b < 128). (both_true (is_safe g i b) _ (both_true (is_safe f i b) _ (s i b h)).1).0 in
+    rw (lanewise f l a p, lanewise g l a q) (lanes_zip2 (λ m n. m + n) plus_step refl (at f) (at g) (λ i b h. safe_byte f i b h (p i b h)) (λ i b h. safe_byte g i b h (q i b h)) true l a)
 lanewise (both f g) l a s =
     let p = λ (i : Bool) (b : ℕ) (h : b < 128). (both_true (is_safe f i b) _ (s i b h)).0 in
     let q = λ (i : Bool) (b : ℕ) (h : b < 128). (both_true (is_safe f i b) _ (s i b h)).1 in
-    rw (lanewise f l a p, lanewise g l a q) (word_and (at f) (at g) (λ i b h. safe_byte f i b h (p i b h)) (λ i b h. safe_byte g i b h (q i b h)) true l a)
+    rw (lanewise f l a p, lanewise g l a q) (lanes_zip2 bit_and and_step refl (at f) (at g) (λ i b h. safe_byte f i b h (p i b h)) (λ i b h. safe_byte g i b h (q i b h)) true l a)
 lanewise (either f g) l a s =
     let p = λ (i : Bool) (b : ℕ) (h : b < 128). (both_true (is_safe f i b) _ (s i b h)).0 in
     let q = λ (i : Bool) (b : ℕ) (h : b < 128). (both_true (is_safe f i b) _ (s i b h)).1 in
-    rw (lanewise f l a p, lanewise g l a q) (word_or (at f) (at g) (λ i b h. safe_byte f i b h (p i b h)) (λ i b h. safe_byte g i b h (q i b h)) true l a)
+    rw (lanewise f l a p, lanewise g l a q) (lanes_zip2 bit_or or_step refl (at f) (at g) (λ i b h. safe_byte f i b h (p i b h)) (λ i b h. safe_byte g i b h (q i b h)) true l a)
 lanewise (flip f) l a s = rw (lanewise f l a s) (word_not (at f) (λ i b h. safe_byte f i b h (s i b h)) true l a)
 lanewise (quarter f) l a s =
     let p = λ (i : Bool) (b : ℕ) (h : b < 128). (both_true (is_safe f i b) _ (s i b h)).0 in

@@ -6,12 +6,13 @@ use Rattle.std.proofs.Math.Seq.{take-append_seam, drop-append_seam}
 use Rattle.std.proofs.lemmas.Nat.{pow-add, div-mul-add}
 use Rattle.std.proofs.lemmas.Bool.{cases_lt}
 use Rattle.std.proofs.lemmas.List.{take_all, length-take, length-append}
-use Rattle.std.proofs.lemmas.List.Elements.{All-append, All-take, All-head, All-tail}
+use Rattle.std.proofs.lemmas.List.Elements.{All-append, All-take}
 use Rattle.tinystr_words.specs.Text.{IsText, IsTextByte}
 use Rattle.tinystr_words.specs.Words.{word, held, HoldsText}
 use Rattle.tinystr_words.proofs.Texts.{take-joined}
 use Rattle.tinystr_words.proofs.WordBytes.{word_nuls, pow_256-pos}
-use Rattle.tinystr_words.proofs.PaddedWords.{IsBytes, IsBytes-take, word_split, word-lt}
+use Rattle.tinystr_words.proofs.Lanes.{IsBytes, IsBytes-text, word-lt}
+use Rattle.tinystr_words.proofs.PaddedWords.{IsBytes-take, word_split}
 use Rattle.tinystr_words.proofs.WordTexts.{text_word, holds_text}
 
 word-append : (t s : List ℕ) → word (t ++ s) ≡ word t + 256 ^ length t * word s
@@ -20,10 +21,6 @@ word-append t s =
 
 word_lt-pow : (s : List ℕ) (n : ℕ) → IsBytes s → length s ≤ n → word s < 256 ^ n
 word_lt-pow s n h le = let k : 256 ^ length s ≤ 256 ^ n = pow-le-pow_right {n = 256} (lit< tt) le in omega (arith, word-lt s h)
-
-text_bytes : (t : List ℕ) → IsText t → IsBytes t
-text_bytes [] x = tt
-text_bytes (b ∷ t) x = let h = (All-head IsTextByte b t x).1 in (omega (arith, h), text_bytes t (All-tail IsTextByte b t x))
 
 -- the lowest lanes
 word-mod : (s : List ℕ) (n : ℕ) → IsBytes s → word s % 256 ^ n ≡ word (take n s)
@@ -54,6 +51,6 @@ joined {n} {w} {v} p q len is =
     let cut : both ≡ t ++ take (n - len) s = take-joined t s n ∙ ap₂ (λ (l m : List ℕ). l ++ m) (take_all n t p.fits) (ap (λ m. take (n - m) s) (sym is)) in
     let sum : w + v * 256 ^ len % 256 ^ n ≡ word both =
     ap₂ (λ (x y : ℕ). x + y * 256 ^ len % 256 ^ n) (p.padded ∙ word_nuls t (n - length t)) (q.padded ∙ word_nuls s (n - length s))
-    ∙ ap (λ m. word t + m) (behind s len n (text_bytes s q.text) (omega (arith, is, p.fits)))
+    ∙ ap (λ m. word t + m) (behind s len n (IsBytes-text s q.text) (omega (arith, is, p.fits)))
     ∙ sym (ap word cut ∙ word-append t (take (n - len) s) ∙ ap (λ m. word t + 256 ^ m * word (take (n - len) s)) (sym is)) in
-    rw sum (word_lt-pow both n (text_bytes both text) fits, holds_text n both text fits, text_word n both text fits)
+    rw sum (word_lt-pow both n (IsBytes-text both text) fits, holds_text n both text fits, text_word n both text fits)

@@ -1,9 +1,11 @@
 -- Sums, masks and shifts of words, lane by lane.
-use Rattle.std.proofs.Common.{ℕ, zero, suc, ◌+◌, ◌-◌, ◌*◌, ◌/◌, ◌%◌, ◌^◌, ◌<◌, ◌≡◌, Bool, true, false, ◌&&◌, List, [], ◌∷◌, length, refl, ap, ◌∙◌, arith, bit_and, bit_or, nat_eq}
+use Rattle.std.proofs.Common.{ℕ, zero, suc, ◌+◌, ◌-◌, ◌*◌, ◌/◌, ◌%◌, ◌^◌, ◌<◌, ◌≡◌, Bool, true, false, ◌&&◌, List, [], ◌∷◌, length, refl, sym, ap, ◌∙◌, arith, bit_and, bit_or, nat_eq}
 use Rattle.std.proofs.Math.Nat.{pow-suc}
 use Rattle.std.proofs.lemmas.Bool.Decides.{Decides-below_and, nat_tests}
 use Rattle.std.proofs.lemmas.Nat.{and_block, or_block}
-use Rattle.std.specs.Simd.Lanes.{Each1}
+use Rattle.std.specs.Simd.Lanes.{zip2, Each1}
+use Rattle.std.proofs.lemmas.Simd.{Each1-weaker, Each1-from_get_or}
+use Rattle.tinystr_words.specs.Text.{IsText}
 use Rattle.tinystr_words.specs.Words.{word}
 
 -- ---- a fact of each byte below n, by computing it
@@ -28,21 +30,23 @@ unfolding everywhere
 everywhere_is p h true b l = (both_true (p true b) (p false b) (decided (λ b. p true b && p false b) 128 h b l)).0
 everywhere_is p h false b l = (both_true (p true b) (p false b) (decided (λ b. p true b && p false b) 128 h b l)).1
 
--- ---- the lanes of a word, each changed by a function that may treat the first apart
+-- ---- words of bytes
+
+abbrev pub IsBytes : List ℕ → Type 0
+IsBytes l = Each1 (λ b. b < 256) l
 
 abbrev pub Ascii : List ℕ → Type 0
 Ascii l = Each1 (λ b. b < 128) l
 
-abbrev pub lanes : (Bool → ℕ → ℕ) → Bool → List ℕ → List ℕ
-lanes F i [] = []
-lanes F i (b ∷ l) = F i b ∷ lanes F false l
+pub IsBytes-ascii : (l : List ℕ) → Ascii l → IsBytes l
+IsBytes-ascii l = Each1-weaker (λ b. b < 128) (λ b. b < 256) (λ b h. omega arith) l
 
-abbrev pub Bytes : (Bool → ℕ → ℕ) → Type 0
-Bytes F = (i : Bool) (b : ℕ) → b < 128 → F i b < 256
+pub IsBytes-text : (t : List ℕ) → IsText t → IsBytes t
+IsBytes-text t x = Each1-from_get_or (λ b. b < 256) t 0 (λ i h. omega (arith, (x i 0 h).1))
 
-pub word_add : (F G : Bool → ℕ → ℕ) (i : Bool) (l : List ℕ) → word (lanes F i l) + word (lanes G i l) ≡ word (lanes (λ i b. F i b + G i b) i l)
-word_add F G i [] = refl
-word_add F G i (b ∷ l) = omega (arith, word_add F G false l)
+pub word-lt : (l : List ℕ) → IsBytes l → word l < 256 ^ length l
+word-lt [] a = omega arith
+word-lt (b ∷ l) a = let h : b < 256 = a.0 in omega (arith, pow-suc 256 (length l), word-lt l a.1)
 
 -- an operation on numbers that is done on each byte apart
 abbrev pub Bytewise : (ℕ → ℕ → ℕ) → Type 0
@@ -57,24 +61,56 @@ Bytewise-from_block op block a b r s p q =
 pub and_step : Bytewise bit_and
 and_step = Bytewise-from_block bit_and (and_block 8)
 
-word_bytewise : (op : ℕ → ℕ → ℕ) → Bytewise op → op 0 0 ≡ 0 → (F G : Bool → ℕ → ℕ) → Bytes F → Bytes G → (i : Bool) (l : List ℕ) → Ascii l → op (word (lanes F i l)) (word (lanes G i l)) ≡ word (lanes (λ i b. op (F i b) (G i b)) i l)
-word_bytewise op step zeros F G p q i [] a = zeros
-word_bytewise op step zeros F G p q i (b ∷ l) a =
-    step _ _ _ _ (p i b a.0) (q i b a.0) ∙ ap (λ n. op (F i b) (G i b) + 256 * n) (word_bytewise op step zeros F G p q false l a.1)
+pub or_step : Bytewise bit_or
+or_step = Bytewise-from_block bit_or (or_block 8)
 
-pub word_and : (F G : Bool → ℕ → ℕ) → Bytes F → Bytes G → (i : Bool) (l : List ℕ) → Ascii l → bit_and (word (lanes F i l)) (word (lanes G i l)) ≡ word (lanes (λ i b. bit_and (F i b) (G i b)) i l)
-word_and = word_bytewise bit_and and_step refl
+pub plus_step : Bytewise (λ m n. m + n)
+plus_step a b r s p q = omega arith
 
-pub word_or : (F G : Bool → ℕ → ℕ) → Bytes F → Bytes G → (i : Bool) (l : List ℕ) → Ascii l → bit_or (word (lanes F i l)) (word (lanes G i l)) ≡ word (lanes (λ i b. bit_or (F i b) (G i b)) i l)
-word_or = word_bytewise bit_or (Bytewise-from_block bit_or (or_block 8)) refl
+-- such an operation on two words is done on their bytes, two by two
+word_zip2 : (op : ℕ → ℕ → ℕ) → Bytewise op → op 0 0 ≡ 0 → (l m : List ℕ) → length l ≡ length m → IsBytes l → IsBytes m → op (word l) (word m) ≡ word (zip2 op l m)
+word_zip2 op step zeros [] [] e p q = zeros
+word_zip2 op step zeros [] (d ∷ m) e p q = absurd (omega arith)
+word_zip2 op step zeros (b ∷ l) [] e p q = absurd (omega arith)
+word_zip2 op step zeros (b ∷ l) (d ∷ m) e p q =
+    step _ _ _ _ p.0 q.0 ∙ ap (λ n. op b d + 256 * n) (word_zip2 op step zeros l m (omega arith) p.1 q.1)
 
-pub word-lt : (F : Bool → ℕ → ℕ) → Bytes F → (i : Bool) (l : List ℕ) → Ascii l → word (lanes F i l) < 256 ^ length l
-word-lt F p i [] a = omega arith
-word-lt F p i (b ∷ l) a = let h = word-lt F p false l a.1 in let k = p i b a.0 in grind (arith)
+-- the sum of two words
+pub word_sum : (l m : List ℕ) → length l ≡ length m → IsBytes l → IsBytes m → word l + word m ≡ word (zip2 (λ m n. m + n) l m)
+word_sum = word_zip2 (λ m n. m + n) plus_step refl
+
+-- ---- the lanes of a word, each changed by a function that may treat the first apart
+
+abbrev pub lanes : (Bool → ℕ → ℕ) → Bool → List ℕ → List ℕ
+lanes F i [] = []
+lanes F i (b ∷ l) = F i b ∷ lanes F false l
+
+abbrev pub Bytes : (Bool → ℕ → ℕ) → Type 0
+Bytes F = (i : Bool) (b : ℕ) → b < 128 → F i b < 256
+
+pub length-lanes : (F : Bool → ℕ → ℕ) (i : Bool) (l : List ℕ) → length (lanes F i l) ≡ length l
+length-lanes F i [] = refl
+length-lanes F i (b ∷ l) = ap suc (length-lanes F false l)
+
+pub IsBytes-lanes : (F : Bool → ℕ → ℕ) → Bytes F → (i : Bool) (l : List ℕ) → Ascii l → IsBytes (lanes F i l)
+IsBytes-lanes F p i [] a = tt
+IsBytes-lanes F p i (b ∷ l) a = (p i b a.0, IsBytes-lanes F p false l a.1)
+
+zip2-lanes : (op : ℕ → ℕ → ℕ) (F G : Bool → ℕ → ℕ) (i : Bool) (l : List ℕ) → zip2 op (lanes F i l) (lanes G i l) ≡ lanes (λ i b. op (F i b) (G i b)) i l
+zip2-lanes op F G i [] = refl
+zip2-lanes op F G i (b ∷ l) = ap (λ m. op (F i b) (G i b) ∷ m) (zip2-lanes op F G false l)
+
+-- such an operation on two changes of one word
+pub lanes_zip2 : (op : ℕ → ℕ → ℕ) → Bytewise op → op 0 0 ≡ 0 → (F G : Bool → ℕ → ℕ) → Bytes F → Bytes G → (i : Bool) (l : List ℕ) → Ascii l → op (word (lanes F i l)) (word (lanes G i l)) ≡ word (lanes (λ i b. op (F i b) (G i b)) i l)
+lanes_zip2 op step zeros F G p q i l a =
+    word_zip2 op step zeros (lanes F i l) (lanes G i l) (length-lanes F i l ∙ sym (length-lanes G i l)) (IsBytes-lanes F p i l a) (IsBytes-lanes G q i l a)
+    ∙ ap word (zip2-lanes op F G i l)
 
 pub word_not : (F : Bool → ℕ → ℕ) → Bytes F → (i : Bool) (l : List ℕ) → Ascii l → 256 ^ length l - 1 - word (lanes F i l) ≡ word (lanes (λ i b. 255 - F i b) i l)
 word_not F p i [] a = refl
-word_not F p i (b ∷ l) a = let h = word_not F p false l a.1 in let s = word-lt F p false l a.1 in let k = p i b a.0 in omega (arith, pow-suc 256 (length l))
+word_not F p i (b ∷ l) a =
+    let s = rw (length-lanes F false l) at (word-lt (lanes F false l) (IsBytes-lanes F p false l a.1)) in
+    let k = p i b a.0 in omega (arith, pow-suc 256 (length l), word_not F p false l a.1)
 
 pub word_quarter : (F : Bool → ℕ → ℕ) → ((i : Bool) (b : ℕ) → b < 128 → F i b % 4 ≡ 0) → (i : Bool) (l : List ℕ) → Ascii l → word (lanes F i l) ≡ 4 * word (lanes (λ i b. F i b / 4) i l)
 word_quarter F p i [] a = refl

@@ -4,7 +4,8 @@ use Rattle.std.proofs.lemmas.List.{length-map, take-map, drop-map}
 use Rattle.std.proofs.lemmas.List.Elements.{All-head, All-tail}
 use Rattle.tinystr_words.specs.Text.{IsText, IsTextByte}
 use Rattle.tinystr_words.specs.Words.{word}
-use Rattle.tinystr_words.proofs.PaddedWords.{IsBytes, IsBytes-fit, joined_halves}
+use Rattle.tinystr_words.proofs.Lanes.{IsBytes}
+use Rattle.tinystr_words.proofs.PaddedWords.{IsBytes-fit, joined_halves}
 
 -- the lowest bytes of numbers
 pub IsBytes-low : {X : Type 0} (f : X → ℕ) (l : List X) → IsBytes (map (λ u. f u % 256) l)

@@ -8,18 +8,14 @@ use Rattle.std.proofs.lemmas.List.{drop-drop, length-map, length-append, length-
 use Rattle.std.proofs.Math.Seq.{take-append_seam}
 use Rattle.std.proofs.lemmas.List.Elements.{All-head, All-tail, All-cons, All-nil}
 use Rattle.std.proofs.lemmas.Nat.{and_le_r, and_or_self, le_or_l, le_or_r, div-mul-add}
-use Rattle.std.specs.Simd.Lanes.{Each1}
 use Rattle.std.specs.Int.Bits.{or_self, or_add_and, or_shifted_r}
-use Rattle.std.proofs.lemmas.Simd.{Each1-weaker, Each1-replicate, Each1-from_get_or}
+use Rattle.std.proofs.lemmas.Simd.{Each1-replicate, Each1-from_get_or}
 use Rattle.tinystr_words.specs.Text.{IsTextByte, IsText, IsPaddedText, text_of}
 use Rattle.tinystr_words.specs.Words.{word, led}
-use Rattle.tinystr_words.proofs.Lanes.{decided, and_step}
+use Rattle.tinystr_words.proofs.Lanes.{decided, IsBytes, IsBytes-ascii, word-lt, and_step}
 use Rattle.tinystr_words.proofs.Texts.{NULS, padded-nuls, IsPaddedText-take}
 use Rattle.tinystr_words.proofs.Formulas.{ascii_padded}
 use Rattle.tinystr_words.proofs.WordBytes.{word_nuls, pow_256}
-
-abbrev pub IsBytes : List ℕ → Type 0
-IsBytes l = Each1 (λ b. b < 256) l
 
 abbrev pub each : ℕ → ℕ → ℕ
 each n c = word (led n c c)
@@ -40,10 +36,6 @@ word_split (suc n) (b ∷ l) h =
     let e = word_split n l (omega arith) in
     let k : 256 ^ suc n * word (drop n l) ≡ 256 * (256 ^ n * word (drop n l)) = ap (λ p. p * word (drop n l)) (pow-suc 256 n ∙ mul_comm (256 ^ n) 256) ∙ mul_assoc 256 (256 ^ n) (word (drop n l)) in
     omega arith
-
-pub word-lt : (l : List ℕ) → IsBytes l → word l < 256 ^ length l
-word-lt [] a = omega arith
-word-lt (b ∷ l) a = let h : b < 256 = a.0 in omega (arith, pow-suc 256 (length l), word-lt l a.1)
 
 pub IsBytes-take : (n : ℕ) (l : List ℕ) → IsBytes l → IsBytes (take n l)
 IsBytes-take zero l a = tt
@@ -196,7 +188,7 @@ clean_nuls (suc k) =
     first_nul (suc k) = let e : word (map mark (NULS (suc k))) % 256 ≡ 0 = omega arith in rw e refl
 
 IsBytes-split : (t : List ℕ) (k : ℕ) → IsText t → IsBytes (t ++ NULS k)
-IsBytes-split t k x = Each1-weaker (λ b. b < 128) (λ b. b < 256) (λ b h. omega arith) (t ++ NULS k) (ascii_padded t k x)
+IsBytes-split t k x = IsBytes-ascii (t ++ NULS k) (ascii_padded t k x)
 
 clean_of : (t : List ℕ) (k : ℕ) → IsText t → IsClean (t ++ NULS k)
 clean_of [] k x = clean_nuls k

@@ -5,14 +5,12 @@ use Rattle.std.proofs.Math.Arith.{mod-mul}
 use Rattle.std.proofs.lemmas.Nat.{leading_top, pow-add, pow_pos}
 use Rattle.std.proofs.lemmas.Bool.{cases_lt}
 use Rattle.std.proofs.lemmas.List.Elements.{All-head, All-tail}
-use Rattle.std.specs.Simd.Lanes.{Each1}
-use Rattle.std.proofs.lemmas.Simd.{Each1-weaker}
 use Rattle.std.specs.Int.{bytes_low_first, byte_at}
 use Rattle.std.specs.Int.Count.{count_leading_zeros, leading_of_zero}
 use Rattle.tinystr_words.specs.Text.{IsTextByte, IsText, pad}
 use Rattle.tinystr_words.specs.Words.{word, led, lanes_of}
 use Rattle.tinystr_words.proofs.Texts.{NULS, length-pad}
-use Rattle.tinystr_words.proofs.Lanes.{Ascii}
+use Rattle.tinystr_words.proofs.Lanes.{Ascii, IsBytes, IsBytes-ascii}
 use Rattle.tinystr_words.proofs.Formulas.{ascii_pad}
 
 -- ---- the bytes of a word
@@ -31,14 +29,16 @@ lanes_mod (suc n) w =
     let high : w % 256 ^ suc n / 256 ≡ w / 256 % 256 ^ n = omega arith in
     ap₂ (λ x xs. x ∷ xs) low (ap (λ m. lanes_of n m) high ∙ lanes_mod n (w / 256))
 
+-- the lanes above the lowest
+pub lower_lanes : (w m : ℕ) → w / 256 ^ suc m ≡ w / 256 / 256 ^ m
+lower_lanes w m = ap (λ d. w / d) (pow-suc 256 m ∙ mul_comm (256 ^ m) 256) ∙ sym (div-div-eq-div-mul w 256 (256 ^ m))
+
 -- and the others those of the quotient
 lanes_append : (m n w : ℕ) → lanes_of m w ++ lanes_of n (w / 256 ^ m) ≡ lanes_of (m + n) w
 lanes_append zero n w = let e : w / 256 ^ 0 ≡ w = omega arith in let k : 0 + n ≡ n = omega arith in rw (e, k) refl
 lanes_append (suc m) n w =
     let e : suc m + n ≡ suc (m + n) = omega arith in
-    let k : w / 256 ^ suc m ≡ w / 256 / 256 ^ m =
-    ap (λ d. w / d) (pow-suc 256 m ∙ mul_comm (256 ^ m) 256) ∙ sym (div-div-eq-div-mul w 256 (256 ^ m)) in
-    rw (e, k) (ap (λ l. (w % 256) ∷ l) (lanes_append m n (w / 256)))
+    rw (e, lower_lanes w m) (ap (λ l. (w % 256) ∷ l) (lanes_append m n (w / 256)))
 
 -- a word's bytes, from those of its two halves
 pub lanes_halves : (n w : ℕ) → lanes_of n (w % 256 ^ n) ++ lanes_of n (w / 256 ^ n) ≡ lanes_of (n + n) w
@@ -73,7 +73,7 @@ low_first i (suc k) n =
 pub lanes_low_first : (k n : ℕ) → bytes_low_first 0 k n ≡ lanes_of k n
 lanes_low_first k n = low_first 0 k n ∙ ap (λ m. lanes_of k m) (omega arith)
 
-pub lanes_word : (l : List ℕ) → Each1 (λ b. b < 256) l → lanes_of (length l) (word l) ≡ l
+pub lanes_word : (l : List ℕ) → IsBytes l → lanes_of (length l) (word l) ≡ l
 lanes_word [] a = refl
 lanes_word (b ∷ l) a =
     let h : b < 256 = a.0 in
@@ -84,7 +84,7 @@ lanes_word (b ∷ l) a =
 pub lanes_word_pad : (n : ℕ) (t : List ℕ) → IsText t → length t ≤ n → lanes_of n (word (pad t n)) ≡ pad t n
 lanes_word_pad n t x le =
     subst (λ m. lanes_of m (word (pad t n)) ≡ pad t n) (length-pad t n le)
-    (lanes_word (pad t n) (Each1-weaker (λ b. b < 128) (λ b. b < 256) (λ b h. omega arith) (pad t n) (ascii_pad t n x)))
+    (lanes_word (pad t n) (IsBytes-ascii (pad t n) (ascii_pad t n x)))
 
 -- ---- padding, and what it leaves room for
 
@@ -130,9 +130,9 @@ pow_256 (suc m) =
     let e : 8 * suc m ≡ 8 * m + 8 = omega arith in
     rw (pow-suc 256 m, pow_256 m, e) (sym (pow-add 2 (8 * m) 8))
 
-exponent_below : (i j : ℕ) → 2 ^ i < 2 ^ j → i < j
-exponent_below i j h =
-    ⊎_elim (λ l. l) (λ le. let k : 2 ^ j ≤ 2 ^ i = pow-le-pow_right {n = 2} (lit< tt) le in absurd (omega arith)) (cases_lt i j)
+pub exponent_below : (n i j : ℕ) → 0 < n → n ^ i < n ^ j → i < j
+exponent_below n i j some h =
+    ⊎_elim (λ l. l) (λ le. let k : n ^ j ≤ n ^ i = pow-le-pow_right {n = n} some le in absurd (omega arith)) (cases_lt i j)
 
 leading_of_bits : (n m j r : ℕ) → m < n → r + suc j ≡ 8 * n → 8 * m < suc j → j < 8 * m + 7 → r / 8 ≡ n - suc m
 leading_of_bits n m j r l e low high = omega arith
@@ -147,5 +147,5 @@ leading_zeros_of n (b ∷ t) x le =
     let wide : 2 ^ (8 * length t + 7) ≤ 2 ^ (8 * n) = pow-le-pow_right {n = 2} (lit< tt) within in
     let found = leading_top (8 * n) (word (b ∷ t)) (omega arith) (omega arith) in
     leading_of_bits n (length t) found.0 _ le found.1
-    (exponent_below (8 * length t) (suc found.0) (omega arith))
-    (exponent_below found.0 (8 * length t + 7) (omega arith))
+    (exponent_below 2 (8 * length t) (suc found.0) (lit< tt) (omega arith))
+    (exponent_below 2 found.0 (8 * length t + 7) (lit< tt) (omega arith))

@@ -1,57 +1,47 @@
 -- Lanes of sums, and the size of a word.
-use Rattle.std.proofs.Common.{ℕ, zero, suc, ◌+◌, ◌-◌, ◌*◌, ◌/◌, ◌%◌, ◌^◌, ◌<◌, ◌≤◌, ◌≡◌, ◌↔◌, List, [], ◌∷◌, length, get_or, map, sym, ap, ◌∙◌, arith, lit<, ⊎_elim}
-use Rattle.std.proofs.Math.Nat.{pow-suc, mul_comm, div-div-eq-div-mul, pow-le-pow_right}
-use Rattle.std.proofs.lemmas.Bool.{cases_lt}
+use Rattle.std.proofs.Common.{ℕ, zero, suc, ◌+◌, ◌-◌, ◌*◌, ◌/◌, ◌%◌, ◌^◌, ◌<◌, ◌≤◌, ◌≡◌, ◌↔◌, List, [], ◌∷◌, length, get_or, map, sym, ap, ◌∙◌, arith, lit<}
 use Rattle.std.proofs.lemmas.List.{length-map, get_or-map}
 use Rattle.std.proofs.lemmas.Grind.{get_or_default_zero}
-use Rattle.std.proofs.lemmas.List.Elements.{All-head, All-tail}
+use Rattle.std.proofs.lemmas.Simd.{length-zip2, get_or-zip2, Each1-from_get_or}
+use Rattle.std.specs.Simd.Lanes.{zip2}
 use Rattle.std.specs.List.{All}
 use Rattle.std.specs.Int.{IsInRange}
 use Rattle.tinystr_words.specs.Text.{IsText, pad}
-use Rattle.tinystr_words.specs.Words.{word, lane}
-use Rattle.tinystr_words.proofs.WordBytes.{word_nuls, word_least, word_below}
+use Rattle.tinystr_words.specs.Words.{word, lane, lanes_of}
+use Rattle.tinystr_words.proofs.Lanes.{IsBytes, IsBytes-text, word-lt, word_sum}
+use Rattle.tinystr_words.proofs.WordBytes.{lower_lanes, lanes_word, word_nuls, word_least, exponent_below}
 
-lane_more : (b w i : ℕ) → b < 256 → lane (b + 256 * w) (suc i) ≡ lane w i
-lane_more b w i h =
-    let e : (b + 256 * w) / 256 ≡ w = omega arith in
-    let k : 256 ^ suc i ≡ 256 * 256 ^ i = pow-suc 256 i ∙ mul_comm (256 ^ i) 256 in
-    ap (λ m. m % 256) (ap (λ m. (b + 256 * w) / m) k ∙ sym (div-div-eq-div-mul (b + 256 * w) 256 (256 ^ i)) ∙ ap (λ m. m / 256 ^ i) e)
+-- the byte at a place is the lane there
+lane-is : (n w i : ℕ) → i < n → get_or (lanes_of n w) i 0 ≡ lane w i
+lane-is zero w i h = absurd (omega arith)
+lane-is (suc n) w zero h = omega arith
+lane-is (suc n) w (suc i) h = lane-is n (w / 256) i (omega arith) ∙ ap (λ m. m % 256) (sym (lower_lanes w i))
+
+lane-word : (l : List ℕ) (i : ℕ) → IsBytes l → i < length l → lane (word l) i ≡ get_or l i 0
+lane-word l i a h = sym (lane-is (length l) (word l) i h) ∙ ap (λ (m : List ℕ). get_or m i 0) (lanes_word l a)
 
 abbrev pub IsLow : ℕ → Type 0
 IsLow b = b ≤ 0x7f
 
+-- lanes of at most 0x7f are summed each for itself
 pub lane_sum_is : (a c : List ℕ) → length a ≡ length c → All IsLow a → All IsLow c →
     (word a + word c < 256 ^ length a) × ((i : ℕ) → i < length a → lane (word a + word c) i ≡ get_or a i 0 + get_or c i 0)
-lane_sum_is [] [] e p q = (omega arith, λ i h. absurd (omega arith))
-lane_sum_is [] (d ∷ c) e p q = absurd (omega arith)
-lane_sum_is (b ∷ a) [] e p q = absurd (omega arith)
-lane_sum_is (b ∷ a) (d ∷ c) e p q =
-    let x : b ≤ 0x7f = All-head IsLow b a p in
-    let y : d ≤ 0x7f = All-head IsLow d c q in
-    let rest = lane_sum_is a c (omega arith) (All-tail IsLow b a p) (All-tail IsLow d c q) in
-    let bound = rest.0 in
-    let join : word (b ∷ a) + word (d ∷ c) ≡ (b + d) + 256 * (word a + word c) = omega arith in (
-      omega (arith, pow-suc 256 (length a)),
-      λ i. elim i as (λ i. i < suc (length a) → lane (word (b ∷ a) + word (d ∷ c)) i ≡ get_or (b ∷ a) i 0 + get_or (d ∷ c) i 0) [
-        | zero ↦ λ h. omega arith
-        | suc i ↦ λ h. ap (λ n. lane n (suc i)) join ∙ lane_more (b + d) (word a + word c) i (omega arith) ∙ rest.1 i (omega arith)
-      ],
-    )
+lane_sum_is a c e p q =
+    let plus : ℕ → ℕ → ℕ = λ m n. m + n in
+    let low = λ (l : List ℕ) (r : All IsLow l). Each1-from_get_or (λ b. b < 256) l 0 (λ i h. omega (arith, r i 0 h)) in
+    let each = λ (i : ℕ) (h : i < length a). get_or-zip2 plus a c i 0 0 0 h (omega arith) in
+    let long : length (zip2 plus a c) ≡ length a = length-zip2 plus a c e in
+    let bytes : IsBytes (zip2 plus a c) = Each1-from_get_or (λ b. b < 256) (zip2 plus a c) 0 (λ i h. let k : i < length a = omega arith in omega (arith, each i k, p i 0 k, q i 0 (omega arith))) in
+    rw (word_sum a c e (low a p) (low c q))
+    (omega (arith, word-lt (zip2 plus a c) bytes, ap (λ m. 256 ^ m) long), λ i h. lane-word (zip2 plus a c) i bytes (omega arith) ∙ each i h)
 
-word_length_of : (t : List ℕ) → IsText t → (word t < 256 ^ length t) × ((k : ℕ) → word t < 256 ^ k → length t ≤ k)
-word_length_of [] x = (omega arith, λ k h. omega arith)
-word_length_of (b ∷ t) x =
-    let least = word_least b t x in
-    let below = word_below b t x in (
-      omega (arith, pow-suc 256 (length t)),
-      λ k h. ⊎_elim (λ (l : k < suc (length t)).
-          let m : k ≤ length t = omega arith in
-          let p : 256 ^ k ≤ 256 ^ length t = pow-le-pow_right {n = 256} (lit< tt) m in
-          absurd (omega arith)) (λ l. l) (cases_lt k (suc (length t))),
-    )
+length_below : (t : List ℕ) → IsText t → (k : ℕ) → word t < 256 ^ k → length t ≤ k
+length_below [] x k h = omega arith
+length_below (b ∷ t) x k h = exponent_below 256 (length t) k (lit< tt) (omega (arith, word_least b t x))
 
+-- the size of a word tells the length of its text
 pub word_length_is : (w : ℕ) (t : List ℕ) → IsText t → length t ≤ w → (word (pad t w) < 256 ^ length t) × ((k : ℕ) → word (pad t w) < 256 ^ k → length t ≤ k)
-word_length_is w t x le = rw (word_nuls t (w - length t)) (word_length_of t x)
+word_length_is w t x le = rw (word_nuls t (w - length t)) (word-lt t (IsBytes-text t x), length_below t x)
 
 pub lane_class_is : (a low high : List ℕ) → length low ≡ length a → length high ≡ length a → All IsLow a
     → ((i : ℕ) → i < length a → (1 ≤ get_or low i 0) × (get_or low i 0 ≤ get_or high i 0) × (get_or high i 0 ≤ 0x7f))

@@ -3,7 +3,6 @@ use Rattle.std.proofs.Common.{Bool, true, false, ℕ, ◌-◌, ◌*◌, ◌/◌,
 use Rattle.std.proofs.lemmas.Bool.{ltb-true}
 use Rattle.std.proofs.lemmas.List.{length-drop}
 use Rattle.std.proofs.lemmas.List.Elements.{All-head, All-drop}
-use Rattle.std.specs.Simd.Lanes.{Each1}
 use Rattle.std.specs.Int.Count.{count_leading_zeros}
 use Rattle.tinystr_words.specs.Text.{IsTextByte, IsText, IsPaddedText, pad, text_of}
 use Rattle.tinystr_words.specs.Words.{word, led, lanes_of, held, HoldsText}
@@ -11,7 +10,7 @@ use Rattle.tinystr_words.specs.Questions.{answer, in_case}
 use Rattle.tinystr_words.specs.declared.question.Question.{Question}
 use Rattle.tinystr_words.specs.declared.question.Case.{Case}
 use Rattle.tinystr_words.proofs.Texts.{IsPaddedText-made, text_of-made, length-pad, text_of-pad, length-text_of-le}
-use Rattle.tinystr_words.proofs.Lanes.{Ascii, Bytes, lanes, everywhere_is}
+use Rattle.tinystr_words.proofs.Lanes.{Ascii, IsBytes, lanes, length-lanes, IsBytes-lanes, everywhere_is}
 use Rattle.tinystr_words.proofs.Formulas.{Formula, IsSafe, on, at, is_safe, ascii_pad, safe_byte, changes_safe, on_pad, question, changed}
 use Rattle.tinystr_words.proofs.WordBytes.{lanes_word, lanes_word_pad, word_nuls, word_ascii, leading_zeros_of}
 use Rattle.tinystr_words.proofs.Kernels.{kernel, passed, kernel_asks, change, change_changes, folded, folded_safe, folded_ascii}
@@ -77,23 +76,15 @@ on_held : {n w : ℕ} → HoldsText n w → (f : Formula) → IsSafe f → on f 
 on_held {n} {w} h f s =
     subst (λ v. on f n v ≡ word (lanes (at f) true (pad (held n w) n))) (sym h.padded) (on_pad f s n (held n w) h.text h.fits)
 
-length-lanes : (F : Bool → ℕ → ℕ) (i : Bool) (l : List ℕ) → length (lanes F i l) ≡ length l
-length-lanes F i [] = refl
-length-lanes F i (b ∷ l) = ap suc (length-lanes F false l)
-
 length-lanes-pad : {n w : ℕ} → HoldsText n w → (F : Bool → ℕ → ℕ) → length (lanes F true (pad (held n w) n)) ≡ n
 length-lanes-pad {n} {w} h F = length-lanes F true (pad (held n w) n) ∙ length-pad (held n w) n h.fits
-
-each_byte : (F : Bool → ℕ → ℕ) → Bytes F → (i : Bool) (l : List ℕ) → Ascii l → Each1 (λ b. b < 256) (lanes F i l)
-each_byte F p i [] a = tt
-each_byte F p i (b ∷ l) a = (p i b a.0, each_byte F p false l a.1)
 
 pub changed_bytes : {n w : ℕ} → HoldsText n w → (c : Case) → lanes_of n (on (change c) n w) ≡ pad (in_case c (held n w)) n
 changed_bytes {n} {w} h c =
     let f = change c in
     let s : IsSafe f = changes_safe f c (change_changes c) in
     let l = lanes (at f) true (pad (held n w) n) in
-    let bytes : Each1 (λ b. b < 256) l = each_byte (at f) (λ i b k. safe_byte f i b k (s i b k)) true (pad (held n w) n) (ascii_pad (held n w) n h.text) in
+    let bytes : IsBytes l = IsBytes-lanes (at f) (λ i b k. safe_byte f i b k (s i b k)) true (pad (held n w) n) (ascii_pad (held n w) n h.text) in
     let back : lanes_of n (word l) ≡ l = subst (λ m. lanes_of m (word l) ≡ l) (length-lanes-pad h (at f)) (lanes_word l bytes) in
     rw (on_held h f s, back) (changed f c (change_changes c) n (held n w) h.text h.fits)
 
