@@ -26,13 +26,13 @@ case_bits first others = quarter (both (flip (outside itself first others)) (eac
 abbrev pub present : Formula
 present = both (plus itself (each 0x7f)) (each 0x80)
 
-abbrev pub folded : Formula
-folded = either itself (each 0x20)
+abbrev pub with_case_bits : Formula
+with_case_bits = either itself (each 0x20)
 
 -- what a question compares
 abbrev pub kernel : Question → Formula
-kernel Alphabetic = both (outside folded LOWER LOWER) present
-kernel Alphanumeric = both (both (outside folded LOWER LOWER) (outside itself DIGIT DIGIT)) present
+kernel Alphabetic = both (outside with_case_bits LOWER LOWER) present
+kernel Alphanumeric = both (both (outside with_case_bits LOWER LOWER) (outside itself DIGIT DIGIT)) present
 kernel Numeric = both (outside itself DIGIT DIGIT) present
 kernel Lowercase = both (outside itself UPPER UPPER) (each 0x80)
 kernel Titlecase = both (outside itself LOWER UPPER) (each 0x80)
@@ -72,10 +72,10 @@ change_changes Lower = refl
 change_changes Title = refl
 change_changes Upper = refl
 
-pub folded_safe : everywhere (is_safe folded) ≡ true
+pub with_case_bits_safe : everywhere (is_safe with_case_bits) ≡ true
 unfolding everywhere
-folded_safe = refl
+with_case_bits_safe = refl
 
-pub folded_ascii : everywhere (λ i b. nat_lt (at folded i b) 128) ≡ true
+pub with_case_bits_ascii : everywhere (λ i b. nat_lt (at with_case_bits i b) 128) ≡ true
 unfolding everywhere
-folded_ascii = refl
+with_case_bits_ascii = refl

@@ -13,7 +13,7 @@ use Rattle.tinystr_words.proofs.Texts.{IsPaddedText-made, text_of-made, length-p
 use Rattle.tinystr_words.proofs.Lanes.{Ascii, IsBytes, lanes, length-lanes, IsBytes-lanes, everywhere_is}
 use Rattle.tinystr_words.proofs.Formulas.{Formula, IsSafe, on, at, is_safe, ascii_pad, safe_byte, changes_safe, on_pad, question, changed}
 use Rattle.tinystr_words.proofs.WordBytes.{lanes_word, lanes_word_pad, word_nuls, word_ascii, leading_zeros_of}
-use Rattle.tinystr_words.proofs.Kernels.{kernel, passed, kernel_asks, change, change_changes, folded, folded_safe, folded_ascii}
+use Rattle.tinystr_words.proofs.Kernels.{kernel, passed, kernel_asks, change, change_changes, with_case_bits, with_case_bits_safe, with_case_bits_ascii}
 
 -- ---- a word from a padded text
 
@@ -93,9 +93,9 @@ each_ascii F p i [] a = tt
 each_ascii F p i (b ∷ l) a = (p i b a.0, each_ascii F p false l a.1)
 
 -- a text in lower case, by a formula that also changes other bytes, leaves the same room
-pub folded_room : {n w : ℕ} → HoldsText n w → on folded n w ≤ word (led n 0x7f 0x7f)
-folded_room {n} {w} h =
-    let l = lanes (at folded) true (pad (held n w) n) in
-    let small : Ascii l = each_ascii (at folded) (λ i b k. ltb-true _ _ (everywhere_is _ folded_ascii i b k)) true (pad (held n w) n) (ascii_pad (held n w) n h.text) in
-    rw (on_held h folded (everywhere_is (is_safe folded) folded_safe))
-    (subst (λ m. word l ≤ word (led m 0x7f 0x7f)) (length-lanes-pad h (at folded)) (word_ascii l small))
+pub with_case_bits_room : {n w : ℕ} → HoldsText n w → on with_case_bits n w ≤ word (led n 0x7f 0x7f)
+with_case_bits_room {n} {w} h =
+    let l = lanes (at with_case_bits) true (pad (held n w) n) in
+    let small : Ascii l = each_ascii (at with_case_bits) (λ i b k. ltb-true _ _ (everywhere_is _ with_case_bits_ascii i b k)) true (pad (held n w) n) (ascii_pad (held n w) n h.text) in
+    rw (on_held h with_case_bits (everywhere_is (is_safe with_case_bits) with_case_bits_safe))
+    (subst (λ m. word l ≤ word (led m 0x7f 0x7f)) (length-lanes-pad h (at with_case_bits)) (word_ascii l small))

@@ -1,19 +1,22 @@
 //! Texts in one word each, asked and changed by a few sums over the whole word.
 
-ghost use Rattle.std.specs.Prelude.{◌≡◌, ◌+◌, ◌<◌, ◌≤◌, ◌==◌, ◌++◌, length, map, take, bit_or, bit_and, MatchOption, IsTrue, ◌↔◌};
+ghost use Rattle.std.specs.Prelude.{◌≡◌, ◌<◌, ◌≤◌, ◌++◌, length, map, take, MatchOption, IsTrue, ◌↔◌};
 ghost use Rattle.std.specs.Fmt.{decimal};
 ghost use Rattle.std.specs.Str.{bytes_eq};
 ghost use Rattle.tinystr_words.specs.Text.{IsText, IsPaddedText, pad, text_of};
 ghost use Rattle.tinystr_words.specs.Classes.{ask, is_upper, is_lower, is_digit, is_alphabetic, is_alphanumeric, is_not_upper, is_not_lower};
 ghost use Rattle.tinystr_words.specs.Case.{lowercase, titlecase, uppercase};
-ghost use Rattle.tinystr_words.specs.Words.{word, led, HoldsText};
 ghost use Rattle.tinystr_words.specs.Decimal.{last};
 ghost use Rattle.tinystr_words.specs.Questions.{answer, in_case};
 
 use crate::decimal::decimal_word;
+use crate::kernel::{
+    DIGIT, LOWER, UPPER, case_bits, every_lane_marked, faults, marks, no_character_marked, outside,
+    with_case_bits,
+};
 use crate::question::{Case, Question};
 use crate::unit::{Unit, is_text};
-use crate::word::{DIGIT, LOWER, NOT_NUL, UPPER, Word};
+use crate::word::Word;
 use std::marker::Model;
 
 /// A text of at most `LEN` bytes, each from 1 to 127: its bytes and then NULs, in one word.
@@ -40,36 +43,6 @@ impl<T: Word<LEN>, const LEN: usize> Model for Aligned<T, LEN> {
     ghost view = { λ a. held LEN (T.number a.word) };
 
     ghost invariant = { λ a. HoldsText LEN (T.number a.word) };
-}
-
-// A text with its letters in lower case, and some of its other bytes changed.
-#[inline(always)]
-fn folded<T: Word<LEN>, const LEN: usize>(text: T) -> T
-    requires { HoldsText LEN (T.number text) }
-    ensures bits { T.number result ≡ bit_or (T.number text) (word (led LEN 0x20 0x20)) }
-    ensures room { T.number result ≤ word (led LEN 0x7f 0x7f) }
-{
-    text.or(T::splat(0x20))
-}
-
-// Whether the marks have the high bit of no lane that isn't NUL.
-#[inline(always)]
-fn marks_no_byte<T: Word<LEN>, const LEN: usize>(marks: T, text: T) -> bool
-    requires { T.number text ≤ word (led LEN 0x7f 0x7f) }
-    ensures { result ≡ (bit_and (T.number marks)
-        (bit_and (T.number text + word (led LEN NOT_NUL NOT_NUL)) (word (led LEN 0x80 0x80)))
-        == word (led LEN 0 0)) }
-{
-    marks.and(text.present()).equals(T::splat(0))
-}
-
-// Whether the marks have the high bit of every lane.
-#[inline(always)]
-fn marks_every_lane<T: Word<LEN>, const LEN: usize>(marks: T) -> bool
-    ensures { result ≡
-        (bit_and (T.number marks) (word (led LEN 0x80 0x80)) == word (led LEN 0x80 0x80)) }
-{
-    marks.and(T::splat(0x80)).equals(T::splat(0x80))
 }
 
 impl<T: Word<LEN>, const LEN: usize> Aligned<T, LEN> {
@@ -210,7 +183,7 @@ impl<T: Word<LEN>, const LEN: usize> Aligned<T, LEN> {
             (λ t. IsPaddedText part.now (length part.now) × (t ≡ text_of part.now)) }
     {
         let word = T::load(part);
-        if word.faults(word.marks()).equals(T::splat(0)) {
+        if faults(word, marks(word)).equals(T::splat(0)) {
             Some(Aligned { word })
         } else {
             None
@@ -272,19 +245,19 @@ impl<T: Word<LEN>, const LEN: usize> Aligned<T, LEN> {
     {
         let word = self.word;
         match question {
-            Question::Alphabetic => marks_no_byte(folded(word).outside(LOWER, LOWER), word),
+            Question::Alphabetic => no_character_marked(outside(with_case_bits(word), LOWER, LOWER), word),
             Question::Alphanumeric => {
-                let not_letter = folded(word).outside(LOWER, LOWER);
-                let not_digit = word.outside(DIGIT, DIGIT);
-                marks_no_byte(not_letter.and(not_digit), word)
+                let not_letter = outside(with_case_bits(word), LOWER, LOWER);
+                let not_digit = outside(word, DIGIT, DIGIT);
+                no_character_marked(not_letter.and(not_digit), word)
             }
-            Question::Numeric => marks_no_byte(word.outside(DIGIT, DIGIT), word),
-            Question::Lowercase => marks_every_lane(word.outside(UPPER, UPPER)),
-            Question::Titlecase => marks_every_lane(word.outside(LOWER, UPPER)),
-            Question::Uppercase => marks_every_lane(word.outside(LOWER, LOWER)),
-            Question::AlphabeticLowercase => marks_no_byte(word.outside(LOWER, LOWER), word),
-            Question::AlphabeticTitlecase => marks_no_byte(word.outside(UPPER, LOWER), word),
-            Question::AlphabeticUppercase => marks_no_byte(word.outside(UPPER, UPPER), word),
+            Question::Numeric => no_character_marked(outside(word, DIGIT, DIGIT), word),
+            Question::Lowercase => every_lane_marked(outside(word, UPPER, UPPER)),
+            Question::Titlecase => every_lane_marked(outside(word, LOWER, UPPER)),
+            Question::Uppercase => every_lane_marked(outside(word, LOWER, LOWER)),
+            Question::AlphabeticLowercase => no_character_marked(outside(word, LOWER, LOWER), word),
+            Question::AlphabeticTitlecase => no_character_marked(outside(word, UPPER, LOWER), word),
+            Question::AlphabeticUppercase => no_character_marked(outside(word, UPPER, UPPER), word),
         }
     }
 
@@ -295,12 +268,12 @@ impl<T: Word<LEN>, const LEN: usize> Aligned<T, LEN> {
     {
         let word = self.word;
         let changed = match case {
-            Case::Lower => word.or(word.case_bits(UPPER, UPPER)),
+            Case::Lower => word.or(case_bits(word, UPPER, UPPER)),
             Case::Title => {
-                let bits = word.case_bits(LOWER, UPPER);
+                let bits = case_bits(word, LOWER, UPPER);
                 word.or(bits).and(T::led(0x20, 0).and(bits).not())
             }
-            Case::Upper => word.and(word.case_bits(LOWER, LOWER).not()),
+            Case::Upper => word.and(case_bits(word, LOWER, LOWER).not()),
         };
         changed.to_stored_bytes()
     }

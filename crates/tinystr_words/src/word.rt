@@ -7,37 +7,6 @@ ghost use Rattle.tinystr_words.specs.Words.{word, led, lanes_of};
 
 use crate::unit::Unit;
 
-/// A range of bytes below 0x80, by what is added to a byte so that its high bit says where it lies.
-#[derive(Clone, Copy)]
-pub struct Range {
-    /// Sets the high bit from the range's first byte on: 0x80 less that byte.
-    pub low: u8,
-    /// Sets the high bit past the range's last byte: 0x7f less that byte.
-    pub high: u8,
-    ghost no_carry: { (low ≤ 0x7f) × (high ≤ 0x7f) },
-}
-
-/// `A` to `Z`.
-pub const UPPER: Range = Range {
-    low: 0x3f,
-    high: 0x25,
-};
-
-/// `a` to `z`.
-pub const LOWER: Range = Range {
-    low: 0x1f,
-    high: 0x05,
-};
-
-/// `0` to `9`.
-pub const DIGIT: Range = Range {
-    low: 0x50,
-    high: 0x46,
-};
-
-/// What is added to a byte below 0x80 so that its high bit says that it isn't NUL.
-pub const NOT_NUL: u8 = 0x7f;
-
 /// An integer of `LEN` bytes.
 pub trait Word<const LEN: usize>: Copy + Drop {
     ghost number: { Self → ℕ };
@@ -118,69 +87,6 @@ pub trait Word<const LEN: usize>: Copy + Drop {
         ensures { number result ≡ word (led LEN byte byte) }
     {
         Self::led(byte, byte)
-    }
-
-    /// The high bit of each lane that isn't NUL.
-    #[inline(always)]
-    #[tactic(auto, using(crate::proofs::WordBytes::mark_room))]
-    fn present(self) -> Self
-        requires { number self ≤ word (led LEN 0x7f 0x7f) }
-        ensures { number result ≡
-            bit_and (number self + word (led LEN NOT_NUL NOT_NUL)) (word (led LEN 0x80 0x80)) }
-    {
-        self.plus(Self::splat(NOT_NUL)).and(Self::splat(0x80))
-    }
-
-    /// The high bit of each lane whose lower bits aren't all clear.
-    #[inline(always)]
-    #[tactic(auto, using(std::proofs::lemmas::Nat::and_le_r))]
-    fn marks(self) -> Self
-        ensures { number result ≡ bit_and
-            (bit_and (number self) (word (led LEN 0x7f 0x7f)) + word (led LEN NOT_NUL NOT_NUL))
-            (word (led LEN 0x80 0x80)) }
-    {
-        self.and(Self::splat(0x7f)).present()
-    }
-
-    /// The high bits of the lanes, and the marks of those that stand after a lane without one.
-    #[inline(always)]
-    fn faults(self, marks: Self) -> Self
-        ensures { number result ≡ bit_or
-            (bit_and (number self) (word (led LEN 0x80 0x80)))
-            (bit_and (number marks / 256) (256 ^ LEN - 1 - number marks)) }
-    {
-        let late = marks.next_lanes().and(marks.not());
-        self.and(Self::splat(0x80)).or(late)
-    }
-
-    /// The high bit of each lane whose byte is outside its range.
-    #[inline(always)]
-    #[tactic(auto, using(crate::proofs::WordBytes::led_room))]
-    fn outside(self, first: Range, others: Range) -> Self
-        requires { number self ≤ word (led LEN 0x7f 0x7f) }
-        ensures { number result ≡ bit_or
-            (256 ^ LEN - 1 - (number self + word (led LEN first.low others.low)))
-            (number self + word (led LEN first.high others.high)) }
-    {
-        let below = self.plus(Self::led(first.low, others.low)).not();
-        let above = self.plus(Self::led(first.high, others.high));
-        below.or(above)
-    }
-
-    /// The case bit, 0x20, of each lane whose byte is in its range.
-    #[inline(always)]
-    fn case_bits(self, first: Range, others: Range) -> Self
-        requires { number self ≤ word (led LEN 0x7f 0x7f) }
-        ensures { number result ≡ bit_and
-            (256 ^ LEN - 1 - bit_or
-            (256 ^ LEN - 1 - (number self + word (led LEN first.low others.low)))
-            (number self + word (led LEN first.high others.high)))
-            (word (led LEN 0x80 0x80)) / 4 }
-    {
-        self.outside(first, others)
-            .not()
-            .and(Self::splat(0x80))
-            .quarter()
     }
 
     ghost size: { (0 < LEN) × (LEN ≤ 16) };
