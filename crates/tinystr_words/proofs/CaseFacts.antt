@@ -7,7 +7,7 @@ use Rattle.std.specs.List.{list_all}
 use Rattle.tinystr_words.specs.Classes.{ask, is_alphabetic, is_lower, is_upper, is_not_lower, is_not_upper}
 use Rattle.tinystr_words.specs.Case.{lower, raise, lowercase, titlecase, uppercase}
 use Rattle.tinystr_words.proofs.Lanes.{both_true}
-use Rattle.tinystr_words.proofs.Parts.{ask-same}
+use Rattle.tinystr_words.proofs.AnswersByParts.{ask-same}
 
 -- ---- done twice
 

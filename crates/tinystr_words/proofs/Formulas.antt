@@ -8,13 +8,13 @@ use Rattle.std.proofs.lemmas.List.Elements.{All-head, All-tail}
 use Rattle.tinystr_words.specs.Text.{IsTextByte, IsText, pad}
 use Rattle.tinystr_words.specs.Classes.{ask}
 use Rattle.tinystr_words.specs.Case.{lower, raise}
-use Rattle.tinystr_words.specs.Words.{word, led}
+use Rattle.tinystr_words.specs.Words.{word, first_then}
 use Rattle.tinystr_words.specs.Questions.{first_class, later_class, answer, in_case}
 use Rattle.tinystr_words.specs.declared.question.Question.{Question}
 use Rattle.tinystr_words.specs.declared.question.Case.{Case}
 use Rattle.tinystr_words.specs.declared.question.Case.TheVariants.{Lower, Title, Upper}
 use Rattle.tinystr_words.proofs.Texts.{NULS, length-pad}
-use Rattle.tinystr_words.proofs.Parts.{first_change, later_change, length-in_case}
+use Rattle.tinystr_words.proofs.AnswersByParts.{first_change, later_change, length-in_case}
 use Rattle.tinystr_words.proofs.Lanes.{both_true, everywhere, everywhere_is, Ascii, lanes, lanes_zip2, plus_step, and_step, or_step, word_not, word_quarter, same_words, holds}
 
 -- a formula over a word, as `(w + u(0x50)) & H` is `both (plus itself (each 0x50)) (each 0x80)`
@@ -43,7 +43,7 @@ at (quarter f) i b = at f i b / 4
 -- of a word of n lanes
 abbrev pub on : Formula → ℕ → ℕ → ℕ
 on itself n w = w
-on (lead a c) n w = word (led n a c)
+on (lead a c) n w = word (first_then n a c)
 on (plus f g) n w = on f n w + on g n w
 on (both f g) n w = bit_and (on f n w) (on g n w)
 on (either f g) n w = bit_or (on f n w) (on g n w)
@@ -83,13 +83,13 @@ tail_each : (a c : ℕ) (l : List ℕ) → replicate (length l) c ≡ lanes (λ 
 tail_each a c [] = refl
 tail_each a c (b ∷ l) = ap (λ m. c ∷ m) (tail_each a c l)
 
-lanes_led : (a c : ℕ) (l : List ℕ) → led (length l) a c ≡ lanes (λ i _. cond i a c) true l
-lanes_led a c [] = refl
-lanes_led a c (b ∷ l) = ap (λ m. a ∷ m) (tail_each a c l)
+lanes-first_then : (a c : ℕ) (l : List ℕ) → first_then (length l) a c ≡ lanes (λ i _. cond i a c) true l
+lanes-first_then a c [] = refl
+lanes-first_then a c (b ∷ l) = ap (λ m. a ∷ m) (tail_each a c l)
 
 pub lanewise : (f : Formula) (l : List ℕ) → Ascii l → IsSafe f → on f (length l) (word l) ≡ word (lanes (at f) true l)
 lanewise itself l a s = word_itself true l
-lanewise (lead x c) l a s = ap word (lanes_led x c l)
+lanewise (lead x c) l a s = ap word (lanes-first_then x c l)
 lanewise (plus f g) l a s =
     let p = λ (i : Bool) (b : ℕ) (h : b < 128). (both_true (is_safe f i b) _ (s i b h)).0 in
     let q = λ (i : Bool) (b : ℕ) (h : b < 128). (both_true (is_safe g i b) _ (both_true (is_safe f i b) _ (s i b h)).1).0 in
@@ -211,8 +211,8 @@ pub changes_safe : (f : Formula) (c : Case) → Changes f c → IsSafe f
 changes_safe f c h i b l = (both_true (is_safe f i b) _ (everywhere_is _ h i b l)).0
 
 -- the lanes of a padded text, each changed by f, are those of the changed text
-pub changed : (f : Formula) (c : Case) → Changes f c → (n : ℕ) (t : List ℕ) → IsText t → length t ≤ n → lanes (at f) true (pad t n) ≡ pad (in_case c t) n
-changed f c h n t x le =
+pub lanes-change : (f : Formula) (c : Case) → Changes f c → (n : ℕ) (t : List ℕ) → IsText t → length t ≤ n → lanes (at f) true (pad t n) ≡ pad (in_case c t) n
+lanes-change f c h n t x le =
     let change = pick (first_change c) (later_change c) in
     let agree : (i : Bool) (b : ℕ) → b < 128 → at f i b ≡ cond (nat_eq b 0) 0 (change i b) = λ i b l. eqb_is _ _ (both_true (is_safe f i b) _ (everywhere_is _ h i b l)).1 in
     rw (length-in_case c t) (lanes_pad (at f) change agree true t (n - length t) x ∙ ap (λ l. l ++ NULS (n - length t)) (change_is c t))

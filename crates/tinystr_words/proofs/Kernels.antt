@@ -42,13 +42,13 @@ kernel AlphabeticTitlecase = both (outside itself UPPER LOWER) present
 kernel AlphabeticUppercase = both (outside itself UPPER UPPER) present
 
 -- and what it compares that with
-abbrev pub passed : Question → Formula
-passed Lowercase = each 0x80
-passed Titlecase = each 0x80
-passed Uppercase = each 0x80
-passed q = each 0
+abbrev pub pass_marks : Question → Formula
+pass_marks Lowercase = each 0x80
+pass_marks Titlecase = each 0x80
+pass_marks Uppercase = each 0x80
+pass_marks q = each 0
 
-pub kernel_asks : (q : Question) → Asks (kernel q) (passed q) q
+pub kernel_asks : (q : Question) → Asks (kernel q) (pass_marks q) q
 unfolding everywhere
 kernel_asks Alphabetic = refl
 kernel_asks Alphanumeric = refl

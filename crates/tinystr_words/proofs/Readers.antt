@@ -10,33 +10,33 @@ use Rattle.std.specs.List.{find, prefix_len, range_with_len}
 use Rattle.std.specs.Option.{option_map, unwrap_or}
 use Rattle.tinystr_words.proofs.Texts.{IsPaddedText-char, IsPaddedText-nul, nuls_from, length-text_of, length-text_of-le, is_not_nul}
 use Rattle.tinystr_words.specs.Text.{IsTextByte, IsPaddedText, text_of}
-use Rattle.tinystr_words.specs.Reading.{lossy_byte, Fault, is_after_null, is_faulty, first_faulty, first_fault, fault_in}
+use Rattle.tinystr_words.specs.Reading.{lossy_byte, Fault, is_after_nul, is_faulty, first_faulty, first_fault, fault_in}
 use Rattle.tinystr_words.specs.Reading.Fault.{too_long, contains_null, non_ascii}
 
 -- no position before i is faulty, and `seen` tells whether a NUL stands there
 pub record IsScanned (units : List ℕ) (i : ℕ) (seen : Bool) : Type 0 where
   pub clean : (k : ℕ) → k < i → is_faulty units k ≡ false
-  pub null : seen ≡ is_after_null units i
+  pub nul : seen ≡ is_after_nul units i
 
 pub IsScanned-none : (units : List ℕ) → IsScanned units 0 false
-IsScanned-none units = record { clean = λ k h. absurd (omega arith); null = refl }
+IsScanned-none units = record { clean = λ k h. absurd (omega arith); nul = refl }
 
-after_null_more : (units : List ℕ) (i : ℕ) → i < length units → is_after_null units (i + 1) ≡ (is_after_null units i || (get_or units i 0 == 0))
-after_null_more units i inside = list_any_more (λ u. u == 0) units i 0 inside
+after_nul_more : (units : List ℕ) (i : ℕ) → i < length units → is_after_nul units (i + 1) ≡ (is_after_nul units i || (get_or units i 0 == 0))
+after_nul_more units i inside = list_any_more (λ u. u == 0) units i 0 inside
 
 -- the next unit is a NUL
 pub IsScanned-nul : (units : List ℕ) (i : ℕ) (seen : Bool) → IsScanned units i seen → i < length units → get_or units i 0 ≡ 0 → IsScanned units (i + 1) true
 IsScanned-nul units i seen h inside is_nul = record {
   clean = below_more _ _ h.clean (grind (arith, nat_tests));
-  null = sym (after_null_more units i inside ∙ grind (arith, nat_tests));
+  nul = sym (after_nul_more units i inside ∙ grind (arith, nat_tests));
 }
 
 -- the next unit is a character, and no NUL was seen
 pub IsScanned-char : (units : List ℕ) (i : ℕ) → IsScanned units i false → i < length units → 0 < get_or units i 0 → get_or units i 0 < 128 → IsScanned units (i + 1) false
 IsScanned-char units i h inside some low =
-    let unseen = h.null in record {
+    let unseen = h.nul in record {
       clean = below_more _ _ h.clean (grind (arith, nat_tests));
-      null = sym (after_null_more units i inside ∙ grind (arith, nat_tests));
+      nul = sym (after_nul_more units i inside ∙ grind (arith, nat_tests));
     }
 
 -- ---- the least position that passes a test
@@ -77,7 +77,7 @@ unfolding first_fault first_faulty
 first_fault-late units i h inside some low =
     let within : nat_lt 127 (get_or units i 0) ≡ false = grind (arith, nat_tests) in
     let character : nat_lt 0 (get_or units i 0) ≡ true = grind (arith, nat_tests) in
-    rw (find_first (is_faulty units) 0 (length units) i (omega arith) (omega arith) (rw (within, character, ← h.null) refl) (λ k from below. h.clean k below), within) refl
+    rw (find_first (is_faulty units) 0 (length units) i (omega arith) (omega arith) (rw (within, character, ← h.nul) refl) (λ k from below. h.clean k below), within) refl
 
 pub first_fault-clean : (units : List ℕ) → ((k : ℕ) → k < length units → is_faulty units k ≡ false) → first_fault units ≡ None
 unfolding first_fault first_faulty
@@ -110,10 +110,10 @@ faulty_high : (units : List ℕ) (i : ℕ) → is_faulty units i ≡ false → g
 faulty_high units i clean = grind (arith, nat_tests)
 
 faulty_late : (units : List ℕ) (i j : ℕ) → is_faulty units i ≡ false → j < i → i < length units → get_or units j 0 ≡ 0 → get_or units i 0 ≡ 0
-faulty_late units i j clean before inside null =
+faulty_late units i j clean before inside nul =
     let long = length-take-le i units (omega arith) in
-    let there : (get_or (take i units) j 0 == 0) ≡ true = rw (get_or-take i units j 0 before, null) refl in
-    let after : is_after_null units i ≡ true = list_any_at (λ u. u == 0) (take i units) j 0 (omega arith) there in
+    let there : (get_or (take i units) j 0 == 0) ≡ true = rw (get_or-take i units j 0 before, nul) refl in
+    let after : is_after_nul units i ≡ true = list_any_at (λ u. u == 0) (take i units) j 0 (omega arith) there in
     grind (arith, nat_tests)
 
 pub first_fault-padded : (bytes : List ℕ) (n : ℕ) → IsPaddedText bytes n → first_fault bytes ≡ None
@@ -125,12 +125,12 @@ first_fault-padded bytes n h = first_fault-clean bytes (λ k inside. clean k)
           | inl inside ↦
               let low = IsPaddedText-char bytes n k h inside in
               let long = length-take-le k bytes (omega (arith, length-text_of-le bytes)) in
-              let none : is_after_null bytes k ≡ false = list_any_none (λ u. u == 0) (take k bytes)
+              let none : is_after_nul bytes k ≡ false = list_any_none (λ u. u == 0) (take k bytes)
               (All-from_get_or (λ u. (u == 0) ≡ false) (take k bytes) 0 (λ j before.
               let char = IsPaddedText-char bytes n j h (omega arith) in
               rw (get_or-take k bytes j 0 (omega arith)) (grind (arith, nat_tests)))) in
               grind (arith, nat_tests)
-          | inr outside ↦ (let null = IsPaddedText-nul bytes n k h outside in grind (arith, nat_tests))
+          | inr outside ↦ (let nul = IsPaddedText-nul bytes n k h outside in grind (arith, nat_tests))
         ]
 
 pub IsPaddedText-clean : (bytes : List ℕ) (n : ℕ) → length bytes ≡ n → first_fault bytes ≡ None → IsPaddedText bytes n

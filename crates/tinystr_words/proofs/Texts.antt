@@ -10,7 +10,7 @@ use Rattle.std.proofs.lemmas.Str.{IsUtf8-from_ascii}
 use Rattle.std.specs.List.{prefix_len}
 use Rattle.std.specs.Str.{IsUtf8}
 use Rattle.std.proofs.Math.Seq.{take-nil, drop-nil}
-use Rattle.tinystr_words.specs.Text.{IsTextByte, IsText, IsStrictText, pad, text_of, IsPaddedText}
+use Rattle.tinystr_words.specs.Text.{IsTextByte, IsText, IsStrictText, pad, text_of, IsPaddedText, IsPadded}
 
 -- the test that `text_of` makes of each byte
 abbrev pub is_not_nul : ℕ → Bool
@@ -55,7 +55,7 @@ pub IsPaddedText-made : (bytes t : List ℕ) (n : ℕ) → bytes ≡ pad t n →
 IsPaddedText-made bytes t n made h = rw made (IsPaddedText-pad t n h)
 
 -- a text that fills its array
-pub IsPaddedText-whole : (t : List ℕ) → IsText t → IsPaddedText t (length t)
+pub IsPaddedText-whole : (t : List ℕ) → IsText t → IsPadded t
 IsPaddedText-whole t h =
     let none : length t - length t ≡ 0 = omega arith in
     IsPaddedText-made t t (length t) (rw none (sym (append-nil t))) (record { text = h; fits = omega arith })
@@ -121,7 +121,7 @@ take-pad t n w fits le =
     take-joined t (NULS (w - length t)) n ∙ ap₂ (λ (a b : List ℕ). a ++ b) all (take-replicate {X = ℕ} (n - length t) (w - length t) 0 more)
 
 -- NULs in any number behind a text
-pub padded-nuls : (l t : List ℕ) (k : ℕ) → l ≡ t ++ NULS k → IsText t → IsPaddedText l (length l) × (text_of l ≡ t)
+pub padded-nuls : (l t : List ℕ) (k : ℕ) → l ≡ t ++ NULS k → IsText t → IsPadded l × (text_of l ≡ t)
 padded-nuls l t k e x =
     let long : length l ≡ length t + k = ap length e ∙ omega (arith, length-append t (NULS k), length-replicate {A = ℕ} k 0) in
     let left : length l - length t ≡ k = omega arith in
@@ -133,7 +133,7 @@ take-nuls zero k = (0, refl)
 take-nuls (suc q) zero = (0, refl)
 take-nuls (suc q) (suc k) = let rest = take-nuls q k in (suc rest.0, ap (λ (l : List ℕ). 0 ∷ l) rest.1)
 
-padded-take : (l : List ℕ) (n q : ℕ) → IsPaddedText l n → IsPaddedText (take q l) (length (take q l)) × (text_of (take q l) ≡ take q (text_of l))
+padded-take : (l : List ℕ) (n q : ℕ) → IsPaddedText l n → IsPadded (take q l) × (text_of (take q l) ≡ take q (text_of l))
 padded-take l n q p =
     let t = text_of l in
     let nuls = take-nuls (q - length t) (n - length t) in
@@ -141,20 +141,20 @@ padded-take l n q p =
     (ap (λ (b : List ℕ). take q b) p.padded ∙ take-joined t (NULS (n - length t)) q ∙ ap (λ (z : List ℕ). take q t ++ z) nuls.1)
     (All-take IsTextByte q t p.text)
 
-padded-drop : (l : List ℕ) (n q : ℕ) → IsPaddedText l n → IsPaddedText (drop q l) (length (drop q l)) × (text_of (drop q l) ≡ drop q (text_of l))
+padded-drop : (l : List ℕ) (n q : ℕ) → IsPaddedText l n → IsPadded (drop q l) × (text_of (drop q l) ≡ drop q (text_of l))
 padded-drop l n q p =
     let t = text_of l in
     padded-nuls (drop q l) (drop q t) (n - length t - (q - length t))
     (ap (λ (b : List ℕ). drop q b) p.padded ∙ drop-joined t (NULS (n - length t)) q ∙ ap (λ (z : List ℕ). drop q t ++ z) (drop-replicate {X = ℕ} (q - length t) (n - length t) 0))
     (All-drop IsTextByte q t p.text)
 
-pub IsPaddedText-take : (l : List ℕ) (n q : ℕ) → IsPaddedText l n → IsPaddedText (take q l) (length (take q l))
+pub IsPaddedText-take : (l : List ℕ) (n q : ℕ) → IsPaddedText l n → IsPadded (take q l)
 IsPaddedText-take l n q p = (padded-take l n q p).0
 
 pub text_of-take : (l : List ℕ) (n q : ℕ) → IsPaddedText l n → text_of (take q l) ≡ take q (text_of l)
 text_of-take l n q p = (padded-take l n q p).1
 
-pub IsPaddedText-drop : (l : List ℕ) (n q : ℕ) → IsPaddedText l n → IsPaddedText (drop q l) (length (drop q l))
+pub IsPaddedText-drop : (l : List ℕ) (n q : ℕ) → IsPaddedText l n → IsPadded (drop q l)
 IsPaddedText-drop l n q p = (padded-drop l n q p).0
 
 pub text_of-drop : (l : List ℕ) (n q : ℕ) → IsPaddedText l n → text_of (drop q l) ≡ drop q (text_of l)

@@ -3,7 +3,7 @@
 ghost use Rattle.std.specs.Prelude.{◌≡◌, ◌<◌, ◌≤◌, ◌++◌, length, map, take, MatchOption, IsTrue, ◌↔◌};
 ghost use Rattle.std.specs.Fmt.{decimal};
 ghost use Rattle.std.specs.Str.{bytes_eq};
-ghost use Rattle.tinystr_words.specs.Text.{IsText, IsPaddedText, pad, text_of};
+ghost use Rattle.tinystr_words.specs.Text.{IsText, IsPaddedText, IsPadded, pad, text_of};
 ghost use Rattle.tinystr_words.specs.Classes.{ask, is_upper, is_lower, is_digit, is_alphabetic, is_alphanumeric, is_not_upper, is_not_lower};
 ghost use Rattle.tinystr_words.specs.Case.{lowercase, titlecase, uppercase};
 ghost use Rattle.tinystr_words.specs.Decimal.{last};
@@ -36,11 +36,11 @@ pub type Aligned16 = Aligned<u128, 16>;
 
 impl<T: Word<LEN>, const LEN: usize> Model for Aligned<T, LEN> {
     ghost use Rattle.std.specs.Prelude.{List, ℕ};
-    ghost use Rattle.tinystr_words.specs.Words.{held, HoldsText};
+    ghost use Rattle.tinystr_words.specs.Words.{text_in, HoldsText};
 
     ghost Value = { List ℕ };
 
-    ghost view = { λ a. held LEN (T.number a.word) };
+    ghost view = { λ a. text_in LEN (T.number a.word) };
 
     ghost invariant = { λ a. HoldsText LEN (T.number a.word) };
 }
@@ -69,7 +69,7 @@ impl<T: Word<LEN>, const LEN: usize> Aligned<T, LEN> {
     pub fn is_ascii_alphabetic(&self) -> bool
         ensures { result ≡ ask is_alphabetic is_alphabetic self.now }
     {
-        self.asks(Question::Alphabetic)
+        self.ask(Question::Alphabetic)
     }
 
     /// Whether each byte is a letter or a digit.
@@ -77,7 +77,7 @@ impl<T: Word<LEN>, const LEN: usize> Aligned<T, LEN> {
     pub fn is_ascii_alphanumeric(&self) -> bool
         ensures { result ≡ ask is_alphanumeric is_alphanumeric self.now }
     {
-        self.asks(Question::Alphanumeric)
+        self.ask(Question::Alphanumeric)
     }
 
     /// Whether each byte is a digit.
@@ -85,7 +85,7 @@ impl<T: Word<LEN>, const LEN: usize> Aligned<T, LEN> {
     pub fn is_ascii_numeric(&self) -> bool
         ensures { result ≡ ask is_digit is_digit self.now }
     {
-        self.asks(Question::Numeric)
+        self.ask(Question::Numeric)
     }
 
     /// Whether no byte is an uppercase letter.
@@ -93,7 +93,7 @@ impl<T: Word<LEN>, const LEN: usize> Aligned<T, LEN> {
     pub fn is_ascii_lowercase(&self) -> bool
         ensures { result ≡ ask is_not_upper is_not_upper self.now }
     {
-        self.asks(Question::Lowercase)
+        self.ask(Question::Lowercase)
     }
 
     /// Whether the first byte is no lowercase letter, and no later byte an uppercase one.
@@ -101,7 +101,7 @@ impl<T: Word<LEN>, const LEN: usize> Aligned<T, LEN> {
     pub fn is_ascii_titlecase(&self) -> bool
         ensures { result ≡ ask is_not_lower is_not_upper self.now }
     {
-        self.asks(Question::Titlecase)
+        self.ask(Question::Titlecase)
     }
 
     /// Whether no byte is a lowercase letter.
@@ -109,7 +109,7 @@ impl<T: Word<LEN>, const LEN: usize> Aligned<T, LEN> {
     pub fn is_ascii_uppercase(&self) -> bool
         ensures { result ≡ ask is_not_lower is_not_lower self.now }
     {
-        self.asks(Question::Uppercase)
+        self.ask(Question::Uppercase)
     }
 
     /// Whether each byte is a lowercase letter.
@@ -117,7 +117,7 @@ impl<T: Word<LEN>, const LEN: usize> Aligned<T, LEN> {
     pub fn is_ascii_alphabetic_lowercase(&self) -> bool
         ensures { result ≡ ask is_lower is_lower self.now }
     {
-        self.asks(Question::AlphabeticLowercase)
+        self.ask(Question::AlphabeticLowercase)
     }
 
     /// Whether the first byte is an uppercase letter, and each later byte a lowercase one.
@@ -125,7 +125,7 @@ impl<T: Word<LEN>, const LEN: usize> Aligned<T, LEN> {
     pub fn is_ascii_alphabetic_titlecase(&self) -> bool
         ensures { result ≡ ask is_upper is_lower self.now }
     {
-        self.asks(Question::AlphabeticTitlecase)
+        self.ask(Question::AlphabeticTitlecase)
     }
 
     /// Whether each byte is an uppercase letter.
@@ -133,7 +133,7 @@ impl<T: Word<LEN>, const LEN: usize> Aligned<T, LEN> {
     pub fn is_ascii_alphabetic_uppercase(&self) -> bool
         ensures { result ≡ ask is_upper is_upper self.now }
     {
-        self.asks(Question::AlphabeticUppercase)
+        self.ask(Question::AlphabeticUppercase)
     }
 
     /// The text with each letter in lower case, and then NULs.
@@ -167,7 +167,7 @@ impl<T: Word<LEN>, const LEN: usize> Aligned<T, LEN> {
     #[inline(always)]
     pub fn from_part(part: &[u8]) -> Self
         requires fits { length part.now ≤ LEN }
-        requires padded { IsPaddedText part.now (length part.now) }
+        requires padded { IsPadded part.now }
         ensures { result ≡ text_of part.now }
     {
         Aligned {
@@ -179,8 +179,8 @@ impl<T: Word<LEN>, const LEN: usize> Aligned<T, LEN> {
     #[inline(always)]
     pub fn try_from_part(part: &[u8]) -> Option<Self>
         requires fits { length part.now ≤ LEN }
-        ensures { MatchOption result (¬ IsPaddedText part.now (length part.now))
-            (λ t. IsPaddedText part.now (length part.now) × (t ≡ text_of part.now)) }
+        ensures { MatchOption result (¬ IsPadded part.now)
+            (λ t. IsPadded part.now × (t ≡ text_of part.now)) }
     {
         let word = T::load(part);
         if faults(word, marks(word)).equals(T::splat(0)) {
@@ -213,7 +213,7 @@ impl<T: Word<LEN>, const LEN: usize> Aligned<T, LEN> {
         ensures padded { IsPaddedText result LEN }
         ensures text { text_of result ≡ self.now }
     {
-        self.word.to_le_bytes()
+        self.word.to_bytes_in_registers()
     }
 
     /// Whether the other text is the same.
@@ -226,7 +226,7 @@ impl<T: Word<LEN>, const LEN: usize> Aligned<T, LEN> {
 
     /// The text and then another, cut where they are longer than `LEN` bytes together.
     #[inline(always)]
-    pub fn joined(&self, other: &Self) -> Self
+    pub fn join(&self, other: &Self) -> Self
         ensures { result ≡ take LEN (self.now ++ other.now) }
     {
         let len = self.len();
@@ -240,12 +240,15 @@ impl<T: Word<LEN>, const LEN: usize> Aligned<T, LEN> {
 
     /// The answer of the method that the question names, as `is_ascii_titlecase` for `Titlecase`.
     #[inline(always)]
-    pub fn asks(&self, question: Question) -> bool
+    pub fn ask(&self, question: Question) -> bool
         ensures { result ≡ answer question self.now }
     {
         let word = self.word;
         match question {
-            Question::Alphabetic => no_character_marked(outside(with_case_bits(word), LOWER, LOWER), word),
+            Question::Alphabetic => {
+                let not_letter = outside(with_case_bits(word), LOWER, LOWER);
+                no_character_marked(not_letter, word)
+            }
             Question::Alphanumeric => {
                 let not_letter = outside(with_case_bits(word), LOWER, LOWER);
                 let not_digit = outside(word, DIGIT, DIGIT);
@@ -271,11 +274,11 @@ impl<T: Word<LEN>, const LEN: usize> Aligned<T, LEN> {
             Case::Lower => word.or(case_bits(word, UPPER, UPPER)),
             Case::Title => {
                 let bits = case_bits(word, LOWER, UPPER);
-                word.or(bits).and(T::led(0x20, 0).and(bits).not())
+                word.or(bits).and(T::first_then(0x20, 0).and(bits).not())
             }
             Case::Upper => word.and(case_bits(word, LOWER, LOWER).not()),
         };
-        changed.to_stored_bytes()
+        changed.to_bytes_in_memory()
     }
 }
 

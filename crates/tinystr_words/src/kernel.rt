@@ -1,7 +1,7 @@
 //! The kernels: a word of lanes is asked and changed by a few sums over the whole word.
 
-ghost use Rattle.std.specs.Prelude.{◌≡◌, ◌+◌, ◌-◌, ◌*◌, ◌/◌, ◌^◌, ◌≤◌, ◌==◌, bit_and, bit_or};
-ghost use Rattle.tinystr_words.specs.Words.{word, led, HoldsText};
+ghost use Rattle.std.specs.Prelude.{◌≡◌, ◌+◌, ◌-◌, ◌/◌, ◌^◌, ◌≤◌, ◌==◌, bit_and, bit_or};
+ghost use Rattle.tinystr_words.specs.Words.{word, first_then, HoldsText};
 
 use crate::word::Word;
 
@@ -38,11 +38,11 @@ pub const NOT_NUL: u8 = 0x7f;
 
 /// The high bit of each lane that isn't NUL.
 #[inline(always)]
-#[tactic(auto, using(crate::proofs::WordBytes::mark_room))]
+#[tactic(auto, using(crate::proofs::WordAsNumber::mark_room))]
 pub fn present<T: Word<LEN>, const LEN: usize>(text: T) -> T
-    requires { T.number text ≤ word (led LEN 0x7f 0x7f) }
+    requires { T.number text ≤ word (first_then LEN 0x7f 0x7f) }
     ensures { T.number result ≡
-        bit_and (T.number text + word (led LEN NOT_NUL NOT_NUL)) (word (led LEN 0x80 0x80)) }
+        bit_and (T.number text + word (first_then LEN NOT_NUL NOT_NUL)) (word (first_then LEN 0x80 0x80)) }
 {
     text.plus(T::splat(NOT_NUL)).and(T::splat(0x80))
 }
@@ -52,8 +52,8 @@ pub fn present<T: Word<LEN>, const LEN: usize>(text: T) -> T
 #[tactic(auto, using(std::proofs::lemmas::Nat::and_le_r))]
 pub fn marks<T: Word<LEN>, const LEN: usize>(bytes: T) -> T
     ensures { T.number result ≡ bit_and
-        (bit_and (T.number bytes) (word (led LEN 0x7f 0x7f)) + word (led LEN NOT_NUL NOT_NUL))
-        (word (led LEN 0x80 0x80)) }
+        (bit_and (T.number bytes) (word (first_then LEN 0x7f 0x7f)) + word (first_then LEN NOT_NUL NOT_NUL))
+        (word (first_then LEN 0x80 0x80)) }
 {
     present(bytes.and(T::splat(0x7f)))
 }
@@ -62,7 +62,7 @@ pub fn marks<T: Word<LEN>, const LEN: usize>(bytes: T) -> T
 #[inline(always)]
 pub fn faults<T: Word<LEN>, const LEN: usize>(bytes: T, marks: T) -> T
     ensures { T.number result ≡ bit_or
-        (bit_and (T.number bytes) (word (led LEN 0x80 0x80)))
+        (bit_and (T.number bytes) (word (first_then LEN 0x80 0x80)))
         (bit_and (T.number marks / 256) (256 ^ LEN - 1 - T.number marks)) }
 {
     let late = marks.next_lanes().and(marks.not());
@@ -71,27 +71,27 @@ pub fn faults<T: Word<LEN>, const LEN: usize>(bytes: T, marks: T) -> T
 
 /// The high bit of each lane whose byte is outside its range.
 #[inline(always)]
-#[tactic(auto, using(crate::proofs::WordBytes::led_room))]
+#[tactic(auto, using(crate::proofs::WordAsNumber::first_then_room))]
 pub fn outside<T: Word<LEN>, const LEN: usize>(text: T, first: Range, others: Range) -> T
-    requires { T.number text ≤ word (led LEN 0x7f 0x7f) }
+    requires { T.number text ≤ word (first_then LEN 0x7f 0x7f) }
     ensures { T.number result ≡ bit_or
-        (256 ^ LEN - 1 - (T.number text + word (led LEN first.low others.low)))
-        (T.number text + word (led LEN first.high others.high)) }
+        (256 ^ LEN - 1 - (T.number text + word (first_then LEN first.low others.low)))
+        (T.number text + word (first_then LEN first.high others.high)) }
 {
-    let below = text.plus(T::led(first.low, others.low)).not();
-    let above = text.plus(T::led(first.high, others.high));
+    let below = text.plus(T::first_then(first.low, others.low)).not();
+    let above = text.plus(T::first_then(first.high, others.high));
     below.or(above)
 }
 
 /// The case bit, 0x20, of each lane whose byte is in its range.
 #[inline(always)]
 pub fn case_bits<T: Word<LEN>, const LEN: usize>(text: T, first: Range, others: Range) -> T
-    requires { T.number text ≤ word (led LEN 0x7f 0x7f) }
+    requires { T.number text ≤ word (first_then LEN 0x7f 0x7f) }
     ensures { T.number result ≡ bit_and
         (256 ^ LEN - 1 - bit_or
-        (256 ^ LEN - 1 - (T.number text + word (led LEN first.low others.low)))
-        (T.number text + word (led LEN first.high others.high)))
-        (word (led LEN 0x80 0x80)) / 4 }
+        (256 ^ LEN - 1 - (T.number text + word (first_then LEN first.low others.low)))
+        (T.number text + word (first_then LEN first.high others.high)))
+        (word (first_then LEN 0x80 0x80)) / 4 }
 {
     outside(text, first, others)
         .not()
@@ -103,8 +103,8 @@ pub fn case_bits<T: Word<LEN>, const LEN: usize>(text: T, first: Range, others: 
 #[inline(always)]
 pub fn with_case_bits<T: Word<LEN>, const LEN: usize>(text: T) -> T
     requires { HoldsText LEN (T.number text) }
-    ensures bits { T.number result ≡ bit_or (T.number text) (word (led LEN 0x20 0x20)) }
-    ensures room { T.number result ≤ word (led LEN 0x7f 0x7f) }
+    ensures bits { T.number result ≡ bit_or (T.number text) (word (first_then LEN 0x20 0x20)) }
+    ensures room { T.number result ≤ word (first_then LEN 0x7f 0x7f) }
 {
     text.or(T::splat(0x20))
 }
@@ -112,10 +112,10 @@ pub fn with_case_bits<T: Word<LEN>, const LEN: usize>(text: T) -> T
 /// Whether no character's lane is marked. A NUL's lane may be.
 #[inline(always)]
 pub fn no_character_marked<T: Word<LEN>, const LEN: usize>(marks: T, text: T) -> bool
-    requires { T.number text ≤ word (led LEN 0x7f 0x7f) }
+    requires { T.number text ≤ word (first_then LEN 0x7f 0x7f) }
     ensures { result ≡ (bit_and (T.number marks)
-        (bit_and (T.number text + word (led LEN NOT_NUL NOT_NUL)) (word (led LEN 0x80 0x80)))
-        == word (led LEN 0 0)) }
+        (bit_and (T.number text + word (first_then LEN NOT_NUL NOT_NUL)) (word (first_then LEN 0x80 0x80)))
+        == word (first_then LEN 0 0)) }
 {
     marks.and(present(text)).equals(T::splat(0))
 }
@@ -124,7 +124,7 @@ pub fn no_character_marked<T: Word<LEN>, const LEN: usize>(marks: T, text: T) ->
 #[inline(always)]
 pub fn every_lane_marked<T: Word<LEN>, const LEN: usize>(marks: T) -> bool
     ensures { result ≡
-        (bit_and (T.number marks) (word (led LEN 0x80 0x80)) == word (led LEN 0x80 0x80)) }
+        (bit_and (T.number marks) (word (first_then LEN 0x80 0x80)) == word (first_then LEN 0x80 0x80)) }
 {
     marks.and(T::splat(0x80)).equals(T::splat(0x80))
 }

@@ -3,7 +3,7 @@
 ghost use Rattle.std.specs.Prelude.{◌≡◌, ◌+◌, ◌-◌, ◌*◌, ◌/◌, ◌%◌, ◌^◌, ◌<◌, ◌≤◌, ◌==◌, ℕ, length, map, bit_and, bit_or};
 ghost use Rattle.std.proofs.Common.{lit<, lit≤};
 ghost use Rattle.std.specs.Int.Count.{count_leading_zeros};
-ghost use Rattle.tinystr_words.specs.Words.{word, led, lanes_of};
+ghost use Rattle.tinystr_words.specs.Words.{word, first_then, lanes_of};
 
 use crate::unit::Unit;
 
@@ -15,16 +15,16 @@ pub trait Word<const LEN: usize>: Copy + Drop {
     fn from_le_bytes(bytes: &[u8; LEN]) -> Self
         ensures { number result ≡ word bytes.now };
 
-    /// The lanes, the lowest first.
-    fn to_le_bytes(self) -> [u8; LEN]
+    /// The lanes, the lowest first, for a caller that keeps them in registers. The crate alone calls this and the next.
+    fn to_bytes_in_registers(self) -> [u8; LEN]
         ensures { result ≡ lanes_of LEN (number self) };
 
     /// The same bytes for an array in memory: a word of sixteen in halves, since its bytes are stored one at a time.
     #[inline(always)]
-    fn to_stored_bytes(self) -> [u8; LEN]
+    fn to_bytes_in_memory(self) -> [u8; LEN]
         ensures { result ≡ lanes_of LEN (number self) }
     {
-        self.to_le_bytes()
+        self.to_bytes_in_registers()
     }
 
     /// The word whose first lanes are the lowest bytes of these units and whose others are NUL, made in registers: two
@@ -73,8 +73,8 @@ pub trait Word<const LEN: usize>: Copy + Drop {
 
     /// One byte in the first lane, another in each other lane.
     #[inline(always)]
-    fn led(first: u8, others: u8) -> Self
-        ensures { number result ≡ word (led LEN first others) }
+    fn first_then(first: u8, others: u8) -> Self
+        ensures { number result ≡ word (first_then LEN first others) }
     {
         let mut bytes = [others; LEN];
         bytes[0] = first;
@@ -84,9 +84,9 @@ pub trait Word<const LEN: usize>: Copy + Drop {
     /// The same byte in each lane.
     #[inline(always)]
     fn splat(byte: u8) -> Self
-        ensures { number result ≡ word (led LEN byte byte) }
+        ensures { number result ≡ word (first_then LEN byte byte) }
     {
-        Self::led(byte, byte)
+        Self::first_then(byte, byte)
     }
 
     ghost size: { (0 < LEN) × (LEN ≤ 16) };
@@ -103,7 +103,7 @@ impl Word<4> for u32 {
     }
 
     #[inline(always)]
-    fn to_le_bytes(self) -> [u8; 4] {
+    fn to_bytes_in_registers(self) -> [u8; 4] {
         u32::to_le_bytes(self)
     }
 
@@ -181,7 +181,7 @@ impl Word<8> for u64 {
     }
 
     #[inline(always)]
-    fn to_le_bytes(self) -> [u8; 8] {
+    fn to_bytes_in_registers(self) -> [u8; 8] {
         u64::to_le_bytes(self)
     }
 
@@ -258,7 +258,7 @@ impl Word<16> for u128 {
     // In pieces that end at the bytes 7 and 15, where the compiler cuts a `Result` of a text and an error of two
     // numbers: each then stays in a register.
     #[inline(always)]
-    fn to_le_bytes(self) -> [u8; 16] {
+    fn to_bytes_in_registers(self) -> [u8; 16] {
         let mut bytes = [0; 16];
         bytes[15] = (self >> 120) as u8;
         bytes[7..15].copy_from_slice(&(((self >> 56) % (1 << 64)) as u64).to_le_bytes());
@@ -269,12 +269,12 @@ impl Word<16> for u128 {
     }
 
     #[inline(always)]
-    fn to_stored_bytes(self) -> [u8; 16] {
+    fn to_bytes_in_memory(self) -> [u8; 16] {
         let low = (self % HALF) as u64;
         let high = (self / HALF) as u64;
         let mut bytes = [0; 16];
-        bytes[8..].copy_from_slice(&Word::to_le_bytes(high));
-        bytes[..8].copy_from_slice(&Word::to_le_bytes(low));
+        bytes[8..].copy_from_slice(&Word::to_bytes_in_registers(high));
+        bytes[..8].copy_from_slice(&Word::to_bytes_in_registers(low));
         bytes
     }
 

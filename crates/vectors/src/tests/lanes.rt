@@ -77,12 +77,12 @@ fn lanes_of_a_title(rt: HostRuntime) {
     assert_eq!(rt; word, 0x54734574);
     assert_eq!(rt;
         [
-            word.plus(u32::led(LOWER.low, UPPER.low)),
-            word.plus(u32::led(LOWER.high, UPPER.high)),
+            word.plus(u32::first_then(LOWER.low, UPPER.low)),
+            word.plus(u32::first_then(LOWER.high, UPPER.high)),
             bits,
             word.or(bits),
         ]
-        .map(Word::to_le_bytes),
+        .map(u32::to_le_bytes),
         [
             [0x93, 0x84, 0xb2, 0x93],
             [0x79, 0x6a, 0x98, 0x79],
@@ -107,7 +107,7 @@ fn lanes_of_a_colon(rt: HostRuntime) {
             present(word),
             marks.and(present(word)),
         ]
-        .map(Word::to_le_bytes),
+        .map(u32::to_le_bytes),
         [
             [0x83, 0x8a, 0x50, 0x50],
             [0x79, 0x80, 0x46, 0x46],
@@ -130,7 +130,7 @@ fn lanes_of_a_brace(rt: HostRuntime) {
             bits,
             word.and(bits.not()),
         ]
-        .map(Word::to_le_bytes),
+        .map(u32::to_le_bytes),
         [
             [0x99, 0x9a, 0x1f, 0x1f],
             [0x7f, 0x80, 0x05, 0x05],

@@ -1,4 +1,4 @@
-use Rattle.tinystr_words.proofs.WordTexts.{with_case_bits_room}
+use Rattle.tinystr_words.proofs.TextInWord.{with_case_bits_room}
 use Rattle.tinystr_words.proofs.kernel.with_case_bits.Goals as goal
 
 pub returns-clause-room : goal.returns-clause-room

@@ -1,4 +1,4 @@
--- Words as numbers: their bytes, padding and size.
+-- A word is a number: its bytes are the remainders, padding adds nothing, and its size tells how many bytes it has.
 use Rattle.std.proofs.Common.{ℕ, zero, suc, ◌+◌, ◌-◌, ◌*◌, ◌/◌, ◌%◌, ◌^◌, ◌<◌, ◌≤◌, ◌≡◌, List, [], ◌∷◌, ◌++◌, length, replicate, refl, sym, ap, ap₂, ◌∙◌, subst, arith, lit<, ⊎_elim}
 use Rattle.std.proofs.Math.Nat.{mul_comm, pow-suc, div-div-eq-div-mul, pow-le-pow_right}
 use Rattle.std.proofs.Math.Arith.{mod-mul}
@@ -8,13 +8,14 @@ use Rattle.std.proofs.lemmas.List.Elements.{All-head, All-tail}
 use Rattle.std.specs.Int.{bytes_low_first, byte_at}
 use Rattle.std.specs.Int.Count.{count_leading_zeros, leading_of_zero}
 use Rattle.tinystr_words.specs.Text.{IsTextByte, IsText, pad}
-use Rattle.tinystr_words.specs.Words.{word, led, lanes_of}
+use Rattle.tinystr_words.specs.Words.{word, first_then, lanes_of}
 use Rattle.tinystr_words.proofs.Texts.{NULS, length-pad}
 use Rattle.tinystr_words.proofs.Lanes.{Ascii, IsBytes, IsBytes-ascii}
 use Rattle.tinystr_words.proofs.Formulas.{ascii_pad}
 
 -- ---- the bytes of a word
 
+-- a power of 256 is positive
 pub pow_256-pos : (n : ℕ) → 0 < 256 ^ n
 pow_256-pos zero = lit< tt
 pow_256-pos (suc n) = omega (arith, pow-suc 256 n, pow_256-pos n)
@@ -70,9 +71,11 @@ low_first i (suc k) n =
     here zero = omega arith
     here (suc i) = refl
 
+-- std's bytes of a number are its lanes
 pub lanes_low_first : (k n : ℕ) → bytes_low_first 0 k n ≡ lanes_of k n
 lanes_low_first k n = low_first 0 k n ∙ ap (λ m. lanes_of k m) (omega arith)
 
+-- a word of bytes has these bytes
 pub lanes_word : (l : List ℕ) → IsBytes l → lanes_of (length l) (word l) ≡ l
 lanes_word [] a = refl
 lanes_word (b ∷ l) a =
@@ -81,6 +84,7 @@ lanes_word (b ∷ l) a =
     let k : (b + 256 * word l) / 256 ≡ word l = omega arith in
     ap₂ (λ x xs. x ∷ xs) e (ap (λ m. lanes_of (length l) m) k ∙ lanes_word l a.1)
 
+-- a word of a padded text has its bytes
 pub lanes_word_pad : (n : ℕ) (t : List ℕ) → IsText t → length t ≤ n → lanes_of n (word (pad t n)) ≡ pad t n
 lanes_word_pad n t x le =
     subst (λ m. lanes_of m (word (pad t n)) ≡ pad t n) (length-pad t n le)
@@ -88,6 +92,7 @@ lanes_word_pad n t x le =
 
 -- ---- padding, and what it leaves room for
 
+-- NULs behind a text add nothing
 pub word_nuls : (t : List ℕ) (k : ℕ) → word (t ++ NULS k) ≡ word t
 word_nuls [] zero = refl
 word_nuls [] (suc k) = let e : word (NULS k) ≡ 0 = word_nuls [] k in omega arith
@@ -97,7 +102,8 @@ word_low : (l : List ℕ) → Ascii l → word l ≤ word (replicate (length l) 
 word_low [] a = omega arith
 word_low (b ∷ l) a = let h : b < 128 = a.0 in omega (arith, word_low l a.1)
 
-pub word_ascii : (l : List ℕ) → Ascii l → word l ≤ word (led (length l) 0x7f 0x7f)
+-- a word of bytes below 0x80 leaves the room that sums need
+pub word_ascii : (l : List ℕ) → Ascii l → word l ≤ word (first_then (length l) 0x7f 0x7f)
 word_ascii [] a = omega arith
 word_ascii (b ∷ l) a = let h : b < 128 = a.0 in omega (arith, word_low l a.1)
 
@@ -106,30 +112,36 @@ room_after : (n c : ℕ) → c ≤ 0x80 → word (replicate n c) + word (replica
 room_after zero c h = omega arith
 room_after (suc n) c h = omega (arith, pow-suc 256 n, room_after n c h)
 
-pub led_room : (n a c : ℕ) → a ≤ 0x7f → c ≤ 0x7f → word (led n a c) + word (led n 0x7f 0x7f) < 256 ^ n
-led_room zero a c h k = omega arith
-led_room (suc n) a c h k = omega (arith, pow-suc 256 n, room_after n c (omega arith))
+-- a lane of at most 0x7f leaves room for 0x7f more
+pub first_then_room : (n a c : ℕ) → a ≤ 0x7f → c ≤ 0x7f → word (first_then n a c) + word (first_then n 0x7f 0x7f) < 256 ^ n
+first_then_room zero a c h k = omega arith
+first_then_room (suc n) a c h k = omega (arith, pow-suc 256 n, room_after n c (omega arith))
 
-pub mark_room : (n c : ℕ) → c ≤ 0x80 → word (led n c c) + word (led n 0x7f 0x7f) < 256 ^ n
+-- and so does one of 0x80
+pub mark_room : (n c : ℕ) → c ≤ 0x80 → word (first_then n c c) + word (first_then n 0x7f 0x7f) < 256 ^ n
 mark_room zero c h = omega arith
 mark_room (suc n) c h = omega (arith, pow-suc 256 n, room_after n c h)
 
 -- ---- the length of a text, by the leading zeros of its word
 
+-- the last byte is at least 1 at its place
 pub word_least : (b : ℕ) (t : List ℕ) → IsText (b ∷ t) → 256 ^ length t ≤ word (b ∷ t)
 word_least b [] x = omega (arith, (All-head (IsTextByte) b [] x).0)
 word_least b (d ∷ t) x = omega (arith, pow-suc 256 (length t), word_least d t (All-tail (IsTextByte) b (d ∷ t) x))
 
+-- and leaves the highest bit clear
 pub word_below : (b : ℕ) (t : List ℕ) → IsText (b ∷ t) → word (b ∷ t) < 128 * 256 ^ length t
 word_below b [] x = omega (arith, (All-head (IsTextByte) b [] x).1)
 word_below b (d ∷ t) x = let h = (All-head (IsTextByte) b (d ∷ t) x).1 in omega (arith, pow-suc 256 (length t), word_below d t (All-tail (IsTextByte) b (d ∷ t) x))
 
+-- a place is eight bits
 pub pow_256 : (m : ℕ) → 256 ^ m ≡ 2 ^ (8 * m)
 pow_256 zero = refl
 pow_256 (suc m) =
     let e : 8 * suc m ≡ 8 * m + 8 = omega arith in
     rw (pow-suc 256 m, pow_256 m, e) (sym (pow-add 2 (8 * m) 8))
 
+-- the lesser power has the lesser exponent
 pub exponent_below : (n i j : ℕ) → 0 < n → n ^ i < n ^ j → i < j
 exponent_below n i j some h =
     ⊎_elim (λ l. l) (λ le. let k : n ^ j ≤ n ^ i = pow-le-pow_right {n = n} some le in absurd (omega arith)) (cases_lt i j)
@@ -137,6 +149,7 @@ exponent_below n i j some h =
 leading_of_bits : (n m j r : ℕ) → m < n → r + suc j ≡ 8 * n → 8 * m < suc j → j < 8 * m + 7 → r / 8 ≡ n - suc m
 leading_of_bits n m j r l e low high = omega arith
 
+-- the zeros above a text, by eight, are the places that it leaves
 pub leading_zeros_of : (n : ℕ) (t : List ℕ) → IsText t → length t ≤ n → count_leading_zeros (8 * n) (word t) / 8 ≡ n - length t
 leading_zeros_of n [] x le = rw (leading_of_zero (8 * n)) (omega arith)
 leading_zeros_of n (b ∷ t) x le =

@@ -1,51 +1,26 @@
--- Words of any bytes: loaded by parts that may overlap, and tested for a text and then NULs.
-use Rattle.std.proofs.Common.{ℕ, zero, suc, ◌+◌, ◌-◌, ◌*◌, ◌/◌, ◌%◌, ◌^◌, ◌<◌, ◌≤◌, ◌≡◌, Bool, true, ◌||◌, List, [], ◌∷◌, ◌++◌, length, get_or, take, drop, replicate, map, refl, sym, ap, ap₂, ◌∙◌, subst, arith, bit_and, bit_or, nat_eq, nat_lt, Fits, w8, lit<, inl, inr}
-use Rattle.std.proofs.Math.Nat.{pow-suc, mul_comm, mul_assoc, pow-le-pow_right}
-use Rattle.std.proofs.Math.Facts.{Fits-lt-pow}
+-- The test of a word of any bytes passes exactly where they are a text and then NULs.
+use Rattle.std.proofs.Common.{ℕ, zero, suc, ◌+◌, ◌-◌, ◌*◌, ◌/◌, ◌%◌, ◌^◌, ◌<◌, ◌≤◌, ◌≡◌, Bool, true, ◌||◌, List, [], ◌∷◌, ◌++◌, length, take, replicate, map, refl, sym, ap, ap₂, ◌∙◌, subst, arith, bit_and, bit_or, nat_eq, nat_lt, lit<, inl, inr}
+use Rattle.std.proofs.Math.Nat.{pow-suc}
 use Rattle.std.proofs.lemmas.Bool.{cases_lt}
 use Rattle.std.proofs.lemmas.Bool.Decides.{nat_tests}
-use Rattle.std.proofs.lemmas.List.{drop-drop, length-map, length-append, length-replicate, length-drop, length-take, take_all, append_assoc, replicate-append-replicate}
+use Rattle.std.proofs.lemmas.List.{length-map, length-append, length-replicate, append_assoc, replicate-append-replicate}
 use Rattle.std.proofs.Math.Seq.{take-append_seam}
 use Rattle.std.proofs.lemmas.List.Elements.{All-head, All-tail, All-cons, All-nil}
-use Rattle.std.proofs.lemmas.Nat.{and_le_r, and_or_self, le_or_l, le_or_r, div-mul-add}
-use Rattle.std.specs.Int.Bits.{or_self, or_add_and, or_shifted_r}
-use Rattle.std.proofs.lemmas.Simd.{Each1-replicate, Each1-from_get_or}
-use Rattle.tinystr_words.specs.Text.{IsTextByte, IsText, IsPaddedText, text_of}
-use Rattle.tinystr_words.specs.Words.{word, led}
-use Rattle.tinystr_words.proofs.Lanes.{decided, IsBytes, IsBytes-ascii, word-lt, and_step}
+use Rattle.std.proofs.lemmas.Nat.{and_le_r, le_or_l, le_or_r}
+use Rattle.std.proofs.lemmas.Simd.{Each1-replicate}
+use Rattle.tinystr_words.specs.Text.{IsTextByte, IsText, IsPadded, text_of}
+use Rattle.tinystr_words.specs.Words.{word, first_then}
+use Rattle.tinystr_words.proofs.Lanes.{below_at, IsBytes, IsBytes-ascii, word-lt, and_step}
 use Rattle.tinystr_words.proofs.Texts.{NULS, padded-nuls, IsPaddedText-take}
 use Rattle.tinystr_words.proofs.Formulas.{ascii_padded}
-use Rattle.tinystr_words.proofs.WordBytes.{word_nuls, pow_256}
+use Rattle.tinystr_words.proofs.WordAsNumber.{word_nuls}
 
 abbrev pub each : ℕ → ℕ → ℕ
-each n c = word (led n c c)
-
-pub IsBytes-fit : (l : List ℕ) → ((i : ℕ) → Fits w8 (get_or l i 0)) → IsBytes l
-IsBytes-fit l f = Each1-from_get_or (λ b. b < 256) l 0 (λ i h. Fits-lt-pow (f i))
+each n c = word (first_then n c c)
 
 each-replicate : (n c : ℕ) → each n c ≡ word (replicate n c)
 each-replicate zero c = refl
 each-replicate (suc n) c = refl
-
--- ---- a word, by its halves
-
-pub word_split : (n : ℕ) (l : List ℕ) → n ≤ length l → word l ≡ word (take n l) + 256 ^ n * word (drop n l)
-word_split zero l h = omega arith
-word_split (suc n) [] h = absurd (omega arith)
-word_split (suc n) (b ∷ l) h =
-    let e = word_split n l (omega arith) in
-    let k : 256 ^ suc n * word (drop n l) ≡ 256 * (256 ^ n * word (drop n l)) = ap (λ p. p * word (drop n l)) (pow-suc 256 n ∙ mul_comm (256 ^ n) 256) ∙ mul_assoc 256 (256 ^ n) (word (drop n l)) in
-    omega arith
-
-pub IsBytes-take : (n : ℕ) (l : List ℕ) → IsBytes l → IsBytes (take n l)
-IsBytes-take zero l a = tt
-IsBytes-take (suc n) [] a = tt
-IsBytes-take (suc n) (b ∷ l) a = (a.0, IsBytes-take n l a.1)
-
-pub IsBytes-drop : (n : ℕ) (l : List ℕ) → IsBytes l → IsBytes (drop n l)
-IsBytes-drop zero l a = a
-IsBytes-drop (suc n) [] a = tt
-IsBytes-drop (suc n) (b ∷ l) a = IsBytes-drop n l a.1
 
 IsBytes-append : (l m : List ℕ) → IsBytes l → IsBytes m → IsBytes (l ++ m)
 IsBytes-append [] m a d = d
@@ -88,16 +63,16 @@ marks_word (b ∷ l) a =
 -- ---- the bytes, one after another
 
 is_nul_or_marked : (b : ℕ) → b < 128 → 0 < b → mark b ≡ 0x80
-is_nul_or_marked b l h = let e = decided (λ b. nat_eq b 0 || nat_eq (mark b) 0x80) 128 refl b l in grind (arith, nat_tests)
+is_nul_or_marked b l h = let e = below_at (λ b. nat_eq b 0 || nat_eq (mark b) 0x80) 128 refl b l in grind (arith, nat_tests)
 
 high_bit : (b : ℕ) → b < 256 → bit_and b 0x80 ≡ 0 → b < 128
-high_bit b l h = let e = decided (λ b. nat_lt b 128 || nat_lt 0 (bit_and b 0x80)) 256 refl b l in grind (arith, nat_tests)
+high_bit b l h = let e = below_at (λ b. nat_lt b 128 || nat_lt 0 (bit_and b 0x80)) 256 refl b l in grind (arith, nat_tests)
 
 no_high_bit : (b : ℕ) → b < 128 → bit_and b 0x80 ≡ 0
-no_high_bit b l = let e = decided (λ b. nat_eq (bit_and b 0x80) 0) 128 refl b l in grind (arith, nat_tests)
+no_high_bit b l = let e = below_at (λ b. nat_eq (bit_and b 0x80) 0) 128 refl b l in grind (arith, nat_tests)
 
 top_mark : (b : ℕ) → b < 256 → bit_and (mark b) 0x7f ≡ 0
-top_mark b l = let e = decided (λ b. nat_eq (bit_and (mark b) 0x7f) 0) 256 refl b l in grind (arith, nat_tests)
+top_mark b l = let e = below_at (λ b. nat_eq (bit_and (mark b) 0x7f) 0) 256 refl b l in grind (arith, nat_tests)
 
 first_mark : (l : List ℕ) → IsBytes l → bit_and (word (map mark l) % 256) 0x7f ≡ 0
 first_mark [] a = refl
@@ -217,12 +192,12 @@ clean_test l a =
       λ c. rw (c.low, c.in_front) refl,
     )
 
-split-padded : (l t : List ℕ) (k : ℕ) → l ≡ t ++ NULS k → IsText t → IsPaddedText l (length l)
+split-padded : (l t : List ℕ) (k : ℕ) → l ≡ t ++ NULS k → IsText t → IsPadded l
 split-padded l t k e x = (padded-nuls l t k e x).0
 
 -- a word is that of a text and then NULs exactly if the test finds so
 pub padded_test : (n : ℕ) (l : List ℕ) → IsBytes l → length l ≤ n
-    → (is_padded_word n (word l) ≡ true → IsPaddedText l (length l)) × (IsPaddedText l (length l) → is_padded_word n (word l) ≡ true)
+    → (is_padded_word n (word l) ≡ true → IsPadded l) × (IsPadded l → is_padded_word n (word l) ≡ true)
 padded_test n l a fits =
     let m = n - length l in
     let whole = l ++ NULS m in
@@ -232,59 +207,9 @@ padded_test n l a fits =
     (subst (λ w. (is_padded_word (length whole) w ≡ true → IsClean whole) × (IsClean whole → is_padded_word (length whole) w ≡ true)) (word_nuls l m) (clean_test whole bytes)) in (
       λ h. (let s = split_of whole bytes (test.0 h) in
           let front : take (length l) whole ≡ l = take-append_seam l (NULS m) in
-          subst (λ (f : List ℕ). IsPaddedText f (length f)) front (IsPaddedText-take whole (length whole) (length l) (split-padded whole s.text s.nuls s.is s.chars))),
+          subst (λ (f : List ℕ). IsPadded f) front (IsPaddedText-take whole (length whole) (length l) (split-padded whole s.text s.nuls s.is s.chars))),
       λ p. (let t = text_of l in
           let k = length l - length t in
           let is : whole ≡ t ++ NULS (k + m) = ap (λ (f : List ℕ). f ++ NULS m) p.padded ∙ append_assoc t (NULS k) (NULS m) ∙ ap (λ (f : List ℕ). t ++ f) (replicate-append-replicate k m 0) in
           test.1 (subst IsClean (sym is) (clean_of t (k + m) p.text))),
     )
-
--- ---- the parts that a word is loaded by
-
--- the last n bytes, without those that stand among the first n, follow these
-loaded_halves : (n : ℕ) (l : List ℕ) → IsBytes l → n ≤ length l → length l ≤ n + n
-    → word (take n l) + 256 ^ n * (word (drop (length l - n) l) / 256 ^ (n + n - length l)) ≡ word l
-loaded_halves n l a least most =
-    let s = n + n - length l in
-    let back = drop (length l - n) l in
-    let long : length back ≡ n = omega (arith, length-drop (length l - n) l) in
-    let others : drop s back ≡ drop n l = drop-drop s (length l - n) l ∙ ap (λ k. drop k l) (omega arith) in
-    let sum : word back ≡ word (drop s back) * 256 ^ s + word (take s back) =
-    word_split s back (omega arith) ∙ omega (arith, mul_comm (256 ^ s) (word (drop s back))) in
-    let small : word (take s back) < 256 ^ s =
-    subst (λ k. word (take s back) < 256 ^ k) (omega (arith, length-take s back)) (word-lt (take s back) (IsBytes-take s back (IsBytes-drop (length l - n) l a))) in
-    let quotient : word back / 256 ^ s ≡ word (drop n l) =
-    ap (λ m. m / 256 ^ s) sum ∙ div-mul-add (word (drop s back)) (256 ^ s) (word (take s back)) small ∙ ap word others in
-    rw quotient (sym (word_split n l least))
-
--- as the code shifts them, and that nothing is lost
-pub joined_halves : (n : ℕ) (l : List ℕ) → IsBytes l → n ≤ length l → length l ≤ n + n
-    → (word (take n l) + 256 ^ n * (word (take (length l - (length l - n)) (drop (length l - n) l)) / 2 ^ (8 * (n + n - length l))) ≡ word l) × (word l < 256 ^ (n + n))
-joined_halves n l a least most =
-    let back : take (length l - (length l - n)) (drop (length l - n) l) ≡ drop (length l - n) l = take_all (length l - (length l - n)) (drop (length l - n) l) (omega (arith, length-drop (length l - n) l)) in (
-      rw (back, ← pow_256 (n + n - length l)) (loaded_halves n l a least most),
-      (let h = word-lt l a in let k : 256 ^ length l ≤ 256 ^ (n + n) = pow-le-pow_right {n = 256} (lit< tt) most in omega arith),
-    )
-
--- of one to three bytes, the first, the middle and the last
-pub joined_three : (l : List ℕ) → IsBytes l → 0 < length l → length l < 4
-    → bit_or (bit_or (get_or l 0 0) (get_or l (length l / 2) 0 * 2 ^ (8 * (length l / 2)) % 4294967296)) (get_or l (length l - 1) 0 * 2 ^ (8 * (length l - 1)) % 4294967296) ≡ word l
-joined_three [] a some few = absurd (omega arith)
-joined_three (x ∷ []) a some few =
-    let h : x < 256 = a.0 in
-    let e : x * 1 % 4294967296 ≡ x = omega arith in
-    rw (e, or_self x) (or_self x ∙ omega arith)
-joined_three (x ∷ y ∷ []) a some few =
-    let h : x < 256 = a.0 in
-    let k : y < 256 = a.1.0 in
-    let e : y * 256 % 4294967296 ≡ y * 256 = omega arith in
-    let once : bit_or (bit_or x (y * 256)) (y * 256) ≡ bit_or x (y * 256) = omega (arith, or_add_and (bit_or x (y * 256)) (y * 256), and_or_self (y * 256) x) in
-    rw e (once ∙ or_shifted_r y 8 x h ∙ omega arith)
-joined_three (x ∷ y ∷ z ∷ []) a some few =
-    let h : x < 256 = a.0 in
-    let k : y < 256 = a.1.0 in
-    let m : z < 256 = a.1.1.0 in
-    let e : y * 256 % 4294967296 ≡ y * 256 = omega arith in
-    let f : z * 65536 % 4294967296 ≡ z * 65536 = omega arith in
-    rw (e, f, or_shifted_r y 8 x h) (or_shifted_r z 16 (y * 256 + x) (omega arith) ∙ omega arith)
-joined_three (x ∷ y ∷ z ∷ u ∷ l) a some few = absurd (omega arith)

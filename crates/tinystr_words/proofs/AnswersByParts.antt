@@ -1,4 +1,4 @@
--- Questions and case changes of parts of texts, and of texts with their padding.
+-- The answer and the case change of a text are those of its parts, and a padded array changes as its text does.
 use Rattle.std.proofs.Common.{◌≡◌, ℕ, zero, suc, ◌-◌, Bool, ◌&&◌, ◌⊎◌, inl, inr, ⊎_elim, List, [], ◌∷◌, ◌++◌, length, take, drop, map, sym, ap, ◌∙◌, refl, arith}
 use Rattle.std.proofs.Math.Bool.{and_assoc}
 use Rattle.std.proofs.lemmas.Bool.{cases_lt}
@@ -22,20 +22,24 @@ use Rattle.tinystr_words.proofs.Texts.{NULS}
 abbrev pub IsCut : ℕ → List ℕ → List ℕ → Type 0
 IsCut q a b = (length a ≡ suc q) ⊎ (b ≡ [])
 
+-- each list is cut so
 pub IsCut-at : (q : ℕ) (t : List ℕ) → IsCut q (take (suc q) t) (drop (suc q) t)
 IsCut-at q t =
     ⊎_elim (λ short. inr (drop_all (suc q) t (omega arith))) (λ long. inl (length-take-le (suc q) t long)) (cases_lt (length t) (suc q))
 
+-- one class for all bytes
 pub ask-same : (f : ℕ → Bool) (t : List ℕ) → ask f f t ≡ list_all f t
 ask-same f [] = refl
 ask-same f (b ∷ t) = refl
 
+-- a question of both lists, by the class of the later bytes in the second
 pub ask-append : (first others : ℕ → Bool) (q : ℕ) (a b : List ℕ) → IsCut q a b → ask first others (a ++ b) ≡ (ask first others a && ask others others b)
 ask-append first others q [] b (inl e) = absurd (omega arith)
 ask-append first others q [] b (inr e) = rw e refl
 ask-append first others q (d ∷ a) b x =
     rw (list_all-append others a b, ask-same others b) (sym (and_assoc (first d) (list_all others a) (list_all others b)))
 
+-- a case change of both lists, by that of later words in the second
 pub in_case-append : (c : Case) (q : ℕ) (a b : List ℕ) → IsCut q a b → in_case c (a ++ b) ≡ in_case c a ++ in_case (later_case c) b
 in_case-append Lower q a b x = map-append lower a b
 in_case-append Upper q a b x = map-append raise a b
@@ -61,6 +65,7 @@ answer-parts question q t =
     ∙ ask-append (first_class question) (later_class question) q (take (suc q) t) (drop (suc q) t) (IsCut-at q t)
     ∙ ap (λ r. answer question (take (suc q) t) && r) (later-answer question (drop (suc q) t))
 
+-- a changed text from its changed parts
 pub in_case-parts : (c : Case) (q : ℕ) (l : List ℕ) → in_case c l ≡ in_case c (take (suc q) l) ++ in_case (later_case c) (drop (suc q) l)
 in_case-parts c q l =
     ap (λ (m : List ℕ). in_case c m) (sym (take-append-drop (suc q) l)) ∙ in_case-append c q (take (suc q) l) (drop (suc q) l) (IsCut-at q l)
@@ -83,6 +88,7 @@ later_change Lower = lower
 later_change Title = lower
 later_change Upper = raise
 
+-- a case change keeps the length
 pub length-in_case : (c : Case) (t : List ℕ) → length (in_case c t) ≡ length t
 length-in_case Lower t = length-map t lower
 length-in_case Upper t = length-map t raise
@@ -98,6 +104,7 @@ IsTextByte-raise b h = grind (arith, nat_tests)
 IsText-map : (f : ℕ → ℕ) → ((b : ℕ) → IsTextByte b → IsTextByte (f b)) → (t : List ℕ) → IsText t → IsText (map f t)
 IsText-map f h t x = All-map IsTextByte f t (All-weaker IsTextByte (λ b. IsTextByte (f b)) h t x)
 
+-- and leaves a text
 pub IsText-in_case : (c : Case) (t : List ℕ) → IsText t → IsText (in_case c t)
 IsText-in_case Lower t x = IsText-map lower IsTextByte-lower t x
 IsText-in_case Upper t x = IsText-map raise IsTextByte-raise t x

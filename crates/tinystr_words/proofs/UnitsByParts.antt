@@ -1,4 +1,4 @@
--- Units that are tested by parts.
+-- Units are a text exactly where each part of them is.
 use Rattle.std.proofs.Common.{ℕ, ◌+◌, ◌-◌, ◌<◌, ◌≤◌, ◌≡◌, ◌↔◌, Bool, true, false, ◌&&◌, IsTrue, List, length, get_or, take, drop, refl, arith, inl, inr}
 use Rattle.std.proofs.lemmas.Bool.{cases_lt}
 use Rattle.std.proofs.lemmas.List.{take-take, get_or-take, get_or-drop, length-take-le, length-drop}
@@ -30,6 +30,7 @@ text_ends units n least most = (
   λ h. (All-take IsTextByte n units h, All-drop IsTextByte (length units - n) units h),
 )
 
+-- the tests of both ends are that of all units
 pub tested_ends : (units : List ℕ) (n : ℕ) (front back : Bool) → n ≤ length units → length units ≤ n + n
     → (IsTrue front ↔ IsText (take n units)) → (IsTrue back ↔ IsText (drop (length units - n) units)) → (IsTrue (front && back) ↔ IsText units)
 tested_ends units n true true least most p q = (λ yes. (text_ends units n least most).0 (p.0 refl, q.0 refl), λ h. refl)

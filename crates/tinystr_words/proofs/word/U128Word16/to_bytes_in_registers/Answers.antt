@@ -1,6 +1,6 @@
 use Rattle.std.proofs.Common.{◌%◌, ◌/◌, ◌∙◌}
-use Rattle.tinystr_words.proofs.WordBytes.{lanes_pieces, lanes_low_first}
-use Rattle.tinystr_words.proofs.word.U128Word16.to_le_bytes.Goals as goal
+use Rattle.tinystr_words.proofs.WordAsNumber.{lanes_pieces, lanes_low_first}
+use Rattle.tinystr_words.proofs.word.U128Word16.to_bytes_in_registers.Goals as goal
 
 pub returns : goal.returns
 returns c =

@@ -1,5 +1,5 @@
--- Lanes of sums, and the size of a word.
-use Rattle.std.proofs.Common.{ℕ, zero, suc, ◌+◌, ◌-◌, ◌*◌, ◌/◌, ◌%◌, ◌^◌, ◌<◌, ◌≤◌, ◌≡◌, ◌↔◌, List, [], ◌∷◌, length, get_or, map, sym, ap, ◌∙◌, arith, lit<}
+-- The laws of words: the lanes of a sum, what two sums tell of a lane, and the size of a word.
+use Rattle.std.proofs.Common.{ℕ, zero, suc, ◌+◌, ◌-◌, ◌/◌, ◌%◌, ◌^◌, ◌<◌, ◌≤◌, ◌≡◌, ◌↔◌, List, [], ◌∷◌, length, get_or, map, sym, ap, ◌∙◌, arith, lit<}
 use Rattle.std.proofs.lemmas.List.{length-map, get_or-map}
 use Rattle.std.proofs.lemmas.Grind.{get_or_default_zero}
 use Rattle.std.proofs.lemmas.Simd.{length-zip2, get_or-zip2, Each1-from_get_or}
@@ -9,7 +9,7 @@ use Rattle.std.specs.Int.{IsInRange}
 use Rattle.tinystr_words.specs.Text.{IsText, pad}
 use Rattle.tinystr_words.specs.Words.{word, lane, lanes_of}
 use Rattle.tinystr_words.proofs.Lanes.{IsBytes, IsBytes-text, word-lt, word_sum}
-use Rattle.tinystr_words.proofs.WordBytes.{lower_lanes, lanes_word, word_nuls, word_least, exponent_below}
+use Rattle.tinystr_words.proofs.WordAsNumber.{lower_lanes, lanes_word, word_nuls, word_least, exponent_below}
 
 -- the byte at a place is the lane there
 lane-is : (n w i : ℕ) → i < n → get_or (lanes_of n w) i 0 ≡ lane w i
@@ -29,7 +29,7 @@ pub lane_sum_is : (a c : List ℕ) → length a ≡ length c → All IsLow a →
 lane_sum_is a c e p q =
     let plus : ℕ → ℕ → ℕ = λ m n. m + n in
     let low = λ (l : List ℕ) (r : All IsLow l). Each1-from_get_or (λ b. b < 256) l 0 (λ i h. omega (arith, r i 0 h)) in
-    let each = λ (i : ℕ) (h : i < length a). get_or-zip2 plus a c i 0 0 0 h (omega arith) in
+    let each : (i : ℕ) → i < length a → get_or (zip2 plus a c) i 0 ≡ get_or a i 0 + get_or c i 0 = λ i h. get_or-zip2 plus a c i 0 0 0 h (omega arith) in
     let long : length (zip2 plus a c) ≡ length a = length-zip2 plus a c e in
     let bytes : IsBytes (zip2 plus a c) = Each1-from_get_or (λ b. b < 256) (zip2 plus a c) 0 (λ i h. let k : i < length a = omega arith in omega (arith, each i k, p i 0 k, q i 0 (omega arith))) in
     rw (word_sum a c e (low a p) (low c q))
@@ -43,6 +43,7 @@ length_below (b ∷ t) x k h = exponent_below 256 (length t) k (lit< tt) (omega 
 pub word_length_is : (w : ℕ) (t : List ℕ) → IsText t → length t ≤ w → (word (pad t w) < 256 ^ length t) × ((k : ℕ) → word (pad t w) < 256 ^ k → length t ≤ k)
 word_length_is w t x le = rw (word_nuls t (w - length t)) (word-lt t (IsBytes-text t x), length_below t x)
 
+-- two sums tell whether a lane is in its range
 pub lane_class_is : (a low high : List ℕ) → length low ≡ length a → length high ≡ length a → All IsLow a
     → ((i : ℕ) → i < length a → (1 ≤ get_or low i 0) × (get_or low i 0 ≤ get_or high i 0) × (get_or high i 0 ≤ 0x7f))
     → (i : ℕ) → i < length a
