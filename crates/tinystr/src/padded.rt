@@ -1,0 +1,193 @@
+//! Padded bytes of any length: a text and then NULs. Nothing outside this file chooses the words that take them.
+
+ghost use Rattle.std.specs.Prelude.{◌≡◌, ◌≤◌, ◌++◌, ◌↔◌, length, map, take, IsTrue, IsOk, IfOk, IfErr, MatchOption};
+ghost use Rattle.std.specs.Fmt.{decimal};
+ghost use Rattle.std.specs.Str.{bytes_eq};
+ghost use Rattle.tinystr_words.specs.Text.{IsPadded, IsPaddedText, IsStrictText, text_of, pad};
+ghost use Rattle.tinystr_words.specs.Decimal.{last};
+ghost use Rattle.tinystr_words.specs.Questions.{answer, in_case};
+ghost use Rattle.tinystr.specs.Padded.{IsWidthOf};
+
+mod copying;
+mod order;
+mod units;
+mod words;
+
+pub use copying::resize;
+pub use order::compare;
+pub use units::{fault, lossy};
+
+use copying::put;
+use tinystr_words::int_ops::{Aligned4, Aligned8, Aligned16, decimal_fits};
+use tinystr_words::{Case, Question, Unit};
+
+/// The words that take padded bytes: the narrowest that holds all, since it is loaded and asked in the fewest steps.
+#[derive(Clone, Copy)]
+enum Width {
+    /// One of 32 bits.
+    Four,
+    /// One of 64 bits, the widest that a register holds.
+    Eight,
+    /// One of 128 bits, the widest integer.
+    Sixteen,
+    /// As many of 128 bits as there are.
+    Many,
+}
+
+// The words that take so many bytes. The number is known when the program is built, and no test of it is left.
+#[inline(always)]
+fn width_of(len: usize) -> Width
+    ensures { IsWidthOf result len }
+{
+    if len <= 4 {
+        Width::Four
+    } else if len <= 8 {
+        Width::Eight
+    } else if len <= 16 {
+        Width::Sixteen
+    } else {
+        Width::Many
+    }
+}
+
+/// The units as padded bytes, if they are a text that fits.
+#[inline(always)]
+pub fn read<U: Unit, const N: usize>(units: &[U]) -> Option<[u8; N]>
+    ensures { MatchOption result (¬ IsStrictText (map U.number units.now) N)
+        (λ bytes. IsPaddedText bytes N × (text_of bytes ≡ map U.number units.now)) }
+{
+    if units.len() > N {
+        return None;
+    }
+    if units.len() > 16 {
+        return units::read_parts(units);
+    }
+    match width_of(N) {
+        Width::Four | Width::Eight => {
+            let text = Aligned8::try_from_text(units)?;
+            Some(resize(&text.to_bytes()))
+        }
+        Width::Sixteen | Width::Many => {
+            let text = Aligned16::try_from_text(units)?;
+            Some(resize(&text.to_bytes()))
+        }
+    }
+}
+
+/// The bytes, if they are padded.
+#[inline(always)]
+pub fn check<const N: usize>(raw: [u8; N]) -> Option<[u8; N]>
+    ensures { MatchOption result (¬ IsPaddedText raw.entry N)
+        (λ bytes. IsPaddedText bytes N × (bytes ≡ raw.entry)) }
+{
+    match width_of(N) {
+        // the word's own bytes, since the array would be moved in pieces that fit no register
+        Width::Sixteen => {
+            let text = Aligned16::try_from_part(&raw[..])?;
+            Some(resize(&text.to_bytes()))
+        }
+        Width::Four | Width::Eight => {
+            let _ = Aligned8::try_from_part(&raw[..])?;
+            Some(raw)
+        }
+        Width::Many => words::is_padded(&raw[..]).then_some(raw),
+    }
+}
+
+/// The decimal text of a number as padded bytes, or its last `N` digits where it has more.
+#[inline(always)]
+pub fn decimal<const N: usize>(number: u32) -> Result<[u8; N], [u8; N]>
+    ensures ok { IsOk result ↔ (length (decimal number) ≤ N) }
+    ensures digits { IfOk result (λ bytes. IsPaddedText bytes N × (text_of bytes ≡ decimal number)) }
+    ensures last_digits { IfErr result (λ bytes. IsPaddedText bytes N × (text_of bytes ≡ last N (decimal number))) }
+{
+    if decimal_fits(number, N) {
+        Ok(resize(&Aligned16::from_decimal(number).to_bytes()))
+    } else {
+        Err(resize(&Aligned16::from_last_digits(number, N).to_bytes()))
+    }
+}
+
+/// The length of the text.
+#[inline(always)]
+pub fn len(bytes: &[u8]) -> usize
+    requires { IsPadded bytes.now }
+    ensures { result ≡ length (text_of bytes.now) }
+{
+    match width_of(bytes.len()) {
+        Width::Four => Aligned4::from_part(bytes).len(),
+        Width::Eight => Aligned8::from_part(bytes).len(),
+        Width::Sixteen | Width::Many => words::len(bytes),
+    }
+}
+
+/// Whether two texts in equally many bytes are one.
+#[inline(always)]
+pub fn equals(left: &[u8], right: &[u8]) -> bool
+    requires len { length left.now ≡ length right.now }
+    requires left { IsPadded left.now }
+    requires right { IsPadded right.now }
+    ensures { result ≡ bytes_eq (text_of left.now) (text_of right.now) }
+{
+    match width_of(left.len()) {
+        Width::Four => Aligned4::from_part(left).equals(&Aligned4::from_part(right)),
+        Width::Eight => Aligned8::from_part(left).equals(&Aligned8::from_part(right)),
+        Width::Sixteen => Aligned16::from_part(left).equals(&Aligned16::from_part(right)),
+        Width::Many => left == right,
+    }
+}
+
+/// The answer to a question about the text.
+#[inline(always)]
+pub fn ask(bytes: &[u8], question: Question) -> bool
+    requires { IsPadded bytes.now }
+    ensures { result ≡ answer question (text_of bytes.now) }
+{
+    match width_of(bytes.len()) {
+        Width::Four => Aligned4::from_part(bytes).asks(question),
+        Width::Eight => Aligned8::from_part(bytes).asks(question),
+        Width::Sixteen | Width::Many => words::ask(bytes, question),
+    }
+}
+
+/// Changes the case of the text in place.
+#[inline(always)]
+pub fn change(bytes: &mut [u8], case: Case)
+    requires { IsPadded bytes.old }
+    ensures { bytes.new ≡ pad (in_case case (text_of bytes.old)) (length bytes.old) }
+{
+    match width_of(bytes.len()) {
+        Width::Four => {
+            let word = Aligned4::from_part(bytes).in_case(case);
+            put(bytes, &word);
+        }
+        Width::Eight => {
+            let word = Aligned8::from_part(bytes).in_case(case);
+            put(bytes, &word);
+        }
+        Width::Sixteen | Width::Many => words::change(bytes, case),
+    }
+}
+
+/// The first `Q` bytes of the two texts joined.
+#[inline(always)]
+pub fn join<const Q: usize>(front: &[u8], back: &[u8]) -> [u8; Q]
+    requires front { IsPadded front.now }
+    requires back { IsPadded back.now }
+    ensures padded { IsPaddedText result Q }
+    ensures text { text_of result ≡ take Q (text_of front.now ++ text_of back.now) }
+{
+    let first = &front[..front.len().min(Q)];
+    let second = &back[..back.len().min(Q)];
+    match width_of(Q) {
+        Width::Four | Width::Eight => {
+            let text = Aligned8::from_part(first).joined(&Aligned8::from_part(second));
+            resize(&text.to_bytes())
+        }
+        Width::Sixteen => {
+            let text = Aligned16::from_part(first).joined(&Aligned16::from_part(second));
+            resize(&text.to_bytes())
+        }
+        Width::Many => copying::join(front, len(front), back),
+    }
+}
