@@ -8,12 +8,11 @@ use Rattle.tinystr_words.specs.Text.{IsPadded, IsPaddedText, IsTextByte, pad, te
 use Rattle.tinystr_words.specs.declared.question.Question.{Question}
 use Rattle.tinystr_words.specs.Questions.{answer, in_case, later_case, later_question}
 use Rattle.tinystr_words.proofs.Texts.{IsPaddedText-drop, IsPaddedText-made, IsPaddedText-take, NULS, length-pad, length-text_of-le, padded-nuls, take-pad, text_of-drop, text_of-made, text_of-take}
-use Rattle.tinystr_words.proofs.Parts.{IsText-in_case, answer-parts, in_case-padded, in_case-parts, length-in_case}
+use Rattle.tinystr_words.proofs.AnswersByParts.{IsText-in_case, answer-parts, in_case-padded, in_case-parts, length-in_case}
 use Rattle.tinystr.specs.Padded.{IsFirstWord}
 use Rattle.std.proofs.lemmas.Slice.{drop-put_mid, take-put_mid}
 use borrow.Rule.Slice.PartMut.{put_mid}
 use Rattle.tinystr_words.specs.declared.question.Case.{Case}
-use Rattle.tinystr_words.specs.Words.{word}
 
 pub word_padded : (l x : List ℕ) → IsPadded l → 16 ≤ length l → x ≡ take 16 l → IsPaddedText x 16
 word_padded l x p fits e = rw e (subst (λ n. IsPaddedText (take 16 l) n) (length-take-le 16 l fits) (IsPaddedText-take l (length l) 16 p))

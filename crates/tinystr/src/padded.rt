@@ -144,8 +144,8 @@ pub fn ask(bytes: &[u8], question: Question) -> bool
     ensures { result ≡ answer question (text_of bytes.now) }
 {
     match width_of(bytes.len()) {
-        Width::Four => Aligned4::from_part(bytes).asks(question),
-        Width::Eight => Aligned8::from_part(bytes).asks(question),
+        Width::Four => Aligned4::from_part(bytes).ask(question),
+        Width::Eight => Aligned8::from_part(bytes).ask(question),
         Width::Sixteen | Width::Many => words::ask(bytes, question),
     }
 }
@@ -181,11 +181,11 @@ pub fn join<const Q: usize>(front: &[u8], back: &[u8]) -> [u8; Q]
     let second = &back[..back.len().min(Q)];
     match width_of(Q) {
         Width::Four | Width::Eight => {
-            let text = Aligned8::from_part(first).joined(&Aligned8::from_part(second));
+            let text = Aligned8::from_part(first).join(&Aligned8::from_part(second));
             resize(&text.to_bytes())
         }
         Width::Sixteen => {
-            let text = Aligned16::from_part(first).joined(&Aligned16::from_part(second));
+            let text = Aligned16::from_part(first).join(&Aligned16::from_part(second));
             resize(&text.to_bytes())
         }
         Width::Many => copying::join(front, len(front), back),

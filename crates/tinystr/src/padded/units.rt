@@ -142,15 +142,15 @@ pub fn lossy<U: Unit, const N: usize>(units: &[U], replacement: u8) -> [u8; N]
 fn find_fault<U: Unit>(units: &[U]) -> Option<ParseError>
     ensures { option_map fault_of result ≡ first_fault (map U.number units.now) }
 {
-    let mut is_after_null = false;
+    let mut is_after_nul = false;
     for unit in units {
         let code = unit.code();
         if code > 127 {
             return Some(ParseError::NonAscii);
         }
         if code == 0 {
-            is_after_null = true;
-        } else if is_after_null {
+            is_after_nul = true;
+        } else if is_after_nul {
             return Some(ParseError::ContainsNull);
         }
     }

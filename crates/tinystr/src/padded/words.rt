@@ -69,13 +69,13 @@ pub fn ask(bytes: &[u8], question: Question) -> bool
     let mut rest = bytes;
     let mut asked = question;
     while let Some((word, after)) = split_word(rest) {
-        if !word.asks(asked) {
+        if !word.ask(asked) {
             return false;
         }
         rest = after;
         asked = question.of_later_words();
     }
-    Aligned16::from_part(rest).asks(asked)
+    Aligned16::from_part(rest).ask(asked)
 }
 
 /// Changes each word in place, the later ones without a first character. The NULs behind the text stay.

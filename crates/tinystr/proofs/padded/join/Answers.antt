@@ -17,7 +17,7 @@ pub returns-in-Four-clause-text : goal.returns-in-Four-clause-text
 returns-in-Four-clause-text g c =
     let small : g.row.Q ≤ 8 = search rules in
     let padded : IsPadded c.to_bytes.result = search rules in
-    c.resize.ensures.text padded ∙ ap (λ (l : List ℕ). take g.row.Q l) (c.to_bytes.ensures.text ∙ c.joined-text.ensures
+    c.resize.ensures.text padded ∙ ap (λ (l : List ℕ). take g.row.Q l) (c.to_bytes.ensures.text ∙ c.join-text.ensures
     ∙ ap₂ (λ (a b : List ℕ). take 8 (a ++ b)) c.from_part.ensures c.from_part-in-Four.ensures)
     ∙ fronts_joined c.args.front.now c.args.back.now _ _ c.min.result c.min-2.result g.row.Q 8 c.requires.front c.requires.back c.min.ensures c.min-2.ensures small
 
@@ -32,6 +32,6 @@ from_part-requires-in-Sixteen-2 g c =
 pub returns-in-Sixteen-clause-text : goal.returns-in-Sixteen-clause-text
 returns-in-Sixteen-clause-text g c =
     let padded : IsPadded c.to_bytes-in-Sixteen.result = search rules in
-    c.resize-in-Sixteen.ensures.text padded ∙ ap (λ (l : List ℕ). take g.row.Q l) (c.to_bytes-in-Sixteen.ensures.text ∙ c.joined-text-in-Sixteen.ensures
+    c.resize-in-Sixteen.ensures.text padded ∙ ap (λ (l : List ℕ). take g.row.Q l) (c.to_bytes-in-Sixteen.ensures.text ∙ c.join-text-in-Sixteen.ensures
     ∙ ap₂ (λ (a b : List ℕ). take 16 (a ++ b)) c.from_part-in-Sixteen.ensures c.from_part-in-Sixteen-2.ensures)
     ∙ fronts_joined c.args.front.now c.args.back.now _ _ c.min.result c.min-2.result g.row.Q 16 c.requires.front c.requires.back c.min.ensures c.min-2.ensures c.in-Sixteen.ensures

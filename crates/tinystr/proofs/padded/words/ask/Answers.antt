@@ -1,5 +1,5 @@
 use Rattle.tinystr.proofs.Words.{refused}
 use Rattle.tinystr.proofs.padded.words.ask.Goals as goal
 
-pub returns-then-not-asks : goal.returns-then-not-asks
-returns-then-not-asks c = refused _ _ _ c.loop-word.asked _ _ c.in-Some.ensures c.asks.ensures c.if-not-asks.true c.loop-word.invariant.left
+pub returns-then-not-ask : goal.returns-then-not-ask
+returns-then-not-ask c = refused _ _ _ c.loop-word.asked _ _ c.in-Some.ensures c.ask.ensures c.if-not-ask.true c.loop-word.invariant.left

@@ -2,7 +2,7 @@ use Rattle.std.proofs.Common.{◌≡◌, ◌+◌, ◌-◌, ◌≤◌, length, ta
 use Rattle.std.proofs.lemmas.List.{length-drop, length-take}
 use Rattle.tinystr_words.specs.Questions.{later_case}
 use Rattle.tinystr_words.proofs.Texts.{IsPaddedText-take}
-use Rattle.tinystr_words.proofs.Parts.{in_case-padded, later_case-same}
+use Rattle.tinystr_words.proofs.AnswersByParts.{in_case-padded, later_case-same}
 use Rattle.tinystr.proofs.Words.{in_case_put, in_case_step, in_case_last, padded_step}
 use Rattle.tinystr.proofs.padded.words.change.Goals as goal
 
