@@ -13,40 +13,49 @@ use Rattle.subtags.specs.FromFront.{leading_script, behind_script, last_region}
 use Rattle.subtags.proofs.FoldLemmas.{absorbed, folded_twice, folded-canonical_part, is_script_alike, is_region_alike, alphanumeric_alike, language_plain, script_plain, region_plain}
 use Rattle.subtags.proofs.CutLemmas.{parts-folded, parts_plain, parts_before}
 
+-- to join and then fold is to fold and then join
 folded-join : (ps : List (List ℕ)) → folded (join_with_byte dash ps) ≡ join_with_byte dash (map folded ps)
 folded-join [] = refl
 folded-join (p ∷ []) = refl
 folded-join (p ∷ q ∷ ps) =
     map-append folded_byte p (dash ∷ join_with_byte dash (q ∷ ps)) ∙ ap (λ t. folded p ++ dash ∷ t) (folded-join (q ∷ ps))
 
+-- to fold the parts of a folded text changes nothing
 parts_folded_twice : (u : List ℕ) → map folded (parts (folded u)) ≡ parts (folded u)
 parts_folded_twice u = ap (map folded) (parts-folded u) ∙ absorbed folded folded folded_twice _ ∙ sym (parts-folded u)
 
+-- canonical parts fold as the parts do
 folded-canonical_parts : (ps : List (List ℕ)) → map folded (canonical_parts ps) ≡ map folded ps
 folded-canonical_parts [] = refl
 folded-canonical_parts (l ∷ ps) = ap (λ qs. folded l ∷ qs) (absorbed folded canonical_part folded-canonical_part ps)
 
+-- a canonical text folds as its input does
 pub folded-canonical_text : (u : List ℕ) → folded (canonical_text u) ≡ folded u
 folded-canonical_text u =
     folded-join (canonical_parts (parts (folded u)))
     ∙ ap (join_with_byte dash) (folded-canonical_parts (parts (folded u)) ∙ parts_folded_twice u)
     ∙ join_with_byte-slice_split dash (folded u)
 
+-- the canonical text of an identifier is canonical
 pub IsCanonical-canonical_text : (u : List ℕ) → IsLangId u → IsCanonical (canonical_text u)
 IsCanonical-canonical_text u h = record {
   accepted = rw (folded-canonical_text u) h;
   canonical = ap (λ w. join_with_byte dash (canonical_parts (parts w))) (folded-canonical_text u);
 }
 
+-- a canonical part is a script exactly if the part is
 is_script-canonical_part : (p : List ℕ) → is_script (canonical_part p) ≡ is_script p
 is_script-canonical_part p = is_script_alike (canonical_part p) p (folded-canonical_part p)
 
+-- a canonical part is a region exactly if the part is
 is_region-canonical_part : (p : List ℕ) → is_region (canonical_part p) ≡ is_region p
 is_region-canonical_part p = is_region_alike (canonical_part p) p (folded-canonical_part p)
 
+-- a region is no script
 region_no_script : (p : List ℕ) → is_region p ≡ true → is_script p ≡ false
 region_no_script p h = grind (arith, nat_tests)
 
+-- the canonical part of a script or a region has letters and digits alone
 canonical_plain : (p : List ℕ) → (is_script p || is_region p) ≡ true → list_all is_alphanumeric (canonical_part p) ≡ true
 canonical_plain p h =
     alphanumeric_alike (canonical_part p) p (folded-canonical_part p)
@@ -55,6 +64,7 @@ canonical_plain p h =
       | false ↦ λ other. region_plain p (grind arith)
     ] refl
 
+-- the canonical parts of an identifier, joined and cut again, are those parts
 accepted_parts : (ps : List (List ℕ)) → is_lang_id ps ≡ true → parts (join_with_byte dash (canonical_parts ps)) ≡ canonical_parts ps
 accepted_parts [] h = absurd (grind arith)
 accepted_parts (l ∷ []) h = parts_plain l (language_plain l (grind arith))
@@ -67,16 +77,18 @@ accepted_parts (l ∷ s ∷ r ∷ []) h =
     ∙ ap (λ qs. canonical_part s ∷ qs) (parts_plain (canonical_part r) (canonical_plain r (grind arith))))
 accepted_parts (l ∷ s ∷ r ∷ p ∷ ps) h = absurd (grind arith)
 
+-- the parts of the canonical text of an identifier are its canonical parts
 pub parts-canonical_text : (u : List ℕ) → IsLangId u → parts (canonical_text u) ≡ canonical_parts (parts (folded u))
 parts-canonical_text u h = accepted_parts (parts (folded u)) h
 
--- what is read from the front is what stands in the canonical text
+-- the script that is read from the front is the one in the canonical text
 pub script_read : (ps : List (List ℕ)) → is_tail ps ≡ true → leading_script ps ≡ find is_script (map canonical_part ps)
 script_read [] h = refl
 script_read (p ∷ []) h = let kept = is_script-canonical_part p in grind arith
 script_read (s ∷ r ∷ []) h = let kept = is_script-canonical_part s in grind arith
 script_read (s ∷ r ∷ p ∷ ps) h = absurd (grind arith)
 
+-- the region that is read behind the script is the one in the canonical text
 pub region_read : (ps : List (List ℕ)) → is_tail ps ≡ true → last_region (behind_script ps) ≡ Ok (find is_region (map canonical_part ps))
 region_read [] h = refl
 region_read (p ∷ []) h =
@@ -91,19 +103,21 @@ region_read (s ∷ r ∷ []) h =
     grind arith
 region_read (s ∷ r ∷ p ∷ ps) h = absurd (grind arith)
 
+-- what stands behind the language and is no tail is refused
 pub tail_refused : (ps : List (List ℕ)) → is_tail ps ≡ false → last_region (behind_script ps) ≡ Err InvalidSubtag
 tail_refused [] h = absurd (grind arith)
 tail_refused (p ∷ []) h = grind arith
 tail_refused (s ∷ r ∷ []) h = grind arith
 tail_refused (s ∷ r ∷ p ∷ ps) h = grind arith
 
+-- the canonical parts of a tail are a tail
 pub is_tail-canonical : (ps : List (List ℕ)) → is_tail ps ≡ true → is_tail (map canonical_part ps) ≡ true
 is_tail-canonical [] h = refl
 is_tail-canonical (p ∷ []) h = rw (is_script-canonical_part p, is_region-canonical_part p) h
 is_tail-canonical (s ∷ r ∷ []) h = rw (is_script-canonical_part s, is_region-canonical_part r) h
 is_tail-canonical (s ∷ r ∷ p ∷ ps) h = absurd (grind arith)
 
--- the parts of an identifier, joined
+-- a language and a tail, joined by dashes, are the language, the script and the region, joined
 pub joined-parts : (l : List ℕ) (ps : List (List ℕ)) → is_tail ps ≡ true → join_with_byte dash (l ∷ ps) ≡ joined l (find is_script ps) (find is_region ps)
 joined-parts l [] h = sym (append-nil l)
 joined-parts l (p ∷ []) h = let other = region_no_script p in grind (arith, common_steps)
@@ -112,16 +126,18 @@ joined-parts l (s ∷ r ∷ []) h =
     grind (arith, common_steps)
 joined-parts l (s ∷ r ∷ p ∷ ps) h = absurd (grind arith)
 
+-- the canonical parts of an identifier, joined by dashes, are its language, its script and its region, joined
 joined-canonical_parts : (ps : List (List ℕ)) → is_lang_id ps ≡ true → join_with_byte dash (canonical_parts ps) ≡ joined (first (canonical_parts ps)) (find is_script (drop 1 (canonical_parts ps))) (find is_region (drop 1 (canonical_parts ps)))
 joined-canonical_parts [] h = absurd (grind arith)
 joined-canonical_parts (l ∷ ps) h = joined-parts l (map canonical_part ps) (is_tail-canonical ps (grind arith))
 
+-- a canonical text is its language, its script and its region, joined
 pub joined-IsCanonical : (t : List ℕ) → IsCanonical t → t ≡ joined (language_of t) (script_of t) (region_of t)
 joined-IsCanonical t h =
     let found : parts t ≡ canonical_parts (parts (folded t)) = ap parts (sym h.canonical) ∙ parts-canonical_text t h.accepted in
     sym h.canonical ∙ joined-canonical_parts (parts (folded t)) h.accepted ∙ rw found refl
 
--- the fold and the canonical text give each other
+-- two inputs have the same canonical text exactly if they fold alike
 pub same_canonical_text : (u v : List ℕ) → (canonical_text u ≡ canonical_text v) ↔ (folded u ≡ folded v)
 same_canonical_text u v = (
   λ e. sym (folded-canonical_text u) ∙ ap folded e ∙ folded-canonical_text v,

@@ -11,10 +11,12 @@ use Rattle.subtags.specs.Grammar.{dash, is_separator, folded_byte, folded, parts
 use Rattle.subtags.specs.FromFront.{leading_script, behind_script, last_region}
 use Rattle.subtags.proofs.FoldLemmas.{all_from_test, folded_twice, is_script_alike, is_region_alike, region_plain, titlecase-folded, uppercase-folded}
 
+-- to put a byte onto the first part and change all is to change all and then put the changed byte there
 onto_first-map : (f : ℕ → ℕ) (b : ℕ) (ps : List (List ℕ)) → onto_first (f b) (map (map f) ps) ≡ map (map f) (onto_first b ps)
 onto_first-map f b [] = refl
 onto_first-map f b (p ∷ ps) = refl
 
+-- to change the bytes and then cut is to cut and then change the parts
 slice_split-map : (f : ℕ → ℕ) (p q : ℕ → Bool) → ((b : ℕ) → p (f b) ≡ q b) → (u : List ℕ) → slice_split p (map f u) ≡ map (map f) (slice_split q u)
 slice_split-map f p q e [] = refl
 slice_split-map f p q e (b ∷ u) =
@@ -23,46 +25,48 @@ slice_split-map f p q e (b ∷ u) =
       | false ↦ ap (onto_first (f b)) (slice_split-map f p q e u) ∙ onto_first-map f b (slice_split q u)
     ])
 
--- folding and then cutting at each dash is cutting at each separator and then folding
+-- to fold and then cut at each dash is to cut at each separator and then fold
 pub parts-folded : (u : List ℕ) → parts (folded u) ≡ map folded (slice_split is_separator u)
 parts-folded u = slice_split-map folded_byte (λ b. b == dash) is_separator (λ b. grind (arith, nat_tests)) u
 
--- where the first separator stands at i
+-- where the first separator stands at i, the first part is what stands before it, and the others are those behind it
 pub parts_at : (u : List ℕ) (i : ℕ) → position is_separator u ≡ Some i → (i < length u) × (parts (folded u) ≡ folded (take i u) ∷ parts (folded (drop (i + 1) u)))
 parts_at u i h =
     let at : (position_or_len is_separator u < length u) × (position_or_len is_separator u ≡ i) = grind (arith, nat_tests) in
     let cut = rw at.1 at (slice_split_first is_separator u 0 at.0) in
     (omega arith, parts-folded u ∙ ap (map folded) cut ∙ ap (λ ps. folded (take i u) ∷ ps) (sym (parts-folded (drop (i + 1) u))))
 
--- where there is none
+-- where there is no separator, all is one part
 pub parts_whole : (u : List ℕ) → position is_separator u ≡ None → parts (folded u) ≡ folded u ∷ []
 parts_whole u h =
     let past : length u ≤ position_or_len is_separator u = grind (arith, nat_tests) in
     parts-folded u ∙ ap (map folded) (slice_split_none is_separator u (λ k d lt. fails_before_first is_separator u k d (omega arith)))
 
--- letters and digits are one part
+-- no letter or digit is a dash
 whole : (p : List ℕ) → list_all is_alphanumeric p ≡ true → All (λ b. (b == dash) ≡ false) p
 whole p plain = all_from_test is_alphanumeric (λ b. (b == dash) ≡ false) (λ b a. grind (arith, nat_tests)) p plain
 
+-- letters and digits are one part
 pub parts_plain : (p : List ℕ) → list_all is_alphanumeric p ≡ true → parts p ≡ p ∷ []
 parts_plain p h = slice_split_none (λ b. b == dash) p (whole p h)
 
--- a part before a dash
+-- letters and digits before a dash are the first part
 pub parts_before : (p u : List ℕ) → list_all is_alphanumeric p ≡ true → parts (p ++ dash ∷ u) ≡ p ∷ parts u
 parts_before p u h = slice_split_at (λ b. b == dash) p dash u (whole p h) refl
 
--- the reading of a first part that is a script, or is none
+-- a first part that is a script is read in title case, and the others are left
 pub script_first : (p : List ℕ) (ps qs : List (List ℕ)) → qs ≡ folded p ∷ ps → is_script p ≡ true → (leading_script qs ≡ Some (titlecase p)) × (behind_script qs ≡ ps)
 script_first p ps qs e h =
     let also : is_script (folded p) ≡ true = is_script_alike (folded p) p (folded_twice p) ∙ h in
     (rw e (rw also (ap (λ t. Some t) (titlecase-folded p h))), rw e (rw also))
 
+-- a first part that is no script is left in its place
 pub no_script_first : (p : List ℕ) (ps qs : List (List ℕ)) → qs ≡ folded p ∷ ps → is_script p ≡ false → (leading_script qs ≡ None) × (behind_script qs ≡ qs)
 no_script_first p ps qs e h =
     let also : is_script (folded p) ≡ false = is_script_alike (folded p) p (folded_twice p) ∙ h in
     (rw e (rw also), rw e (rw also))
 
--- a region is read whole
+-- parts whose joined text is no region are refused as a last region
 not_alone : (r : List ℕ) (ps : List (List ℕ)) → join_with_byte dash ps ≡ folded r → 0 < length ps → is_region r ≡ false → last_region ps ≡ Err InvalidSubtag
 not_alone r [] e some h = absurd (omega arith)
 not_alone r (p ∷ []) e some h =
@@ -70,9 +74,11 @@ not_alone r (p ∷ []) e some h =
     rw also
 not_alone r (p ∷ q ∷ ps) e some h = refl
 
+-- what is no region is refused as a last region
 pub no_last_region : (r : List ℕ) → is_region r ≡ false → last_region (parts (folded r)) ≡ Err InvalidSubtag
 no_last_region r h = not_alone r (parts (folded r)) (join_with_byte-slice_split dash (folded r)) (omega (arith, length-slice_split (λ b. b == dash) (folded r))) h
 
+-- a region is read as a last region, in upper case
 pub one_last_region : (r : List ℕ) → is_region r ≡ true → last_region (parts (folded r)) ≡ Ok (Some (uppercase r))
 one_last_region r h =
     let also : is_region (folded r) ≡ true = is_region_alike (folded r) r (folded_twice r) ∙ h in

@@ -10,25 +10,27 @@ use Rattle.tinystr_words.specs.Case.{lower, raise, lowercase, titlecase, upperca
 use Rattle.subtags.specs.Grammar.{folded_byte, folded, is_language, is_script, is_region, canonical_part}
 use Rattle.subtags.specs.Parts.{IsCanonicalPart}
 
--- a change that takes another one back
+-- where f after g is f at each element, it is so on a list
 pub absorbed : {X : Type 0} (f g : X → X) → ((x : X) → f (g x) ≡ f x) → (l : List X) → map f (map g l) ≡ map f l
 absorbed f g e [] = refl
 absorbed {X} f g e (x ∷ l) = ap₂ (λ (y : X) (k : List X). y ∷ k) (e x) (absorbed f g e l)
 
--- two changes that agree on the bytes that pass a test
+-- two changes that agree on the bytes that pass a test agree on a list of such bytes
 same_where : (p : ℕ → Bool) (f g : ℕ → ℕ) → ((b : ℕ) → p b ≡ true → f b ≡ g b) → (l : List ℕ) → list_all p l ≡ true → map f l ≡ map g l
 same_where p f g e [] h = refl
 same_where p f g e (b ∷ l) h = ap₂ (λ (x : ℕ) (y : List ℕ). x ∷ y) (e b (grind arith)) (same_where p f g e l (grind arith))
 
--- a change that takes another one back on such bytes
+-- where f after g is f on the bytes that pass a test, it is so on a list of them
 absorbed_where : (p : ℕ → Bool) (f g : ℕ → ℕ) → ((b : ℕ) → p b ≡ true → f (g b) ≡ f b) → (l : List ℕ) → list_all p l ≡ true → map f (map g l) ≡ map f l
 absorbed_where p f g e [] h = refl
 absorbed_where p f g e (b ∷ l) h = ap₂ (λ (x : ℕ) (y : List ℕ). x ∷ y) (e b (grind arith)) (absorbed_where p f g e l (grind arith))
 
+-- a test that does not see a change of a byte does not see it in a list
 same_tests : (p : ℕ → Bool) (f : ℕ → ℕ) → ((b : ℕ) → p (f b) ≡ p b) → (l : List ℕ) → list_all p (map f l) ≡ list_all p l
 same_tests p f e [] = refl
 same_tests p f e (b ∷ l) = ap₂ (λ (x y : Bool). x && y) (e b) (same_tests p f e l)
 
+-- where each byte passes one test, each passes a weaker one
 weaker : (p q : ℕ → Bool) → ((b : ℕ) → p b ≡ true → q b ≡ true) → (l : List ℕ) → list_all p l ≡ true → list_all q l ≡ true
 weaker p q e [] h = refl
 weaker p q e (b ∷ l) h =
@@ -36,22 +38,28 @@ weaker p q e (b ∷ l) h =
     let here = e b (grind arith) in
     grind arith
 
+-- to fold twice is to fold once
 pub folded_twice : (u : List ℕ) → folded (folded u) ≡ folded u
 folded_twice u = absorbed folded_byte folded_byte (λ b. grind (arith, nat_tests)) u
 
+-- a text in lower case folds as the text does
 pub folded-lowercase : (t : List ℕ) → folded (lowercase t) ≡ folded t
 folded-lowercase t = absorbed folded_byte lower (λ b. grind (arith, nat_tests)) t
 
+-- a raised byte folds as the byte does
 folded_byte-raise : (b : ℕ) → folded_byte (raise b) ≡ folded_byte b
 folded_byte-raise b = grind (arith, nat_tests)
 
+-- a text in upper case folds as the text does
 pub folded-uppercase : (t : List ℕ) → folded (uppercase t) ≡ folded t
 folded-uppercase t = absorbed folded_byte raise folded_byte-raise t
 
+-- a text in title case folds as the text does
 pub folded-titlecase : (t : List ℕ) → folded (titlecase t) ≡ folded t
 folded-titlecase [] = refl
 folded-titlecase (b ∷ t) = ap₂ (λ (x : ℕ) (y : List ℕ). x ∷ y) (folded_byte-raise b) (folded-lowercase t)
 
+-- a canonical part folds as the part does
 pub folded-canonical_part : (p : List ℕ) → folded (canonical_part p) ≡ folded p
 folded-canonical_part p =
     elim (is_script p) as (λ b. folded (cond b (titlecase p) (uppercase p)) ≡ folded p) [
@@ -59,41 +67,51 @@ folded-canonical_part p =
       | false ↦ folded-uppercase p
     ]
 
--- texts that fold alike are of the same forms
+-- a test that does not see folding answers alike of texts that fold alike
 tests_alike : (t : ℕ → Bool) → ((b : ℕ) → t (folded_byte b) ≡ t b) → (p q : List ℕ) → folded p ≡ folded q → list_all t p ≡ list_all t q
 tests_alike t e p q alike = sym (same_tests t folded_byte e p) ∙ ap (list_all t) alike ∙ same_tests t folded_byte e q
 
+-- of two texts that fold alike, both or neither are letters alone
 letters_alike : (p q : List ℕ) → folded p ≡ folded q → list_all is_alphabetic p ≡ list_all is_alphabetic q
 letters_alike p q alike = tests_alike is_alphabetic (λ b. grind (arith, nat_tests)) p q alike
 
+-- of two texts that fold alike, both or neither are digits alone
 digits_alike : (p q : List ℕ) → folded p ≡ folded q → list_all is_digit p ≡ list_all is_digit q
 digits_alike p q alike = tests_alike is_digit (λ b. grind (arith, nat_tests)) p q alike
 
+-- two texts that fold alike are of one length
 length_alike : (p q : List ℕ) → folded p ≡ folded q → length p ≡ length q
 length_alike p q alike = sym (length-map p folded_byte) ∙ ap length alike ∙ length-map q folded_byte
 
+-- of two texts that fold alike, both or neither are a language
 pub is_language_alike : (p q : List ℕ) → folded p ≡ folded q → is_language p ≡ is_language q
 is_language_alike p q alike = rw (letters_alike p q alike, length_alike p q alike)
 
+-- of two texts that fold alike, both or neither are a script
 pub is_script_alike : (p q : List ℕ) → folded p ≡ folded q → is_script p ≡ is_script q
 is_script_alike p q alike = rw (letters_alike p q alike, length_alike p q alike)
 
+-- of two texts that fold alike, both or neither are a region
 pub is_region_alike : (p q : List ℕ) → folded p ≡ folded q → is_region p ≡ is_region q
 is_region_alike p q alike = rw (letters_alike p q alike, digits_alike p q alike, length_alike p q alike)
 
+-- of two texts that fold alike, both or neither are letters and digits alone
 pub alphanumeric_alike : (p q : List ℕ) → folded p ≡ folded q → list_all is_alphanumeric p ≡ list_all is_alphanumeric q
 alphanumeric_alike p q alike = tests_alike is_alphanumeric (λ b. grind (arith, nat_tests)) p q alike
 
--- the forms have letters and digits alone
+-- letters alone are letters and digits alone
 letters_plain : (p : List ℕ) → list_all is_alphabetic p ≡ true → list_all is_alphanumeric p ≡ true
 letters_plain p letters = weaker is_alphabetic is_alphanumeric (λ b a. grind arith) p letters
 
+-- a language has letters and digits alone
 pub language_plain : (p : List ℕ) → is_language p ≡ true → list_all is_alphanumeric p ≡ true
 language_plain p h = letters_plain p (grind arith)
 
+-- a script has letters and digits alone
 pub script_plain : (p : List ℕ) → is_script p ≡ true → list_all is_alphanumeric p ≡ true
 script_plain p h = letters_plain p (grind arith)
 
+-- a region has letters and digits alone
 pub region_plain : (p : List ℕ) → is_region p ≡ true → list_all is_alphanumeric p ≡ true
 region_plain p h =
     elim (list_all is_alphabetic p) as (λ b. list_all is_alphabetic p ≡ b → list_all is_alphanumeric p ≡ true) [
@@ -101,27 +119,32 @@ region_plain p h =
       | false ↦ λ other. weaker is_digit is_alphanumeric (λ b a. grind arith) p (grind arith)
     ] refl
 
--- and are texts
+-- where each byte passes a test, each has what the test shows
 pub all_from_test : (t : ℕ → Bool) (P : ℕ → Type 0) → ((b : ℕ) → t b ≡ true → P b) → (p : List ℕ) → list_all t p ≡ true → All P p
 all_from_test t P e [] h = All-nil P
 all_from_test t P e (b ∷ p) h = All-cons P b p (e b (grind arith)) (all_from_test t P e p (grind arith))
 
+-- letters and digits are a text
 plain_text : (p : List ℕ) → list_all is_alphanumeric p ≡ true → IsText p
 plain_text p plain = all_from_test is_alphanumeric IsTextByte (λ b a. grind (arith, nat_tests)) p plain
 
+-- a language is a text of at most 8 bytes
 pub language_text : (p : List ℕ) → is_language p ≡ true → IsStrictText p 8
 language_text p h = record { text = plain_text p (language_plain p h); fits = grind (arith, nat_tests) }
 
+-- a region is a text of at most 3 bytes
 pub region_text : (p : List ℕ) → is_region p ≡ true → IsStrictText p 3
 region_text p h = record { text = plain_text p (region_plain p h); fits = grind (arith, nat_tests) }
 
--- what a case change makes of a part, folded or not
+-- to fold a language is to put it in lower case
 pub lowercase-folded : (p : List ℕ) → is_language p ≡ true → folded p ≡ lowercase p
 lowercase-folded p h = same_where is_alphanumeric folded_byte lower (λ b a. grind (arith, nat_tests)) p (language_plain p h)
 
+-- to raise a letter or a digit that was folded is to raise it as it was
 raise-folded_byte : (b : ℕ) → is_alphanumeric b ≡ true → raise (folded_byte b) ≡ raise b
 raise-folded_byte b a = grind (arith, nat_tests)
 
+-- a script, folded, has the same title case
 pub titlecase-folded : (p : List ℕ) → is_script p ≡ true → titlecase (folded p) ≡ titlecase p
 titlecase-folded [] h = refl
 titlecase-folded (b ∷ p) h =
@@ -129,26 +152,30 @@ titlecase-folded (b ∷ p) h =
     ap₂ (λ (x : ℕ) (y : List ℕ). x ∷ y) (raise-folded_byte b (grind arith))
     (absorbed_where is_alphanumeric lower folded_byte (λ c a. grind (arith, nat_tests)) p (grind arith))
 
+-- a region, folded, has the same upper case
 pub uppercase-folded : (p : List ℕ) → is_region p ≡ true → uppercase (folded p) ≡ uppercase p
 uppercase-folded p h = absorbed_where is_alphanumeric raise folded_byte raise-folded_byte p (region_plain p h)
 
--- what a change makes of a form is canonical
+-- a language in lower case is canonical
 pub canonical-lowercase : (p t : List ℕ) → is_language p ≡ true → t ≡ lowercase p → IsCanonicalPart is_language lowercase t
 canonical-lowercase p t h e = rw e record {
   form = is_language_alike (lowercase p) p (folded-lowercase p) ∙ h;
   canonical = absorbed lower lower (λ b. grind (arith, nat_tests)) p;
 }
 
+-- to take the title case twice is to take it once
 titlecase_twice : (t : List ℕ) → titlecase (titlecase t) ≡ titlecase t
 titlecase_twice [] = refl
 titlecase_twice (b ∷ t) = ap₂ (λ (x : ℕ) (y : List ℕ). x ∷ y) (grind (arith, nat_tests)) (absorbed lower lower (λ c. grind (arith, nat_tests)) t)
 
+-- a script in title case is canonical
 pub canonical-titlecase : (p t : List ℕ) → is_script p ≡ true → t ≡ titlecase p → IsCanonicalPart is_script titlecase t
 canonical-titlecase p t h e = rw e record {
   form = is_script_alike (titlecase p) p (folded-titlecase p) ∙ h;
   canonical = titlecase_twice p;
 }
 
+-- a region in upper case is canonical
 pub canonical-uppercase : (p t : List ℕ) → is_region p ≡ true → t ≡ uppercase p → IsCanonicalPart is_region uppercase t
 canonical-uppercase p t h e = rw e record {
   form = is_region_alike (uppercase p) p (folded-uppercase p) ∙ h;

@@ -11,18 +11,22 @@ use Rattle.subtags.specs.FromFront.{leading_script, behind_script, last_region}
 use Rattle.subtags.proofs.FoldLemmas.{folded_twice, is_language_alike, lowercase-folded}
 use Rattle.subtags.proofs.CanonLemmas.{script_read, region_read, tail_refused, is_tail-canonical, joined-parts, parts-canonical_text}
 
+-- the first part is a language exactly if l is
 first_is : (u l : List ℕ) (ps : List (List ℕ)) → parts (folded u) ≡ folded l ∷ ps → is_language (first (parts (folded u))) ≡ is_language l
 first_is u l ps cut = ap (λ qs. is_language (first qs)) cut ∙ is_language_alike (folded l) l (folded_twice l)
 
+-- an input is an identifier exactly if l is a language and ps a tail
 accepts : (u l : List ℕ) (ps : List (List ℕ)) → parts (folded u) ≡ folded l ∷ ps → is_lang_id (parts (folded u)) ≡ (is_language l && is_tail ps)
 accepts u l ps cut = ap is_lang_id cut ∙ ap (λ b. b && is_tail ps) (is_language_alike (folded l) l (folded_twice l))
 
+-- where l is no language, the input is no identifier, for that reason
 pub no_language : (u l : List ℕ) (ps : List (List ℕ)) → parts (folded u) ≡ folded l ∷ ps → is_language l ≡ false → (¬ IsLangId u) × (refusal_of u ≡ InvalidLanguage)
 no_language u l ps cut h =
     let first = first_is u l ps cut in
     let all = accepts u l ps cut in
     (λ id. grind arith, grind arith)
 
+-- where l is a language and the rest is refused, the input is no identifier, for the same reason
 pub no_tail : (u l : List ℕ) (ps : List (List ℕ)) (e : LangIdError) → parts (folded u) ≡ folded l ∷ ps → is_language l ≡ true → last_region (behind_script ps) ≡ Err e → (¬ IsLangId u) × (refusal_of u ≡ e)
 no_tail u l ps e cut h refused =
     let first = first_is u l ps cut in
@@ -31,6 +35,7 @@ no_tail u l ps e cut h refused =
     let not_read = tail_refused ps in
     (λ id. grind arith, grind arith)
 
+-- where l is a language and the rest is read, the input is an identifier, and what was read, joined, is its canonical text
 pub all_read : (u l : List ℕ) (ps : List (List ℕ)) (r : Option (List ℕ)) → parts (folded u) ≡ folded l ∷ ps → is_language l ≡ true → last_region (behind_script ps) ≡ Ok r → IsLangId u × (joined (lowercase l) (leading_script ps) r ≡ canonical_text u)
 all_read u l ps r cut h region =
     let not_read = tail_refused ps in
@@ -45,7 +50,7 @@ all_read u l ps r cut h region =
           ∙ sym (ap (λ qs. join_with_byte dash (canonical_parts qs)) cut),
     )
 
--- the parts of a canonical text are as they are read
+-- what is read of a canonical text is its language, its script and its region
 pub parts_read : (t l : List ℕ) (ps : List (List ℕ)) → IsCanonical t → parts (folded t) ≡ folded l ∷ ps → (is_language l ≡ true) × (lowercase l ≡ language_of t) × (leading_script ps ≡ script_of t) × (last_region (behind_script ps) ≡ Ok (region_of t))
 parts_read t l ps h cut =
     let all : (is_language l && is_tail ps) ≡ true = sym (accepts t l ps cut) ∙ h.accepted in
