@@ -9,6 +9,7 @@ mod form;
 pub mod lang_id;
 pub mod language;
 pub mod laws;
+pub mod part;
 pub mod region;
 pub mod script;
 

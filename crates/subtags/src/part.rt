@@ -1,0 +1,111 @@
+//! The parts of an identifier: languages, scripts and regions, which differ by their kind.
+
+ghost use Rattle.std.specs.Prelude.{◌≡◌, ℕ, Bool, List, IsTrue, Some, SomeIff, IfSome, Ok, Err, if◌then◌else◌};
+ghost use Rattle.std.specs.Fmt.{debug_str, styled_text};
+ghost use Rattle.subtags.specs.declared.error.LangIdError.{LangIdError};
+ghost use Rattle.subtags.specs.Parts.{IsCanonicalPart};
+
+use crate::error::LangIdError;
+use std::fmt;
+use std::marker::{Model, PhantomData};
+use std::str::FromStr;
+use tinystr::TinyAsciiStr;
+
+/// What tells languages, scripts and regions apart: the form, the case that they are kept in, and the error where one is
+/// parsed and there is none.
+pub trait Kind<const N: usize> {
+    ghost has_form: { List ℕ → Bool };
+
+    ghost in_case: { List ℕ → List ℕ };
+
+    ghost refusal: { LangIdError };
+
+    /// The text of a part of the form, in the case.
+    fn read(code_units: &[u8]) -> Option<TinyAsciiStr<N>>
+        ensures text { SomeIff result (IsTrue (has_form code_units.now)) (in_case code_units.now) }
+        ensures canonical { IfSome result (λ text. IsCanonicalPart has_form in_case text) };
+
+    /// The error where a part is parsed and there is none.
+    fn refusal() -> LangIdError
+        ensures { result ≡ refusal };
+}
+
+/// A part of an identifier: a `Language`, a `Script` or a `Region`, by its kind.
+#[derive_where(Clone, Copy, PartialEq, Eq, PartialOrd, Ord, Hash)]
+pub struct Part<K: Kind<N>, const N: usize> {
+    text: TinyAsciiStr<N>,
+    kind: PhantomData<K>,
+}
+
+impl<K: Kind<N>, const N: usize> Model for Part<K, N> {
+    ghost use Rattle.std.specs.Prelude.{List, ℕ};
+    ghost use Rattle.subtags.specs.Parts.{IsCanonicalPart};
+
+    ghost Value = { List ℕ };
+
+    ghost view = { λ part. part.text };
+
+    ghost invariant = { λ part. IsCanonicalPart K.has_form K.in_case part.text };
+
+    ghost inverse = { λ t. record { text = t; kind = record {} } };
+}
+
+impl<K: Kind<N>, const N: usize> Part<K, N> {
+    /// Reads a language of 2, 3 or 5 to 8 letters in any case, a script of 4 letters in any case, or a region of 2 letters
+    /// in any case or of 3 digits, without space around it.
+    pub fn try_from_utf8(code_units: &[u8]) -> Option<Self>
+        ensures { SomeIff result (IsTrue (K.has_form code_units.now)) (K.in_case code_units.now) }
+    {
+        let text = K::read(code_units)?;
+        Some(Part {
+            text,
+            kind: PhantomData,
+        })
+    }
+
+    /// The text: of a language in lower case, of a script in title case, of a region in upper case.
+    #[inline]
+    pub fn as_str(&self) -> &str
+        ensures text { result.now ≡ self.now }
+        ensures canonical { IsCanonicalPart K.has_form K.in_case self.now }
+    {
+        self.text.as_str()
+    }
+
+    #[inline]
+    pub(crate) fn text(self) -> TinyAsciiStr<N>
+        ensures text { result ≡ self }
+        ensures canonical { IsCanonicalPart K.has_form K.in_case self }
+    {
+        self.text
+    }
+}
+
+impl<K: Kind<N>, const N: usize> FromStr for Part<K, N> {
+    type Err = LangIdError;
+
+    ghost from_str_gives = { λ s r. r ≡ (if K.has_form s then Ok (K.in_case s) else Err K.refusal) };
+
+    #[inline]
+    fn from_str(s: &str) -> Result<Self, LangIdError> {
+        Self::try_from_utf8(s.as_bytes()).ok_or(K::refusal())
+    }
+}
+
+impl<K: Kind<N>, const N: usize> fmt::Display for Part<K, N> {
+    ghost output = { λ part. Some part };
+
+    ghost styled_output = { λ part s. Some (styled_text s part) };
+
+    fn fmt<W: fmt::Write>(&self, f: &mut fmt::Formatter<W>) -> fmt::Result {
+        fmt::Display::fmt(&self.text, f)
+    }
+}
+
+impl<K: Kind<N>, const N: usize> fmt::Debug for Part<K, N> {
+    ghost debug_output = { debug_str };
+
+    fn fmt<W: fmt::Write>(&self, f: &mut fmt::Formatter<W>) -> fmt::Result {
+        fmt::Debug::fmt(&self.text, f)
+    }
+}
