@@ -11,6 +11,7 @@ without_empty_last-cons : (part : List ℕ) (parts : List (List ℕ)) → 0 < le
 without_empty_last-cons part [] some = absurd (omega arith)
 without_empty_last-cons part (next ∷ more) some = refl
 
+-- one part that is not empty is kept
 one_part : (part : List ℕ) → 0 < length part → without_empty_last (part ∷ []) ≡ part ∷ []
 one_part part some = grind (arith, nat_tests)
 
@@ -29,10 +30,12 @@ lines_of-first input some =
           ap without_empty_last none ∙ one_part input some ∙ sym (rw (before, after) refl)
     ]
 
+-- the reply to the first line, and then the output of what follows it
 pub output_of-first : (input : List ℕ) → 0 < length input → output_of input ≡ reply_line (before_first (λ b. b == 10) input) ++ output_of (after_first (λ b. b == 10) input)
 unfolding output_of
 output_of-first input some = ap (flat_map reply_line) (lines_of-first input some)
 
+-- no input has no output
 pub output_of-none : (input : List ℕ) → length input ≡ 0 → output_of input ≡ []
 unfolding output_of
 output_of-none [] _ = refl

@@ -3,10 +3,12 @@ use Rattle.tinystr_run.specs.Reply.{words_reply}
 use Rattle.tinystr_run.specs.Words.{capacity_of}
 use Rattle.tinystr_run.proofs.reply.push_words_reply.Goals as goal
 
+-- a word that no arm matches spells no capacity
 no_capacity : (c : goal.After-extend_from_slice) → capacity_of c.args.capacity.now ≡ None
 unfolding capacity_of
 no_capacity c = search rules
 
+-- a choice by whether a result is Ok is known where it is Ok
 OnOk-if : {A E : Type 0} (r : Result A E) (x y z : List ℕ) → x ≡ (if is_ok r then y else z) → OnOk r (x ≡ y)
 OnOk-if (Ok v) x y z e = e
 OnOk-if (Err v) x y z e = tt
