@@ -7,14 +7,13 @@ use Rattle.tinystr_words.specs.Text.{is_strict_text, is_padded_text}
 use Rattle.tinystr_words.specs.Packed.{record_at}
 use Rattle.tinystr_words.specs.Reading.{Fault, fault_in, lossy}
 use Rattle.tinystr_words.specs.Reading.Fault.{too_long, contains_null, non_ascii}
-use Rattle.tinystr_words.specs.Classes.{ask, is_alphabetic, is_alphanumeric, is_digit, is_lower, is_upper, is_not_lower, is_not_upper}
-use Rattle.tinystr_words.specs.Case.{lowercase, titlecase, uppercase}
+use Rattle.tinystr_words.specs.Questions.{answer, in_case}
 use Rattle.subtags.specs.Grammar.{folded, parts, is_lang_id, canonical_text}
 use Rattle.subtags.specs.Answers.{refusal_of, message_of}
 use Rattle.tinystr_run.specs.declared.command.Command.{Command}
 use Rattle.tinystr_run.specs.declared.command.Command.TheVariants.{OnText, Lossy, Records, Locale}
 use Rattle.tinystr_run.specs.declared.command.TextCall.{TextCall}
-use Rattle.tinystr_run.specs.declared.command.TextCall.TheVariants.{Text, Len, Alphabetic, Alphanumeric, Numeric, Lowercase, Titlecase, Uppercase, AlphabeticLowercase, AlphabeticTitlecase, AlphabeticUppercase, Lower, Title, Upper}
+use Rattle.tinystr_run.specs.declared.command.TextCall.TheVariants.{Text, Len, Ask, Change}
 use Rattle.tinystr_run.specs.Words.{capacity_of, command_of}
 
 abbrev pub truth_text : Bool → List ℕ
@@ -30,18 +29,8 @@ fault_text non_ascii = codes "non ascii"
 abbrev pub answer_of : TextCall → List ℕ → List ℕ
 answer_of Text t = t
 answer_of Len t = decimal (length t)
-answer_of Alphabetic t = truth_text (ask is_alphabetic is_alphabetic t)
-answer_of Alphanumeric t = truth_text (ask is_alphanumeric is_alphanumeric t)
-answer_of Numeric t = truth_text (ask is_digit is_digit t)
-answer_of Lowercase t = truth_text (ask is_not_upper is_not_upper t)
-answer_of Titlecase t = truth_text (ask is_not_lower is_not_upper t)
-answer_of Uppercase t = truth_text (ask is_not_lower is_not_lower t)
-answer_of AlphabeticLowercase t = truth_text (ask is_lower is_lower t)
-answer_of AlphabeticTitlecase t = truth_text (ask is_upper is_lower t)
-answer_of AlphabeticUppercase t = truth_text (ask is_upper is_upper t)
-answer_of Lower t = lowercase t
-answer_of Title t = titlecase t
-answer_of Upper t = uppercase t
+answer_of (Ask question) t = truth_text (answer question t)
+answer_of (Change case) t = in_case case t
 
 -- a call's answer where the units are such a text, and else their fault
 unfoldable pub call_reply : ℕ → TextCall → List ℕ → List ℕ

@@ -2,9 +2,11 @@
 use Rattle.std.specs.Prelude.{ℕ, List, [], ◌∷◌, Option, option_map, codes}
 use Rattle.std.specs.Str.{bytes_eq}
 use Rattle.std.specs.List.{find}
+use Rattle.tinystr_words.specs.declared.question.Question.TheVariants.{Alphabetic, Alphanumeric, Numeric, Lowercase, Titlecase, Uppercase, AlphabeticLowercase, AlphabeticTitlecase, AlphabeticUppercase}
+use Rattle.tinystr_words.specs.declared.question.Case.TheVariants.{Lower, Title, Upper}
 use Rattle.tinystr_run.specs.declared.command.Command.{Command}
 use Rattle.tinystr_run.specs.declared.command.Command.TheVariants.{OnText, Lossy, Records, Locale}
-use Rattle.tinystr_run.specs.declared.command.TextCall.TheVariants.{Text, Len, Alphabetic, Alphanumeric, Numeric, Lowercase, Titlecase, Uppercase, AlphabeticLowercase, AlphabeticTitlecase, AlphabeticUppercase, Lower, Title, Upper}
+use Rattle.tinystr_run.specs.declared.command.TextCall.TheVariants.{Text, Len, Ask, Change}
 
 -- each word that spells a capacity, and the capacity
 abbrev pub capacities : List (List ℕ × ℕ)
@@ -29,18 +31,18 @@ capacity_of word = option_map (λ c. c.1) (find (λ (c : List ℕ × ℕ). bytes
 abbrev pub name_of : Command → List ℕ
 name_of (OnText Text) = codes "text"
 name_of (OnText Len) = codes "len"
-name_of (OnText Alphabetic) = codes "alphabetic"
-name_of (OnText Alphanumeric) = codes "alphanumeric"
-name_of (OnText Numeric) = codes "numeric"
-name_of (OnText Lowercase) = codes "lowercase"
-name_of (OnText Titlecase) = codes "titlecase"
-name_of (OnText Uppercase) = codes "uppercase"
-name_of (OnText AlphabeticLowercase) = codes "alphabetic_lowercase"
-name_of (OnText AlphabeticTitlecase) = codes "alphabetic_titlecase"
-name_of (OnText AlphabeticUppercase) = codes "alphabetic_uppercase"
-name_of (OnText Lower) = codes "lower"
-name_of (OnText Title) = codes "title"
-name_of (OnText Upper) = codes "upper"
+name_of (OnText (Ask Alphabetic)) = codes "alphabetic"
+name_of (OnText (Ask Alphanumeric)) = codes "alphanumeric"
+name_of (OnText (Ask Numeric)) = codes "numeric"
+name_of (OnText (Ask Lowercase)) = codes "lowercase"
+name_of (OnText (Ask Titlecase)) = codes "titlecase"
+name_of (OnText (Ask Uppercase)) = codes "uppercase"
+name_of (OnText (Ask AlphabeticLowercase)) = codes "alphabetic_lowercase"
+name_of (OnText (Ask AlphabeticTitlecase)) = codes "alphabetic_titlecase"
+name_of (OnText (Ask AlphabeticUppercase)) = codes "alphabetic_uppercase"
+name_of (OnText (Change Lower)) = codes "lower"
+name_of (OnText (Change Title)) = codes "title"
+name_of (OnText (Change Upper)) = codes "upper"
 name_of Lossy = codes "lossy"
 name_of Records = codes "records"
 name_of Locale = codes "locale"
@@ -50,18 +52,18 @@ abbrev pub commands : List Command
 commands =
     OnText Text ∷
     OnText Len ∷
-    OnText Alphabetic ∷
-    OnText Alphanumeric ∷
-    OnText Numeric ∷
-    OnText Lowercase ∷
-    OnText Titlecase ∷
-    OnText Uppercase ∷
-    OnText AlphabeticLowercase ∷
-    OnText AlphabeticTitlecase ∷
-    OnText AlphabeticUppercase ∷
-    OnText Lower ∷
-    OnText Title ∷
-    OnText Upper ∷
+    OnText (Ask Alphabetic) ∷
+    OnText (Ask Alphanumeric) ∷
+    OnText (Ask Numeric) ∷
+    OnText (Ask Lowercase) ∷
+    OnText (Ask Titlecase) ∷
+    OnText (Ask Uppercase) ∷
+    OnText (Ask AlphabeticLowercase) ∷
+    OnText (Ask AlphabeticTitlecase) ∷
+    OnText (Ask AlphabeticUppercase) ∷
+    OnText (Change Lower) ∷
+    OnText (Change Title) ∷
+    OnText (Change Upper) ∷
     Lossy ∷
     Records ∷
     Locale ∷ []

@@ -2,6 +2,8 @@
 
 ghost use Rattle.std.specs.Prelude.{◌≡◌};
 
+use tinystr::{Case, Question};
+
 /// What a line asks for.
 #[derive(Clone, Copy)]
 pub enum Command {
@@ -15,40 +17,34 @@ pub enum Command {
     Locale,
 }
 
-/// A call on a text: the text or its length, one of the nine questions, or a change of case.
+/// A call on a text.
 #[derive(Clone, Copy)]
 pub enum TextCall {
+    /// The text itself.
     Text,
+    /// Its length.
     Len,
-    Alphabetic,
-    Alphanumeric,
-    Numeric,
-    Lowercase,
-    Titlecase,
-    Uppercase,
-    AlphabeticLowercase,
-    AlphabeticTitlecase,
-    AlphabeticUppercase,
-    Lower,
-    Title,
-    Upper,
+    /// The answer to a question.
+    Ask(Question),
+    /// The text in a case.
+    Change(Case),
 }
 
 const COMMANDS: [Command; 17] = [
     Command::OnText(TextCall::Text),
     Command::OnText(TextCall::Len),
-    Command::OnText(TextCall::Alphabetic),
-    Command::OnText(TextCall::Alphanumeric),
-    Command::OnText(TextCall::Numeric),
-    Command::OnText(TextCall::Lowercase),
-    Command::OnText(TextCall::Titlecase),
-    Command::OnText(TextCall::Uppercase),
-    Command::OnText(TextCall::AlphabeticLowercase),
-    Command::OnText(TextCall::AlphabeticTitlecase),
-    Command::OnText(TextCall::AlphabeticUppercase),
-    Command::OnText(TextCall::Lower),
-    Command::OnText(TextCall::Title),
-    Command::OnText(TextCall::Upper),
+    Command::OnText(TextCall::Ask(Question::Alphabetic)),
+    Command::OnText(TextCall::Ask(Question::Alphanumeric)),
+    Command::OnText(TextCall::Ask(Question::Numeric)),
+    Command::OnText(TextCall::Ask(Question::Lowercase)),
+    Command::OnText(TextCall::Ask(Question::Titlecase)),
+    Command::OnText(TextCall::Ask(Question::Uppercase)),
+    Command::OnText(TextCall::Ask(Question::AlphabeticLowercase)),
+    Command::OnText(TextCall::Ask(Question::AlphabeticTitlecase)),
+    Command::OnText(TextCall::Ask(Question::AlphabeticUppercase)),
+    Command::OnText(TextCall::Change(Case::Lower)),
+    Command::OnText(TextCall::Change(Case::Title)),
+    Command::OnText(TextCall::Change(Case::Upper)),
     Command::Lossy,
     Command::Records,
     Command::Locale,
@@ -64,18 +60,21 @@ impl Command {
         match self {
             Command::OnText(TextCall::Text) => b"text",
             Command::OnText(TextCall::Len) => b"len",
-            Command::OnText(TextCall::Alphabetic) => b"alphabetic",
-            Command::OnText(TextCall::Alphanumeric) => b"alphanumeric",
-            Command::OnText(TextCall::Numeric) => b"numeric",
-            Command::OnText(TextCall::Lowercase) => b"lowercase",
-            Command::OnText(TextCall::Titlecase) => b"titlecase",
-            Command::OnText(TextCall::Uppercase) => b"uppercase",
-            Command::OnText(TextCall::AlphabeticLowercase) => b"alphabetic_lowercase",
-            Command::OnText(TextCall::AlphabeticTitlecase) => b"alphabetic_titlecase",
-            Command::OnText(TextCall::AlphabeticUppercase) => b"alphabetic_uppercase",
-            Command::OnText(TextCall::Lower) => b"lower",
-            Command::OnText(TextCall::Title) => b"title",
-            Command::OnText(TextCall::Upper) => b"upper",
+            Command::OnText(TextCall::Ask(Question::Alphabetic)) => b"alphabetic",
+            Command::OnText(TextCall::Ask(Question::Alphanumeric)) => b"alphanumeric",
+            Command::OnText(TextCall::Ask(Question::Numeric)) => b"numeric",
+            Command::OnText(TextCall::Ask(Question::Lowercase)) => b"lowercase",
+            Command::OnText(TextCall::Ask(Question::Titlecase)) => b"titlecase",
+            Command::OnText(TextCall::Ask(Question::Uppercase)) => b"uppercase",
+            Command::OnText(TextCall::Ask(Question::AlphabeticLowercase)) =>
+                b"alphabetic_lowercase",
+            Command::OnText(TextCall::Ask(Question::AlphabeticTitlecase)) =>
+                b"alphabetic_titlecase",
+            Command::OnText(TextCall::Ask(Question::AlphabeticUppercase)) =>
+                b"alphabetic_uppercase",
+            Command::OnText(TextCall::Change(Case::Lower)) => b"lower",
+            Command::OnText(TextCall::Change(Case::Title)) => b"title",
+            Command::OnText(TextCall::Change(Case::Upper)) => b"upper",
             Command::Lossy => b"lossy",
             Command::Records => b"records",
             Command::Locale => b"locale",

@@ -6,7 +6,7 @@ ghost use Rattle.tinystr.specs.Error.{fault_of};
 ghost use Rattle.tinystr_run.specs.Reply.{fault_text, truth_text, bad_index_text, answer_of, call_reply, records_reply, locale_reply, reply_at, words_reply, reply};
 
 use crate::command::{Command, TextCall};
-use crate::cut::cut_at;
+use crate::cut::{cut_at, split_once};
 use std::alloc::AllocError;
 use subtags::LangId;
 use tinystr::ule::UleError;
@@ -58,18 +58,8 @@ fn push_answer<const N: usize>(
     match call {
         TextCall::Text => push_text(out, text),
         TextCall::Len => push_number(out, text.len()),
-        TextCall::Alphabetic => push_truth(out, text.is_ascii_alphabetic()),
-        TextCall::Alphanumeric => push_truth(out, text.is_ascii_alphanumeric()),
-        TextCall::Numeric => push_truth(out, text.is_ascii_numeric()),
-        TextCall::Lowercase => push_truth(out, text.is_ascii_lowercase()),
-        TextCall::Titlecase => push_truth(out, text.is_ascii_titlecase()),
-        TextCall::Uppercase => push_truth(out, text.is_ascii_uppercase()),
-        TextCall::AlphabeticLowercase => push_truth(out, text.is_ascii_alphabetic_lowercase()),
-        TextCall::AlphabeticTitlecase => push_truth(out, text.is_ascii_alphabetic_titlecase()),
-        TextCall::AlphabeticUppercase => push_truth(out, text.is_ascii_alphabetic_uppercase()),
-        TextCall::Lower => push_text(out, text.to_ascii_lowercase()),
-        TextCall::Title => push_text(out, text.to_ascii_titlecase()),
-        TextCall::Upper => push_text(out, text.to_ascii_uppercase()),
+        TextCall::Ask(question) => push_truth(out, text.ask(question)),
+        TextCall::Change(case) => push_text(out, text.in_case(case)),
     }
 }
 
@@ -201,10 +191,9 @@ fn push_words_reply(
 pub fn push_reply(out: &mut Vec<u8>, line: &[u8]) -> Result<(), AllocError>
     ensures { OnOk result (out.new.items ≡ out.old.items ++ reply line.now) }
 {
-    if !line.contains(&b' ') {
+    let Some((capacity, rest)) = split_once(line, b' ') else {
         return out.extend_from_slice(b"bad line");
-    }
-    let (capacity, rest) = cut_at(line, b' ');
+    };
     let (word, units) = cut_at(rest, b' ');
     push_words_reply(out, capacity, word, units)
 }
