@@ -7,49 +7,49 @@ use Rattle.std.proofs.lemmas.Grind.{common_steps}
 use Rattle.std.proofs.lemmas.Bool.Decides.{nat_tests}
 use Rattle.tinystr_words.specs.Classes.{is_alphanumeric}
 use Rattle.subtags.specs.declared.error.LangIdError.TheVariants.{InvalidSubtag}
-use Rattle.subtags.specs.Grammar.{dash, folded_byte, folded, parts, is_script, is_region, is_tail, is_lang_id, IsLangId, canonical_part, canonical_parts, canonical_text, IsCanonical}
-use Rattle.subtags.specs.Parts.{first, language_of, script_of, region_of, joined}
+use Rattle.subtags.specs.Grammar.{dash, fold_byte, fold_text, parts, is_script, is_region, is_tail, is_lang_id, IsLangId, canonical_part, canonical_parts, canonical_text, IsCanonical}
+use Rattle.subtags.specs.Parts.{first, language_of, script_of, region_of, join_parts}
 use Rattle.subtags.specs.FromFront.{leading_script, behind_script, last_region}
-use Rattle.subtags.proofs.FoldLemmas.{absorbed, folded_twice, folded-canonical_part, is_script_alike, is_region_alike, alphanumeric_alike, language_plain, script_plain, region_plain}
-use Rattle.subtags.proofs.CutLemmas.{parts-folded, parts_plain, parts_before}
+use Rattle.subtags.proofs.FoldLemmas.{absorbed, folded_twice, fold_text-canonical_part, is_script_alike, is_region_alike, alphanumeric_alike, language_plain, script_plain, region_plain}
+use Rattle.subtags.proofs.CutLemmas.{parts-fold_text, parts_plain, parts_before}
 
 -- to join and then fold is to fold and then join
-folded-join : (ps : List (List ℕ)) → folded (join_with_byte dash ps) ≡ join_with_byte dash (map folded ps)
-folded-join [] = refl
-folded-join (p ∷ []) = refl
-folded-join (p ∷ q ∷ ps) =
-    map-append folded_byte p (dash ∷ join_with_byte dash (q ∷ ps)) ∙ ap (λ t. folded p ++ dash ∷ t) (folded-join (q ∷ ps))
+fold_text-join : (ps : List (List ℕ)) → fold_text (join_with_byte dash ps) ≡ join_with_byte dash (map fold_text ps)
+fold_text-join [] = refl
+fold_text-join (p ∷ []) = refl
+fold_text-join (p ∷ q ∷ ps) =
+    map-append fold_byte p (dash ∷ join_with_byte dash (q ∷ ps)) ∙ ap (λ t. fold_text p ++ dash ∷ t) (fold_text-join (q ∷ ps))
 
 -- to fold the parts of a folded text changes nothing
-parts_folded_twice : (u : List ℕ) → map folded (parts (folded u)) ≡ parts (folded u)
-parts_folded_twice u = ap (map folded) (parts-folded u) ∙ absorbed folded folded folded_twice _ ∙ sym (parts-folded u)
+parts_folded_twice : (u : List ℕ) → map fold_text (parts (fold_text u)) ≡ parts (fold_text u)
+parts_folded_twice u = ap (map fold_text) (parts-fold_text u) ∙ absorbed fold_text fold_text folded_twice _ ∙ sym (parts-fold_text u)
 
 -- canonical parts fold as the parts do
-folded-canonical_parts : (ps : List (List ℕ)) → map folded (canonical_parts ps) ≡ map folded ps
-folded-canonical_parts [] = refl
-folded-canonical_parts (l ∷ ps) = ap (λ qs. folded l ∷ qs) (absorbed folded canonical_part folded-canonical_part ps)
+fold_text-canonical_parts : (ps : List (List ℕ)) → map fold_text (canonical_parts ps) ≡ map fold_text ps
+fold_text-canonical_parts [] = refl
+fold_text-canonical_parts (l ∷ ps) = ap (λ qs. fold_text l ∷ qs) (absorbed fold_text canonical_part fold_text-canonical_part ps)
 
 -- a canonical text folds as its input does
-pub folded-canonical_text : (u : List ℕ) → folded (canonical_text u) ≡ folded u
-folded-canonical_text u =
-    folded-join (canonical_parts (parts (folded u)))
-    ∙ ap (join_with_byte dash) (folded-canonical_parts (parts (folded u)) ∙ parts_folded_twice u)
-    ∙ join_with_byte-slice_split dash (folded u)
+pub fold_text-canonical_text : (u : List ℕ) → fold_text (canonical_text u) ≡ fold_text u
+fold_text-canonical_text u =
+    fold_text-join (canonical_parts (parts (fold_text u)))
+    ∙ ap (join_with_byte dash) (fold_text-canonical_parts (parts (fold_text u)) ∙ parts_folded_twice u)
+    ∙ join_with_byte-slice_split dash (fold_text u)
 
 -- the canonical text of an identifier is canonical
 pub IsCanonical-canonical_text : (u : List ℕ) → IsLangId u → IsCanonical (canonical_text u)
 IsCanonical-canonical_text u h = record {
-  accepted = rw (folded-canonical_text u) h;
-  canonical = ap (λ w. join_with_byte dash (canonical_parts (parts w))) (folded-canonical_text u);
+  accepted = rw (fold_text-canonical_text u) h;
+  canonical = ap (λ w. join_with_byte dash (canonical_parts (parts w))) (fold_text-canonical_text u);
 }
 
 -- a canonical part is a script exactly if the part is
 is_script-canonical_part : (p : List ℕ) → is_script (canonical_part p) ≡ is_script p
-is_script-canonical_part p = is_script_alike (canonical_part p) p (folded-canonical_part p)
+is_script-canonical_part p = is_script_alike (canonical_part p) p (fold_text-canonical_part p)
 
 -- a canonical part is a region exactly if the part is
 is_region-canonical_part : (p : List ℕ) → is_region (canonical_part p) ≡ is_region p
-is_region-canonical_part p = is_region_alike (canonical_part p) p (folded-canonical_part p)
+is_region-canonical_part p = is_region_alike (canonical_part p) p (fold_text-canonical_part p)
 
 -- a region is no script
 region_no_script : (p : List ℕ) → is_region p ≡ true → is_script p ≡ false
@@ -58,7 +58,7 @@ region_no_script p h = grind (arith, nat_tests)
 -- the canonical part of a script or a region has letters and digits alone
 canonical_plain : (p : List ℕ) → (is_script p || is_region p) ≡ true → list_all is_alphanumeric (canonical_part p) ≡ true
 canonical_plain p h =
-    alphanumeric_alike (canonical_part p) p (folded-canonical_part p)
+    alphanumeric_alike (canonical_part p) p (fold_text-canonical_part p)
     ∙ elim (is_script p) as (λ b. is_script p ≡ b → list_all is_alphanumeric p ≡ true) [
       | true ↦ λ script. script_plain p script
       | false ↦ λ other. region_plain p (grind arith)
@@ -78,8 +78,8 @@ accepted_parts (l ∷ s ∷ r ∷ []) h =
 accepted_parts (l ∷ s ∷ r ∷ p ∷ ps) h = absurd (grind arith)
 
 -- the parts of the canonical text of an identifier are its canonical parts
-pub parts-canonical_text : (u : List ℕ) → IsLangId u → parts (canonical_text u) ≡ canonical_parts (parts (folded u))
-parts-canonical_text u h = accepted_parts (parts (folded u)) h
+pub parts-canonical_text : (u : List ℕ) → IsLangId u → parts (canonical_text u) ≡ canonical_parts (parts (fold_text u))
+parts-canonical_text u h = accepted_parts (parts (fold_text u)) h
 
 -- the script that is read from the front is the one in the canonical text
 pub script_read : (ps : List (List ℕ)) → is_tail ps ≡ true → leading_script ps ≡ find is_script (map canonical_part ps)
@@ -118,28 +118,28 @@ is_tail-canonical (s ∷ r ∷ []) h = rw (is_script-canonical_part s, is_region
 is_tail-canonical (s ∷ r ∷ p ∷ ps) h = absurd (grind arith)
 
 -- a language and a tail, joined by dashes, are the language, the script and the region, joined
-pub joined-parts : (l : List ℕ) (ps : List (List ℕ)) → is_tail ps ≡ true → join_with_byte dash (l ∷ ps) ≡ joined l (find is_script ps) (find is_region ps)
-joined-parts l [] h = sym (append-nil l)
-joined-parts l (p ∷ []) h = let other = region_no_script p in grind (arith, common_steps)
-joined-parts l (s ∷ r ∷ []) h =
+pub join_parts-parts : (l : List ℕ) (ps : List (List ℕ)) → is_tail ps ≡ true → join_with_byte dash (l ∷ ps) ≡ join_parts l (find is_script ps) (find is_region ps)
+join_parts-parts l [] h = sym (append-nil l)
+join_parts-parts l (p ∷ []) h = let other = region_no_script p in grind (arith, common_steps)
+join_parts-parts l (s ∷ r ∷ []) h =
     let other = region_no_script s in
     grind (arith, common_steps)
-joined-parts l (s ∷ r ∷ p ∷ ps) h = absurd (grind arith)
+join_parts-parts l (s ∷ r ∷ p ∷ ps) h = absurd (grind arith)
 
 -- the canonical parts of an identifier, joined by dashes, are its language, its script and its region, joined
-joined-canonical_parts : (ps : List (List ℕ)) → is_lang_id ps ≡ true → join_with_byte dash (canonical_parts ps) ≡ joined (first (canonical_parts ps)) (find is_script (drop 1 (canonical_parts ps))) (find is_region (drop 1 (canonical_parts ps)))
-joined-canonical_parts [] h = absurd (grind arith)
-joined-canonical_parts (l ∷ ps) h = joined-parts l (map canonical_part ps) (is_tail-canonical ps (grind arith))
+join_parts-canonical_parts : (ps : List (List ℕ)) → is_lang_id ps ≡ true → join_with_byte dash (canonical_parts ps) ≡ join_parts (first (canonical_parts ps)) (find is_script (drop 1 (canonical_parts ps))) (find is_region (drop 1 (canonical_parts ps)))
+join_parts-canonical_parts [] h = absurd (grind arith)
+join_parts-canonical_parts (l ∷ ps) h = join_parts-parts l (map canonical_part ps) (is_tail-canonical ps (grind arith))
 
 -- a canonical text is its language, its script and its region, joined
-pub joined-IsCanonical : (t : List ℕ) → IsCanonical t → t ≡ joined (language_of t) (script_of t) (region_of t)
-joined-IsCanonical t h =
-    let found : parts t ≡ canonical_parts (parts (folded t)) = ap parts (sym h.canonical) ∙ parts-canonical_text t h.accepted in
-    sym h.canonical ∙ joined-canonical_parts (parts (folded t)) h.accepted ∙ rw found refl
+pub join_parts-IsCanonical : (t : List ℕ) → IsCanonical t → t ≡ join_parts (language_of t) (script_of t) (region_of t)
+join_parts-IsCanonical t h =
+    let found : parts t ≡ canonical_parts (parts (fold_text t)) = ap parts (sym h.canonical) ∙ parts-canonical_text t h.accepted in
+    sym h.canonical ∙ join_parts-canonical_parts (parts (fold_text t)) h.accepted ∙ rw found refl
 
 -- two inputs have the same canonical text exactly if they fold alike
-pub same_canonical_text : (u v : List ℕ) → (canonical_text u ≡ canonical_text v) ↔ (folded u ≡ folded v)
+pub same_canonical_text : (u v : List ℕ) → (canonical_text u ≡ canonical_text v) ↔ (fold_text u ≡ fold_text v)
 same_canonical_text u v = (
-  λ e. sym (folded-canonical_text u) ∙ ap folded e ∙ folded-canonical_text v,
+  λ e. sym (fold_text-canonical_text u) ∙ ap fold_text e ∙ fold_text-canonical_text v,
   λ e. ap (λ w. join_with_byte dash (canonical_parts (parts w))) e,
 )

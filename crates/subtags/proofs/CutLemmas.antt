@@ -7,9 +7,9 @@ use Rattle.std.proofs.lemmas.List.Sums.{fails_before_first}
 use Rattle.tinystr_words.specs.Classes.{is_alphanumeric}
 use Rattle.tinystr_words.specs.Case.{titlecase, uppercase}
 use Rattle.subtags.specs.declared.error.LangIdError.TheVariants.{InvalidSubtag}
-use Rattle.subtags.specs.Grammar.{dash, is_separator, folded_byte, folded, parts, is_script, is_region}
+use Rattle.subtags.specs.Grammar.{dash, is_separator, fold_byte, fold_text, parts, is_script, is_region}
 use Rattle.subtags.specs.FromFront.{leading_script, behind_script, last_region}
-use Rattle.subtags.proofs.FoldLemmas.{all_from_test, folded_twice, is_script_alike, is_region_alike, region_plain, titlecase-folded, uppercase-folded}
+use Rattle.subtags.proofs.FoldLemmas.{all_from_test, folded_twice, is_script_alike, is_region_alike, region_plain, titlecase-fold_text, uppercase-fold_text}
 
 -- to put a byte onto the first part and change all is to change all and then put the changed byte there
 onto_first-map : (f : ℕ → ℕ) (b : ℕ) (ps : List (List ℕ)) → onto_first (f b) (map (map f) ps) ≡ map (map f) (onto_first b ps)
@@ -26,21 +26,21 @@ slice_split-map f p q e (b ∷ u) =
     ])
 
 -- to fold and then cut at each dash is to cut at each separator and then fold
-pub parts-folded : (u : List ℕ) → parts (folded u) ≡ map folded (slice_split is_separator u)
-parts-folded u = slice_split-map folded_byte (λ b. b == dash) is_separator (λ b. grind (arith, nat_tests)) u
+pub parts-fold_text : (u : List ℕ) → parts (fold_text u) ≡ map fold_text (slice_split is_separator u)
+parts-fold_text u = slice_split-map fold_byte (λ b. b == dash) is_separator (λ b. grind (arith, nat_tests)) u
 
 -- where the first separator stands at i, the first part is what stands before it, and the others are those behind it
-pub parts_at : (u : List ℕ) (i : ℕ) → position is_separator u ≡ Some i → (i < length u) × (parts (folded u) ≡ folded (take i u) ∷ parts (folded (drop (i + 1) u)))
+pub parts_at : (u : List ℕ) (i : ℕ) → position is_separator u ≡ Some i → (i < length u) × (parts (fold_text u) ≡ fold_text (take i u) ∷ parts (fold_text (drop (i + 1) u)))
 parts_at u i h =
     let at : (position_or_len is_separator u < length u) × (position_or_len is_separator u ≡ i) = grind (arith, nat_tests) in
     let cut = rw at.1 at (slice_split_first is_separator u 0 at.0) in
-    (omega arith, parts-folded u ∙ ap (map folded) cut ∙ ap (λ ps. folded (take i u) ∷ ps) (sym (parts-folded (drop (i + 1) u))))
+    (omega arith, parts-fold_text u ∙ ap (map fold_text) cut ∙ ap (λ ps. fold_text (take i u) ∷ ps) (sym (parts-fold_text (drop (i + 1) u))))
 
 -- where there is no separator, all is one part
-pub parts_whole : (u : List ℕ) → position is_separator u ≡ None → parts (folded u) ≡ folded u ∷ []
+pub parts_whole : (u : List ℕ) → position is_separator u ≡ None → parts (fold_text u) ≡ fold_text u ∷ []
 parts_whole u h =
     let past : length u ≤ position_or_len is_separator u = grind (arith, nat_tests) in
-    parts-folded u ∙ ap (map folded) (slice_split_none is_separator u (λ k d lt. fails_before_first is_separator u k d (omega arith)))
+    parts-fold_text u ∙ ap (map fold_text) (slice_split_none is_separator u (λ k d lt. fails_before_first is_separator u k d (omega arith)))
 
 -- no letter or digit is a dash
 whole : (p : List ℕ) → list_all is_alphanumeric p ≡ true → All (λ b. (b == dash) ≡ false) p
@@ -55,31 +55,31 @@ pub parts_before : (p u : List ℕ) → list_all is_alphanumeric p ≡ true → 
 parts_before p u h = slice_split_at (λ b. b == dash) p dash u (whole p h) refl
 
 -- a first part that is a script is read in title case, and the others are left
-pub script_first : (p : List ℕ) (ps qs : List (List ℕ)) → qs ≡ folded p ∷ ps → is_script p ≡ true → (leading_script qs ≡ Some (titlecase p)) × (behind_script qs ≡ ps)
+pub script_first : (p : List ℕ) (ps qs : List (List ℕ)) → qs ≡ fold_text p ∷ ps → is_script p ≡ true → (leading_script qs ≡ Some (titlecase p)) × (behind_script qs ≡ ps)
 script_first p ps qs e h =
-    let also : is_script (folded p) ≡ true = is_script_alike (folded p) p (folded_twice p) ∙ h in
-    (rw e (rw also (ap (λ t. Some t) (titlecase-folded p h))), rw e (rw also))
+    let also : is_script (fold_text p) ≡ true = is_script_alike (fold_text p) p (folded_twice p) ∙ h in
+    (rw e (rw also (ap (λ t. Some t) (titlecase-fold_text p h))), rw e (rw also))
 
 -- a first part that is no script is left in its place
-pub no_script_first : (p : List ℕ) (ps qs : List (List ℕ)) → qs ≡ folded p ∷ ps → is_script p ≡ false → (leading_script qs ≡ None) × (behind_script qs ≡ qs)
+pub no_script_first : (p : List ℕ) (ps qs : List (List ℕ)) → qs ≡ fold_text p ∷ ps → is_script p ≡ false → (leading_script qs ≡ None) × (behind_script qs ≡ qs)
 no_script_first p ps qs e h =
-    let also : is_script (folded p) ≡ false = is_script_alike (folded p) p (folded_twice p) ∙ h in
+    let also : is_script (fold_text p) ≡ false = is_script_alike (fold_text p) p (folded_twice p) ∙ h in
     (rw e (rw also), rw e (rw also))
 
 -- parts whose joined text is no region are refused as a last region
-not_alone : (r : List ℕ) (ps : List (List ℕ)) → join_with_byte dash ps ≡ folded r → 0 < length ps → is_region r ≡ false → last_region ps ≡ Err InvalidSubtag
+not_alone : (r : List ℕ) (ps : List (List ℕ)) → join_with_byte dash ps ≡ fold_text r → 0 < length ps → is_region r ≡ false → last_region ps ≡ Err InvalidSubtag
 not_alone r [] e some h = absurd (omega arith)
 not_alone r (p ∷ []) e some h =
-    let also : is_region p ≡ false = is_region_alike p r (ap folded e ∙ folded_twice r) ∙ h in
+    let also : is_region p ≡ false = is_region_alike p r (ap fold_text e ∙ folded_twice r) ∙ h in
     rw also
 not_alone r (p ∷ q ∷ ps) e some h = refl
 
 -- what is no region is refused as a last region
-pub no_last_region : (r : List ℕ) → is_region r ≡ false → last_region (parts (folded r)) ≡ Err InvalidSubtag
-no_last_region r h = not_alone r (parts (folded r)) (join_with_byte-slice_split dash (folded r)) (omega (arith, length-slice_split (λ b. b == dash) (folded r))) h
+pub no_last_region : (r : List ℕ) → is_region r ≡ false → last_region (parts (fold_text r)) ≡ Err InvalidSubtag
+no_last_region r h = not_alone r (parts (fold_text r)) (join_with_byte-slice_split dash (fold_text r)) (omega (arith, length-slice_split (λ b. b == dash) (fold_text r))) h
 
 -- a region is read as a last region, in upper case
-pub one_last_region : (r : List ℕ) → is_region r ≡ true → last_region (parts (folded r)) ≡ Ok (Some (uppercase r))
+pub one_last_region : (r : List ℕ) → is_region r ≡ true → last_region (parts (fold_text r)) ≡ Ok (Some (uppercase r))
 one_last_region r h =
-    let also : is_region (folded r) ≡ true = is_region_alike (folded r) r (folded_twice r) ∙ h in
-    rw (parts_plain (folded r) (region_plain (folded r) also)) (rw also (ap (λ t. Ok (Some t)) (uppercase-folded r h)))
+    let also : is_region (fold_text r) ≡ true = is_region_alike (fold_text r) r (folded_twice r) ∙ h in
+    rw (parts_plain (fold_text r) (region_plain (fold_text r) also)) (rw also (ap (λ t. Ok (Some t)) (uppercase-fold_text r h)))

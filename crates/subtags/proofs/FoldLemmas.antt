@@ -7,7 +7,7 @@ use Rattle.std.proofs.lemmas.List.{length-map}
 use Rattle.tinystr_words.specs.Text.{IsText, IsTextByte, IsStrictText}
 use Rattle.tinystr_words.specs.Classes.{is_alphabetic, is_digit, is_alphanumeric}
 use Rattle.tinystr_words.specs.Case.{lower, raise, lowercase, titlecase, uppercase}
-use Rattle.subtags.specs.Grammar.{folded_byte, folded, is_language, is_script, is_region, canonical_part}
+use Rattle.subtags.specs.Grammar.{fold_byte, fold_text, is_language, is_script, is_region, canonical_part}
 use Rattle.subtags.specs.Parts.{IsCanonicalPart}
 
 -- where f after g is f at each element, it is so on a list
@@ -39,64 +39,64 @@ weaker p q e (b ∷ l) h =
     grind arith
 
 -- to fold twice is to fold once
-pub folded_twice : (u : List ℕ) → folded (folded u) ≡ folded u
-folded_twice u = absorbed folded_byte folded_byte (λ b. grind (arith, nat_tests)) u
+pub folded_twice : (u : List ℕ) → fold_text (fold_text u) ≡ fold_text u
+folded_twice u = absorbed fold_byte fold_byte (λ b. grind (arith, nat_tests)) u
 
 -- a text in lower case folds as the text does
-pub folded-lowercase : (t : List ℕ) → folded (lowercase t) ≡ folded t
-folded-lowercase t = absorbed folded_byte lower (λ b. grind (arith, nat_tests)) t
+pub fold_text-lowercase : (t : List ℕ) → fold_text (lowercase t) ≡ fold_text t
+fold_text-lowercase t = absorbed fold_byte lower (λ b. grind (arith, nat_tests)) t
 
 -- a raised byte folds as the byte does
-folded_byte-raise : (b : ℕ) → folded_byte (raise b) ≡ folded_byte b
-folded_byte-raise b = grind (arith, nat_tests)
+fold_byte-raise : (b : ℕ) → fold_byte (raise b) ≡ fold_byte b
+fold_byte-raise b = grind (arith, nat_tests)
 
 -- a text in upper case folds as the text does
-pub folded-uppercase : (t : List ℕ) → folded (uppercase t) ≡ folded t
-folded-uppercase t = absorbed folded_byte raise folded_byte-raise t
+pub fold_text-uppercase : (t : List ℕ) → fold_text (uppercase t) ≡ fold_text t
+fold_text-uppercase t = absorbed fold_byte raise fold_byte-raise t
 
 -- a text in title case folds as the text does
-pub folded-titlecase : (t : List ℕ) → folded (titlecase t) ≡ folded t
-folded-titlecase [] = refl
-folded-titlecase (b ∷ t) = ap₂ (λ (x : ℕ) (y : List ℕ). x ∷ y) (folded_byte-raise b) (folded-lowercase t)
+pub fold_text-titlecase : (t : List ℕ) → fold_text (titlecase t) ≡ fold_text t
+fold_text-titlecase [] = refl
+fold_text-titlecase (b ∷ t) = ap₂ (λ (x : ℕ) (y : List ℕ). x ∷ y) (fold_byte-raise b) (fold_text-lowercase t)
 
 -- a canonical part folds as the part does
-pub folded-canonical_part : (p : List ℕ) → folded (canonical_part p) ≡ folded p
-folded-canonical_part p =
-    elim (is_script p) as (λ b. folded (cond b (titlecase p) (uppercase p)) ≡ folded p) [
-      | true ↦ folded-titlecase p
-      | false ↦ folded-uppercase p
+pub fold_text-canonical_part : (p : List ℕ) → fold_text (canonical_part p) ≡ fold_text p
+fold_text-canonical_part p =
+    elim (is_script p) as (λ b. fold_text (cond b (titlecase p) (uppercase p)) ≡ fold_text p) [
+      | true ↦ fold_text-titlecase p
+      | false ↦ fold_text-uppercase p
     ]
 
 -- a test that does not see folding answers alike of texts that fold alike
-tests_alike : (t : ℕ → Bool) → ((b : ℕ) → t (folded_byte b) ≡ t b) → (p q : List ℕ) → folded p ≡ folded q → list_all t p ≡ list_all t q
-tests_alike t e p q alike = sym (same_tests t folded_byte e p) ∙ ap (list_all t) alike ∙ same_tests t folded_byte e q
+tests_alike : (t : ℕ → Bool) → ((b : ℕ) → t (fold_byte b) ≡ t b) → (p q : List ℕ) → fold_text p ≡ fold_text q → list_all t p ≡ list_all t q
+tests_alike t e p q alike = sym (same_tests t fold_byte e p) ∙ ap (list_all t) alike ∙ same_tests t fold_byte e q
 
 -- of two texts that fold alike, both or neither are letters alone
-letters_alike : (p q : List ℕ) → folded p ≡ folded q → list_all is_alphabetic p ≡ list_all is_alphabetic q
+letters_alike : (p q : List ℕ) → fold_text p ≡ fold_text q → list_all is_alphabetic p ≡ list_all is_alphabetic q
 letters_alike p q alike = tests_alike is_alphabetic (λ b. grind (arith, nat_tests)) p q alike
 
 -- of two texts that fold alike, both or neither are digits alone
-digits_alike : (p q : List ℕ) → folded p ≡ folded q → list_all is_digit p ≡ list_all is_digit q
+digits_alike : (p q : List ℕ) → fold_text p ≡ fold_text q → list_all is_digit p ≡ list_all is_digit q
 digits_alike p q alike = tests_alike is_digit (λ b. grind (arith, nat_tests)) p q alike
 
 -- two texts that fold alike are of one length
-length_alike : (p q : List ℕ) → folded p ≡ folded q → length p ≡ length q
-length_alike p q alike = sym (length-map p folded_byte) ∙ ap length alike ∙ length-map q folded_byte
+length_alike : (p q : List ℕ) → fold_text p ≡ fold_text q → length p ≡ length q
+length_alike p q alike = sym (length-map p fold_byte) ∙ ap length alike ∙ length-map q fold_byte
 
 -- of two texts that fold alike, both or neither are a language
-pub is_language_alike : (p q : List ℕ) → folded p ≡ folded q → is_language p ≡ is_language q
+pub is_language_alike : (p q : List ℕ) → fold_text p ≡ fold_text q → is_language p ≡ is_language q
 is_language_alike p q alike = rw (letters_alike p q alike, length_alike p q alike)
 
 -- of two texts that fold alike, both or neither are a script
-pub is_script_alike : (p q : List ℕ) → folded p ≡ folded q → is_script p ≡ is_script q
+pub is_script_alike : (p q : List ℕ) → fold_text p ≡ fold_text q → is_script p ≡ is_script q
 is_script_alike p q alike = rw (letters_alike p q alike, length_alike p q alike)
 
 -- of two texts that fold alike, both or neither are a region
-pub is_region_alike : (p q : List ℕ) → folded p ≡ folded q → is_region p ≡ is_region q
+pub is_region_alike : (p q : List ℕ) → fold_text p ≡ fold_text q → is_region p ≡ is_region q
 is_region_alike p q alike = rw (letters_alike p q alike, digits_alike p q alike, length_alike p q alike)
 
 -- of two texts that fold alike, both or neither are letters and digits alone
-pub alphanumeric_alike : (p q : List ℕ) → folded p ≡ folded q → list_all is_alphanumeric p ≡ list_all is_alphanumeric q
+pub alphanumeric_alike : (p q : List ℕ) → fold_text p ≡ fold_text q → list_all is_alphanumeric p ≡ list_all is_alphanumeric q
 alphanumeric_alike p q alike = tests_alike is_alphanumeric (λ b. grind (arith, nat_tests)) p q alike
 
 -- letters alone are letters and digits alone
@@ -137,29 +137,29 @@ pub region_text : (p : List ℕ) → is_region p ≡ true → IsStrictText p 3
 region_text p h = record { text = plain_text p (region_plain p h); fits = grind (arith, nat_tests) }
 
 -- to fold a language is to put it in lower case
-pub lowercase-folded : (p : List ℕ) → is_language p ≡ true → folded p ≡ lowercase p
-lowercase-folded p h = same_where is_alphanumeric folded_byte lower (λ b a. grind (arith, nat_tests)) p (language_plain p h)
+pub lowercase-fold_text : (p : List ℕ) → is_language p ≡ true → fold_text p ≡ lowercase p
+lowercase-fold_text p h = same_where is_alphanumeric fold_byte lower (λ b a. grind (arith, nat_tests)) p (language_plain p h)
 
 -- to raise a letter or a digit that was folded is to raise it as it was
-raise-folded_byte : (b : ℕ) → is_alphanumeric b ≡ true → raise (folded_byte b) ≡ raise b
-raise-folded_byte b a = grind (arith, nat_tests)
+raise-fold_byte : (b : ℕ) → is_alphanumeric b ≡ true → raise (fold_byte b) ≡ raise b
+raise-fold_byte b a = grind (arith, nat_tests)
 
 -- a script, folded, has the same title case
-pub titlecase-folded : (p : List ℕ) → is_script p ≡ true → titlecase (folded p) ≡ titlecase p
-titlecase-folded [] h = refl
-titlecase-folded (b ∷ p) h =
+pub titlecase-fold_text : (p : List ℕ) → is_script p ≡ true → titlecase (fold_text p) ≡ titlecase p
+titlecase-fold_text [] h = refl
+titlecase-fold_text (b ∷ p) h =
     let plain = script_plain (b ∷ p) h in
-    ap₂ (λ (x : ℕ) (y : List ℕ). x ∷ y) (raise-folded_byte b (grind arith))
-    (absorbed_where is_alphanumeric lower folded_byte (λ c a. grind (arith, nat_tests)) p (grind arith))
+    ap₂ (λ (x : ℕ) (y : List ℕ). x ∷ y) (raise-fold_byte b (grind arith))
+    (absorbed_where is_alphanumeric lower fold_byte (λ c a. grind (arith, nat_tests)) p (grind arith))
 
 -- a region, folded, has the same upper case
-pub uppercase-folded : (p : List ℕ) → is_region p ≡ true → uppercase (folded p) ≡ uppercase p
-uppercase-folded p h = absorbed_where is_alphanumeric raise folded_byte raise-folded_byte p (region_plain p h)
+pub uppercase-fold_text : (p : List ℕ) → is_region p ≡ true → uppercase (fold_text p) ≡ uppercase p
+uppercase-fold_text p h = absorbed_where is_alphanumeric raise fold_byte raise-fold_byte p (region_plain p h)
 
 -- a language in lower case is canonical
 pub canonical-lowercase : (p t : List ℕ) → is_language p ≡ true → t ≡ lowercase p → IsCanonicalPart is_language lowercase t
 canonical-lowercase p t h e = rw e record {
-  form = is_language_alike (lowercase p) p (folded-lowercase p) ∙ h;
+  form = is_language_alike (lowercase p) p (fold_text-lowercase p) ∙ h;
   canonical = absorbed lower lower (λ b. grind (arith, nat_tests)) p;
 }
 
@@ -171,13 +171,13 @@ titlecase_twice (b ∷ t) = ap₂ (λ (x : ℕ) (y : List ℕ). x ∷ y) (grind 
 -- a script in title case is canonical
 pub canonical-titlecase : (p t : List ℕ) → is_script p ≡ true → t ≡ titlecase p → IsCanonicalPart is_script titlecase t
 canonical-titlecase p t h e = rw e record {
-  form = is_script_alike (titlecase p) p (folded-titlecase p) ∙ h;
+  form = is_script_alike (titlecase p) p (fold_text-titlecase p) ∙ h;
   canonical = titlecase_twice p;
 }
 
 -- a region in upper case is canonical
 pub canonical-uppercase : (p t : List ℕ) → is_region p ≡ true → t ≡ uppercase p → IsCanonicalPart is_region uppercase t
 canonical-uppercase p t h e = rw e record {
-  form = is_region_alike (uppercase p) p (folded-uppercase p) ∙ h;
+  form = is_region_alike (uppercase p) p (fold_text-uppercase p) ∙ h;
   canonical = absorbed raise raise (λ b. grind (arith, nat_tests)) p;
 }

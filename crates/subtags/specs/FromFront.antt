@@ -3,12 +3,12 @@ use Rattle.std.specs.Prelude.{ℕ, if◌then◌else◌, List, [], ◌∷◌, Opt
 use Rattle.tinystr_words.specs.Case.{titlecase, uppercase}
 use Rattle.subtags.specs.declared.error.LangIdError.{LangIdError}
 use Rattle.subtags.specs.declared.error.LangIdError.TheVariants.{InvalidSubtag}
-use Rattle.subtags.specs.Grammar.{folded, parts, is_script, is_region}
+use Rattle.subtags.specs.Grammar.{fold_text, parts, is_script, is_region}
 
 -- the parts of what stands behind a separator
 abbrev pub parts_behind : Option (List ℕ) → List (List ℕ)
 parts_behind None = []
-parts_behind (Some u) = parts (folded u)
+parts_behind (Some u) = parts (fold_text u)
 
 -- the first part, where it is a script
 abbrev pub leading_script : List (List ℕ) → Option (List ℕ)

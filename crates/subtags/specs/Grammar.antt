@@ -17,11 +17,11 @@ abbrev pub is_separator : ℕ → Bool
 is_separator b = b == dash || b == low_line
 
 -- '-' for '_', and a letter in lower case
-abbrev pub folded_byte : ℕ → ℕ
-folded_byte b = if b == low_line then dash else lower b
+abbrev pub fold_byte : ℕ → ℕ
+fold_byte b = if b == low_line then dash else lower b
 
-abbrev pub folded : List ℕ → List ℕ
-folded u = map folded_byte u
+abbrev pub fold_text : List ℕ → List ℕ
+fold_text u = map fold_byte u
 
 -- what stands before, between and behind the dashes
 abbrev pub parts : List ℕ → List (List ℕ)
@@ -53,7 +53,7 @@ is_lang_id (l ∷ ps) = is_language l && is_tail ps
 
 -- a language identifier, in any case and with either separator
 abbrev pub IsLangId : List ℕ → Type 0
-IsLangId u = IsTrue (is_lang_id (parts (folded u)))
+IsLangId u = IsTrue (is_lang_id (parts (fold_text u)))
 
 -- a script in title case, a region in upper case
 abbrev pub canonical_part : List ℕ → List ℕ
@@ -65,7 +65,7 @@ canonical_parts [] = []
 canonical_parts (l ∷ ps) = l ∷ map canonical_part ps
 
 abbrev pub canonical_text : List ℕ → List ℕ
-canonical_text u = join_with_byte dash (canonical_parts (parts (folded u)))
+canonical_text u = join_with_byte dash (canonical_parts (parts (fold_text u)))
 
 -- a text that is accepted, and is its own canonical text
 pub record IsCanonical (t : List ℕ) : Type 0 where

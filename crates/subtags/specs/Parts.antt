@@ -24,10 +24,10 @@ abbrev pub region_of : List ℕ → Option (List ℕ)
 region_of t = find is_region (drop 1 (parts t))
 
 -- a dash and the part, or nothing
-abbrev pub dashed : Option (List ℕ) → List ℕ
-dashed None = []
-dashed (Some p) = dash ∷ p
+abbrev pub after_dash : Option (List ℕ) → List ℕ
+after_dash None = []
+after_dash (Some p) = dash ∷ p
 
 -- the parts, joined by dashes
-abbrev pub joined : List ℕ → Option (List ℕ) → Option (List ℕ) → List ℕ
-joined language script region = language ++ (dashed script ++ dashed region)
+abbrev pub join_parts : List ℕ → Option (List ℕ) → Option (List ℕ) → List ℕ
+join_parts language script region = language ++ (after_dash script ++ after_dash region)

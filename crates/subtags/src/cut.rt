@@ -2,7 +2,7 @@
 
 ghost use Rattle.std.specs.Prelude.{◌≡◌, ◌∷◌, position};
 ghost use Rattle.std.specs.Option.{option_copied};
-ghost use Rattle.subtags.specs.Grammar.{is_separator, folded, parts};
+ghost use Rattle.subtags.specs.Grammar.{is_separator, fold_text, parts};
 ghost use Rattle.subtags.specs.FromFront.{parts_behind, leading_script, behind_script, last_region};
 
 use crate::error::LangIdError;
@@ -23,8 +23,8 @@ fn separator_at(units: &[u8]) -> Option<usize>
 
 /// The part before the first separator, and what stands behind that separator.
 pub fn cut(units: &[u8]) -> (&[u8], Option<&[u8]>)
-    ensures { parts (folded units.now)
-        ≡ folded result.0.now ∷ parts_behind (option_copied result.1) }
+    ensures { parts (fold_text units.now)
+        ≡ fold_text result.0.now ∷ parts_behind (option_copied result.1) }
 {
     match separator_at(units) {
         Some(at) => (&units[..at], Some(&units[at + 1..])),

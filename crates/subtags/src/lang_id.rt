@@ -2,8 +2,8 @@
 
 ghost use Rattle.std.specs.Prelude.{◌≡◌, ◌+◌, ◌≤◌, ◌∷◌, ◌++◌, length, Some, IsOk, IfOk, IfErr, ◌↔◌};
 ghost use Rattle.std.specs.Fmt.{debug_str, styled_text};
-ghost use Rattle.subtags.specs.Grammar.{dash, folded, IsLangId, IsCanonical, canonical_text};
-ghost use Rattle.subtags.specs.Parts.{language_of, script_of, region_of, joined};
+ghost use Rattle.subtags.specs.Grammar.{dash, fold_text, IsLangId, IsCanonical, canonical_text};
+ghost use Rattle.subtags.specs.Parts.{language_of, script_of, region_of, join_parts};
 ghost use Rattle.subtags.specs.Answers.{refusal_of, IsLangIdRead};
 
 use crate::cut::{cut, last_region, take_script};
@@ -41,7 +41,7 @@ impl LangId {
     pub fn try_from_utf8(code_units: &[u8]) -> Result<Self, LangIdError>
         ensures accepted { IsOk result ↔ IsLangId code_units.now }
         ensures text { IfOk result (λ id. id ≡ canonical_text code_units.now) }
-        ensures fold { IfOk result (λ id. folded id ≡ folded code_units.now) }
+        ensures fold { IfOk result (λ id. fold_text id ≡ fold_text code_units.now) }
         ensures refusal { IfErr result (λ e. e ≡ refusal_of code_units.now) }
     {
         let (first, rest) = cut(code_units);
@@ -49,7 +49,7 @@ impl LangId {
         let (script, rest) = take_script(rest);
         let region = last_region(rest)?;
         Ok(LangId {
-            text: joined(language, script, region),
+            text: join_parts(language, script, region),
         })
     }
 
@@ -119,8 +119,8 @@ impl fmt::Debug for LangId {
 }
 
 // The parts, joined by dashes.
-fn joined(language: Language, script: Option<Script>, region: Option<Region>) -> TinyAsciiStr<17>
-    ensures { result ≡ joined language script region }
+fn join_parts(language: Language, script: Option<Script>, region: Option<Region>) -> TinyAsciiStr<17>
+    ensures { result ≡ join_parts language script region }
 {
     let mut text = language.text().resize::<17>();
     if let Some(script) = script {

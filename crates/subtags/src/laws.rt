@@ -6,8 +6,8 @@ ghost use Rattle.std.specs.Ordering.{nat_cmp};
 ghost use Rattle.std.specs.Cmp.Lexicographic.{slice_cmp};
 ghost use Rattle.std.specs.declared.cmp.Ordering.TheVariants.{Less};
 ghost use Rattle.tinystr_words.specs.Order.{IsBefore};
-ghost use Rattle.subtags.specs.Grammar.{is_separator, folded, parts, IsLangId, IsCanonical, canonical_text};
-ghost use Rattle.subtags.specs.Parts.{language_of, script_of, region_of, joined};
+ghost use Rattle.subtags.specs.Grammar.{is_separator, fold_text, parts, IsLangId, IsCanonical, canonical_text};
+ghost use Rattle.subtags.specs.Parts.{language_of, script_of, region_of, join_parts};
 
 use crate::error::LangIdError;
 use crate::lang_id::LangId;
@@ -18,23 +18,23 @@ use std::cmp::Ordering;
 
 /// To fold an input and then cut it at each dash is to cut it at each separator and then fold its parts.
 pub fn cut_before_fold()
-    ensures { (u : List ℕ) → parts (folded u) ≡ map folded (slice_split is_separator u) }
+    ensures { (u : List ℕ) → parts (fold_text u) ≡ map fold_text (slice_split is_separator u) }
 {}
 
 /// A canonical text is accepted, is its own canonical text, and folds as the input does.
 pub fn canonical_once()
     ensures canonical { (u : List ℕ) → IsLangId u → IsCanonical (canonical_text u) }
-    ensures fold { (u : List ℕ) → folded (canonical_text u) ≡ folded u }
+    ensures fold { (u : List ℕ) → fold_text (canonical_text u) ≡ fold_text u }
 {}
 
 /// Two inputs have the same canonical text exactly if they fold alike.
 pub fn fold_tells_apart()
-    ensures { (u v : List ℕ) → (canonical_text u ≡ canonical_text v) ↔ (folded u ≡ folded v) }
+    ensures { (u v : List ℕ) → (canonical_text u ≡ canonical_text v) ↔ (fold_text u ≡ fold_text v) }
 {}
 
 /// A canonical text is its language, its script and its region, joined by dashes.
 pub fn joined_parts()
-    ensures { (t : List ℕ) → IsCanonical t → t ≡ joined (language_of t) (script_of t) (region_of t) }
+    ensures { (t : List ℕ) → IsCanonical t → t ≡ join_parts (language_of t) (script_of t) (region_of t) }
 {}
 
 /// Reading the text of an identifier gives the identifier back.

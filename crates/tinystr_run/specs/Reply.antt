@@ -8,7 +8,7 @@ use Rattle.tinystr_words.specs.Packed.{record_at}
 use Rattle.tinystr_words.specs.Reading.{Fault, fault_in, lossy}
 use Rattle.tinystr_words.specs.Reading.Fault.{too_long, contains_null, non_ascii}
 use Rattle.tinystr_words.specs.Questions.{answer, in_case}
-use Rattle.subtags.specs.Grammar.{folded, parts, is_lang_id, canonical_text}
+use Rattle.subtags.specs.Grammar.{fold_text, parts, is_lang_id, canonical_text}
 use Rattle.subtags.specs.Answers.{refusal_of, message_of}
 use Rattle.tinystr_run.specs.declared.command.Command.{Command}
 use Rattle.tinystr_run.specs.declared.command.Command.TheVariants.{OnText, Lossy, Records, Locale}
@@ -63,7 +63,7 @@ records_reply n bytes =
 -- the canonical text of a language identifier, or why there is none
 unfoldable pub locale_reply : List ℕ → List ℕ
 locale_reply units =
-    if is_lang_id (parts (folded units)) then canonical_text units else message_of (refusal_of units)
+    if is_lang_id (parts (fold_text units)) then canonical_text units else message_of (refusal_of units)
 
 -- the reply of a command to units at capacity n
 abbrev pub command_reply : ℕ → List ℕ → Command → List ℕ

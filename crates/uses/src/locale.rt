@@ -4,7 +4,7 @@ ghost use Rattle.std.specs.Prelude.{◌≡◌, ◌↔◌, None, IsTrue};
 ghost use Rattle.std.specs.BTreeMap.{get};
 ghost use Rattle.std.specs.Cmp.Lexicographic.{slice_cmp};
 ghost use Rattle.std.specs.Ordering.{nat_cmp};
-ghost use Rattle.subtags.specs.Grammar.{IsLangId, canonical_text, folded};
+ghost use Rattle.subtags.specs.Grammar.{IsLangId, canonical_text, fold_text};
 
 use std::collections::BTreeMap;
 use subtags::{LangId, laws};
@@ -25,7 +25,7 @@ pub fn page_of(pages: &Pages, tag: &[u8]) -> Option<u32>
 /// Whether two tags name one locale, whatever their case and separators.
 pub fn is_same_locale(tag: &[u8], other: &[u8]) -> bool
     ensures { IsTrue result
-        ↔ (IsLangId tag.now × IsLangId other.now × (folded tag.now ≡ folded other.now)) }
+        ↔ (IsLangId tag.now × IsLangId other.now × (fold_text tag.now ≡ fold_text other.now)) }
 {
     laws::fold_tells_apart();
     match (LangId::try_from_utf8(tag), LangId::try_from_utf8(other)) {

@@ -1,5 +1,5 @@
-use Rattle.subtags.proofs.CanonLemmas.{joined-IsCanonical}
+use Rattle.subtags.proofs.CanonLemmas.{join_parts-IsCanonical}
 use Rattle.subtags.proofs.laws.joined_parts.Goals as goal
 
 pub returns : goal.returns
-returns c = joined-IsCanonical
+returns c = join_parts-IsCanonical

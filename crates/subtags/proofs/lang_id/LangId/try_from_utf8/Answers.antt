@@ -1,7 +1,7 @@
 use Rattle.std.proofs.Common.{◌≡◌, ◌∙◌, ap, rules, arith}
 use Rattle.std.proofs.lemmas.Grind.{common_steps}
-use Rattle.subtags.specs.Grammar.{canonical_text, folded}
-use Rattle.subtags.proofs.CanonLemmas.{IsCanonical-canonical_text, folded-canonical_text}
+use Rattle.subtags.specs.Grammar.{canonical_text, fold_text}
+use Rattle.subtags.proofs.CanonLemmas.{IsCanonical-canonical_text, fold_text-canonical_text}
 use Rattle.subtags.proofs.ReadLemmas.{no_language, no_tail, all_read}
 use Rattle.subtags.proofs.lang_id.LangId.try_from_utf8.Goals as goal
 
@@ -29,17 +29,17 @@ pub invariant_of-result : goal.invariant_of-result
 invariant_of-result c =
     let u = c.args.code_units.now in
     let read = all_read u c.cut.result.0.now _ c.in_ok-region.region c.cut.ensures (grind (arith, common_steps)) (grind (arith, common_steps)) in
-    let text : c.joined.result ≡ canonical_text u = grind (arith, common_steps) in
+    let text : c.join_parts.result ≡ canonical_text u = grind (arith, common_steps) in
     rw text (IsCanonical-canonical_text u read.0)
 
 pub returns : goal.returns
 returns c =
     let u = c.args.code_units.now in
     let read = all_read u c.cut.result.0.now _ c.in_ok-region.region c.cut.ensures (grind (arith, common_steps)) (grind (arith, common_steps)) in
-    let text : c.joined.result ≡ canonical_text u = grind (arith, common_steps) in
+    let text : c.join_parts.result ≡ canonical_text u = grind (arith, common_steps) in
     record {
       accepted = (λ _. read.0, λ _. search rules);
       text = text;
-      fold = ap folded text ∙ folded-canonical_text u;
+      fold = ap fold_text text ∙ fold_text-canonical_text u;
       refusal = search rules;
     }
