@@ -119,7 +119,11 @@ impl fmt::Debug for LangId {
 }
 
 // The parts, joined by dashes.
-fn join_parts(language: Language, script: Option<Script>, region: Option<Region>) -> TinyAsciiStr<17>
+fn join_parts(
+    language: Language,
+    script: Option<Script>,
+    region: Option<Region>,
+) -> TinyAsciiStr<17>
     ensures { result ≡ join_parts language script region }
 {
     let mut text = language.text().resize::<17>();

@@ -13,13 +13,12 @@ mod order;
 mod units;
 mod words;
 
+use copying::put;
 pub use copying::resize;
 pub use order::compare;
-pub use units::{fault, lossy};
-
-use copying::put;
 use tinystr_words::int_ops::{Aligned4, Aligned8, Aligned16, decimal_fits};
 use tinystr_words::{Case, Question, Unit};
+pub use units::{fault, lossy};
 
 /// The words that take padded bytes: the narrowest that holds all, since it is loaded and asked in the fewest steps.
 #[derive(Clone, Copy)]
