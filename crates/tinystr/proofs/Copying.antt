@@ -139,6 +139,7 @@ both_copied bytes a b n p full q e =
     let copied = copied_text bytes (a ++ b) n joined.0 e in
     (copied.0, copied.1 ∙ ap (λ (t : List ℕ). take n t) joined.1)
 
+-- the front of a text fits
 IsStrict-take : (t : List ℕ) (n : ℕ) → IsText t → length (take n t) ≤ n
 IsStrict-take t n h = elim (cases_lt n (length t)) [
   | inl more ↦ omega (arith, length-take-le n t (omega arith))

@@ -30,12 +30,15 @@ after_less (u ∷ us) [] a b e h less = absurd (omega arith)
 after_less (u ∷ us) (v ∷ vs) a b e h less =
     after_less us vs (a * 256 + u) (b * 256 + v) (omega arith) (λ i. h (suc i)) (let small : u < 256 = h 0 in omega arith)
 
+-- what is less compares as less
 is_less : (x y : ℕ) → x < y → nat_cmp x y ≡ Less
 is_less x y h = sym (nat_cmp_is x y Less h)
 
+-- what is greater compares as greater
 is_greater : (x y : ℕ) → y < x → nat_cmp x y ≡ Greater
 is_greater x y h = sym (nat_cmp_is x y Greater h)
 
+-- equally long digits compare as their numbers, and then what follows them
 cmp_after : (us vs r s : List ℕ) (a : ℕ) → length us ≡ length vs → AreBytes us → AreBytes vs
     → slice_cmp nat_cmp (us ++ r) (vs ++ s) ≡ ordering_then (nat_cmp (after a us) (after a vs)) (slice_cmp nat_cmp r s)
 cmp_after [] [] r s a e g h = rw (tied_itself nat_cmp_total a) refl
@@ -64,12 +67,14 @@ eight (a ∷ b ∷ c ∷ d ∷ e ∷ []) l = absurd (omega arith)
 eight (a ∷ b ∷ c ∷ d ∷ e ∷ f ∷ []) l = absurd (omega arith)
 eight (a ∷ b ∷ c ∷ d ∷ e ∷ f ∷ g ∷ []) l = absurd (omega arith)
 
+-- the first of bytes are bytes
 AreBytes-take : (n : ℕ) (xs : List ℕ) → AreBytes xs → n ≤ length xs → AreBytes (take n xs)
 AreBytes-take zero xs h l i = omega arith
 AreBytes-take (suc n) [] h l i = absurd (omega arith)
 AreBytes-take (suc n) (x ∷ xs) h l zero = h 0
 AreBytes-take (suc n) (x ∷ xs) h l (suc i) = AreBytes-take n xs (λ k. h (suc k)) (omega arith) i
 
+-- the last of bytes are bytes
 pub AreBytes-drop : (n : ℕ) (xs : List ℕ) → AreBytes xs → AreBytes (drop n xs)
 AreBytes-drop n xs h i = rw get_or-drop (h (n + i))
 
@@ -88,11 +93,13 @@ same_end xs ys r e g h =
     let bare = rw (append-nil xs, append-nil ys) at (cmp_after xs ys [] [] 0 e g h) in
     rw (tied_itself nat_list_cmp_total r) at (cmp_after xs ys r r 0 e g h) ∙ sym bare
 
+-- an order that is then equal is that order
 then_equal : (o : Ordering) → ordering_then o Equal ≡ o
 then_equal Less = refl
 then_equal Equal = refl
 then_equal Greater = refl
 
+-- padded bytes are bytes
 AreBytes-pad : (xs : List ℕ) (n : ℕ) → AreBytes xs → AreBytes (pad xs n)
 AreBytes-pad xs n h i = rw (padded_at xs n i) (h i)
 
@@ -116,11 +123,13 @@ pub turn : (xs ys a b r s : List ℕ) (x y : ℕ) (o : Ordering) → 8 ≤ lengt
 turn xs ys a b r s x y o long e g h first second ex ey eo =
     rw (eo, ex, ey, first.0, second.0, first.1, second.1) (cmp_eight xs ys long e g h)
 
+-- an order that is found stays
 pub then_found : (o rest : Ordering) → true ≡ not (ordering_index o == 1) → ordering_then o rest ≡ o
 then_found Less rest h = refl
 then_found Equal rest h = grind arith
 then_found Greater rest h = refl
 
+-- of equal numbers the rest decides
 pub then_rest : (o rest : Ordering) → false ≡ not (ordering_index o == 1) → ordering_then o rest ≡ rest
 then_rest Less rest h = grind arith
 then_rest Equal rest h = refl

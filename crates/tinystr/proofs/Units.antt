@@ -16,6 +16,7 @@ use Rattle.std.proofs.lemmas.Bool.Decides.{nat_tests}
 abbrev Tested : Bool → List ℕ → ℕ → ℕ → Type 0
 Tested is_bad units i j = MatchBool is_bad (¬ IsText units) ((k : ℕ) → i ≤ k → k < j → IsTextByte (get_or units k 0))
 
+-- one more unit tested
 tested_more : (units : List ℕ) (i j : ℕ) (bad char : Bool) → j < length units → Tested bad units i j → (IsTrue char ↔ IsTextByte (get_or units j 0)) → Tested (bad || not char) units i (j + 1)
 tested_more units i j true char inside h is = h
 tested_more units i j false true inside h is = grind (arith, common_steps)

@@ -14,9 +14,11 @@ use Rattle.std.proofs.lemmas.Slice.{drop-put_mid, take-put_mid}
 use borrow.Rule.Slice.PartMut.{put_mid}
 use Rattle.tinystr_words.specs.declared.question.Case.{Case}
 
+-- the first sixteen of padded bytes are padded
 pub word_padded : (l x : List ℕ) → IsPadded l → 16 ≤ length l → x ≡ take 16 l → IsPaddedText x 16
 word_padded l x p fits e = rw e (subst (λ n. IsPaddedText (take 16 l) n) (length-take-le 16 l fits) (IsPaddedText-take l (length l) 16 p))
 
+-- padded bytes cut after their first word
 pub is_first_word : (l x y t : List ℕ) → IsPadded l → x ≡ take 16 l → y ≡ drop 16 l → length y + 16 ≡ length l → t ≡ text_of x → IsFirstWord l t y
 is_first_word l x y t p e h long is = record {
   word_text = is ∙ ap (λ (b : List ℕ). text_of b) e ∙ text_of-take l (length l) 16 p;
@@ -25,6 +27,7 @@ is_first_word l x y t p e h long is = record {
   len = long;
 }
 
+-- one more word counted
 pub len_step : (l w y : List ℕ) (n all sum : ℕ) → IsFirstWord l w y → n ≡ length w → sum + length (text_of l) ≡ all → sum + n + length (text_of y) ≡ all
 len_step l w y n all sum c e left =
     let front = ap (λ (b : List ℕ). length b) c.word_text in
@@ -32,9 +35,11 @@ len_step l w y n all sum c e left =
     let whole = ap (λ (b : List ℕ). length b) (take-append-drop 16 (text_of l)) in
     omega (arith, front, back, whole, length-append (take 16 (text_of l)) (drop 16 (text_of l)))
 
+-- an answer is that of the first word and that of the others
 pub ask_parts : (l w y : List ℕ) (q : Question) → IsFirstWord l w y → answer q (text_of l) ≡ (answer q w && answer (later_question q) (text_of y))
 ask_parts l w y q c = rw (c.word_text, c.others_text) (answer-parts q 15 (text_of l))
 
+-- where one word fails, the whole text does
 pub refused : (l w y : List ℕ) (q : Question) (r all : Bool) → IsFirstWord l w y → r ≡ answer q w → r ≡ false → answer q (text_of l) ≡ all → false ≡ all
 refused l w y q r all c answered fails left = sym (rw (← answered, fails) at (ask_parts l w y q c)) ∙ left
 
@@ -45,9 +50,11 @@ pub record IsSoFar (bytes rest : List ℕ) (ended : Bool) : Type 0 where
   pub from : IsPadded rest → (ended ≡ true → text_of rest ≡ []) → IsPadded bytes
   pub to : IsPadded bytes → IsPadded rest × (ended ≡ true → text_of rest ≡ [])
 
+-- where one word is no padded text, the bytes are none
 pub word_refused : (bytes rest x : List ℕ) (ended : Bool) → IsSoFar bytes rest ended → x ≡ take 16 rest → ¬ IsPadded x → ¬ IsPadded bytes
 word_refused bytes rest x ended far e bad = λ p. bad (rw e (IsPaddedText-take rest (length rest) 16 (far.to p).0))
 
+-- padded bytes joined are padded, if the second have no text where the first have NULs
 padded-joined : (x y : List ℕ) → IsPadded x → IsPadded y → (length (text_of x) < length x → text_of y ≡ []) → IsPadded (x ++ y)
 padded-joined x y p q after =
     let t = text_of x in
@@ -67,6 +74,7 @@ padded-joined x y p q after =
           (padded-nuls (x ++ y) (t ++ s) b is (All-append IsTextByte t s p.text q.text)).0)
     ]
 
+-- a text of no length is empty
 no_text : (t : List ℕ) → length t ≡ 0 → t ≡ []
 no_text [] e = refl
 no_text (b ∷ t) e = absurd (omega arith)
@@ -99,6 +107,7 @@ next_word bytes rest x y ended n far fits e h p is none =
           );
     }
 
+-- padded bytes of a text in another case
 pub in_case_is_padded : (c : Case) (l made : List ℕ) (n : ℕ) → IsPaddedText l n → made ≡ pad (in_case c (text_of l)) n → IsPaddedText made n × (text_of made ≡ in_case c (text_of l))
 in_case_is_padded c l made n p e =
     let x = IsText-in_case c (text_of l) p.text in (
