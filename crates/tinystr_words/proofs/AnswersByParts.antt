@@ -47,6 +47,7 @@ in_case-append Title q [] b (inl e) = absurd (omega arith)
 in_case-append Title q [] b (inr e) = rw e refl
 in_case-append Title q (d ∷ a) b x = ap (λ l. raise d ∷ l) (map-append lower a b)
 
+-- the later class of a question, asked of each byte, is its question for later words
 later-answer : (q : Question) (t : List ℕ) → ask (later_class q) (later_class q) t ≡ answer (later_question q) t
 later-answer Alphabetic t = refl
 later-answer Alphanumeric t = refl
@@ -95,12 +96,15 @@ length-in_case Upper t = length-map t raise
 length-in_case Title [] = refl
 length-in_case Title (b ∷ t) = ap suc (length-map t lower)
 
+-- a byte of a text, lowered, is a byte of a text
 IsTextByte-lower : (b : ℕ) → IsTextByte b → IsTextByte (lower b)
 IsTextByte-lower b h = grind (arith, nat_tests)
 
+-- and so is one that is raised
 IsTextByte-raise : (b : ℕ) → IsTextByte b → IsTextByte (raise b)
 IsTextByte-raise b h = grind (arith, nat_tests)
 
+-- a change of each byte leaves a text, if it leaves each byte of a text one
 IsText-map : (f : ℕ → ℕ) → ((b : ℕ) → IsTextByte b → IsTextByte (f b)) → (t : List ℕ) → IsText t → IsText (map f t)
 IsText-map f h t x = All-map IsTextByte f t (All-weaker IsTextByte (λ b. IsTextByte (f b)) h t x)
 
@@ -113,13 +117,16 @@ IsText-in_case Title (b ∷ t) x =
     All-cons IsTextByte (raise b) (map lower t) (IsTextByte-raise b (All-head IsTextByte b t x))
     (IsText-map lower IsTextByte-lower t (All-tail IsTextByte b t x))
 
+-- a change that keeps NUL keeps NULs
 map-nuls : (f : ℕ → ℕ) → f 0 ≡ 0 → (k : ℕ) → map f (NULS k) ≡ NULS k
 map-nuls f e zero = refl
 map-nuls f e (suc k) = rw (e, map-nuls f e k) refl
 
+-- such a change of a list and then NULs changes the list alone
 map-padded : (f : ℕ → ℕ) → f 0 ≡ 0 → (t : List ℕ) (k : ℕ) → map f (t ++ NULS k) ≡ map f t ++ NULS k
 map-padded f e t k = map-append f t (NULS k) ∙ ap (λ l. map f t ++ l) (map-nuls f e k)
 
+-- a case change of a list and then NULs changes the list alone
 in_case-nuls : (c : Case) (t : List ℕ) (k : ℕ) → in_case c (t ++ NULS k) ≡ in_case c t ++ NULS k
 in_case-nuls Lower t k = map-padded lower refl t k
 in_case-nuls Upper t k = map-padded raise refl t k

@@ -15,10 +15,12 @@ use Rattle.tinystr_words.proofs.Lanes.{IsBytes, IsBytes-text, word-lt}
 use Rattle.tinystr_words.proofs.WordFromParts.{IsBytes-take, word_split}
 use Rattle.tinystr_words.proofs.TextInWord.{text_in-word, HoldsText-word}
 
+-- the word of two lists joined: that of the second stands above that of the first
 word-append : (t s : List ℕ) → word (t ++ s) ≡ word t + 256 ^ length t * word s
 word-append t s =
     rw (take-append_seam t s, drop-append_seam t s) at (word_split (length t) (t ++ s) (omega (arith, length-append t s)))
 
+-- a word of at most n bytes is below 256 ^ n
 word_lt-pow : (s : List ℕ) (n : ℕ) → IsBytes s → length s ≤ n → word s < 256 ^ n
 word_lt-pow s n h le = let k : 256 ^ length s ≤ 256 ^ n = pow-le-pow_right {n = 256} (lit< tt) le in omega (arith, word-lt s h)
 
@@ -40,6 +42,7 @@ behind s len n h le =
     let none = mul-mod_left (word s) (256 ^ len) in
     rw k (mod-mul (word s * 256 ^ len) (pow_256-pos (n - len)) one ∙ rw (up, none, word-mod s (n - len) h) (omega (arith, mul_comm (256 ^ len) (word (take (n - len) s)))))
 
+-- two words joined hold the two texts joined, or their first n bytes where there are more
 pub join_is : {n w v : ℕ} → HoldsText n w → HoldsText n v → (len : ℕ) → len ≡ length (text_in n w)
     → let both = w + v * 256 ^ len % 256 ^ n in let t = take n (text_in n w ++ text_in n v) in (both < 256 ^ n) × HoldsText n both × (text_in n both ≡ t)
 join_is {n} {w} {v} p q len is =

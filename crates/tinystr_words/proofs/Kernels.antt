@@ -48,6 +48,7 @@ pass_marks Titlecase = each 0x80
 pass_marks Uppercase = each 0x80
 pass_marks q = each 0
 
+-- at each byte, what a question compares is equal exactly if the byte is NUL or in the question's class
 pub kernel_asks : (q : Question) → Asks (kernel q) (pass_marks q) q
 unfolding everywhere
 kernel_asks Alphabetic = refl
@@ -66,16 +67,19 @@ change Lower = either itself (case_bits UPPER UPPER)
 change Title = both (either itself (case_bits LOWER UPPER)) (flip (both (lead 0x20 0) (case_bits LOWER UPPER)))
 change Upper = both itself (flip (case_bits LOWER LOWER))
 
+-- at each byte, the formula of a case keeps NUL and changes another as the case does
 pub change_changes : (c : Case) → Changes (change c) c
 unfolding everywhere
 change_changes Lower = refl
 change_changes Title = refl
 change_changes Upper = refl
 
+-- with the case bit set, each lane stays a byte
 pub with_case_bits_safe : everywhere (is_safe with_case_bits) ≡ true
 unfolding everywhere
 with_case_bits_safe = refl
 
+-- and stays below 128
 pub with_case_bits_ascii : everywhere (λ i b. nat_lt (at with_case_bits i b) 128) ≡ true
 unfolding everywhere
 with_case_bits_ascii = refl

@@ -63,6 +63,7 @@ word-lt (b ∷ l) a = let h : b < 256 = a.0 in omega (arith, pow-suc 256 (length
 abbrev pub Bytewise : (ℕ → ℕ → ℕ) → Type 0
 Bytewise op = (a b r s : ℕ) → r < 256 → s < 256 → op (r + 256 * a) (s + 256 * b) ≡ op r s + 256 * op a b
 
+-- an operation is such if it is done apart on a low byte and on what stands above it
 Bytewise-from_block : (op : ℕ → ℕ → ℕ) → ((a b r s : ℕ) → r < 256 → s < 256 → op (a * 256 + r) (b * 256 + s) ≡ op a b * 256 + op r s) → Bytewise op
 Bytewise-from_block op block a b r s p q =
     let x : r + 256 * a ≡ a * 256 + r = omega arith in
@@ -112,6 +113,7 @@ pub IsBytes-lanes : (F : Bool → ℕ → ℕ) → Bytes F → (i : Bool) (l : L
 IsBytes-lanes F p i [] a = tt
 IsBytes-lanes F p i (b ∷ l) a = (p i b a.0, IsBytes-lanes F p false l a.1)
 
+-- two changes of a list, put together lane by lane, are one change
 zip2-lanes : (op : ℕ → ℕ → ℕ) (F G : Bool → ℕ → ℕ) (i : Bool) (l : List ℕ) → zip2 op (lanes F i l) (lanes G i l) ≡ lanes (λ i b. op (F i b) (G i b)) i l
 zip2-lanes op F G i [] = refl
 zip2-lanes op F G i (b ∷ l) = ap (λ m. op (F i b) (G i b) ∷ m) (zip2-lanes op F G false l)
@@ -141,6 +143,7 @@ abbrev pub holds : (Bool → ℕ → Bool) → Bool → List ℕ → Bool
 holds P i [] = true
 holds P i (b ∷ l) = P i b && holds P false l
 
+-- two numbers are equal exactly if their lowest bytes are and what stands above these is
 eq_step : (p q x y : ℕ) → p < 256 → q < 256 → nat_eq (p + 256 * x) (q + 256 * y) ≡ (nat_eq p q && nat_eq x y)
 eq_step p q x y l k = grind (arith, nat_tests)
 

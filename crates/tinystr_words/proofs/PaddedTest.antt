@@ -18,10 +18,12 @@ use Rattle.tinystr_words.proofs.WordAsNumber.{word_nuls}
 abbrev pub each : ℕ → ℕ → ℕ
 each n c = word (first_then n c c)
 
+-- the word with one byte in each lane is that of a list of it
 each-replicate : (n c : ℕ) → each n c ≡ word (replicate n c)
 each-replicate zero c = refl
 each-replicate (suc n) c = refl
 
+-- bytes joined with bytes are bytes
 IsBytes-append : (l m : List ℕ) → IsBytes l → IsBytes m → IsBytes (l ++ m)
 IsBytes-append [] m a d = d
 IsBytes-append (b ∷ l) m a d = (a.0, IsBytes-append l m a.1 d)
@@ -41,13 +43,16 @@ is_padded_word n w = nat_eq (bit_or (bit_and w (each n 0x80)) (bit_and (marks_of
 abbrev pub fill : ℕ → ℕ → ℕ
 fill n c = word (replicate n c)
 
+-- a mark is a byte
 mark-lt : (b : ℕ) → mark b < 256
 mark-lt b = let e = and_le_r (bit_and b 0x7f + 0x7f) 0x80 in omega arith
 
+-- the marks of a list are bytes
 IsBytes-marks : (l : List ℕ) → IsBytes (map mark l)
 IsBytes-marks [] = tt
 IsBytes-marks (b ∷ l) = (mark-lt b, IsBytes-marks l)
 
+-- the marks of a word are those of its bytes
 marks_word : (l : List ℕ) → IsBytes l → bit_and (bit_and (word l) (fill (length l) 0x7f) + fill (length l) 0x7f) (fill (length l) 0x80) ≡ word (map mark l)
 marks_word [] a = refl
 marks_word (b ∷ l) a =
@@ -62,18 +67,23 @@ marks_word (b ∷ l) a =
 
 -- ---- the bytes, one after another
 
+-- the mark of a character is the high bit
 is_nul_or_marked : (b : ℕ) → b < 128 → 0 < b → mark b ≡ 0x80
 is_nul_or_marked b l h = let e = below_at (λ b. nat_eq b 0 || nat_eq (mark b) 0x80) 128 refl b l in grind (arith, nat_tests)
 
+-- a byte whose high bit is clear is below 128
 high_bit : (b : ℕ) → b < 256 → bit_and b 0x80 ≡ 0 → b < 128
 high_bit b l h = let e = below_at (λ b. nat_lt b 128 || nat_lt 0 (bit_and b 0x80)) 256 refl b l in grind (arith, nat_tests)
 
+-- a byte below 128 has its high bit clear
 no_high_bit : (b : ℕ) → b < 128 → bit_and b 0x80 ≡ 0
 no_high_bit b l = let e = below_at (λ b. nat_eq (bit_and b 0x80) 0) 128 refl b l in grind (arith, nat_tests)
 
+-- a mark has no bit but the high one
 top_mark : (b : ℕ) → b < 256 → bit_and (mark b) 0x7f ≡ 0
 top_mark b l = let e = below_at (λ b. nat_eq (bit_and (mark b) 0x7f) 0) 256 refl b l in grind (arith, nat_tests)
 
+-- nor has the first mark of a list
 first_mark : (l : List ℕ) → IsBytes l → bit_and (word (map mark l) % 256) 0x7f ≡ 0
 first_mark [] a = refl
 first_mark (b ∷ l) a =
@@ -84,6 +94,7 @@ first_mark (b ∷ l) a =
 abbrev late : List ℕ → ℕ
 late l = bit_and (word (map mark l) / 256) (256 ^ length l - 1 - word (map mark l))
 
+-- the marks that stand after a lane without one, by the first lane and the others
 late_step : (b : ℕ) (l : List ℕ) → late (b ∷ l) ≡ bit_and (word (map mark l) % 256) (255 - mark b) + 256 * late l
 late_step b l =
     let n = length l in
@@ -105,6 +116,7 @@ record IsCleanStep (b : ℕ) (l : List ℕ) : Type 0 where
   pub follows : bit_and (word (map mark l) % 256) (255 - mark b) ≡ 0
   pub rest : IsClean l
 
+-- a clean list taken apart into its first byte and the others
 clean_parts : (b : ℕ) (l : List ℕ) → b < 256 → IsClean (b ∷ l) → IsCleanStep b l
 clean_parts b l h c =
     let e = and_step (word l) (fill (length l) 0x80) b 0x80 h (lit< tt) in
@@ -113,6 +125,7 @@ clean_parts b l h c =
     let y = c.in_front in
     record { low = omega arith; follows = omega arith; rest = record { low = omega arith; in_front = omega arith } }
 
+-- and put together from these
 clean_joined : (b : ℕ) (l : List ℕ) → b < 256 → IsCleanStep b l → IsClean (b ∷ l)
 clean_joined b l h c =
     let e = and_step (word l) (fill (length l) 0x80) b 0x80 h (lit< tt) in
@@ -130,6 +143,7 @@ record IsSplit (l : List ℕ) : Type 0 where
   pub is : l ≡ text ++ NULS nuls
   pub chars : IsText text
 
+-- where a NUL stands in front and no mark may follow it, the text behind it is empty
 nul_first : (t l : List ℕ) (k : ℕ) → l ≡ t ++ NULS k → IsText t → bit_and (word (map mark l) % 256) (255 - mark 0) ≡ 0 → t ≡ []
 nul_first [] l k e x h = refl
 nul_first (c ∷ t) l k e x h =
@@ -138,6 +152,7 @@ nul_first (c ∷ t) l k e x h =
     let first : word (map mark l) % 256 ≡ 0x80 = rw e (omega arith) in
     absurd (omega (arith, rw first at h))
 
+-- a clean list of bytes is a text and then NULs
 split_of : (l : List ℕ) → IsBytes l → IsClean l → IsSplit l
 split_of [] a c = record { text = []; nuls = 0; is = refl; chars = All-nil IsTextByte }
 split_of (b ∷ l) a c =
@@ -152,6 +167,7 @@ split_of (b ∷ l) a c =
           record { text = []; nuls = suc rest.nuls; is = ap₂ (λ (x : ℕ) (m : List ℕ). x ∷ m) z (rw none at rest.is); chars = All-nil IsTextByte })
     ]
 
+-- NULs alone are clean
 clean_nuls : (k : ℕ) → IsClean (NULS k)
 clean_nuls zero = record { low = refl; in_front = refl }
 clean_nuls (suc k) =
@@ -162,9 +178,11 @@ clean_nuls (suc k) =
     first_nul zero = refl
     first_nul (suc k) = let e : word (map mark (NULS (suc k))) % 256 ≡ 0 = omega arith in rw e refl
 
+-- a text and then NULs are bytes
 IsBytes-split : (t : List ℕ) (k : ℕ) → IsText t → IsBytes (t ++ NULS k)
 IsBytes-split t k x = IsBytes-ascii (t ++ NULS k) (ascii_padded t k x)
 
+-- a text and then NULs are clean
 clean_of : (t : List ℕ) (k : ℕ) → IsText t → IsClean (t ++ NULS k)
 clean_of [] k x = clean_nuls k
 clean_of (c ∷ t) k x =
@@ -176,9 +194,11 @@ clean_of (c ∷ t) k x =
 
 -- ---- the test
 
+-- the word of NULs alone is 0
 fill_zeros : (n : ℕ) → fill n 0 ≡ 0
 fill_zeros n = word_nuls [] n
 
+-- the test of a word passes exactly if its bytes are clean
 clean_test : (l : List ℕ) → IsBytes l → (is_padded_word (length l) (word l) ≡ true → IsClean l) × (IsClean l → is_padded_word (length l) (word l) ≡ true)
 clean_test l a =
     let n = length l in
@@ -192,6 +212,7 @@ clean_test l a =
       λ c. rw (c.low, c.in_front) refl,
     )
 
+-- a text and then NULs, in any number, are padded
 split-padded : (l t : List ℕ) (k : ℕ) → l ≡ t ++ NULS k → IsText t → IsPadded l
 split-padded l t k e x = (padded-nuls l t k e x).0
 

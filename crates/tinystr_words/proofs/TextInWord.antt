@@ -53,6 +53,7 @@ length-text_in {n} {w} h =
 pub lanes-text_in : {n w : ℕ} → HoldsText n w → lanes_of n w ≡ pad (text_in n w) n
 lanes-text_in {n} {w} h = ap (λ m. lanes_of n m) h.padded ∙ lanes_word_pad n (text_in n w) h.text h.fits
 
+-- the word of a text, divided by 256, is that of the text without its first byte
 word_rest : (t : List ℕ) → IsText t → word t / 256 ≡ word (drop 1 t)
 word_rest [] x = omega arith
 word_rest (b ∷ t) x = let byte = All-head IsTextByte b t x in omega arith
@@ -83,6 +84,7 @@ on-text_in : {n w : ℕ} → HoldsText n w → (f : Formula) → IsSafe f → on
 on-text_in {n} {w} h f s =
     subst (λ v. on f n v ≡ word (lanes (at f) true (pad (text_in n w) n))) (sym h.padded) (on_pad f s n (text_in n w) h.text h.fits)
 
+-- however its lanes are changed, a word keeps their number
 length-lanes-pad : {n w : ℕ} → HoldsText n w → (F : Bool → ℕ → ℕ) → length (lanes F true (pad (text_in n w) n)) ≡ n
 length-lanes-pad {n} {w} h F = length-lanes F true (pad (text_in n w) n) ∙ length-pad (text_in n w) n h.fits
 
@@ -96,6 +98,7 @@ changed_bytes {n} {w} h c =
     let back : lanes_of n (word l) ≡ l = subst (λ m. lanes_of m (word l) ≡ l) (length-lanes-pad h (at f)) (lanes_word l bytes) in
     rw (on-text_in h f s, back) (lanes-change f c (change_changes c) n (text_in n w) h.text h.fits)
 
+-- a change that keeps each byte below 128 keeps all lanes there
 each_ascii : (F : Bool → ℕ → ℕ) → ((i : Bool) (b : ℕ) → b < 128 → F i b < 128) → (i : Bool) (l : List ℕ) → Ascii l → Ascii (lanes F i l)
 each_ascii F p i [] a = tt
 each_ascii F p i (b ∷ l) a = (p i b a.0, each_ascii F p false l a.1)

@@ -98,6 +98,7 @@ word_nuls [] zero = refl
 word_nuls [] (suc k) = let e : word (NULS k) ≡ 0 = word_nuls [] k in omega arith
 word_nuls (b ∷ t) k = ap (λ n. b + 256 * n) (word_nuls t k)
 
+-- a word of bytes below 0x80 is at most that of as many bytes 0x7f
 word_low : (l : List ℕ) → Ascii l → word l ≤ word (replicate (length l) 0x7f)
 word_low [] a = omega arith
 word_low (b ∷ l) a = let h : b < 128 = a.0 in omega (arith, word_low l a.1)
@@ -146,6 +147,7 @@ pub exponent_below : (n i j : ℕ) → 0 < n → n ^ i < n ^ j → i < j
 exponent_below n i j some h =
     ⊎_elim (λ l. l) (λ le. let k : n ^ j ≤ n ^ i = pow-le-pow_right {n = n} some le in absurd (omega arith)) (cases_lt i j)
 
+-- the zeros above a bit of the byte at place m, by eight, are the places above that byte
 leading_of_bits : (n m j r : ℕ) → m < n → r + suc j ≡ 8 * n → 8 * m < suc j → j < 8 * m + 7 → r / 8 ≡ n - suc m
 leading_of_bits n m j r l e low high = omega arith
 

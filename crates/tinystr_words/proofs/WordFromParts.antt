@@ -90,6 +90,7 @@ pub IsBytes-low : {X : Type 0} (f : X → ℕ) (l : List X) → IsBytes (map (λ
 IsBytes-low f [] = tt
 IsBytes-low f (x ∷ l) = (omega arith, IsBytes-low f l)
 
+-- the remainders of bytes by 256 are these bytes
 low_bytes : (l : List ℕ) → IsBytes l → map (λ u. u % 256) l ≡ l
 low_bytes [] a = refl
 low_bytes (b ∷ l) a = let h : b < 256 = a.0 in let e : b % 256 ≡ b = omega arith in ap₂ (λ x (m : List ℕ). x ∷ m) e (low_bytes l a.1)

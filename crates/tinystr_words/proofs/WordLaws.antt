@@ -17,6 +17,7 @@ lane-is zero w i h = absurd (omega arith)
 lane-is (suc n) w zero h = omega arith
 lane-is (suc n) w (suc i) h = lane-is n (w / 256) i (omega arith) ∙ ap (λ m. m % 256) (sym (lower_lanes w i))
 
+-- each lane of a word of bytes is the byte at that position
 lane-word : (l : List ℕ) (i : ℕ) → IsBytes l → i < length l → lane (word l) i ≡ get_or l i 0
 lane-word l i a h = sym (lane-is (length l) (word l) i h) ∙ ap (λ (m : List ℕ). get_or m i 0) (lanes_word l a)
 
@@ -35,6 +36,7 @@ lane_sum_is a c e p q =
     rw (word_sum a c e (low a p) (low c q))
     (omega (arith, word-lt (zip2 plus a c) bytes, ap (λ m. 256 ^ m) long), λ i h. lane-word (zip2 plus a c) i bytes (omega arith) ∙ each i h)
 
+-- a text whose word is below 256 ^ k has at most k bytes
 length_below : (t : List ℕ) → IsText t → (k : ℕ) → word t < 256 ^ k → length t ≤ k
 length_below [] x k h = omega arith
 length_below (b ∷ t) x k h = exponent_below 256 (length t) k (lit< tt) (omega (arith, word_least b t x))
