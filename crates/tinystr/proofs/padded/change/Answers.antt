@@ -1,4 +1,4 @@
-use Rattle.std.proofs.Common.{◌≤◌, length, arith}
+use Rattle.std.proofs.Common.{◌≤◌, length}
 use Rattle.tinystr.proofs.Words.{in_case_put}
 use Rattle.tinystr.proofs.padded.change.Goals as goal
 

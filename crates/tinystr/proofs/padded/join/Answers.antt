@@ -1,5 +1,5 @@
 use Rattle.std.proofs.Common.{◌≤◌, ◌++◌, ◌∙◌, List, ℕ, length, take, ap, ap₂, rules, arith}
-use Rattle.tinystr_words.specs.Text.{IsPadded, text_of}
+use Rattle.tinystr_words.specs.Text.{IsPadded}
 use Rattle.tinystr.proofs.Widths.{front_padded, fronts_joined}
 use Rattle.tinystr.proofs.padded.join.Goals as goal
 

@@ -1,4 +1,3 @@
-use Rattle.std.proofs.Common.{rules}
 use Rattle.tinystr.proofs.Copying.{copied_onto_nuls, copied_text}
 use Rattle.tinystr.proofs.padded.copying.resize.Goals as goal
 

@@ -1,6 +1,5 @@
 use Rattle.std.proofs.Common.{◌≡◌, length, map, rules, arith}
 use Rattle.std.proofs.lemmas.List.{length-map}
-use Rattle.tinystr_words.specs.Text.{pad, IsText}
 use Rattle.tinystr_words.proofs.Texts.{IsPaddedText-made, text_of-made}
 use Rattle.tinystr.proofs.Units.{read_text}
 use Rattle.tinystr.proofs.padded.units.read_parts.Goals as goal

@@ -1,5 +1,5 @@
 use Rattle.std.proofs.Common.{◌≡◌, ◌+◌, ◌-◌, ◌≤◌, length, take, drop, rules, arith, ◌∙◌, sym, ap}
-use Rattle.std.proofs.lemmas.List.{length-drop, length-take}
+use Rattle.std.proofs.lemmas.List.{length-take}
 use Rattle.tinystr_words.specs.Questions.{later_case}
 use Rattle.tinystr_words.proofs.Texts.{IsPaddedText-take}
 use Rattle.tinystr_words.proofs.AnswersByParts.{in_case-padded, later_case-same}
