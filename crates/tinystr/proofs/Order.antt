@@ -1,7 +1,7 @@
 -- Bytes in order are the digits of a number, the greatest first: equally long lists compare as their numbers.
 use Rattle.std.proofs.Common.{List, [], ap, arith, drop, get_or, inl, inr, length, refl, suc, sym, take, zero, ℕ, ◌*◌, ◌++◌, ◌+◌, ◌-◌, ◌<◌, ◌∙◌, ◌∷◌, ◌≡◌, ◌≤◌}
 use Rattle.std.proofs.lemmas.Bool.{cases_lt}
-use Rattle.std.proofs.lemmas.List.{append-nil, get_or-drop, length-take-le, take-append-drop, take_all}
+use Rattle.std.proofs.lemmas.List.{append-nil, get_or-drop, length-take-le, take-append-drop}
 use Rattle.std.proofs.lemmas.Cmp.{nat_cmp_total, nat_list_cmp_total, tied_itself}
 use Rattle.std.specs.Cmp.{nat_cmp_is}
 use Rattle.std.specs.Cmp.Lexicographic.{slice_cmp}
@@ -105,7 +105,7 @@ AreBytes-pad xs n h i = rw (padded_at xs n i) (h i)
 
 -- fewer than eight bytes, as numbers
 pub cmp_widened : (xs ys a b : List ℕ) (x y : ℕ) (o : Ordering) → length xs ≡ length ys → length xs < 8 → AreBytes xs → AreBytes ys
-    → a ≡ pad (take 8 xs) 8 → b ≡ pad (take 8 ys) 8 → x ≡ from_be_bytes w64 a → y ≡ from_be_bytes w64 b → o ≡ nat_cmp x y → o ≡ slice_cmp nat_cmp xs ys
+    → a ≡ pad xs 8 → b ≡ pad ys 8 → x ≡ from_be_bytes w64 a → y ≡ from_be_bytes w64 b → o ≡ nat_cmp x y → o ≡ slice_cmp nat_cmp xs ys
 cmp_widened xs ys a b x y o e small g h ea eb ex ey eo =
     let first = length-pad xs 8 (omega arith) in
     let second = length-pad ys 8 (omega arith) in
@@ -113,7 +113,7 @@ cmp_widened xs ys a b x y o e small g h ea eb ex ey eo =
     let bare = rw (append-nil (pad xs 8), append-nil (pad ys 8), then_equal (nat_cmp (after 0 (pad xs 8)) (after 0 (pad ys 8)))) at numbers in
     let nuls : pad ys 8 ≡ ys ++ NULS (8 - length xs) = rw e refl in
     let same = same_end xs ys (NULS (8 - length xs)) e g h in
-    rw (eo, ex, ey, ea, eb, take_all 8 xs (omega arith), take_all 8 ys (omega arith), eight (pad xs 8) first, eight (pad ys 8) second) (sym bare ∙ ap (λ (l : List ℕ). slice_cmp nat_cmp (pad xs 8) l) nuls ∙ same)
+    rw (eo, ex, ey, ea, eb, eight (pad xs 8) first, eight (pad ys 8) second) (sym bare ∙ ap (λ (l : List ℕ). slice_cmp nat_cmp (pad xs 8) l) nuls ∙ same)
 
 -- one turn of the loop
 pub turn : (xs ys a b r s : List ℕ) (x y : ℕ) (o : Ordering) → 8 ≤ length xs → length xs ≡ length ys → AreBytes xs → AreBytes ys

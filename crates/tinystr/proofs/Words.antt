@@ -7,7 +7,7 @@ use Rattle.std.proofs.lemmas.List.Elements.{All-append}
 use Rattle.tinystr_words.specs.Text.{IsPadded, IsPaddedText, IsTextByte, pad, text_of}
 use Rattle.tinystr_words.specs.declared.question.Question.{Question}
 use Rattle.tinystr_words.specs.Questions.{answer, in_case, later_case, later_question}
-use Rattle.tinystr_words.proofs.Texts.{IsPaddedText-drop, IsPaddedText-made, IsPaddedText-take, NULS, length-pad, length-text_of-le, padded-nuls, take-pad, text_of-drop, text_of-made, text_of-take}
+use Rattle.tinystr_words.proofs.Texts.{IsPaddedText-drop, IsPaddedText-made, IsPaddedText-take, NULS, length-text_of-le, padded-nuls, take-pad, text_of-drop, text_of-made, text_of-take}
 use Rattle.tinystr_words.proofs.AnswersByParts.{IsText-in_case, answer-parts, in_case-padded, in_case-parts, length-in_case}
 use Rattle.tinystr.specs.Padded.{IsFirstWord}
 use Rattle.std.proofs.lemmas.Slice.{drop-put_mid, take-put_mid}
@@ -121,27 +121,19 @@ in_case_fitted c l made word t n w long fits e h is =
     let small : length (in_case c (text_of l)) ≤ n = omega (arith, length-in_case c (text_of l), length-text_of-le l) in
     e ∙ ap (λ (b : List ℕ). take n b) (h ∙ ap (λ (x : List ℕ). pad (in_case c x) w) is) ∙ take-pad (in_case c (text_of l)) n w small fits
 
--- a word of w bytes, put onto bytes that it holds
-pub in_case_put : (c : Case) (l made word t : List ℕ) (w : ℕ) → length l ≤ w → made ≡ take (length l) word ++ drop (length word) l → word ≡ pad (in_case c t) w → t ≡ text_of l → made ≡ pad (in_case c (text_of l)) (length l)
-in_case_put c l made word t w fits e h is =
-    let small : length (in_case c t) ≤ w = omega (arith, ap (λ (x : List ℕ). length x) is, length-in_case c t, length-text_of-le l) in
-    let long : length word ≡ w = ap (λ (x : List ℕ). length x) h ∙ length-pad (in_case c t) w small in
-    e ∙ ap (λ (x : List ℕ). take (length l) word ++ x) (drop_all (length word) l (omega arith)) ∙ append-nil (take (length l) word)
-    ∙ in_case_fitted c l (take (length l) word) word t (length l) w refl fits refl h is
-
 -- one more word changed
-pub in_case_step : (all bytes made : List ℕ) (start k : ℕ) (c later : Case) →
+pub in_case_step : (all bytes word made : List ℕ) (start k : ℕ) (c later : Case) →
     start + 16 ≤ length bytes → k ≡ 16 → IsPadded (drop start bytes) →
-    made ≡ pad (in_case c (text_of (take k (drop start bytes)))) (length (take k (drop start bytes))) →
+    word ≡ pad (in_case c (text_of (take k (drop start bytes)))) 16 → made ≡ word →
     later ≡ later_case c →
     take start bytes ++ in_case c (drop start bytes) ≡ all →
     take (start + 16) (put_mid start k bytes made) ++ in_case later (drop (start + 16) (put_mid start k bytes made)) ≡ all
-in_case_step all bytes made start k c later fits size p made_is e left =
+in_case_step all bytes word made start k c later fits size p word_is made_is e left =
     let rest = drop start bytes in
     let long : 16 ≤ length rest = omega (arith, length-drop start bytes) in
+    let first : IsPaddedText (take 16 rest) 16 = subst (λ n. IsPaddedText (take 16 rest) n) (length-take-le 16 rest long) (IsPaddedText-take rest (length rest) 16 p) in
     let made_now : made ≡ in_case c (take 16 rest) =
-    made_is ∙ ap (λ (n : ℕ). pad (in_case c (text_of (take n rest))) (length (take n rest))) size
-    ∙ sym (in_case-padded c (take 16 rest) (length (take 16 rest)) (IsPaddedText-take rest (length rest) 16 p)) in
+    made_is ∙ word_is ∙ ap (λ (n : ℕ). pad (in_case c (text_of (take n rest))) 16) size ∙ sym (in_case-padded c (take 16 rest) 16 first) in
     let made_len : length made ≡ 16 = ap length made_now ∙ length-in_case c (take 16 rest) ∙ length-take-le 16 rest long in
     let front = take-put_mid start k bytes made (start + 16) (omega arith) (omega arith) in
     let back = drop-put_mid start k bytes made (start + 16) (omega arith) (omega arith) (omega arith) in
@@ -151,17 +143,18 @@ in_case_step all bytes made start k c later fits size p made_is e left =
     ∙ ap (λ (l : List ℕ). take start bytes ++ l) (sym (in_case-parts c 15 rest)) ∙ left)
 
 -- the last word changed
-pub in_case_last : (all bytes made : List ℕ) (start k : ℕ) (c : Case) →
-    start ≤ length bytes → k ≡ length bytes - start → IsPadded (drop start bytes) →
-    made ≡ pad (in_case c (text_of (take k (drop start bytes)))) (length (take k (drop start bytes))) →
+pub in_case_last : (all bytes word made t : List ℕ) (start k count : ℕ) (c : Case) →
+    start ≤ length bytes → k ≡ length bytes - start → count ≡ length bytes - start → k ≤ 16 → IsPadded (drop start bytes) →
+    t ≡ text_of (take k (drop start bytes)) → word ≡ pad (in_case c t) 16 → made ≡ take count word →
     take start bytes ++ in_case c (drop start bytes) ≡ all →
     put_mid start k bytes made ≡ all
-in_case_last all bytes made start k c fits size p made_is left =
+in_case_last all bytes word made t start k count c fits size count_is small p t_is word_is made_is left =
     let rest = drop start bytes in
-    let whole_rest : take k rest ≡ rest = take_all k rest (omega (arith, length-drop start bytes)) in
+    let long : length rest ≡ count = omega (arith, length-drop start bytes) in
+    let whole_rest : take k rest ≡ rest = take_all k rest (omega arith) in
     let made_now : made ≡ in_case c rest =
-    made_is ∙ ap (λ (l : List ℕ). pad (in_case c (text_of l)) (length l)) whole_rest ∙ sym (in_case-padded c rest (length rest) p) in
-    let made_len : length made ≡ k = ap length made_now ∙ length-in_case c rest ∙ omega (arith, length-drop start bytes) in
+    in_case_fitted c rest made word t count 16 long (omega arith) made_is word_is (t_is ∙ ap (λ (l : List ℕ). text_of l) whole_rest) ∙ sym (in_case-padded c rest count (subst (λ n. IsPaddedText rest n) long p)) in
+    let made_len : length made ≡ k = ap length made_now ∙ length-in_case c rest ∙ omega arith in
     let front = take-put_mid start k bytes made (start + k) (omega arith) fits in
     let back = drop-put_mid start k bytes made (start + k) (omega arith) fits made_len in
     let none : drop (start + k) bytes ≡ [] = drop_all (start + k) bytes (omega arith) in

@@ -13,7 +13,7 @@ mod order;
 mod units;
 mod words;
 
-use copying::put;
+use copying::cut;
 pub use copying::resize;
 pub use order::compare;
 use tinystr_words::int_ops::{Aligned4, Aligned8, Aligned16, decimal_fits};
@@ -64,11 +64,11 @@ pub fn read<U: Unit, const N: usize>(units: &[U]) -> Option<[u8; N]>
     match width_of(N) {
         Width::Four | Width::Eight => {
             let text = Aligned8::try_from_text(units)?;
-            Some(resize(&text.to_bytes()))
+            Some(cut(&text.to_bytes()))
         }
         Width::Sixteen | Width::Many => {
             let text = Aligned16::try_from_text(units)?;
-            Some(resize(&text.to_bytes()))
+            Some(cut(&text.to_bytes()))
         }
     }
 }
@@ -83,7 +83,7 @@ pub fn check<const N: usize>(raw: [u8; N]) -> Option<[u8; N]>
         // the word's own bytes, since the array would be moved in pieces that fit no register
         Width::Sixteen => {
             let text = Aligned16::try_from_part(&raw[..])?;
-            Some(resize(&text.to_bytes()))
+            Some(cut(&text.to_bytes()))
         }
         Width::Four | Width::Eight => {
             let _ = Aligned8::try_from_part(&raw[..])?;
@@ -101,68 +101,69 @@ pub fn decimal<const N: usize>(number: u32) -> Result<[u8; N], [u8; N]>
     ensures last_digits { IfErr result (λ bytes. IsPaddedText bytes N × (text_of bytes ≡ last N (decimal number))) }
 {
     if decimal_fits(number, N) {
-        Ok(resize(&Aligned16::from_decimal(number).to_bytes()))
+        Ok(cut(&Aligned16::from_decimal(number).to_bytes()))
     } else {
-        Err(resize(&Aligned16::from_last_digits(number, N).to_bytes()))
+        Err(cut(&Aligned16::from_last_digits(number, N).to_bytes()))
     }
 }
 
 /// The length of the text.
 #[inline(always)]
-pub fn len(bytes: &[u8]) -> usize
-    requires { IsPadded bytes.now }
+pub fn len<const N: usize>(bytes: &[u8; N]) -> usize
+    requires { IsPaddedText bytes.now N }
     ensures { result ≡ length (text_of bytes.now) }
 {
-    match width_of(bytes.len()) {
-        Width::Four => Aligned4::from_part(bytes).len(),
-        Width::Eight => Aligned8::from_part(bytes).len(),
+    match width_of(N) {
+        Width::Four => Aligned4::from_ascii_bytes(bytes).len(),
+        Width::Eight => Aligned8::from_ascii_bytes(bytes).len(),
         Width::Sixteen | Width::Many => words::len(bytes),
     }
 }
 
-/// Whether two texts in equally many bytes are one.
+/// Whether two texts are one.
 #[inline(always)]
-pub fn equals(left: &[u8], right: &[u8]) -> bool
-    requires len { length left.now ≡ length right.now }
-    requires left { IsPadded left.now }
-    requires right { IsPadded right.now }
+pub fn equals<const N: usize>(left: &[u8; N], right: &[u8; N]) -> bool
+    requires left { IsPaddedText left.now N }
+    requires right { IsPaddedText right.now N }
     ensures { result ≡ bytes_eq (text_of left.now) (text_of right.now) }
 {
-    match width_of(left.len()) {
-        Width::Four => Aligned4::from_part(left).equals(&Aligned4::from_part(right)),
-        Width::Eight => Aligned8::from_part(left).equals(&Aligned8::from_part(right)),
-        Width::Sixteen => Aligned16::from_part(left).equals(&Aligned16::from_part(right)),
+    match width_of(N) {
+        Width::Four => Aligned4::from_ascii_bytes(left).equals(&Aligned4::from_ascii_bytes(right)),
+        Width::Eight => Aligned8::from_ascii_bytes(left).equals(&Aligned8::from_ascii_bytes(right)),
+        Width::Sixteen => Aligned16::from_ascii_bytes(left).equals(&Aligned16::from_ascii_bytes(
+            right,
+        )),
         Width::Many => left == right,
     }
 }
 
 /// The answer to a question about the text.
 #[inline(always)]
-pub fn ask(bytes: &[u8], question: Question) -> bool
-    requires { IsPadded bytes.now }
+pub fn ask<const N: usize>(bytes: &[u8; N], question: Question) -> bool
+    requires { IsPaddedText bytes.now N }
     ensures { result ≡ answer question (text_of bytes.now) }
 {
-    match width_of(bytes.len()) {
-        Width::Four => Aligned4::from_part(bytes).ask(question),
-        Width::Eight => Aligned8::from_part(bytes).ask(question),
+    match width_of(N) {
+        Width::Four => Aligned4::from_ascii_bytes(bytes).ask(question),
+        Width::Eight => Aligned8::from_ascii_bytes(bytes).ask(question),
         Width::Sixteen | Width::Many => words::ask(bytes, question),
     }
 }
 
 /// Changes the case of the text in place.
 #[inline(always)]
-pub fn change(bytes: &mut [u8], case: Case)
-    requires { IsPadded bytes.old }
-    ensures { bytes.new ≡ pad (in_case case (text_of bytes.old)) (length bytes.old) }
+pub fn change<const N: usize>(bytes: &mut [u8; N], case: Case)
+    requires { IsPaddedText bytes.old N }
+    ensures { bytes.new ≡ pad (in_case case (text_of bytes.old)) N }
 {
-    match width_of(bytes.len()) {
+    match width_of(N) {
         Width::Four => {
-            let word = Aligned4::from_part(bytes).in_case(case);
-            put(bytes, &word);
+            let word = Aligned4::from_ascii_bytes(bytes).in_case(case);
+            bytes.copy_from_slice(&word[..N]);
         }
         Width::Eight => {
-            let word = Aligned8::from_part(bytes).in_case(case);
-            put(bytes, &word);
+            let word = Aligned8::from_ascii_bytes(bytes).in_case(case);
+            bytes.copy_from_slice(&word[..N]);
         }
         Width::Sixteen | Width::Many => words::change(bytes, case),
     }
@@ -170,22 +171,25 @@ pub fn change(bytes: &mut [u8], case: Case)
 
 /// The first `Q` bytes of the two texts joined.
 #[inline(always)]
-pub fn join<const Q: usize>(front: &[u8], back: &[u8]) -> [u8; Q]
-    requires front { IsPadded front.now }
-    requires back { IsPadded back.now }
+pub fn join<const N: usize, const M: usize, const Q: usize>(
+    front: &[u8; N],
+    back: &[u8; M],
+) -> [u8; Q]
+    requires front { IsPaddedText front.now N }
+    requires back { IsPaddedText back.now M }
     ensures padded { IsPaddedText result Q }
     ensures text { text_of result ≡ take Q (text_of front.now ++ text_of back.now) }
 {
-    let first = &front[..front.len().min(Q)];
-    let second = &back[..back.len().min(Q)];
+    let first = &front[..N.min(Q)];
+    let second = &back[..M.min(Q)];
     match width_of(Q) {
         Width::Four | Width::Eight => {
             let text = Aligned8::from_part(first).join(&Aligned8::from_part(second));
-            resize(&text.to_bytes())
+            cut(&text.to_bytes())
         }
         Width::Sixteen => {
             let text = Aligned16::from_part(first).join(&Aligned16::from_part(second));
-            resize(&text.to_bytes())
+            cut(&text.to_bytes())
         }
         Width::Many => copying::join(front, len(front), back),
     }

@@ -3,10 +3,10 @@
 ghost use Rattle.std.specs.Prelude.{◌≡◌, ◌++◌, length, take, drop};
 ghost use Rattle.tinystr_words.specs.Text.{IsPadded, IsPaddedText, pad, text_of};
 
-/// Copies the bytes that both have, eight at a time: where their number is known when the program is built, they go
-/// through registers, and a copy of all at once would keep the value in memory.
+// Copies the bytes that both have, eight at a time: where their number is known when the program is built, they go
+// through registers, and a copy of all at once would keep the value in memory.
 #[inline(always)]
-pub fn put(bytes: &mut [u8], src: &[u8])
+fn put(bytes: &mut [u8], src: &[u8])
     ensures { bytes.new ≡ take (length bytes.old) src.now ++ drop (length src.now) bytes.old }
 {
     let len = bytes.len().min(src.len());
@@ -30,23 +30,39 @@ pub fn resize<const M: usize>(bytes: &[u8]) -> [u8; M]
     resized
 }
 
+/// The first `M` bytes of a text, by one copy, which takes apart into the pieces in which a word's bytes were made.
+#[inline(always)]
+pub fn cut<const M: usize>(padded: &[u8]) -> [u8; M]
+    requires { IsPadded padded.now }
+    ensures padded { IsPaddedText result M }
+    ensures text { text_of result ≡ take M (text_of padded.now) }
+{
+    let mut bytes = [0; M];
+    append(&mut bytes[..], 0, padded);
+    bytes
+}
+
 /// The first `Q` bytes of the two texts joined.
 #[inline(always)]
-pub fn join<const Q: usize>(front: &[u8], front_len: usize, back: &[u8]) -> [u8; Q]
-    requires front { IsPadded front.now }
+pub fn join<const N: usize, const M: usize, const Q: usize>(
+    front: &[u8; N],
+    front_len: usize,
+    back: &[u8; M],
+) -> [u8; Q]
+    requires front { IsPaddedText front.now N }
     requires front_len { front_len ≡ length (text_of front.now) }
-    requires back { IsPadded back.now }
+    requires back { IsPaddedText back.now M }
     ensures padded { IsPaddedText result Q }
     ensures text { text_of result ≡ take Q (text_of front.now ++ text_of back.now) }
 {
-    if front.len() % 8 == 0 && front_len == front.len() {
+    if N % 8 == 0 && front_len == N {
         // both places are known when the program is built, so that no byte goes through memory
         let mut bytes = [0; Q];
-        put_both(&mut bytes[..], front, back);
+        put_both(&mut bytes[..], &front[..], &back[..]);
         return bytes;
     }
-    let mut bytes = resize::<Q>(front);
-    append(&mut bytes[..], front_len.min(Q), back);
+    let mut bytes = resize::<Q>(&front[..]);
+    append(&mut bytes[..], front_len.min(Q), &back[..]);
     bytes
 }
 

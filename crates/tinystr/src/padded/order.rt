@@ -1,11 +1,11 @@
 //! The order of bytes, eight at a time.
 
-ghost use Rattle.std.specs.Prelude.{◌≡◌, length};
+ghost use Rattle.std.specs.Prelude.{◌≡◌, ◌<◌, length};
 ghost use Rattle.std.specs.Cmp.Lexicographic.{slice_cmp};
 ghost use Rattle.std.specs.Ordering.{nat_cmp};
 ghost use Rattle.std.specs.Int.{from_be_bytes, w64};
+ghost use Rattle.tinystr_words.specs.Text.{pad};
 
-use crate::padded::copying::resize;
 use std::cmp::Ordering;
 
 /// The order of two lists of bytes that are equally long.
@@ -26,7 +26,7 @@ pub fn compare(left: &[u8], right: &[u8]) -> Ordering
         left_rest = left_more;
         right_rest = right_more;
     }
-    number(&resize::<8>(left_rest)).cmp(&number(&resize::<8>(right_rest)))
+    number(&pad_to_eight(left_rest)).cmp(&number(&pad_to_eight(right_rest)))
 }
 
 // The number that eight bytes spell, the greatest first.
@@ -36,4 +36,15 @@ fn number(bytes: &[u8; 8]) -> u64
 {
     // `from_be_bytes` would be eight loads
     u64::from_le_bytes(*bytes).swap_bytes()
+}
+
+// Fewer than eight bytes, and then NULs.
+#[inline(always)]
+fn pad_to_eight(bytes: &[u8]) -> [u8; 8]
+    requires { length bytes.now < 8 }
+    ensures { result ≡ pad bytes.now 8 }
+{
+    let mut word = [0; 8];
+    word[..bytes.len()].copy_from_slice(bytes);
+    word
 }

@@ -5,7 +5,6 @@ ghost use Rattle.tinystr_words.specs.Text.{IsPadded, text_of, pad};
 ghost use Rattle.tinystr_words.specs.Questions.{answer, in_case};
 ghost use Rattle.tinystr.specs.Padded.{IsFirstWord};
 
-use crate::padded::copying::put;
 use tinystr_words::int_ops::Aligned16;
 use tinystr_words::{Case, Question};
 
@@ -88,10 +87,11 @@ pub fn change(bytes: &mut [u8], case: Case)
     let mut applied = case;
     while bytes.len() - start >= 16 {
         let word = Aligned16::from_part(&bytes[start..start + 16]).in_case(applied);
-        put(&mut bytes[start..start + 16], &word);
+        bytes[start..start + 16].copy_from_slice(&word);
         start += 16;
         applied = case.of_later_words();
     }
+    let count = bytes.len() - start;
     let word = Aligned16::from_part(&bytes[start..]).in_case(applied);
-    put(&mut bytes[start..], &word);
+    bytes[start..].copy_from_slice(&word[..count]);
 }

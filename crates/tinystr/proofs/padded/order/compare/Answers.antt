@@ -29,4 +29,4 @@ pub returns : goal.returns
 returns c =
     let known = c.loop-left_rest.invariant in
     cmp_widened c.loop-left_rest.left_rest.now c.loop-left_rest.right_rest.now _ _ _ _ _ known.same_length (omega arith) known.left_bytes known.right_bytes
-    c.resize.ensures.bytes c.resize-2.ensures.bytes c.number-2.ensures c.number-3.ensures c.cmp.ensures ∙ known.order
+    c.pad_to_eight.ensures c.pad_to_eight-2.ensures c.number-2.ensures c.number-3.ensures c.cmp.ensures ∙ known.order
