@@ -89,7 +89,13 @@ pub fn check<const N: usize>(raw: [u8; N]) -> Option<[u8; N]>
             let _ = Aligned8::try_from_part(&raw[..])?;
             Some(raw)
         }
-        Width::Many => words::is_padded(&raw[..]).then_some(raw),
+        Width::Many => {
+            if words::is_padded(&raw[..]) {
+                Some(raw)
+            } else {
+                None
+            }
+        }
     }
 }
 

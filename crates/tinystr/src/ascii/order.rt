@@ -40,7 +40,7 @@ impl<const N: usize> Ord for TinyAsciiStr<N> {
     ghost matches_eq = { Prim.search (comparing, rules) };
 
     fn cmp(&self, other: &Self) -> Ordering {
-        padded::compare(&self.bytes, &other.bytes)
+        padded::compare(&self.bytes[..], &other.bytes[..])
     }
 }
 
