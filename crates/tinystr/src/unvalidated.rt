@@ -8,7 +8,6 @@ ghost use Rattle.tinystr.specs.Unvalidated.{debug_bytes};
 
 use crate::ascii::TinyAsciiStr;
 use crate::error::ParseError;
-use crate::padded::resize;
 use std::cmp::Ordering;
 use std::fmt;
 use std::marker::Model;
@@ -85,9 +84,9 @@ impl<const N: usize> UnvalidatedTinyAsciiStr<N> {
     {
         let len = bytes.len();
         if len <= N {
-            Ok(UnvalidatedTinyAsciiStr {
-                bytes: resize(bytes),
-            })
+            let mut padded = [0; N];
+            padded[..len].copy_from_slice(bytes);
+            Ok(UnvalidatedTinyAsciiStr { bytes: padded })
         } else {
             Err(ParseError::TooLong { max: N, len })
         }

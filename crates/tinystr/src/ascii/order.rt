@@ -1,8 +1,9 @@
 //! Equality and order of values, which are those of their texts.
 
 use crate::ascii::TinyAsciiStr;
-use crate::padded;
+use crate::comparing::order;
 use std::cmp::Ordering;
+use tinystr_words::int_ops::{Aligned4, Aligned8, Aligned16};
 
 impl<const N: usize> PartialEq for TinyAsciiStr<N> {
     ghost use Rattle.std.proofs.Common.{rules};
@@ -14,7 +15,17 @@ impl<const N: usize> PartialEq for TinyAsciiStr<N> {
     ghost laws = { Prim.search (comparing, rules) };
 
     fn eq(&self, other: &Self) -> bool {
-        padded::equals(&self.bytes, &other.bytes)
+        // Up to sixteen bytes the arrays' own `==` is a loop over bytes.
+        let (left, right) = (&self.bytes, &other.bytes);
+        if N <= 4 {
+            Aligned4::from_ascii_bytes(left).equals(&Aligned4::from_ascii_bytes(right))
+        } else if N <= 8 {
+            Aligned8::from_ascii_bytes(left).equals(&Aligned8::from_ascii_bytes(right))
+        } else if N <= 16 {
+            Aligned16::from_ascii_bytes(left).equals(&Aligned16::from_ascii_bytes(right))
+        } else {
+            left == right
+        }
     }
 }
 
@@ -40,7 +51,7 @@ impl<const N: usize> Ord for TinyAsciiStr<N> {
     ghost matches_eq = { Prim.search (comparing, rules) };
 
     fn cmp(&self, other: &Self) -> Ordering {
-        padded::compare(&self.bytes[..], &other.bytes[..])
+        order(&self.bytes[..], &other.bytes[..])
     }
 }
 
