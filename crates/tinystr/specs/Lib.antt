@@ -1,6 +1,6 @@
 pub mod Error
 pub mod Reading
-pub mod Cut
+pub mod Padded
 pub mod Unvalidated
 pub mod Forms
 pub mod Records

@@ -148,15 +148,15 @@ impl<const N: usize> UnvalidatedTinyAsciiStr<N> {
 fn find_byte_fault(input: &[u8], expected: usize) -> Option<BytesReadError>
     ensures { option_map byte_fault_of result ≡ byte_fault expected input.now }
 {
-    let mut is_after_null = false;
+    let mut is_after_nul = false;
     for byte in &input[..expected.min(input.len())] {
-        if is_after_null && *byte != 0 {
+        if is_after_nul && *byte != 0 {
             return Some(BytesReadError::Null);
         }
         if *byte > 127 {
             return Some(BytesReadError::NonAscii);
         }
-        is_after_null |= *byte == 0;
+        is_after_nul |= *byte == 0;
     }
     if input.len() < expected {
         return Some(BytesReadError::Length { expected });

@@ -3,16 +3,13 @@
 #![tactic(auto)]
 
 pub mod ascii;
-mod comparing;
-mod copying;
 pub mod error;
 pub mod forms;
 pub mod laws;
 pub mod macros;
-mod reading;
+mod padded;
 pub mod ule;
 pub mod unvalidated;
-mod words;
 
 pub use ascii::{TinyAsciiStr, TinyStr4, TinyStr8, TinyStr16};
 pub use error::ParseError;

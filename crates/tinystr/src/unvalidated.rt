@@ -8,6 +8,7 @@ ghost use Rattle.tinystr.specs.Unvalidated.{debug_bytes};
 
 use crate::ascii::TinyAsciiStr;
 use crate::error::ParseError;
+use crate::padded::resize;
 use std::cmp::Ordering;
 use std::fmt;
 use std::marker::Model;
@@ -84,9 +85,9 @@ impl<const N: usize> UnvalidatedTinyAsciiStr<N> {
     {
         let len = bytes.len();
         if len <= N {
-            let mut padded = [0; N];
-            padded[..len].copy_from_slice(bytes);
-            Ok(UnvalidatedTinyAsciiStr { bytes: padded })
+            Ok(UnvalidatedTinyAsciiStr {
+                bytes: resize(bytes),
+            })
         } else {
             Err(ParseError::TooLong { max: N, len })
         }

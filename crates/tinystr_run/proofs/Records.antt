@@ -7,7 +7,7 @@ use Rattle.tinystr_words.specs.Reading.{fault_in}
 use Rattle.tinystr_words.specs.Packed.{IsPacked, IsFirstBad, record_at}
 use Rattle.tinystr_words.proofs.Packing.{IsPacked-length, IsPacked-record}
 use Rattle.tinystr_words.proofs.Readers.{find_none, find_first}
-use Rattle.tinystr_words.proofs.TextTests.{is_padded_text-Decides}
+use Rattle.tinystr_words.proofs.TextsDecided.{is_padded_text-Decides}
 use Rattle.tinystr_run.specs.Reply.{bad_index_text, fault_text, first_bad_record, records_reply}
 
 -- the test of a record that is no padded text

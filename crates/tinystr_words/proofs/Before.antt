@@ -11,17 +11,21 @@ use Rattle.tinystr_words.specs.Text.{IsText, pad}
 use Rattle.tinystr_words.specs.Order.{IsBefore}
 use Rattle.tinystr_words.proofs.Order.{cmp-pad}
 
+-- a lesser number compares as less
 nat_less : (x y : ℕ) → x < y → nat_cmp x y ≡ Less
 nat_less x y h = sym (nat_cmp_is x y Less h)
 
+-- and a greater one as greater
 nat_greater : (x y : ℕ) → y < x → nat_cmp x y ≡ Greater
 nat_greater x y h = sym (nat_cmp_is x y Greater h)
 
 -- ---- one byte in front of each
 
+-- a list with the lesser first byte comes before the other
 before_first_less : (a b : ℕ) (t s : List ℕ) → a < b → IsBefore (a ∷ t) (b ∷ s)
 before_first_less a b t s h = inr (0, record { inside = omega arith; inside_other = omega arith; same = refl; lesser = h })
 
+-- the same byte in front of both keeps their order
 before_same_first : (a : ℕ) (t s : List ℕ) → IsBefore t s → IsBefore (a ∷ t) (a ∷ s)
 before_same_first a t s h = elim h [
   | inl front ↦ inl (omega (arith, front.0), ap (λ (l : List ℕ). a ∷ l) front.1)
@@ -36,6 +40,7 @@ before_first_le a b t s (inl front) = let e : b ∷ take (length t) s ≡ a ∷ 
 before_first_le a b t s (inr (zero, at)) = omega (arith, at.lesser)
 before_first_le a b t s (inr (suc i, at)) = let e : a ∷ take i t ≡ b ∷ take i s = at.same in let same : a ≡ b = cc in omega arith
 
+-- the rests are in the same order, if the first byte of the list that comes before isn't the lesser
 before_rest : (a b : ℕ) (t s : List ℕ) → IsBefore (a ∷ t) (b ∷ s) → b ≤ a → IsBefore t s
 before_rest a b t s (inl front) le = inl (omega (arith, front.0), (let e : b ∷ take (length t) s ≡ a ∷ t = front.1 in cc))
 before_rest a b t s (inr (zero, at)) le = let less : a < b = at.lesser in absurd (omega arith)
@@ -44,6 +49,7 @@ before_rest a b t s (inr (suc i, at)) le =
 
 -- ---- the comparison
 
+-- a list that compares as less comes before the other
 pub before_from_less : (t s : List ℕ) → slice_cmp nat_cmp t s ≡ Less → IsBefore t s
 before_from_less [] [] e = cc
 before_from_less [] (b ∷ s) e = inl (omega arith, refl)
@@ -60,6 +66,7 @@ before_from_less (a ∷ t) (b ∷ s) e =
       ]
     ]
 
+-- and one that comes before the other compares as less
 pub less_from_before : (t s : List ℕ) → IsBefore t s → slice_cmp nat_cmp t s ≡ Less
 less_from_before [] [] h = elim h [ inl front ↦ absurd (omega (arith, front.0)) | inr found ↦ absurd (omega (arith, found.1.inside)) ]
 less_from_before [] (b ∷ s) h = refl
@@ -72,11 +79,13 @@ less_from_before (a ∷ t) (b ∷ s) h =
           rw (same, tied_itself nat_cmp_total b) (less_from_before t s (before_rest a b t s h from))
     ]
 
+-- a list compares as less exactly if it comes before the other
 pub cmp_is_before : (t s : List ℕ) → (slice_cmp nat_cmp t s ≡ Less) ↔ IsBefore t s
 cmp_is_before t s = (before_from_less t s, less_from_before t s)
 
 -- ---- it is total
 
+-- lists that compare as equal are the same
 same_from_equal : (t s : List ℕ) → slice_cmp nat_cmp t s ≡ Equal → t ≡ s
 same_from_equal [] [] e = refl
 same_from_equal [] (b ∷ s) e = cc
@@ -93,9 +102,11 @@ same_from_equal (a ∷ t) (b ∷ s) e =
       ]
     ]
 
+-- lists compare as equal exactly if they are the same
 pub cmp_is_same : (t s : List ℕ) → (slice_cmp nat_cmp t s ≡ Equal) ↔ (t ≡ s)
 cmp_is_same t s = (same_from_equal t s, λ e. rw e (tied_itself nat_list_cmp_total s))
 
+-- two lists are the same, or one comes before the other
 pub before_or_same : (t s : List ℕ) → (t ≡ s) ⊎ (IsBefore t s ⊎ IsBefore s t)
 before_or_same t s = go (slice_cmp nat_cmp t s) refl
   where
@@ -104,12 +115,14 @@ before_or_same t s = go (slice_cmp nat_cmp t s) refl
     go Equal e = inl (same_from_equal t s e)
     go Greater e = inr (inr (before_from_less s t (nat_list_cmp_total.antisymm s t ∙ ap ordering_reverse e)))
 
+-- a list doesn't come before one that is the same
 pub before_not_same : (t s : List ℕ) → t ≡ s → IsBefore t s → ⊥
 before_not_same t s e h =
     let less = less_from_before t s h in
     let tied : slice_cmp nat_cmp t s ≡ Equal = rw e (tied_itself nat_list_cmp_total s) in
     cc
 
+-- two lists don't each come before the other
 pub before_one_way : (t s : List ℕ) → IsBefore t s → IsBefore s t → ⊥
 before_one_way t s h k =
     let less = less_from_before t s h in
@@ -119,6 +132,7 @@ before_one_way t s h k =
 
 -- ---- it is the same for padded texts
 
+-- a padded text comes before another exactly if its text comes before the other's
 pub before_padded : (t s : List ℕ) (n : ℕ) → IsText t → IsText s → length t ≤ n → length s ≤ n → IsBefore (pad t n) (pad s n) ↔ IsBefore t s
 before_padded t s n a b fits fits_other =
     let same = cmp-pad t s n a b fits fits_other in (

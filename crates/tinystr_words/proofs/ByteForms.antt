@@ -17,16 +17,19 @@ use Rattle.tinystr_words.proofs.Readers.{IsScanned, find_none, find_first, first
 abbrev has_fault : ℕ → List ℕ → ℕ → Bool
 has_fault n input i = is_some (byte_fault_at n input i)
 
+-- where no position below n has a fault, the bytes have none
 byte_fault-none : (n : ℕ) (input : List ℕ) → ((k : ℕ) → k < n → byte_fault_at n input k ≡ None) → byte_fault n input ≡ None
 unfolding byte_fault
 byte_fault-none n input none =
     rw (find_none (has_fault n input) 0 n (λ k from below. rw (none k (omega arith)) refl)) refl
 
+-- the fault at a position below n is that of the bytes, if no earlier position has one
 byte_fault-first : (n : ℕ) (input : List ℕ) (i : ℕ) (fault : ByteFault) → i < n → byte_fault_at n input i ≡ Some fault → ((k : ℕ) → k < i → byte_fault_at n input k ≡ None) → byte_fault n input ≡ Some fault
 unfolding byte_fault
 byte_fault-first n input i fault below here before =
     rw (find_first (has_fault n input) 0 n i (omega arith) (omega arith) (rw here refl) (λ k from earlier. rw (before k earlier) refl)) here
 
+-- where a search of some positions finds no fault, none of them has one
 none_from : (f : ℕ → Option ByteFault) (a n : ℕ) → option_and_then f (find (λ i. is_some (f i)) (range_with_len a n)) ≡ None → (k : ℕ) → a ≤ k → k < a + n → f k ≡ None
 none_from f a zero none k from inside = absurd (omega arith)
 none_from f a (suc n) none k from inside =
@@ -38,44 +41,54 @@ none_from f a (suc n) none k from inside =
       ]
     ] refl
 
+-- where the bytes have no fault, no position below n has one
 byte_fault-none_at : (n : ℕ) (input : List ℕ) → byte_fault n input ≡ None → (k : ℕ) → k < n → byte_fault_at n input k ≡ None
 unfolding byte_fault
 byte_fault-none_at n input none k below = none_from (byte_fault_at n input) 0 n none k (omega arith) (omega arith)
 
 -- ---- the tests at a position
 
+-- a position inside the bytes that isn't faulty has no fault
 at_clean : (n : ℕ) (input : List ℕ) (i : ℕ) → i < length input → is_faulty input i ≡ false → byte_fault_at n input i ≡ None
 at_clean n input i inside clean = grind (arith, nat_tests)
 
+-- and one with no fault is inside the bytes and isn't faulty
 clean_at : (n : ℕ) (input : List ℕ) (i : ℕ) → byte_fault_at n input i ≡ None → (i < length input) × (is_faulty input i ≡ false)
 clean_at n input i none = grind (arith, nat_tests)
 
 -- ---- the fault that a pass finds
 
+-- no position that a pass has left behind has a fault
 none_before : (n : ℕ) (input : List ℕ) (i : ℕ) (seen : Bool) → IsScanned input i seen → i ≤ length input → (k : ℕ) → k < i → byte_fault_at n input k ≡ None
 none_before n input i seen h inside k below = at_clean n input k (omega arith) (h.clean k below)
 
+-- a pass that comes to the end of the bytes before position n finds them too short
 pub byte_fault-short : (n : ℕ) (input : List ℕ) (i : ℕ) (seen : Bool) → IsScanned input i seen → i ≡ length input → i < n → byte_fault n input ≡ Some (too_short n)
 byte_fault-short n input i seen h end short =
     byte_fault-first n input i (too_short n) short (grind (arith, nat_tests)) (none_before n input i seen h (omega arith))
 
+-- one that comes to a byte above 0 after a NUL finds the fault of such a byte
 pub byte_fault-null : (n : ℕ) (input : List ℕ) (i : ℕ) (seen : Bool) → IsScanned input i seen → seen ≡ true → i < length input → i < n → 0 < get_or input i 0 → byte_fault n input ≡ Some null
 byte_fault-null n input i seen h after inside below some =
     byte_fault-first n input i null below (grind (arith, nat_tests)) (none_before n input i seen h (omega arith))
 
+-- one that comes to a byte above 127, with no NUL before it, finds the fault of such a byte
 pub byte_fault-high : (n : ℕ) (input : List ℕ) (i : ℕ) (seen : Bool) → IsScanned input i seen → seen ≡ false → i < length input → i < n → 127 < get_or input i 0 → byte_fault n input ≡ Some non_ascii
 byte_fault-high n input i seen h before inside below high =
     byte_fault-first n input i non_ascii below (grind (arith, nat_tests)) (none_before n input i seen h (omega arith))
 
+-- one that comes to position n finds no fault
 pub byte_fault-whole : (n : ℕ) (input : List ℕ) (i : ℕ) (seen : Bool) → IsScanned input i seen → i ≡ n → n ≤ length input → byte_fault n input ≡ None
 byte_fault-whole n input i seen h end enough =
     byte_fault-none n input (λ k below. none_before n input i seen h (omega arith) k (omega arith))
 
 -- ---- bytes with no fault begin with a padded text
 
+-- a position below n is faulty in the first n bytes exactly if it is in the whole list
 is_faulty-take : (n : ℕ) (input : List ℕ) (k : ℕ) → k < n → is_faulty (take n input) k ≡ is_faulty input k
 is_faulty-take n input k below = rw (get_or-take n input k 0 below, take-take k n input (omega arith)) refl
 
+-- bytes with no fault are at least n
 pub enough_from : (n : ℕ) (input : List ℕ) → byte_fault n input ≡ None → n ≤ length input
 enough_from n input none =
     elim (cases_lt (length input) n) [
@@ -83,6 +96,7 @@ enough_from n input none =
       | inr enough ↦ enough
     ]
 
+-- and the first n of them are a padded text
 pub IsPaddedText-read : (n : ℕ) (input : List ℕ) → byte_fault n input ≡ None → IsPaddedText (take n input) n
 IsPaddedText-read n input none =
     let long = length-take-le n input (enough_from n input none) in
@@ -90,6 +104,7 @@ IsPaddedText-read n input none =
     (first_fault-clean (take n input) (λ k inside.
     is_faulty-take n input k (omega arith) ∙ (clean_at n input k (byte_fault-none_at n input none k (omega arith))).1))
 
+-- bytes whose first n are a padded text have no fault
 pub byte_fault-first_padded : (n : ℕ) (input : List ℕ) → n ≤ length input → IsPaddedText (take n input) n → byte_fault n input ≡ None
 byte_fault-first_padded n input enough padded =
     let long = length-take-le n input enough in
@@ -97,6 +112,7 @@ byte_fault-first_padded n input enough padded =
     at_clean n input k (omega arith)
     (sym (is_faulty-take n input k below) ∙ clean_from (take n input) (first_fault-padded (take n input) n padded) k (omega arith)))
 
+-- nor has a text that is padded to n bytes, whatever stands behind it
 pub byte_fault-padded : (t rest : List ℕ) (n : ℕ) → IsStrictText t n → byte_fault n (pad t n ++ rest) ≡ None
 byte_fault-padded t rest n h =
     let long = length-pad t n h.fits in

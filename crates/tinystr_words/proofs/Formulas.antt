@@ -8,13 +8,13 @@ use Rattle.std.proofs.lemmas.List.Elements.{All-head, All-tail}
 use Rattle.tinystr_words.specs.Text.{IsTextByte, IsText, pad}
 use Rattle.tinystr_words.specs.Classes.{ask}
 use Rattle.tinystr_words.specs.Case.{lower, raise}
-use Rattle.tinystr_words.specs.Words.{word, led}
+use Rattle.tinystr_words.specs.Words.{word, first_then}
 use Rattle.tinystr_words.specs.Questions.{first_class, later_class, answer, in_case}
 use Rattle.tinystr_words.specs.declared.question.Question.{Question}
 use Rattle.tinystr_words.specs.declared.question.Case.{Case}
 use Rattle.tinystr_words.specs.declared.question.Case.TheVariants.{Lower, Title, Upper}
 use Rattle.tinystr_words.proofs.Texts.{NULS, length-pad}
-use Rattle.tinystr_words.proofs.Parts.{first_change, later_change, length-in_case}
+use Rattle.tinystr_words.proofs.AnswersByParts.{first_change, later_change, length-in_case}
 use Rattle.tinystr_words.proofs.Lanes.{both_true, everywhere, everywhere_is, Ascii, lanes, lanes_zip2, plus_step, and_step, or_step, word_not, word_quarter, same_words, holds}
 
 -- a formula over a word, as `(w + u(0x50)) & H` is `both (plus itself (each 0x50)) (each 0x80)`
@@ -43,7 +43,7 @@ at (quarter f) i b = at f i b / 4
 -- of a word of n lanes
 abbrev pub on : Formula → ℕ → ℕ → ℕ
 on itself n w = w
-on (lead a c) n w = word (led n a c)
+on (lead a c) n w = word (first_then n a c)
 on (plus f g) n w = on f n w + on g n w
 on (both f g) n w = bit_and (on f n w) (on g n w)
 on (either f g) n w = bit_or (on f n w) (on g n w)
@@ -63,9 +63,11 @@ is_safe (quarter f) i b = is_safe f i b && nat_eq (at f i b % 4) 0
 abbrev pub IsSafe : Formula → Type 0
 IsSafe f = (i : Bool) (b : ℕ) → b < 128 → is_safe f i b ≡ true
 
+-- numbers that the test finds equal are equal
 eqb_is : (x y : ℕ) → nat_eq x y ≡ true → x ≡ y
 eqb_is x y h = grind (arith, nat_tests)
 
+-- a formula that is safe at an ASCII byte makes a byte of it
 pub safe_byte : (f : Formula) (i : Bool) (b : ℕ) → b < 128 → is_safe f i b ≡ true → at f i b < 256
 safe_byte itself i b l h = omega arith
 safe_byte (lead a c) i b l h = ltb-true _ _ h
@@ -75,21 +77,25 @@ safe_byte (either f g) i b l h = or_lt 8 _ _ (safe_byte f i b l (both_true (is_s
 safe_byte (flip f) i b l h = omega arith
 safe_byte (quarter f) i b l h = let e = safe_byte f i b l (both_true (is_safe f i b) _ h).0 in omega arith
 
+-- a word with each lane left alone is the word
 word_itself : (i : Bool) (l : List ℕ) → word l ≡ word (lanes (λ i b. b) i l)
 word_itself i [] = refl
 word_itself i (b ∷ l) = ap (λ n. b + 256 * n) (word_itself false l)
 
+-- copies of a byte are later lanes, each changed to that byte
 tail_each : (a c : ℕ) (l : List ℕ) → replicate (length l) c ≡ lanes (λ i _. cond i a c) false l
 tail_each a c [] = refl
 tail_each a c (b ∷ l) = ap (λ m. c ∷ m) (tail_each a c l)
 
-lanes_led : (a c : ℕ) (l : List ℕ) → led (length l) a c ≡ lanes (λ i _. cond i a c) true l
-lanes_led a c [] = refl
-lanes_led a c (b ∷ l) = ap (λ m. a ∷ m) (tail_each a c l)
+-- a byte and then copies of another are lanes, the first changed to the one and the later ones to the other
+lanes-first_then : (a c : ℕ) (l : List ℕ) → first_then (length l) a c ≡ lanes (λ i _. cond i a c) true l
+lanes-first_then a c [] = refl
+lanes-first_then a c (b ∷ l) = ap (λ m. a ∷ m) (tail_each a c l)
 
+-- a safe formula over a word of ASCII bytes does to each lane what it does to a lane alone
 pub lanewise : (f : Formula) (l : List ℕ) → Ascii l → IsSafe f → on f (length l) (word l) ≡ word (lanes (at f) true l)
 lanewise itself l a s = word_itself true l
-lanewise (lead x c) l a s = ap word (lanes_led x c l)
+lanewise (lead x c) l a s = ap word (lanes-first_then x c l)
 lanewise (plus f g) l a s =
     let p = λ (i : Bool) (b : ℕ) (h : b < 128). (both_true (is_safe f i b) _ (s i b h)).0 in
     let q = λ (i : Bool) (b : ℕ) (h : b < 128). (both_true (is_safe g i b) _ (both_true (is_safe f i b) _ (s i b h)).1).0 in
@@ -111,40 +117,49 @@ lanewise (quarter f) l a s =
 
 -- ---- what is known of each ASCII byte is known of each lane of a padded text
 
+-- NULs pass a test that lets NUL pass
 holds_nuls : (P Q : Bool → ℕ → Bool) → ((i : Bool) (b : ℕ) → b < 128 → P i b ≡ (nat_eq b 0 || Q i b)) → (i : Bool) (k : ℕ) → holds P i (NULS k) ≡ true
 holds_nuls P Q same i zero = refl
 holds_nuls P Q same i (suc k) = rw (same i 0 (lit< tt)) (holds_nuls P Q same false k)
 
+-- of a byte that is no NUL, a test that also lets NUL pass says what the test alone says
 not_zero : (b : ℕ) (r : Bool) → 1 ≤ b → (nat_eq b 0 || r) ≡ r
 not_zero b r h = grind (arith, nat_tests)
 
+-- of a text and then NULs, a test that also lets NUL pass says what the test alone says of the text
 pub holds_pad : (P Q : Bool → ℕ → Bool) → ((i : Bool) (b : ℕ) → b < 128 → P i b ≡ (nat_eq b 0 || Q i b)) → (i : Bool) (t : List ℕ) (k : ℕ) → IsText t → holds P i (t ++ NULS k) ≡ holds Q i t
 holds_pad P Q same i [] k x = holds_nuls P Q same i k
 holds_pad P Q same i (b ∷ t) k x =
     let h = All-head (IsTextByte) b t x in
     ap₂ (λ m n. m && n) (same i b (omega arith) ∙ not_zero b (Q i b) h.0) (holds_pad P Q same false t k (All-tail (IsTextByte) b t x))
 
+-- a change that keeps NUL keeps NULs
 lanes_nuls : (F G : Bool → ℕ → ℕ) → ((i : Bool) (b : ℕ) → b < 128 → F i b ≡ cond (nat_eq b 0) 0 (G i b)) → (i : Bool) (k : ℕ) → lanes F i (NULS k) ≡ NULS k
 lanes_nuls F G same i zero = refl
 lanes_nuls F G same i (suc k) = ap₂ (λ x xs. x ∷ xs) (same i 0 (lit< tt)) (lanes_nuls F G same false k)
 
+-- a byte that is no NUL is changed as if the change didn't keep NUL
 not_zero_lane : (b r : ℕ) → 1 ≤ b → cond (nat_eq b 0) 0 r ≡ r
 not_zero_lane b r h = grind (arith, nat_tests)
 
+-- a change that keeps NUL, of a text and then NULs, is the change of the text and then NULs
 pub lanes_pad : (F G : Bool → ℕ → ℕ) → ((i : Bool) (b : ℕ) → b < 128 → F i b ≡ cond (nat_eq b 0) 0 (G i b)) → (i : Bool) (t : List ℕ) (k : ℕ) → IsText t → lanes F i (t ++ NULS k) ≡ lanes G i t ++ NULS k
 lanes_pad F G same i [] k x = lanes_nuls F G same i k
 lanes_pad F G same i (b ∷ t) k x =
     let h = All-head (IsTextByte) b t x in
     ap₂ (λ x xs. x ∷ xs) (same i b (omega arith) ∙ not_zero_lane b (G i b) h.0) (lanes_pad F G same false t k (All-tail (IsTextByte) b t x))
 
+-- NULs are ASCII bytes
 ascii_nuls : (k : ℕ) → Ascii (NULS k)
 ascii_nuls zero = tt
 ascii_nuls (suc k) = (lit< tt, ascii_nuls k)
 
+-- so are a text and then NULs
 pub ascii_padded : (t : List ℕ) (k : ℕ) → IsText t → Ascii (t ++ NULS k)
 ascii_padded [] k x = ascii_nuls k
 ascii_padded (b ∷ t) k x = let h = All-head (IsTextByte) b t x in (omega arith, ascii_padded t k (All-tail (IsTextByte) b t x))
 
+-- and so are the bytes of a padded text
 pub ascii_pad : (t : List ℕ) (n : ℕ) → IsText t → Ascii (pad t n)
 ascii_pad t n x = ascii_padded t (n - length t) x
 
@@ -153,18 +168,22 @@ ascii_pad t n x = ascii_padded t (n - length t) x
 abbrev pub pick : {A : Type 0} → (ℕ → A) → (ℕ → A) → Bool → ℕ → A
 pick first others i b = cond i (first b) (others b)
 
+-- later lanes pass a test of two classes exactly if each byte is in the later class
 ask_holds : (first others : ℕ → Bool) (t : List ℕ) → holds (pick first others) false t ≡ list_all others t
 ask_holds first others [] = refl
 ask_holds first others (b ∷ t) = ap (λ r. others b && r) (ask_holds first others t)
 
+-- lanes pass a test of two classes exactly if the first byte is in the first and each later one in the other
 ask_is : (first others : ℕ → Bool) (t : List ℕ) → holds (pick first others) true t ≡ ask first others t
 ask_is first others [] = refl
 ask_is first others (b ∷ t) = ap (λ r. first b && r) (ask_holds first others t)
 
+-- later lanes are all changed as later bytes are
 change_lanes : (first others : ℕ → ℕ) (t : List ℕ) → lanes (pick first others) false t ≡ map others t
 change_lanes first others [] = refl
 change_lanes first others (b ∷ t) = ap (λ r. others b ∷ r) (change_lanes first others t)
 
+-- the lanes of a text, each changed as a case does, are the text in that case
 change_is : (c : Case) (t : List ℕ) → lanes (pick (first_change c) (later_change c)) true t ≡ in_case c t
 change_is Lower [] = refl
 change_is Lower (b ∷ t) = ap (λ r. lower b ∷ r) (change_lanes lower lower t)
@@ -177,6 +196,7 @@ abbrev pub same : Bool → Bool → Bool
 same true q = q
 same false q = cond q false true
 
+-- answers that the test finds the same are equal
 same_is : (p q : Bool) → same p q ≡ true → p ≡ q
 same_is true true h = refl
 same_is true false h = cc
@@ -191,10 +211,12 @@ Asks f g q = everywhere (λ i b. is_safe f i b && (is_safe g i b && same (nat_eq
 abbrev pub Changes : Formula → Case → Type 0
 Changes f c = everywhere (λ i b. is_safe f i b && nat_eq (at f i b) (cond (nat_eq b 0) 0 (pick (first_change c) (later_change c) i b))) ≡ true
 
+-- a safe formula over the word of a padded text does to each lane what it does to a lane alone
 pub on_pad : (f : Formula) → IsSafe f → (n : ℕ) (t : List ℕ) → IsText t → length t ≤ n → on f n (word (pad t n)) ≡ word (lanes (at f) true (pad t n))
 on_pad f s n t x le =
     subst (λ m. on f m (word (pad t n)) ≡ word (lanes (at f) true (pad t n))) (length-pad t n le) (lanewise f (pad t n) (ascii_pad t n x) s)
 
+-- two formulas that ask a question are equal on the word of a padded text exactly if the answer for the text is yes
 pub question : (f g : Formula) (q : Question) → Asks f g q → (n : ℕ) (t : List ℕ) → IsText t → length t ≤ n → nat_eq (on f n (word (pad t n))) (on g n (word (pad t n))) ≡ answer q t
 question f g q h n t x le =
     let each = everywhere_is _ h in
@@ -207,12 +229,13 @@ question f g q h n t x le =
     (same_words (at f) (at g) (λ i b l. safe_byte f i b l (p i b l)) (λ i b l. safe_byte g i b l (r i b l)) true (pad t n) (ascii_pad t n x)
     ∙ holds_pad _ test agree true t (n - length t) x ∙ ask_is (first_class q) (later_class q) t)
 
+-- a formula that changes bytes as a case does is safe
 pub changes_safe : (f : Formula) (c : Case) → Changes f c → IsSafe f
 changes_safe f c h i b l = (both_true (is_safe f i b) _ (everywhere_is _ h i b l)).0
 
 -- the lanes of a padded text, each changed by f, are those of the changed text
-pub changed : (f : Formula) (c : Case) → Changes f c → (n : ℕ) (t : List ℕ) → IsText t → length t ≤ n → lanes (at f) true (pad t n) ≡ pad (in_case c t) n
-changed f c h n t x le =
+pub lanes-change : (f : Formula) (c : Case) → Changes f c → (n : ℕ) (t : List ℕ) → IsText t → length t ≤ n → lanes (at f) true (pad t n) ≡ pad (in_case c t) n
+lanes-change f c h n t x le =
     let change = pick (first_change c) (later_change c) in
     let agree : (i : Bool) (b : ℕ) → b < 128 → at f i b ≡ cond (nat_eq b 0) 0 (change i b) = λ i b l. eqb_is _ _ (both_true (is_safe f i b) _ (everywhere_is _ h i b l)).1 in
     rw (length-in_case c t) (lanes_pad (at f) change agree true t (n - length t) x ∙ ap (λ l. l ++ NULS (n - length t)) (change_is c t))

@@ -1,5 +1,5 @@
 -- A word whose text is followed by that of another.
-use Rattle.std.proofs.Common.{ℕ, ◌+◌, ◌-◌, ◌*◌, ◌/◌, ◌%◌, ◌^◌, ◌<◌, ◌≤◌, ◌≡◌, List, [], ◌∷◌, ◌++◌, length, take, drop, sym, ap, ap₂, ◌∙◌, arith, lit<, inl, inr}
+use Rattle.std.proofs.Common.{ℕ, ◌+◌, ◌-◌, ◌*◌, ◌/◌, ◌%◌, ◌^◌, ◌<◌, ◌≤◌, ◌≡◌, List, ◌++◌, length, take, drop, sym, ap, ap₂, ◌∙◌, arith, lit<, inl, inr}
 use Rattle.std.proofs.Math.Nat.{mul_comm, pow-le-pow_right, mul-mod_left, mod-eq_of_lt, add-mul-mod_self_left}
 use Rattle.std.proofs.Math.Arith.{mod-mul}
 use Rattle.std.proofs.Math.Seq.{take-append_seam, drop-append_seam}
@@ -8,17 +8,19 @@ use Rattle.std.proofs.lemmas.Bool.{cases_lt}
 use Rattle.std.proofs.lemmas.List.{take_all, length-take, length-append}
 use Rattle.std.proofs.lemmas.List.Elements.{All-append, All-take}
 use Rattle.tinystr_words.specs.Text.{IsText, IsTextByte}
-use Rattle.tinystr_words.specs.Words.{word, held, HoldsText}
+use Rattle.tinystr_words.specs.Words.{word, text_in, HoldsText}
 use Rattle.tinystr_words.proofs.Texts.{take-joined}
-use Rattle.tinystr_words.proofs.WordBytes.{word_nuls, pow_256-pos}
+use Rattle.tinystr_words.proofs.WordAsNumber.{word_nuls, pow_256-pos}
 use Rattle.tinystr_words.proofs.Lanes.{IsBytes, IsBytes-text, word-lt}
-use Rattle.tinystr_words.proofs.PaddedWords.{IsBytes-take, word_split}
-use Rattle.tinystr_words.proofs.WordTexts.{text_word, holds_text}
+use Rattle.tinystr_words.proofs.WordFromParts.{IsBytes-take, word_split}
+use Rattle.tinystr_words.proofs.TextInWord.{text_in-word, HoldsText-word}
 
+-- the word of two lists joined: that of the second stands above that of the first
 word-append : (t s : List ℕ) → word (t ++ s) ≡ word t + 256 ^ length t * word s
 word-append t s =
     rw (take-append_seam t s, drop-append_seam t s) at (word_split (length t) (t ++ s) (omega (arith, length-append t s)))
 
+-- a word of at most n bytes is below 256 ^ n
 word_lt-pow : (s : List ℕ) (n : ℕ) → IsBytes s → length s ≤ n → word s < 256 ^ n
 word_lt-pow s n h le = let k : 256 ^ length s ≤ 256 ^ n = pow-le-pow_right {n = 256} (lit< tt) le in omega (arith, word-lt s h)
 
@@ -40,11 +42,12 @@ behind s len n h le =
     let none = mul-mod_left (word s) (256 ^ len) in
     rw k (mod-mul (word s * 256 ^ len) (pow_256-pos (n - len)) one ∙ rw (up, none, word-mod s (n - len) h) (omega (arith, mul_comm (256 ^ len) (word (take (n - len) s)))))
 
-pub joined : {n w v : ℕ} → HoldsText n w → HoldsText n v → (len : ℕ) → len ≡ length (held n w)
-    → let both = w + v * 256 ^ len % 256 ^ n in let t = take n (held n w ++ held n v) in (both < 256 ^ n) × HoldsText n both × (held n both ≡ t)
-joined {n} {w} {v} p q len is =
-    let t = held n w in
-    let s = held n v in
+-- two words joined hold the two texts joined, or their first n bytes where there are more
+pub join_is : {n w v : ℕ} → HoldsText n w → HoldsText n v → (len : ℕ) → len ≡ length (text_in n w)
+    → let both = w + v * 256 ^ len % 256 ^ n in let t = take n (text_in n w ++ text_in n v) in (both < 256 ^ n) × HoldsText n both × (text_in n both ≡ t)
+join_is {n} {w} {v} p q len is =
+    let t = text_in n w in
+    let s = text_in n v in
     let both : List ℕ = take n (t ++ s) in
     let text : IsText both = All-take IsTextByte n (t ++ s) (All-append IsTextByte t s p.text q.text) in
     let fits : length both ≤ n = omega (arith, length-take n (t ++ s)) in
@@ -53,4 +56,4 @@ joined {n} {w} {v} p q len is =
     ap₂ (λ (x y : ℕ). x + y * 256 ^ len % 256 ^ n) (p.padded ∙ word_nuls t (n - length t)) (q.padded ∙ word_nuls s (n - length s))
     ∙ ap (λ m. word t + m) (behind s len n (IsBytes-text s q.text) (omega (arith, is, p.fits)))
     ∙ sym (ap word cut ∙ word-append t (take (n - len) s) ∙ ap (λ m. word t + 256 ^ m * word (take (n - len) s)) (sym is)) in
-    rw sum (word_lt-pow both n (IsBytes-text both text) fits, holds_text n both text fits, text_word n both text fits)
+    rw sum (word_lt-pow both n (IsBytes-text both text) fits, HoldsText-word n both text fits, text_in-word n both text fits)

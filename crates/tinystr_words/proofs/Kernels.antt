@@ -26,13 +26,13 @@ case_bits first others = quarter (both (flip (outside itself first others)) (eac
 abbrev pub present : Formula
 present = both (plus itself (each 0x7f)) (each 0x80)
 
-abbrev pub folded : Formula
-folded = either itself (each 0x20)
+abbrev pub with_case_bits : Formula
+with_case_bits = either itself (each 0x20)
 
 -- what a question compares
 abbrev pub kernel : Question → Formula
-kernel Alphabetic = both (outside folded LOWER LOWER) present
-kernel Alphanumeric = both (both (outside folded LOWER LOWER) (outside itself DIGIT DIGIT)) present
+kernel Alphabetic = both (outside with_case_bits LOWER LOWER) present
+kernel Alphanumeric = both (both (outside with_case_bits LOWER LOWER) (outside itself DIGIT DIGIT)) present
 kernel Numeric = both (outside itself DIGIT DIGIT) present
 kernel Lowercase = both (outside itself UPPER UPPER) (each 0x80)
 kernel Titlecase = both (outside itself LOWER UPPER) (each 0x80)
@@ -42,13 +42,14 @@ kernel AlphabeticTitlecase = both (outside itself UPPER LOWER) present
 kernel AlphabeticUppercase = both (outside itself UPPER UPPER) present
 
 -- and what it compares that with
-abbrev pub passed : Question → Formula
-passed Lowercase = each 0x80
-passed Titlecase = each 0x80
-passed Uppercase = each 0x80
-passed q = each 0
+abbrev pub pass_marks : Question → Formula
+pass_marks Lowercase = each 0x80
+pass_marks Titlecase = each 0x80
+pass_marks Uppercase = each 0x80
+pass_marks q = each 0
 
-pub kernel_asks : (q : Question) → Asks (kernel q) (passed q) q
+-- at each byte, what a question compares is equal exactly if the byte is NUL or in the question's class
+pub kernel_asks : (q : Question) → Asks (kernel q) (pass_marks q) q
 unfolding everywhere
 kernel_asks Alphabetic = refl
 kernel_asks Alphanumeric = refl
@@ -66,16 +67,19 @@ change Lower = either itself (case_bits UPPER UPPER)
 change Title = both (either itself (case_bits LOWER UPPER)) (flip (both (lead 0x20 0) (case_bits LOWER UPPER)))
 change Upper = both itself (flip (case_bits LOWER LOWER))
 
+-- at each byte, the formula of a case keeps NUL and changes another as the case does
 pub change_changes : (c : Case) → Changes (change c) c
 unfolding everywhere
 change_changes Lower = refl
 change_changes Title = refl
 change_changes Upper = refl
 
-pub folded_safe : everywhere (is_safe folded) ≡ true
+-- with the case bit set, each lane stays a byte
+pub with_case_bits_safe : everywhere (is_safe with_case_bits) ≡ true
 unfolding everywhere
-folded_safe = refl
+with_case_bits_safe = refl
 
-pub folded_ascii : everywhere (λ i b. nat_lt (at folded i b) 128) ≡ true
+-- and stays below 128
+pub with_case_bits_ascii : everywhere (λ i b. nat_lt (at with_case_bits i b) 128) ≡ true
 unfolding everywhere
-folded_ascii = refl
+with_case_bits_ascii = refl

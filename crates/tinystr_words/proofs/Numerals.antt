@@ -15,11 +15,13 @@ use Rattle.tinystr_words.specs.Decimal.{number_of, IsDecimalOf, last}
 abbrev IsDigit : ℕ → Type 0
 IsDigit d = IsInRange 48 57 d
 
+-- digits and the number that they spell are a model of std's numerals
 model : IsNumeralModel (All IsDigit) number_of
 model = numerals_by_weight (All IsDigit)
     (record { empty = All-nil IsDigit; parts = λ c cs p. (All-head IsDigit c cs p, All-tail IsDigit c cs p); more = λ c cs k p. All-cons IsDigit c cs k p })
     number_of (record { empty = refl; more = λ c cs k. refl })
 
+-- a decimal text that begins with `0` has one digit
 no_leading_zero : (n : ℕ) → n < 2 ^ 64 → get_or (decimal n) 0 0 ≡ 48 → length (decimal n) ≡ 1
 no_leading_zero n fits zero_first =
     elim (cases_lt 0 n) [
@@ -27,6 +29,7 @@ no_leading_zero n fits zero_first =
       | inr none ↦ (let zero_is : n ≡ 0 = omega arith in rw (zero_is, decimal_digit 0 (omega arith)) refl)
     ]
 
+-- std's `decimal` of a number is a decimal text of it
 pub IsDecimalOf-decimal : (n : ℕ) → n < 2 ^ 64 → IsDecimalOf n (decimal n)
 IsDecimalOf-decimal n fits = record {
   some = decimal_nonempty n fits;
@@ -35,15 +38,18 @@ IsDecimalOf-decimal n fits = record {
   shortest = no_leading_zero n fits;
 }
 
+-- and the only one
 pub IsDecimalOf-only : (n : ℕ) (ds : List ℕ) → n < 2 ^ 64 → IsDecimalOf n ds → ds ≡ decimal n
 IsDecimalOf-only n ds fits h =
     sym (decimal-digits_value model ds h.digits h.some h.shortest (omega (arith, h.value))) ∙ ap decimal h.value
 
+-- a number of 32 bits has at most ten digits
 pub length-decimal-le_ten : (n : ℕ) → n ≤ 4294967295 → length (decimal n) ≤ 10
 length-decimal-le_ten n fits = length-decimal-le 10 n (omega arith) (omega arith) (omega arith)
 
 -- ---- the last digits of a number that has more
 
+-- a power of ten is positive
 pow_10-pos : (k : ℕ) → 0 < 10 ^ k
 pow_10-pos zero = lit< tt
 pow_10-pos (suc k) = omega (arith, pow-suc 10 k, pow_10-pos k)
@@ -85,6 +91,7 @@ last_digits (suc k) n fits more =
           ∙ ap (λ (l : List ℕ). l ++ (48 + n % 10) ∷ []) before.1 ∙ sym kept,
     )
 
+-- a number of more than k digits is at least 10 ^ k
 pub ten_to_fewer : (k n : ℕ) → n < 2 ^ 32 → k < length (decimal n) → 0 < k → 10 ^ k ≤ n
 ten_to_fewer k n fits more some =
     elim (cases_lt n (10 ^ k)) [
@@ -92,6 +99,7 @@ ten_to_fewer k n fits more some =
       | inr from ↦ from
     ]
 
+-- where a number of 32 bits has more than k digits, 10 ^ k is at most 10 ^ 9, and positive
 pub ten_to_nine : (k n : ℕ) → n < 2 ^ 32 → k < length (decimal n) → (10 ^ k ≤ 10 ^ 9) × (0 < 10 ^ k)
 ten_to_nine k n fits more =
     let ten : length (decimal n) ≤ 10 = length-decimal-le_ten n (omega arith) in

@@ -9,6 +9,7 @@ use Rattle.std.proofs.lemmas.List.Elements.{All-head, All-tail}
 use Rattle.tinystr_words.proofs.Texts.{NULS, length-text_of-le}
 use Rattle.tinystr_words.specs.Text.{IsText, IsTextByte, pad, text_of, IsPaddedText}
 
+-- NULs are equal to as many others
 cmp-nuls : (k m : ℕ) → k ≡ m → slice_cmp nat_cmp (NULS k) (NULS m) ≡ Equal
 cmp-nuls k m e = rw e (tied_itself nat_list_cmp_total (NULS m))
 
@@ -16,9 +17,11 @@ cmp-nuls k m e = rw e (tied_itself nat_list_cmp_total (NULS m))
 cmp-nul_char : (y : ℕ) → 0 < y → nat_cmp 0 y ≡ Less
 cmp-nul_char y h = grind (arith, nat_tests)
 
+-- compared with a NUL, a character is the greater
 cmp-char_nul : (x : ℕ) → 0 < x → nat_cmp x 0 ≡ Greater
 cmp-char_nul x h = grind (arith, nat_tests)
 
+-- texts with NULs behind them, up to one length, are in the order of the texts
 cmp-padded : (t s : List ℕ) (k m : ℕ) → IsText t → IsText s → length t + k ≡ length s + m → slice_cmp nat_cmp (t ++ NULS k) (s ++ NULS m) ≡ slice_cmp nat_cmp t s
 cmp-padded [] [] k m a b e = cmp-nuls k m (omega arith)
 cmp-padded [] (y ∷ s) zero m a b e = absurd (omega arith)
@@ -28,6 +31,7 @@ cmp-padded (x ∷ t) [] k (suc m) a b e = rw (cmp-char_nul x (All-head IsTextByt
 cmp-padded (x ∷ t) (y ∷ s) k m a b e =
     ap (λ o. ordering_then (nat_cmp x y) o) (cmp-padded t s k m (All-tail IsTextByte x t a) (All-tail IsTextByte y s b) (omega arith))
 
+-- two texts padded to one length keep their order
 pub cmp-pad : (t s : List ℕ) (n : ℕ) → IsText t → IsText s → length t ≤ n → length s ≤ n → slice_cmp nat_cmp (pad t n) (pad s n) ≡ slice_cmp nat_cmp t s
 cmp-pad t s n a b fits fits_other = cmp-padded t s (n - length t) (n - length s) a b (omega arith)
 

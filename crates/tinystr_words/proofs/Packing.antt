@@ -17,12 +17,14 @@ padded n t = pad t n
 abbrev AllStrict : ℕ → List (List ℕ) → Type 0
 AllStrict n ts = All (λ t. IsStrictText t n) ts
 
+-- texts that are padded to n bytes and joined have n bytes for each
 length-joined : (n : ℕ) (ts : List (List ℕ)) → AllStrict n ts → length (flat_map (padded n) ts) ≡ length ts * n
 length-joined n [] h = sym (zero-mul n)
 length-joined n (t ∷ ts) h =
     let strict = All-head (λ t. IsStrictText t n) t ts h in
     omega (arith, length-append (pad t n) (flat_map (padded n) ts), length-pad t n strict.fits, length-joined n ts (All-tail (λ t. IsStrictText t n) t ts h), suc-mul (length ts) n)
 
+-- each record of padded texts joined is a padded text
 record_at-joined : (n : ℕ) (ts : List (List ℕ)) (i : ℕ) → AllStrict n ts → i < length ts → IsPaddedText (record_at n (flat_map (padded n) ts) i) n
 record_at-joined n [] i h below = absurd (omega arith)
 record_at-joined n (t ∷ ts) zero h below =
@@ -33,6 +35,7 @@ record_at-joined n (t ∷ ts) (suc i) h below =
     let past : suc i * n ≡ length (pad t n) + i * n = omega (arith, suc-mul i n, length-pad t n strict.fits) in
     rw (past, drop-append-add (pad t n) (flat_map (padded n) ts) (i * n)) (record_at-joined n ts i (All-tail (λ t. IsStrictText t n) t ts h) (omega arith))
 
+-- the lesser product has the lesser factor
 below_times : (i k n : ℕ) → i * n < k * n → i < k
 below_times i k n h = grind arith
 
@@ -40,6 +43,7 @@ below_times i k n h = grind arith
 pub IsPacked-length : (bytes : List ℕ) (n : ℕ) → IsPacked bytes n → length bytes % n ≡ 0
 IsPacked-length bytes n h = rw (h.joined, length-joined n h.texts h.each) (mul-mod_left (length h.texts) n)
 
+-- each record of a packed list is a padded text
 pub IsPacked-record : (bytes : List ℕ) (n i : ℕ) → IsPacked bytes n → i * n < length bytes → IsPaddedText (record_at n bytes i) n
 IsPacked-record bytes n i h inside =
     let long : length bytes ≡ length h.texts * n = rw h.joined (length-joined n h.texts h.each) in
@@ -68,6 +72,7 @@ pub record IsChecked (bytes : List ℕ) (n i : ℕ) (rest : List ℕ) : Type 0 w
   pub seen : i * n + length rest ≡ length bytes
   pub good : (k : ℕ) → k < i → IsPaddedText (record_at n bytes k) n
 
+-- at the beginning, all bytes are left
 pub IsChecked-none : (bytes : List ℕ) (n : ℕ) → IsChecked bytes n 0 bytes
 IsChecked-none bytes n = record { left = rw zero-mul refl; seen = omega (arith, zero-mul n); good = λ k h. absurd (omega arith) }
 
@@ -89,6 +94,7 @@ IsFirstBad-next bytes rest raw n i h first some inside unpadded = record {
   before = h.good;
 }
 
+-- the next n bytes have the fault of the next record
 pub fault_in-next : (bytes rest raw : List ℕ) (n i : ℕ) → IsChecked bytes n i rest → raw ≡ take n rest → fault_in n raw ≡ fault_in n (record_at n bytes i)
 fault_in-next bytes rest raw n i h first = rw (← h.left, ← first) refl
 
@@ -98,6 +104,7 @@ IsPacked-checked bytes rest n i h whole short =
     let none : length rest ≡ 0 = sym (mod-mul-add i n (length rest) short) ∙ rw h.seen whole in
     IsPacked-from_records bytes n i (omega (arith, h.seen)) h.good
 
+-- bytes with a bad record aren't packed
 pub IsFirstBad-unpacked : (bytes : List ℕ) (n i : ℕ) → IsFirstBad bytes n i → ¬ IsPacked bytes n
 IsFirstBad-unpacked bytes n i h packed = h.bad (IsPacked-record bytes n i packed h.inside)
 

@@ -1,7 +1,7 @@
 -- The byte form: the fault of a list of bytes whose first n are no padded text.
 use Rattle.std.specs.Prelude.{ℕ, ◌==◌, ◌&&◌, not, nat_lt, nat_le, List, length, slice_index, Option, Some, None, is_some, option_and_then, if◌then◌else◌}
 use Rattle.std.specs.List.{find, range_with_len}
-use Rattle.tinystr_words.specs.Reading.{is_after_null}
+use Rattle.tinystr_words.specs.Reading.{is_after_nul}
 
 -- why bytes aren't read: there are fewer than a number of them, a byte behind a NUL is no NUL, or a byte is above 127
 pub data ByteFault : Type 0 where
@@ -13,7 +13,7 @@ pub data ByteFault : Type 0 where
 abbrev pub byte_fault_at : ℕ → List ℕ → ℕ → Option ByteFault
 byte_fault_at n input i =
     if nat_le (length input) i then Some (too_short n)
-    else (if is_after_null input i && not (slice_index input i == 0) then Some null
+    else (if is_after_nul input i && not (slice_index input i == 0) then Some null
     else (if nat_lt 127 (slice_index input i) then Some non_ascii
     else None))
 

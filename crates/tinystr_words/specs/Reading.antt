@@ -1,16 +1,16 @@
 -- The fault of a list of units that a reader refuses, and what a lossy reader makes of a list. A unit is a byte, or a 16-bit number.
 use Rattle.std.specs.Prelude.{ℕ, ◌==◌, Bool, ◌&&◌, ◌||◌, nat_lt, List, length, map, take, slice_index, Option, option_map, unwrap_or, if◌then◌else◌}
 use Rattle.std.specs.List.{find, list_any, range_with_len}
-use Rattle.tinystr_words.specs.Text.{is_character}
+use Rattle.tinystr_words.specs.Text.{is_text_byte}
 
 -- whether a NUL stands before position i
-abbrev pub is_after_null : List ℕ → ℕ → Bool
-is_after_null units i = list_any (λ u. u == 0) (take i units)
+abbrev pub is_after_nul : List ℕ → ℕ → Bool
+is_after_nul units i = list_any (λ u. u == 0) (take i units)
 
 -- whether the unit at i is above 127, or is a character after a NUL
 abbrev pub is_faulty : List ℕ → ℕ → Bool
 is_faulty units i =
-    nat_lt 127 (slice_index units i) || (nat_lt 0 (slice_index units i) && is_after_null units i)
+    nat_lt 127 (slice_index units i) || (nat_lt 0 (slice_index units i) && is_after_nul units i)
 
 -- the least faulty position
 unfoldable pub first_faulty : List ℕ → Option ℕ
@@ -35,7 +35,7 @@ fault_in n units =
 
 -- a character, or r for any other unit
 abbrev pub lossy_byte : ℕ → ℕ → ℕ
-lossy_byte r u = if is_character u then u else r
+lossy_byte r u = if is_text_byte u then u else r
 
 -- the first n units, with r for each that is no character
 abbrev pub lossy : List ℕ → ℕ → ℕ → List ℕ

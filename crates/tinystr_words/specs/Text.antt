@@ -36,11 +36,11 @@ IsPadded bytes = IsPaddedText bytes (length bytes)
 
 -- ---- the same facts, as tests that compute
 
-abbrev pub is_character : ℕ → Bool
-is_character b = nat_lt 0 b && nat_lt b 128
+abbrev pub is_text_byte : ℕ → Bool
+is_text_byte b = nat_lt 0 b && nat_lt b 128
 
 abbrev pub is_strict_text : List ℕ → ℕ → Bool
-is_strict_text t n = nat_le (length t) n && list_all is_character t
+is_strict_text t n = nat_le (length t) n && list_all is_text_byte t
 
 abbrev pub is_padded_text : List ℕ → ℕ → Bool
 is_padded_text bytes n = is_strict_text (text_of bytes) n && bytes_eq bytes (pad (text_of bytes) n)

@@ -12,9 +12,9 @@ abbrev pub lane : ℕ → ℕ → ℕ
 lane w i = w / 256 ^ i % 256
 
 -- n lanes, a in the first and c in the others
-abbrev pub led : ℕ → ℕ → ℕ → List ℕ
-led zero a c = []
-led (suc n) a c = a ∷ replicate n c
+abbrev pub first_then : ℕ → ℕ → ℕ → List ℕ
+first_then zero a c = []
+first_then (suc n) a c = a ∷ replicate n c
 
 -- the lowest n lanes of a word
 abbrev pub lanes_of : ℕ → ℕ → List ℕ
@@ -22,12 +22,12 @@ lanes_of zero w = []
 lanes_of (suc n) w = (w % 256) ∷ lanes_of n (w / 256)
 
 -- the text that the lowest n lanes of a word hold
-unfoldable pub held : ℕ → ℕ → List ℕ
-held n w = text_of (lanes_of n w)
+unfoldable pub text_in : ℕ → ℕ → List ℕ
+text_in n w = text_of (lanes_of n w)
 
 -- a word is a text padded to n bytes, each below 0x80
 pub record HoldsText (n w : ℕ) : Type 0 where
-  pub text : IsText (held n w)
-  pub fits : length (held n w) ≤ n
-  pub padded : w ≡ word (pad (held n w) n)
-  pub ascii : w ≤ word (led n 0x7f 0x7f)
+  pub text : IsText (text_in n w)
+  pub fits : length (text_in n w) ≤ n
+  pub padded : w ≡ word (pad (text_in n w) n)
+  pub ascii : w ≤ word (first_then n 0x7f 0x7f)

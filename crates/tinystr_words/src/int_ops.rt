@@ -1,19 +1,22 @@
 //! Texts in one word each, asked and changed by a few sums over the whole word.
 
-ghost use Rattle.std.specs.Prelude.{◌≡◌, ◌+◌, ◌<◌, ◌≤◌, ◌==◌, ◌++◌, length, map, take, bit_or, bit_and, MatchOption, IsTrue, ◌↔◌};
+ghost use Rattle.std.specs.Prelude.{◌≡◌, ◌<◌, ◌≤◌, ◌++◌, length, map, take, MatchOption, IsTrue, ◌↔◌};
 ghost use Rattle.std.specs.Fmt.{decimal};
 ghost use Rattle.std.specs.Str.{bytes_eq};
-ghost use Rattle.tinystr_words.specs.Text.{IsText, IsPaddedText, pad, text_of};
+ghost use Rattle.tinystr_words.specs.Text.{IsText, IsPaddedText, IsPadded, pad, text_of};
 ghost use Rattle.tinystr_words.specs.Classes.{ask, is_upper, is_lower, is_digit, is_alphabetic, is_alphanumeric, is_not_upper, is_not_lower};
 ghost use Rattle.tinystr_words.specs.Case.{lowercase, titlecase, uppercase};
-ghost use Rattle.tinystr_words.specs.Words.{word, led, HoldsText};
 ghost use Rattle.tinystr_words.specs.Decimal.{last};
 ghost use Rattle.tinystr_words.specs.Questions.{answer, in_case};
 
 use crate::decimal::decimal_word;
+use crate::kernel::{
+    DIGIT, LOWER, UPPER, case_bits, every_lane_marked, faults, marks, no_character_marked, outside,
+    with_case_bits,
+};
 use crate::question::{Case, Question};
 use crate::unit::{Unit, is_text};
-use crate::word::{DIGIT, LOWER, NOT_NUL, UPPER, Word};
+use crate::word::Word;
 use std::marker::Model;
 
 /// A text of at most `LEN` bytes, each from 1 to 127: its bytes and then NULs, in one word.
@@ -33,43 +36,13 @@ pub type Aligned16 = Aligned<u128, 16>;
 
 impl<T: Word<LEN>, const LEN: usize> Model for Aligned<T, LEN> {
     ghost use Rattle.std.specs.Prelude.{List, ℕ};
-    ghost use Rattle.tinystr_words.specs.Words.{held, HoldsText};
+    ghost use Rattle.tinystr_words.specs.Words.{text_in, HoldsText};
 
     ghost Value = { List ℕ };
 
-    ghost view = { λ a. held LEN (T.number a.word) };
+    ghost view = { λ a. text_in LEN (T.number a.word) };
 
     ghost invariant = { λ a. HoldsText LEN (T.number a.word) };
-}
-
-// A text with its letters in lower case, and some of its other bytes changed.
-#[inline(always)]
-fn folded<T: Word<LEN>, const LEN: usize>(text: T) -> T
-    requires { HoldsText LEN (T.number text) }
-    ensures bits { T.number result ≡ bit_or (T.number text) (word (led LEN 0x20 0x20)) }
-    ensures room { T.number result ≤ word (led LEN 0x7f 0x7f) }
-{
-    text.or(T::splat(0x20))
-}
-
-// Whether the marks have the high bit of no lane that isn't NUL.
-#[inline(always)]
-fn marks_no_byte<T: Word<LEN>, const LEN: usize>(marks: T, text: T) -> bool
-    requires { T.number text ≤ word (led LEN 0x7f 0x7f) }
-    ensures { result ≡ (bit_and (T.number marks)
-        (bit_and (T.number text + word (led LEN NOT_NUL NOT_NUL)) (word (led LEN 0x80 0x80)))
-        == word (led LEN 0 0)) }
-{
-    marks.and(text.present()).equals(T::splat(0))
-}
-
-// Whether the marks have the high bit of every lane.
-#[inline(always)]
-fn marks_every_lane<T: Word<LEN>, const LEN: usize>(marks: T) -> bool
-    ensures { result ≡
-        (bit_and (T.number marks) (word (led LEN 0x80 0x80)) == word (led LEN 0x80 0x80)) }
-{
-    marks.and(T::splat(0x80)).equals(T::splat(0x80))
 }
 
 impl<T: Word<LEN>, const LEN: usize> Aligned<T, LEN> {
@@ -96,7 +69,7 @@ impl<T: Word<LEN>, const LEN: usize> Aligned<T, LEN> {
     pub fn is_ascii_alphabetic(&self) -> bool
         ensures { result ≡ ask is_alphabetic is_alphabetic self.now }
     {
-        self.asks(Question::Alphabetic)
+        self.ask(Question::Alphabetic)
     }
 
     /// Whether each byte is a letter or a digit.
@@ -104,7 +77,7 @@ impl<T: Word<LEN>, const LEN: usize> Aligned<T, LEN> {
     pub fn is_ascii_alphanumeric(&self) -> bool
         ensures { result ≡ ask is_alphanumeric is_alphanumeric self.now }
     {
-        self.asks(Question::Alphanumeric)
+        self.ask(Question::Alphanumeric)
     }
 
     /// Whether each byte is a digit.
@@ -112,7 +85,7 @@ impl<T: Word<LEN>, const LEN: usize> Aligned<T, LEN> {
     pub fn is_ascii_numeric(&self) -> bool
         ensures { result ≡ ask is_digit is_digit self.now }
     {
-        self.asks(Question::Numeric)
+        self.ask(Question::Numeric)
     }
 
     /// Whether no byte is an uppercase letter.
@@ -120,7 +93,7 @@ impl<T: Word<LEN>, const LEN: usize> Aligned<T, LEN> {
     pub fn is_ascii_lowercase(&self) -> bool
         ensures { result ≡ ask is_not_upper is_not_upper self.now }
     {
-        self.asks(Question::Lowercase)
+        self.ask(Question::Lowercase)
     }
 
     /// Whether the first byte is no lowercase letter, and no later byte an uppercase one.
@@ -128,7 +101,7 @@ impl<T: Word<LEN>, const LEN: usize> Aligned<T, LEN> {
     pub fn is_ascii_titlecase(&self) -> bool
         ensures { result ≡ ask is_not_lower is_not_upper self.now }
     {
-        self.asks(Question::Titlecase)
+        self.ask(Question::Titlecase)
     }
 
     /// Whether no byte is a lowercase letter.
@@ -136,7 +109,7 @@ impl<T: Word<LEN>, const LEN: usize> Aligned<T, LEN> {
     pub fn is_ascii_uppercase(&self) -> bool
         ensures { result ≡ ask is_not_lower is_not_lower self.now }
     {
-        self.asks(Question::Uppercase)
+        self.ask(Question::Uppercase)
     }
 
     /// Whether each byte is a lowercase letter.
@@ -144,7 +117,7 @@ impl<T: Word<LEN>, const LEN: usize> Aligned<T, LEN> {
     pub fn is_ascii_alphabetic_lowercase(&self) -> bool
         ensures { result ≡ ask is_lower is_lower self.now }
     {
-        self.asks(Question::AlphabeticLowercase)
+        self.ask(Question::AlphabeticLowercase)
     }
 
     /// Whether the first byte is an uppercase letter, and each later byte a lowercase one.
@@ -152,7 +125,7 @@ impl<T: Word<LEN>, const LEN: usize> Aligned<T, LEN> {
     pub fn is_ascii_alphabetic_titlecase(&self) -> bool
         ensures { result ≡ ask is_upper is_lower self.now }
     {
-        self.asks(Question::AlphabeticTitlecase)
+        self.ask(Question::AlphabeticTitlecase)
     }
 
     /// Whether each byte is an uppercase letter.
@@ -160,7 +133,7 @@ impl<T: Word<LEN>, const LEN: usize> Aligned<T, LEN> {
     pub fn is_ascii_alphabetic_uppercase(&self) -> bool
         ensures { result ≡ ask is_upper is_upper self.now }
     {
-        self.asks(Question::AlphabeticUppercase)
+        self.ask(Question::AlphabeticUppercase)
     }
 
     /// The text with each letter in lower case, and then NULs.
@@ -194,7 +167,7 @@ impl<T: Word<LEN>, const LEN: usize> Aligned<T, LEN> {
     #[inline(always)]
     pub fn from_part(part: &[u8]) -> Self
         requires fits { length part.now ≤ LEN }
-        requires padded { IsPaddedText part.now (length part.now) }
+        requires padded { IsPadded part.now }
         ensures { result ≡ text_of part.now }
     {
         Aligned {
@@ -206,11 +179,11 @@ impl<T: Word<LEN>, const LEN: usize> Aligned<T, LEN> {
     #[inline(always)]
     pub fn try_from_part(part: &[u8]) -> Option<Self>
         requires fits { length part.now ≤ LEN }
-        ensures { MatchOption result (¬ IsPaddedText part.now (length part.now))
-            (λ t. IsPaddedText part.now (length part.now) × (t ≡ text_of part.now)) }
+        ensures { MatchOption result (¬ IsPadded part.now)
+            (λ t. IsPadded part.now × (t ≡ text_of part.now)) }
     {
         let word = T::load(part);
-        if word.faults(word.marks()).equals(T::splat(0)) {
+        if faults(word, marks(word)).equals(T::splat(0)) {
             Some(Aligned { word })
         } else {
             None
@@ -240,7 +213,7 @@ impl<T: Word<LEN>, const LEN: usize> Aligned<T, LEN> {
         ensures padded { IsPaddedText result LEN }
         ensures text { text_of result ≡ self.now }
     {
-        self.word.to_le_bytes()
+        self.word.to_bytes_in_registers()
     }
 
     /// Whether the other text is the same.
@@ -253,7 +226,7 @@ impl<T: Word<LEN>, const LEN: usize> Aligned<T, LEN> {
 
     /// The text and then another, cut where they are longer than `LEN` bytes together.
     #[inline(always)]
-    pub fn joined(&self, other: &Self) -> Self
+    pub fn join(&self, other: &Self) -> Self
         ensures { result ≡ take LEN (self.now ++ other.now) }
     {
         let len = self.len();
@@ -267,24 +240,27 @@ impl<T: Word<LEN>, const LEN: usize> Aligned<T, LEN> {
 
     /// The answer of the method that the question names, as `is_ascii_titlecase` for `Titlecase`.
     #[inline(always)]
-    pub fn asks(&self, question: Question) -> bool
+    pub fn ask(&self, question: Question) -> bool
         ensures { result ≡ answer question self.now }
     {
         let word = self.word;
         match question {
-            Question::Alphabetic => marks_no_byte(folded(word).outside(LOWER, LOWER), word),
-            Question::Alphanumeric => {
-                let not_letter = folded(word).outside(LOWER, LOWER);
-                let not_digit = word.outside(DIGIT, DIGIT);
-                marks_no_byte(not_letter.and(not_digit), word)
+            Question::Alphabetic => {
+                let not_letter = outside(with_case_bits(word), LOWER, LOWER);
+                no_character_marked(not_letter, word)
             }
-            Question::Numeric => marks_no_byte(word.outside(DIGIT, DIGIT), word),
-            Question::Lowercase => marks_every_lane(word.outside(UPPER, UPPER)),
-            Question::Titlecase => marks_every_lane(word.outside(LOWER, UPPER)),
-            Question::Uppercase => marks_every_lane(word.outside(LOWER, LOWER)),
-            Question::AlphabeticLowercase => marks_no_byte(word.outside(LOWER, LOWER), word),
-            Question::AlphabeticTitlecase => marks_no_byte(word.outside(UPPER, LOWER), word),
-            Question::AlphabeticUppercase => marks_no_byte(word.outside(UPPER, UPPER), word),
+            Question::Alphanumeric => {
+                let not_letter = outside(with_case_bits(word), LOWER, LOWER);
+                let not_digit = outside(word, DIGIT, DIGIT);
+                no_character_marked(not_letter.and(not_digit), word)
+            }
+            Question::Numeric => no_character_marked(outside(word, DIGIT, DIGIT), word),
+            Question::Lowercase => every_lane_marked(outside(word, UPPER, UPPER)),
+            Question::Titlecase => every_lane_marked(outside(word, LOWER, UPPER)),
+            Question::Uppercase => every_lane_marked(outside(word, LOWER, LOWER)),
+            Question::AlphabeticLowercase => no_character_marked(outside(word, LOWER, LOWER), word),
+            Question::AlphabeticTitlecase => no_character_marked(outside(word, UPPER, LOWER), word),
+            Question::AlphabeticUppercase => no_character_marked(outside(word, UPPER, UPPER), word),
         }
     }
 
@@ -295,14 +271,14 @@ impl<T: Word<LEN>, const LEN: usize> Aligned<T, LEN> {
     {
         let word = self.word;
         let changed = match case {
-            Case::Lower => word.or(word.case_bits(UPPER, UPPER)),
+            Case::Lower => word.or(case_bits(word, UPPER, UPPER)),
             Case::Title => {
-                let bits = word.case_bits(LOWER, UPPER);
-                word.or(bits).and(T::led(0x20, 0).and(bits).not())
+                let bits = case_bits(word, LOWER, UPPER);
+                word.or(bits).and(T::first_then(0x20, 0).and(bits).not())
             }
-            Case::Upper => word.and(word.case_bits(LOWER, LOWER).not()),
+            Case::Upper => word.and(case_bits(word, LOWER, LOWER).not()),
         };
-        changed.to_stored_bytes()
+        changed.to_bytes_in_memory()
     }
 }
 

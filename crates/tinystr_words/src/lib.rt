@@ -4,6 +4,8 @@
 
 mod decimal;
 pub mod int_ops;
+#[doc(hidden)]
+pub mod kernel;
 pub mod laws;
 mod question;
 mod unit;

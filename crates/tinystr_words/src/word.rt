@@ -3,40 +3,9 @@
 ghost use Rattle.std.specs.Prelude.{◌≡◌, ◌+◌, ◌-◌, ◌*◌, ◌/◌, ◌%◌, ◌^◌, ◌<◌, ◌≤◌, ◌==◌, ℕ, length, map, bit_and, bit_or};
 ghost use Rattle.std.proofs.Common.{lit<, lit≤};
 ghost use Rattle.std.specs.Int.Count.{count_leading_zeros};
-ghost use Rattle.tinystr_words.specs.Words.{word, led, lanes_of};
+ghost use Rattle.tinystr_words.specs.Words.{word, first_then, lanes_of};
 
 use crate::unit::Unit;
-
-/// A range of bytes below 0x80, by what is added to a byte so that its high bit says where it lies.
-#[derive(Clone, Copy)]
-pub struct Range {
-    /// Sets the high bit from the range's first byte on: 0x80 less that byte.
-    pub low: u8,
-    /// Sets the high bit past the range's last byte: 0x7f less that byte.
-    pub high: u8,
-    ghost no_carry: { (low ≤ 0x7f) × (high ≤ 0x7f) },
-}
-
-/// `A` to `Z`.
-pub const UPPER: Range = Range {
-    low: 0x3f,
-    high: 0x25,
-};
-
-/// `a` to `z`.
-pub const LOWER: Range = Range {
-    low: 0x1f,
-    high: 0x05,
-};
-
-/// `0` to `9`.
-pub const DIGIT: Range = Range {
-    low: 0x50,
-    high: 0x46,
-};
-
-/// What is added to a byte below 0x80 so that its high bit says that it isn't NUL.
-pub const NOT_NUL: u8 = 0x7f;
 
 /// An integer of `LEN` bytes.
 pub trait Word<const LEN: usize>: Copy + Drop {
@@ -46,16 +15,16 @@ pub trait Word<const LEN: usize>: Copy + Drop {
     fn from_le_bytes(bytes: &[u8; LEN]) -> Self
         ensures { number result ≡ word bytes.now };
 
-    /// The lanes, the lowest first.
-    fn to_le_bytes(self) -> [u8; LEN]
+    /// The lanes, the lowest first, for a caller that keeps them in registers. The crate alone calls this and the next.
+    fn to_bytes_in_registers(self) -> [u8; LEN]
         ensures { result ≡ lanes_of LEN (number self) };
 
     /// The same bytes for an array in memory: a word of sixteen in halves, since its bytes are stored one at a time.
     #[inline(always)]
-    fn to_stored_bytes(self) -> [u8; LEN]
+    fn to_bytes_in_memory(self) -> [u8; LEN]
         ensures { result ≡ lanes_of LEN (number self) }
     {
-        self.to_le_bytes()
+        self.to_bytes_in_registers()
     }
 
     /// The word whose first lanes are the lowest bytes of these units and whose others are NUL, made in registers: two
@@ -104,8 +73,8 @@ pub trait Word<const LEN: usize>: Copy + Drop {
 
     /// One byte in the first lane, another in each other lane.
     #[inline(always)]
-    fn led(first: u8, others: u8) -> Self
-        ensures { number result ≡ word (led LEN first others) }
+    fn first_then(first: u8, others: u8) -> Self
+        ensures { number result ≡ word (first_then LEN first others) }
     {
         let mut bytes = [others; LEN];
         bytes[0] = first;
@@ -115,72 +84,9 @@ pub trait Word<const LEN: usize>: Copy + Drop {
     /// The same byte in each lane.
     #[inline(always)]
     fn splat(byte: u8) -> Self
-        ensures { number result ≡ word (led LEN byte byte) }
+        ensures { number result ≡ word (first_then LEN byte byte) }
     {
-        Self::led(byte, byte)
-    }
-
-    /// The high bit of each lane that isn't NUL.
-    #[inline(always)]
-    #[tactic(auto, using(crate::proofs::WordBytes::mark_room))]
-    fn present(self) -> Self
-        requires { number self ≤ word (led LEN 0x7f 0x7f) }
-        ensures { number result ≡
-            bit_and (number self + word (led LEN NOT_NUL NOT_NUL)) (word (led LEN 0x80 0x80)) }
-    {
-        self.plus(Self::splat(NOT_NUL)).and(Self::splat(0x80))
-    }
-
-    /// The high bit of each lane whose lower bits aren't all clear.
-    #[inline(always)]
-    #[tactic(auto, using(std::proofs::lemmas::Nat::and_le_r))]
-    fn marks(self) -> Self
-        ensures { number result ≡ bit_and
-            (bit_and (number self) (word (led LEN 0x7f 0x7f)) + word (led LEN NOT_NUL NOT_NUL))
-            (word (led LEN 0x80 0x80)) }
-    {
-        self.and(Self::splat(0x7f)).present()
-    }
-
-    /// The high bits of the lanes, and the marks of those that stand after a lane without one.
-    #[inline(always)]
-    fn faults(self, marks: Self) -> Self
-        ensures { number result ≡ bit_or
-            (bit_and (number self) (word (led LEN 0x80 0x80)))
-            (bit_and (number marks / 256) (256 ^ LEN - 1 - number marks)) }
-    {
-        let late = marks.next_lanes().and(marks.not());
-        self.and(Self::splat(0x80)).or(late)
-    }
-
-    /// The high bit of each lane whose byte is outside its range.
-    #[inline(always)]
-    #[tactic(auto, using(crate::proofs::WordBytes::led_room))]
-    fn outside(self, first: Range, others: Range) -> Self
-        requires { number self ≤ word (led LEN 0x7f 0x7f) }
-        ensures { number result ≡ bit_or
-            (256 ^ LEN - 1 - (number self + word (led LEN first.low others.low)))
-            (number self + word (led LEN first.high others.high)) }
-    {
-        let below = self.plus(Self::led(first.low, others.low)).not();
-        let above = self.plus(Self::led(first.high, others.high));
-        below.or(above)
-    }
-
-    /// The case bit, 0x20, of each lane whose byte is in its range.
-    #[inline(always)]
-    fn case_bits(self, first: Range, others: Range) -> Self
-        requires { number self ≤ word (led LEN 0x7f 0x7f) }
-        ensures { number result ≡ bit_and
-            (256 ^ LEN - 1 - bit_or
-            (256 ^ LEN - 1 - (number self + word (led LEN first.low others.low)))
-            (number self + word (led LEN first.high others.high)))
-            (word (led LEN 0x80 0x80)) / 4 }
-    {
-        self.outside(first, others)
-            .not()
-            .and(Self::splat(0x80))
-            .quarter()
+        Self::first_then(byte, byte)
     }
 
     ghost size: { (0 < LEN) × (LEN ≤ 16) };
@@ -197,7 +103,7 @@ impl Word<4> for u32 {
     }
 
     #[inline(always)]
-    fn to_le_bytes(self) -> [u8; 4] {
+    fn to_bytes_in_registers(self) -> [u8; 4] {
         u32::to_le_bytes(self)
     }
 
@@ -275,7 +181,7 @@ impl Word<8> for u64 {
     }
 
     #[inline(always)]
-    fn to_le_bytes(self) -> [u8; 8] {
+    fn to_bytes_in_registers(self) -> [u8; 8] {
         u64::to_le_bytes(self)
     }
 
@@ -352,7 +258,7 @@ impl Word<16> for u128 {
     // In pieces that end at the bytes 7 and 15, where the compiler cuts a `Result` of a text and an error of two
     // numbers: each then stays in a register.
     #[inline(always)]
-    fn to_le_bytes(self) -> [u8; 16] {
+    fn to_bytes_in_registers(self) -> [u8; 16] {
         let mut bytes = [0; 16];
         bytes[15] = (self >> 120) as u8;
         bytes[7..15].copy_from_slice(&(((self >> 56) % (1 << 64)) as u64).to_le_bytes());
@@ -363,12 +269,12 @@ impl Word<16> for u128 {
     }
 
     #[inline(always)]
-    fn to_stored_bytes(self) -> [u8; 16] {
+    fn to_bytes_in_memory(self) -> [u8; 16] {
         let low = (self % HALF) as u64;
         let high = (self / HALF) as u64;
         let mut bytes = [0; 16];
-        bytes[8..].copy_from_slice(&Word::to_le_bytes(high));
-        bytes[..8].copy_from_slice(&Word::to_le_bytes(low));
+        bytes[8..].copy_from_slice(&Word::to_bytes_in_registers(high));
+        bytes[..8].copy_from_slice(&Word::to_bytes_in_registers(low));
         bytes
     }
 

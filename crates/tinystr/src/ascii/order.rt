@@ -1,9 +1,8 @@
 //! Equality and order of values, which are those of their texts.
 
 use crate::ascii::TinyAsciiStr;
-use crate::comparing::order;
+use crate::padded;
 use std::cmp::Ordering;
-use tinystr_words::int_ops::{Aligned4, Aligned8, Aligned16};
 
 impl<const N: usize> PartialEq for TinyAsciiStr<N> {
     ghost use Rattle.std.proofs.Common.{rules};
@@ -15,17 +14,7 @@ impl<const N: usize> PartialEq for TinyAsciiStr<N> {
     ghost laws = { Prim.search (comparing, rules) };
 
     fn eq(&self, other: &Self) -> bool {
-        // Up to sixteen bytes the arrays' own `==` is a loop over bytes.
-        let (left, right) = (&self.bytes, &other.bytes);
-        if N <= 4 {
-            Aligned4::from_ascii_bytes(left).equals(&Aligned4::from_ascii_bytes(right))
-        } else if N <= 8 {
-            Aligned8::from_ascii_bytes(left).equals(&Aligned8::from_ascii_bytes(right))
-        } else if N <= 16 {
-            Aligned16::from_ascii_bytes(left).equals(&Aligned16::from_ascii_bytes(right))
-        } else {
-            left == right
-        }
+        padded::equals(&self.bytes, &other.bytes)
     }
 }
 
@@ -51,7 +40,7 @@ impl<const N: usize> Ord for TinyAsciiStr<N> {
     ghost matches_eq = { Prim.search (comparing, rules) };
 
     fn cmp(&self, other: &Self) -> Ordering {
-        order(&self.bytes[..], &other.bytes[..])
+        padded::compare(&self.bytes[..], &other.bytes[..])
     }
 }
 

@@ -1,4 +1,4 @@
-//! Questions and case changes: one word of 4 or of 8 bytes where the array fits it, and words of 16 bytes past that.
+//! Questions and case changes.
 
 ghost use Rattle.std.specs.Prelude.{◌≡◌};
 ghost use Rattle.tinystr_words.specs.Classes.{ask, is_alphabetic, is_alphanumeric, is_digit, is_lower, is_upper, is_not_lower, is_not_upper};
@@ -6,8 +6,7 @@ ghost use Rattle.tinystr_words.specs.Case.{lowercase, titlecase, uppercase};
 ghost use Rattle.tinystr_words.specs.Questions.{answer, in_case};
 
 use crate::ascii::TinyAsciiStr;
-use crate::words;
-use tinystr_words::int_ops::{Aligned4, Aligned8};
+use crate::padded;
 use tinystr_words::{Case, Question};
 
 impl<const N: usize> TinyAsciiStr<N> {
@@ -16,13 +15,7 @@ impl<const N: usize> TinyAsciiStr<N> {
     pub fn ask(&self, question: Question) -> bool
         ensures { result ≡ answer question self.now }
     {
-        if N <= 4 {
-            Aligned4::from_ascii_bytes(&self.bytes).asks(question)
-        } else if N <= 8 {
-            Aligned8::from_ascii_bytes(&self.bytes).asks(question)
-        } else {
-            words::asks(&self.bytes, question)
-        }
+        padded::ask(&self.bytes, question)
     }
 
     /// The text in a case by name, as `to_ascii_titlecase` in `Title`.
@@ -31,15 +24,7 @@ impl<const N: usize> TinyAsciiStr<N> {
         ensures { result ≡ in_case case self.entry }
     {
         let mut bytes = self.bytes;
-        if N <= 4 {
-            let word = Aligned4::from_ascii_bytes(&bytes).in_case(case);
-            bytes.copy_from_slice(&word[..N]);
-        } else if N <= 8 {
-            let word = Aligned8::from_ascii_bytes(&bytes).in_case(case);
-            bytes.copy_from_slice(&word[..N]);
-        } else {
-            words::change(&mut bytes, case);
-        }
+        padded::change(&mut bytes, case);
         TinyAsciiStr { bytes }
     }
 

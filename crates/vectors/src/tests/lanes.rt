@@ -2,7 +2,8 @@
 
 use super::word_answers;
 use tinystr_words::int_ops::{Aligned, Aligned4, Aligned8, Aligned16};
-use tinystr_words::word::{DIGIT, LOWER, UPPER, Word};
+use tinystr_words::kernel::{DIGIT, LOWER, UPPER, case_bits, outside, present};
+use tinystr_words::word::Word;
 
 // Whether the word has these answers and this length, and each case change gives the bytes.
 fn stays<T: Word<LEN>, const LEN: usize>(
@@ -72,16 +73,16 @@ fn arrays_at_their_own_length(rt: HostRuntime) {
 #[test]
 fn lanes_of_a_title(rt: HostRuntime) {
     let word = u32::load(b"tEsT");
-    let bits = word.case_bits(LOWER, UPPER);
+    let bits = case_bits(word, LOWER, UPPER);
     assert_eq!(rt; word, 0x54734574);
     assert_eq!(rt;
         [
-            word.plus(u32::led(LOWER.low, UPPER.low)),
-            word.plus(u32::led(LOWER.high, UPPER.high)),
+            word.plus(u32::first_then(LOWER.low, UPPER.low)),
+            word.plus(u32::first_then(LOWER.high, UPPER.high)),
             bits,
             word.or(bits),
         ]
-        .map(Word::to_le_bytes),
+        .map(u32::to_le_bytes),
         [
             [0x93, 0x84, 0xb2, 0x93],
             [0x79, 0x6a, 0x98, 0x79],
@@ -96,17 +97,17 @@ fn lanes_of_a_title(rt: HostRuntime) {
 #[test]
 fn lanes_of_a_colon(rt: HostRuntime) {
     let word = u32::load(b"3:");
-    let marks = word.outside(DIGIT, DIGIT).and(u32::splat(0x80));
+    let marks = outside(word, DIGIT, DIGIT).and(u32::splat(0x80));
     assert_eq!(rt; word, 0x3a33);
     assert_eq!(rt;
         [
             word.plus(u32::splat(DIGIT.low)),
             word.plus(u32::splat(DIGIT.high)),
             marks,
-            word.present(),
-            marks.and(word.present()),
+            present(word),
+            marks.and(present(word)),
         ]
-        .map(Word::to_le_bytes),
+        .map(u32::to_le_bytes),
         [
             [0x83, 0x8a, 0x50, 0x50],
             [0x79, 0x80, 0x46, 0x46],
@@ -120,7 +121,7 @@ fn lanes_of_a_colon(rt: HostRuntime) {
 #[test]
 fn lanes_of_a_brace(rt: HostRuntime) {
     let word = u32::load(b"z{");
-    let bits = word.case_bits(LOWER, LOWER);
+    let bits = case_bits(word, LOWER, LOWER);
     assert_eq!(rt; word, 0x7b7a);
     assert_eq!(rt;
         [
@@ -129,7 +130,7 @@ fn lanes_of_a_brace(rt: HostRuntime) {
             bits,
             word.and(bits.not()),
         ]
-        .map(Word::to_le_bytes),
+        .map(u32::to_le_bytes),
         [
             [0x99, 0x9a, 0x1f, 0x1f],
             [0x7f, 0x80, 0x05, 0x05],

@@ -12,10 +12,10 @@ use tinystr_words::word::Word;
 
 // Whether the bytes are the text and then NULs.
 fn are_padded(bytes: &[u8], text: &[u8]) -> bool {
-    bytes.starts_with(text) && bytes.iter().skip(text.len()).all(is_null)
+    bytes.starts_with(text) && bytes.iter().skip(text.len()).all(is_nul)
 }
 
-fn is_null(byte: &u8) -> bool {
+fn is_nul(byte: &u8) -> bool {
     *byte == 0
 }
 
@@ -120,7 +120,7 @@ fn is_padding_alone(bytes: &[u8]) -> Option<bool> {
 }
 
 #[test]
-fn nulls_are_padding_at_the_end_alone(rt: HostRuntime) {
+fn nuls_are_padding_at_the_end_alone(rt: HostRuntime) {
     for (bytes, is_padded) in [
         (b"en\0\0\0".as_slice(), true),
         (b"en\0US", false),

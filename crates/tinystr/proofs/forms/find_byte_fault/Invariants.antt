@@ -2,4 +2,4 @@ use Rattle.tinystr_words.proofs.Readers.{IsScanned}
 use Rattle.tinystr.proofs.forms.find_byte_fault.Given as goal
 
 abbrev pub invariant-loop-byte : goal.invariant-loop-byte
-invariant-loop-byte l = IsScanned l.input l.byte-index l.is_after_null
+invariant-loop-byte l = IsScanned l.input l.byte-index l.is_after_nul

@@ -1,6 +1,6 @@
 use Rattle.std.proofs.Common.{rules, true, false}
 use Rattle.std.proofs.lemmas.Bool.Decides.{same_from_decides}
-use Rattle.tinystr_words.proofs.TextTests.{is_strict_text-Decides}
+use Rattle.tinystr_words.proofs.TextsDecided.{is_strict_text-Decides}
 use Rattle.tinystr_run.specs.Reply.{call_reply}
 use Rattle.tinystr_run.proofs.reply.push_call_reply.Goals as goal
 

@@ -1,5 +1,5 @@
 use Rattle.tinystr_words.proofs.CaseFacts.{lowercase-twice, titlecase-twice, uppercase-twice, lowercase-uppercase}
-use Rattle.tinystr_words.proofs.Parts.{length-in_case}
+use Rattle.tinystr_words.proofs.AnswersByParts.{length-in_case}
 use Rattle.tinystr_words.specs.declared.question.Case.TheVariants.{Title}
 use Rattle.tinystr_words.proofs.laws.case_twice.Goals as goal
 use Rattle.std.proofs.lemmas.List.{length-map}

@@ -1,4 +1,4 @@
-use Rattle.tinystr_words.proofs.WordFacts.{lane_class_is}
+use Rattle.tinystr_words.proofs.WordLaws.{lane_class_is}
 use Rattle.tinystr_words.proofs.laws.lane_class.Goals as goal
 
 pub returns : goal.returns

@@ -1,4 +1,4 @@
-use Rattle.tinystr_words.proofs.WordFacts.{lane_sum_is}
+use Rattle.tinystr_words.proofs.WordLaws.{lane_sum_is}
 use Rattle.tinystr_words.proofs.laws.lane_sum.Goals as goal
 
 pub returns : goal.returns

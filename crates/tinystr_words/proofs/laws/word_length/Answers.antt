@@ -1,4 +1,4 @@
-use Rattle.tinystr_words.proofs.WordFacts.{word_length_is}
+use Rattle.tinystr_words.proofs.WordLaws.{word_length_is}
 use Rattle.tinystr_words.proofs.laws.word_length.Goals as goal
 
 pub returns : goal.returns

@@ -1,6 +1,6 @@
 use Rattle.std.proofs.Common.{map, get_or, sym, ap, ◌∙◌, ◌≡◌, arith}
 use Rattle.std.proofs.lemmas.List.{get_or-map, length-map, take_all}
-use Rattle.tinystr_words.proofs.UnitTexts.{text_more}
+use Rattle.tinystr_words.proofs.UnitsByParts.{text_more}
 use Rattle.tinystr_words.proofs.unit.is_part_of_text.Goals as goal
 
 pub loop-unit-preserved : goal.loop-unit-preserved

@@ -1,6 +1,6 @@
 use Rattle.std.proofs.Common.{◌≡◌, ◌-◌, length, map, take, drop, ap, ◌∙◌, sym, arith}
 use Rattle.std.proofs.lemmas.List.{length-map, length-drop, take-map, drop-map, take_all}
-use Rattle.tinystr_words.proofs.UnitTexts.{tested_ends}
+use Rattle.tinystr_words.proofs.UnitsByParts.{tested_ends}
 use Rattle.tinystr_words.proofs.unit.is_text_by_ends.Goals as goal
 
 pub returns : goal.returns

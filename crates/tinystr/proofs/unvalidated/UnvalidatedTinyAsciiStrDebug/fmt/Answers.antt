@@ -1,7 +1,7 @@
 use Rattle.std.proofs.Common.{◌≡◌, true, false, sym}
 use Rattle.std.proofs.lemmas.Bool.Decides.{same_from_decides}
 use Rattle.tinystr_words.specs.Text.{text_of, is_padded_text}
-use Rattle.tinystr_words.proofs.TextTests.{is_padded_text-Decides}
+use Rattle.tinystr_words.proofs.TextsDecided.{is_padded_text-Decides}
 use Rattle.tinystr.proofs.unvalidated.UnvalidatedTinyAsciiStrDebug.fmt.Goals as goal
 
 pub returns-in-Ok : goal.returns-in-Ok

@@ -1,5 +1,5 @@
 use Rattle.tinystr_words.specs.declared.question.Case.TheVariants.{Lower, Title, Upper}
-use Rattle.tinystr_words.proofs.WordTexts.{changed_bytes}
+use Rattle.tinystr_words.proofs.TextInWord.{changed_bytes}
 use Rattle.tinystr_words.proofs.int_ops.Aligned.in_case.Goals as goal
 use Rattle.tinystr_words.proofs.int_ops.Aligned.in_case.Goals.{in-Lower, in-Title, in-Upper}
 

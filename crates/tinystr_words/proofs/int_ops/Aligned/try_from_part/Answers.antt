@@ -1,20 +1,21 @@
 use Rattle.std.proofs.Common.{◌∙◌, sym}
-use Rattle.tinystr_words.proofs.Loading.{low_of_bytes}
-use Rattle.tinystr_words.proofs.PaddedWords.{IsBytes-fit, padded_test}
-use Rattle.tinystr_words.proofs.WordTexts.{padded_word}
+use Rattle.tinystr_words.proofs.WordFromParts.{low_of_bytes}
+use Rattle.tinystr_words.proofs.Lanes.{IsBytes-fit}
+use Rattle.tinystr_words.proofs.PaddedTest.{padded_test}
+use Rattle.tinystr_words.proofs.TextInWord.{HoldsText-padded}
 use Rattle.tinystr_words.proofs.int_ops.Aligned.try_from_part.Goals as goal
 
 pub invariant_of-result : goal.invariant_of-result
 invariant_of-result g c =
     let e = rw (c.faults.ensures, c.splat.ensures, c.marks.ensures, c.load-word.ensures, low_of_bytes c.args.part.now c.type_inv.part) at c.equals.ensures in
     let p = (padded_test g.row.LEN c.args.part.now (IsBytes-fit c.args.part.now c.type_inv.part) c.requires.fits).0 (sym e ∙ c.if-equals.true) in
-    rw (c.load-word.ensures, low_of_bytes c.args.part.now c.type_inv.part) ((padded_word g.row.LEN c.args.part.now p c.requires.fits).0)
+    rw (c.load-word.ensures, low_of_bytes c.args.part.now c.type_inv.part) ((HoldsText-padded g.row.LEN c.args.part.now p c.requires.fits).0)
 
 pub returns-then-equals : goal.returns-then-equals
 returns-then-equals g c =
     let e = rw (c.faults.ensures, c.splat.ensures, c.marks.ensures, c.load-word.ensures, low_of_bytes c.args.part.now c.type_inv.part) at c.equals.ensures in
     let p = (padded_test g.row.LEN c.args.part.now (IsBytes-fit c.args.part.now c.type_inv.part) c.requires.fits).0 (sym e ∙ c.if-equals.true) in
-    (p, rw (c.load-word.ensures, low_of_bytes c.args.part.now c.type_inv.part) ((padded_word g.row.LEN c.args.part.now p c.requires.fits).1))
+    (p, rw (c.load-word.ensures, low_of_bytes c.args.part.now c.type_inv.part) ((HoldsText-padded g.row.LEN c.args.part.now p c.requires.fits).1))
 
 pub returns-else-equals : goal.returns-else-equals
 returns-else-equals g c = λ p.

@@ -1,7 +1,7 @@
 use Rattle.std.proofs.Common.{map, arith}
 use Rattle.std.proofs.lemmas.List.{length-map}
-use Rattle.tinystr_words.proofs.Loading.{low_of_text}
-use Rattle.tinystr_words.proofs.WordTexts.{text_word, holds_text}
+use Rattle.tinystr_words.proofs.WordFromParts.{low_of_text}
+use Rattle.tinystr_words.proofs.TextInWord.{text_in-word, HoldsText-word}
 use Rattle.tinystr_words.proofs.int_ops.Aligned.try_from_text.Goals as goal
 
 pub invariant_of-result : goal.invariant_of-result
@@ -9,7 +9,7 @@ invariant_of-result g c =
     let number = g.U.Unit.number in
     let text = c.is_text.ensures.0 c.if-is_text.true in
     rw (c.load.ensures, low_of_text number c.args.units.now text)
-    (holds_text g.row.LEN (map number c.args.units.now) text (omega (arith, length-map c.args.units.now number)))
+    (HoldsText-word g.row.LEN (map number c.args.units.now) text (omega (arith, length-map c.args.units.now number)))
 
 pub returns-then-is_text : goal.returns-then-is_text
 returns-then-is_text g c =
@@ -17,5 +17,5 @@ returns-then-is_text g c =
     let text = c.is_text.ensures.0 c.if-is_text.true in (
       text,
       rw (c.load.ensures, low_of_text number c.args.units.now text)
-          (text_word g.row.LEN (map number c.args.units.now) text (omega (arith, length-map c.args.units.now number))),
+          (text_in-word g.row.LEN (map number c.args.units.now) text (omega (arith, length-map c.args.units.now number))),
     )

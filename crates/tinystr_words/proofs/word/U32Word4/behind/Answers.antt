@@ -1,5 +1,5 @@
 use Rattle.std.proofs.Common.{refl}
-use Rattle.tinystr_words.proofs.WordBytes.{pow_256}
+use Rattle.tinystr_words.proofs.WordAsNumber.{pow_256}
 use Rattle.tinystr_words.proofs.word.U32Word4.behind.Goals as goal
 
 pub returns : goal.returns

@@ -1,0 +1,23 @@
+//! Decimal texts of numbers.
+
+ghost use Rattle.std.specs.Prelude.{◌≡◌, ◌≤◌, length, IsOk, IfOk, IfErr, ◌↔◌};
+ghost use Rattle.std.specs.Fmt.{decimal};
+ghost use Rattle.tinystr_words.specs.Decimal.{last};
+
+use crate::ascii::TinyAsciiStr;
+use crate::padded;
+
+impl<const N: usize> TinyAsciiStr<N> {
+    /// The shortest decimal text of a number, or its last `N` digits where it has more.
+    #[inline]
+    pub fn new_unsigned_decimal(number: u32) -> Result<Self, Self>
+        ensures ok { IsOk result ↔ (length (decimal number) ≤ N) }
+        ensures digits { IfOk result (λ t. t ≡ decimal number) }
+        ensures last_digits { IfErr result (λ t. t ≡ last N (decimal number)) }
+    {
+        match padded::decimal(number) {
+            Ok(bytes) => Ok(TinyAsciiStr { bytes }),
+            Err(bytes) => Err(TinyAsciiStr { bytes }),
+        }
+    }
+}

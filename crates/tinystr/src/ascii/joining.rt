@@ -1,0 +1,28 @@
+//! Texts at other capacities, and joined.
+
+ghost use Rattle.std.specs.Prelude.{◌≡◌, ◌++◌, take};
+
+use crate::ascii::TinyAsciiStr;
+use crate::padded;
+
+impl<const N: usize> TinyAsciiStr<N> {
+    /// The text at another capacity, cut where it is longer.
+    #[inline]
+    pub fn resize<const M: usize>(self) -> TinyAsciiStr<M>
+        ensures { result ≡ take M self.entry }
+    {
+        TinyAsciiStr {
+            bytes: padded::resize(&self.bytes),
+        }
+    }
+
+    /// The two texts joined, cut where they are longer than `Q` bytes together.
+    #[inline]
+    pub fn concat<const M: usize, const Q: usize>(self, other: TinyAsciiStr<M>) -> TinyAsciiStr<Q>
+        ensures { result ≡ take Q (self.entry ++ other.entry) }
+    {
+        TinyAsciiStr {
+            bytes: padded::join(&self.bytes, &other.bytes),
+        }
+    }
+}

@@ -1,0 +1,107 @@
+//! The readers: strict, of padded bytes, lossy, and of bytes that are known to be padded.
+
+ghost use Rattle.std.specs.Prelude.{◌≡◌, map, IsOk, IfOk, IfErr, ◌↔◌};
+ghost use Rattle.tinystr_words.specs.Text.{text_of, IsTextByte, IsStrictText, IsPaddedText};
+ghost use Rattle.tinystr_words.specs.Reading.{fault_in, lossy};
+ghost use Rattle.tinystr.specs.Error.{fault_of};
+
+use crate::ascii::TinyAsciiStr;
+use crate::error::ParseError;
+use crate::padded;
+use tinystr_words::Unit;
+
+impl<const N: usize> TinyAsciiStr<N> {
+    // The text of the units, or why there is none.
+    #[inline(always)]
+    fn read<U: Unit>(units: &[U]) -> Result<Self, ParseError>
+        ensures accepted { IsOk result ↔ IsStrictText (map U.number units.now) N }
+        ensures text { IfOk result (λ t. t ≡ map U.number units.now) }
+        ensures fault { IfErr result (λ e. fault_of e ≡ fault_in N (map U.number units.now)) }
+    {
+        match padded::read(units) {
+            Some(bytes) => Ok(TinyAsciiStr { bytes }),
+            None => Err(padded::fault::<U, N>(units)),
+        }
+    }
+
+    /// Reads a text of at most `N` bytes. A NUL is refused at its end too.
+    #[inline]
+    pub fn try_from_str(s: &str) -> Result<Self, ParseError>
+        ensures accepted { IsOk result ↔ IsStrictText s.now N }
+        ensures text { IfOk result (λ t. t ≡ s.now) }
+        ensures fault { IfErr result (λ e. fault_of e ≡ fault_in N s.now) }
+    {
+        Self::try_from_utf8(s.as_bytes())
+    }
+
+    /// Reads a text of at most `N` bytes. A NUL is refused at its end too.
+    #[inline]
+    pub fn try_from_utf8(code_units: &[u8]) -> Result<Self, ParseError>
+        ensures accepted { IsOk result ↔ IsStrictText code_units.now N }
+        ensures text { IfOk result (λ t. t ≡ code_units.now) }
+        ensures fault { IfErr result (λ e. fault_of e ≡ fault_in N code_units.now) }
+    {
+        Self::read::<u8>(code_units)
+    }
+
+    /// Reads a text of at most `N` units of 16 bits, each a character of its own. A NUL is refused at its end too.
+    #[inline]
+    pub fn try_from_utf16(code_units: &[u16]) -> Result<Self, ParseError>
+        ensures accepted { IsOk result ↔ IsStrictText code_units.now N }
+        ensures text { IfOk result (λ t. t ≡ code_units.now) }
+        ensures fault { IfErr result (λ e. fault_of e ≡ fault_in N code_units.now) }
+    {
+        Self::read::<u16>(code_units)
+    }
+
+    /// Reads `N` bytes: a text and then NULs.
+    #[inline]
+    pub fn try_from_raw(raw: [u8; N]) -> Result<Self, ParseError>
+        ensures accepted { IsOk result ↔ IsPaddedText raw.entry N }
+        ensures text { IfOk result (λ t. t ≡ text_of raw.entry) }
+        ensures fault { IfErr result (λ e. fault_of e ≡ fault_in N raw.entry) }
+    {
+        match padded::check(raw) {
+            Some(bytes) => Ok(TinyAsciiStr { bytes }),
+            None => Err(padded::fault::<u8, N>(&raw[..])),
+        }
+    }
+
+    // The first units, with the replacement for each that is no character.
+    #[inline(always)]
+    fn read_lossy<U: Unit>(units: &[U], replacement: u8) -> Self
+        requires { IsTextByte replacement }
+        ensures { result ≡ lossy (map U.number units.now) replacement N }
+    {
+        TinyAsciiStr {
+            bytes: padded::lossy(units, replacement),
+        }
+    }
+
+    /// Reads the first `N` bytes, with the replacement for each that is NUL or above 127; the others are left out.
+    #[inline]
+    pub fn from_utf8_lossy(code_units: &[u8], replacement: u8) -> Self
+        requires { IsTextByte replacement }
+        ensures { result ≡ lossy code_units.now replacement N }
+    {
+        Self::read_lossy::<u8>(code_units, replacement)
+    }
+
+    /// Reads the first `N` units, with the replacement for each that is 0 or above 127; the others are left out.
+    #[inline]
+    pub fn from_utf16_lossy(code_units: &[u16], replacement: u8) -> Self
+        requires { IsTextByte replacement }
+        ensures { result ≡ lossy code_units.now replacement N }
+    {
+        Self::read_lossy::<u16>(code_units, replacement)
+    }
+
+    /// The text of an array that is known to be a text and then NULs. Nothing is tested when it runs.
+    #[inline]
+    pub fn from_utf8_unchecked(code_units: [u8; N]) -> Self
+        requires { IsPaddedText code_units N }
+        ensures { result ≡ text_of code_units.entry }
+    {
+        TinyAsciiStr { bytes: code_units }
+    }
+}

@@ -1,0 +1,58 @@
+//! What a value shows of its text.
+
+ghost use Rattle.std.specs.Prelude.{◌≡◌, ◌≤◌, [], length, ◌↔◌, IsTrue};
+ghost use Rattle.tinystr_words.specs.Text.{pad, text_of, IsText, IsPaddedText};
+
+use crate::ascii::TinyAsciiStr;
+use crate::padded;
+
+impl<const N: usize> TinyAsciiStr<N> {
+    /// The length of the text in bytes.
+    #[inline]
+    pub fn len(&self) -> usize
+        ensures len { result ≡ length self.now }
+        ensures fits { result ≤ N }
+    {
+        padded::len(&self.bytes)
+    }
+
+    /// Whether the text is empty, as the one text of capacity 0 is.
+    #[inline]
+    pub fn is_empty(&self) -> bool
+        ensures { IsTrue result ↔ (self.now ≡ []) }
+    {
+        self.len() == 0
+    }
+
+    /// The bytes of the text, in the value itself.
+    #[inline]
+    #[tactic(auto, using(tinystr_words::proofs::Texts::padded_texts))]
+    pub fn as_utf8(&self) -> &[u8]
+        ensures text { result.now ≡ self.now }
+        ensures ascii { IsText result.now }
+        ensures fits { length result.now ≤ N }
+    {
+        let bytes = self.bytes.as_slice();
+        &bytes[..self.len()]
+    }
+
+    /// The text, in the value itself.
+    #[inline]
+    pub fn as_str(&self) -> &str
+        ensures text { result.now ≡ self.now }
+        ensures ascii { IsText result.now }
+        ensures fits { length result.now ≤ N }
+    {
+        std::str::from_utf8(self.as_utf8()).unwrap()
+    }
+
+    /// The bytes of the text and then NULs, in the value itself.
+    #[inline]
+    pub fn all_bytes(&self) -> &[u8; N]
+        ensures bytes { result.now ≡ pad self.now N }
+        ensures padded { IsPaddedText result.now N }
+        ensures text { text_of result.now ≡ self.now }
+    {
+        &self.bytes
+    }
+}

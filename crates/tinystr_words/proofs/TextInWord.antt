@@ -1,0 +1,112 @@
+-- The text that a word holds: how it comes in and out, what a kernel answers of it, and what a case change makes of it.
+use Rattle.std.proofs.Common.{Bool, true, false, ℕ, ◌-◌, ◌*◌, ◌/◌, ◌<◌, ◌≤◌, ◌≡◌, List, [], ◌∷◌, length, drop, nat_eq, sym, ap, ◌∙◌, subst, arith}
+use Rattle.std.proofs.lemmas.Bool.{ltb-true}
+use Rattle.std.proofs.lemmas.List.{length-drop}
+use Rattle.std.proofs.lemmas.List.Elements.{All-head, All-drop}
+use Rattle.std.specs.Int.Count.{count_leading_zeros}
+use Rattle.tinystr_words.specs.Text.{IsTextByte, IsText, IsPaddedText, IsPadded, pad, text_of}
+use Rattle.tinystr_words.specs.Words.{word, first_then, lanes_of, text_in, HoldsText}
+use Rattle.tinystr_words.specs.Questions.{answer, in_case}
+use Rattle.tinystr_words.specs.declared.question.Question.{Question}
+use Rattle.tinystr_words.specs.declared.question.Case.{Case}
+use Rattle.tinystr_words.proofs.Texts.{IsPaddedText-made, text_of-made, length-pad, text_of-pad, length-text_of-le}
+use Rattle.tinystr_words.proofs.Lanes.{Ascii, IsBytes, lanes, length-lanes, IsBytes-lanes, everywhere_is}
+use Rattle.tinystr_words.proofs.Formulas.{Formula, IsSafe, on, at, is_safe, ascii_pad, safe_byte, changes_safe, on_pad, question, lanes-change}
+use Rattle.tinystr_words.proofs.WordAsNumber.{lanes_word, lanes_word_pad, word_nuls, word_ascii, leading_zeros_of}
+use Rattle.tinystr_words.proofs.Kernels.{kernel, pass_marks, kernel_asks, change, change_changes, with_case_bits, with_case_bits_safe, with_case_bits_ascii}
+
+-- ---- a word from a padded text
+
+-- the word of a text holds it
+pub text_in-word : (n : ℕ) (t : List ℕ) → IsText t → length t ≤ n → text_in n (word t) ≡ t
+unfolding text_in
+text_in-word n t x le =
+    let k : lanes_of n (word t) ≡ pad t n = ap (λ m. lanes_of n m) (sym (word_nuls t (n - length t))) ∙ lanes_word_pad n t x le in
+    ap (λ (l : List ℕ). text_of l) k ∙ text_of-pad t n x
+
+-- and nothing else
+pub HoldsText-word : (n : ℕ) (t : List ℕ) → IsText t → length t ≤ n → HoldsText n (word t)
+HoldsText-word n t x le =
+    let e = text_in-word n t x le in
+    let z : word (pad t n) ≡ word t = word_nuls t (n - length t) in
+    let a : word (pad t n) ≤ word (first_then n 0x7f 0x7f) = subst (λ m. word (pad t n) ≤ word (first_then m 0x7f 0x7f)) (length-pad t n le) (word_ascii (pad t n) (ascii_pad t n x)) in
+    record { text = subst IsText (sym e) x; fits = rw e le; padded = rw e (sym z); ascii = rw (← z) a }
+
+-- the word of a padded text holds the text
+pub HoldsText-padded : (n : ℕ) (l : List ℕ) → IsPadded l → length l ≤ n → HoldsText n (word l) × (text_in n (word l) ≡ text_of l)
+HoldsText-padded n l p le =
+    let t = text_of l in
+    let e : word l ≡ word t = ap word p.padded ∙ word_nuls t (length l - length t) in
+    let small : length t ≤ n = omega (arith, length-text_of-le l) in
+    rw e (HoldsText-word n t p.text small, text_in-word n t p.text small)
+
+-- the length of the text, by the leading zeros
+pub length-text_in : {n w : ℕ} → HoldsText n w → n - count_leading_zeros (8 * n) w / 8 ≡ length (text_in n w)
+length-text_in {n} {w} h =
+    let t = text_in n w in
+    let e : w ≡ word t = h.padded ∙ word_nuls t (n - length t) in
+    let z : count_leading_zeros (8 * n) w / 8 ≡ n - length t = ap (λ v. count_leading_zeros (8 * n) v / 8) e ∙ leading_zeros_of n t h.text h.fits in
+    let fits = h.fits in
+    omega arith
+
+-- the lanes are the padded text
+pub lanes-text_in : {n w : ℕ} → HoldsText n w → lanes_of n w ≡ pad (text_in n w) n
+lanes-text_in {n} {w} h = ap (λ m. lanes_of n m) h.padded ∙ lanes_word_pad n (text_in n w) h.text h.fits
+
+-- the word of a text, divided by 256, is that of the text without its first byte
+word_rest : (t : List ℕ) → IsText t → word t / 256 ≡ word (drop 1 t)
+word_rest [] x = omega arith
+word_rest (b ∷ t) x = let byte = All-head IsTextByte b t x in omega arith
+
+-- a word without its lowest byte
+pub HoldsText-rest : (n : ℕ) (t : List ℕ) → IsText t → length t ≤ n → HoldsText n (word t / 256) × (text_in n (word t / 256) ≡ drop 1 t)
+HoldsText-rest n t x le =
+    let rest = All-drop IsTextByte 1 t x in
+    let fits : length (drop 1 t) ≤ n = omega (arith, length-drop 1 t) in
+    rw (word_rest t x) (HoldsText-word n (drop 1 t) rest fits, text_in-word n (drop 1 t) rest fits)
+
+-- bytes that are the lanes are padded, and their text is the one that the word holds
+pub padded_lanes : {n w : ℕ} → HoldsText n w → (bytes : List ℕ) → bytes ≡ lanes_of n w → IsPaddedText bytes n × (text_of bytes ≡ text_in n w)
+padded_lanes {n} {w} h bytes e =
+    let made = e ∙ lanes-text_in h in
+    (IsPaddedText-made bytes (text_in n w) n made (record { text = h.text; fits = h.fits }), text_of-made bytes (text_in n w) n made h.text)
+
+-- ---- its questions and changes
+
+-- what a kernel compares answers its question
+pub kernel-answer : {n w : ℕ} → HoldsText n w → (q : Question) → nat_eq (on (kernel q) n w) (on (pass_marks q) n w) ≡ answer q (text_in n w)
+kernel-answer {n} {w} h q =
+    subst (λ v. nat_eq (on (kernel q) n v) (on (pass_marks q) n v) ≡ answer q (text_in n w)) (sym h.padded)
+    (question (kernel q) (pass_marks q) q (kernel_asks q) n (text_in n w) h.text h.fits)
+
+-- a formula acts on each lane
+on-text_in : {n w : ℕ} → HoldsText n w → (f : Formula) → IsSafe f → on f n w ≡ word (lanes (at f) true (pad (text_in n w) n))
+on-text_in {n} {w} h f s =
+    subst (λ v. on f n v ≡ word (lanes (at f) true (pad (text_in n w) n))) (sym h.padded) (on_pad f s n (text_in n w) h.text h.fits)
+
+-- however its lanes are changed, a word keeps their number
+length-lanes-pad : {n w : ℕ} → HoldsText n w → (F : Bool → ℕ → ℕ) → length (lanes F true (pad (text_in n w) n)) ≡ n
+length-lanes-pad {n} {w} h F = length-lanes F true (pad (text_in n w) n) ∙ length-pad (text_in n w) n h.fits
+
+-- the lanes of a changed word are the changed text, padded
+pub changed_bytes : {n w : ℕ} → HoldsText n w → (c : Case) → lanes_of n (on (change c) n w) ≡ pad (in_case c (text_in n w)) n
+changed_bytes {n} {w} h c =
+    let f = change c in
+    let s : IsSafe f = changes_safe f c (change_changes c) in
+    let l = lanes (at f) true (pad (text_in n w) n) in
+    let bytes : IsBytes l = IsBytes-lanes (at f) (λ i b k. safe_byte f i b k (s i b k)) true (pad (text_in n w) n) (ascii_pad (text_in n w) n h.text) in
+    let back : lanes_of n (word l) ≡ l = subst (λ m. lanes_of m (word l) ≡ l) (length-lanes-pad h (at f)) (lanes_word l bytes) in
+    rw (on-text_in h f s, back) (lanes-change f c (change_changes c) n (text_in n w) h.text h.fits)
+
+-- a change that keeps each byte below 128 keeps all lanes there
+each_ascii : (F : Bool → ℕ → ℕ) → ((i : Bool) (b : ℕ) → b < 128 → F i b < 128) → (i : Bool) (l : List ℕ) → Ascii l → Ascii (lanes F i l)
+each_ascii F p i [] a = tt
+each_ascii F p i (b ∷ l) a = (p i b a.0, each_ascii F p false l a.1)
+
+-- a text in lower case, by a formula that also changes other bytes, leaves the same room
+pub with_case_bits_room : {n w : ℕ} → HoldsText n w → on with_case_bits n w ≤ word (first_then n 0x7f 0x7f)
+with_case_bits_room {n} {w} h =
+    let l = lanes (at with_case_bits) true (pad (text_in n w) n) in
+    let small : Ascii l = each_ascii (at with_case_bits) (λ i b k. ltb-true _ _ (everywhere_is _ with_case_bits_ascii i b k)) true (pad (text_in n w) n) (ascii_pad (text_in n w) n h.text) in
+    rw (on-text_in h with_case_bits (everywhere_is (is_safe with_case_bits) with_case_bits_safe))
+    (subst (λ m. word l ≤ word (first_then m 0x7f 0x7f)) (length-lanes-pad h (at with_case_bits)) (word_ascii l small))
