@@ -1,6 +1,6 @@
 //! Padded bytes of any length: a text and then NULs. Nothing outside this file chooses the words that take them.
 
-ghost use Rattle.std.specs.Prelude.{◌≡◌, ◌≤◌, ◌++◌, ◌↔◌, length, map, take, IsTrue, IsOk, IfOk, IfErr, MatchOption};
+ghost use Rattle.std.specs.Prelude.{◌≡◌, ◌≤◌, ◌++◌, ◌↔◌, length, map, take, IsTrue, IsOk, IfOk, IfErr, MatchBool};
 ghost use Rattle.std.specs.Fmt.{decimal};
 ghost use Rattle.std.specs.Str.{bytes_eq};
 ghost use Rattle.tinystr_words.specs.Text.{IsPadded, IsPaddedText, IsStrictText, text_of, pad};
@@ -49,52 +49,61 @@ fn width_of(len: usize) -> Width
     }
 }
 
-/// The units as padded bytes, if they are a text that fits.
+/// Reads the units into the bytes, if they are a text that fits, and says whether they are. An `Option` of the bytes would
+/// go through memory.
 #[inline(always)]
-pub fn read<U: Unit, const N: usize>(units: &[U]) -> Option<[u8; N]>
-    ensures { MatchOption result (¬ IsStrictText (map U.number units.now) N)
-        (λ bytes. IsPaddedText bytes N × (text_of bytes ≡ map U.number units.now)) }
+pub fn read<U: Unit, const N: usize>(bytes: &mut [u8; N], units: &[U]) -> bool
+    ensures { MatchBool result
+        (IsPaddedText bytes.new N × (text_of bytes.new ≡ map U.number units.now))
+        (¬ IsStrictText (map U.number units.now) N) }
 {
     if units.len() > N {
-        return None;
+        return false;
     }
     if units.len() > 16 {
-        return units::read_parts(units);
+        return units::read_parts(bytes, units);
     }
     match width_of(N) {
-        Width::Four | Width::Eight => {
-            let text = Aligned8::try_from_text(units)?;
-            Some(cut(&text.to_bytes()))
-        }
-        Width::Sixteen | Width::Many => {
-            let text = Aligned16::try_from_text(units)?;
-            Some(cut(&text.to_bytes()))
-        }
+        Width::Four | Width::Eight => match Aligned8::try_from_text(units) {
+            Some(text) => {
+                *bytes = cut(&text.to_bytes());
+                true
+            }
+            None => false,
+        },
+        Width::Sixteen | Width::Many => match Aligned16::try_from_text(units) {
+            Some(text) => {
+                *bytes = cut(&text.to_bytes());
+                true
+            }
+            None => false,
+        },
     }
 }
 
-/// The bytes, if they are padded.
+/// Copies the bytes, if they are padded, and says whether they are.
 #[inline(always)]
-pub fn check<const N: usize>(raw: [u8; N]) -> Option<[u8; N]>
-    ensures { MatchOption result (¬ IsPaddedText raw.entry N)
-        (λ bytes. IsPaddedText bytes N × (bytes ≡ raw.entry)) }
+pub fn read_padded<const N: usize>(bytes: &mut [u8; N], raw: &[u8; N]) -> bool
+    ensures { MatchBool result
+        (IsPaddedText raw.now N × (bytes.new ≡ raw.now))
+        (¬ IsPaddedText raw.now N) }
 {
     match width_of(N) {
         // the word's own bytes, since the array would be moved in pieces that fit no register
-        Width::Sixteen => {
-            let text = Aligned16::try_from_part(&raw[..])?;
-            Some(cut(&text.to_bytes()))
-        }
+        Width::Sixteen => match Aligned16::try_from_part(raw) {
+            Some(text) => {
+                *bytes = cut(&text.to_bytes());
+                true
+            }
+            None => false,
+        },
         Width::Four | Width::Eight => {
-            let _ = Aligned8::try_from_part(&raw[..])?;
-            Some(raw)
+            *bytes = *raw;
+            Aligned8::try_from_part(raw).is_some()
         }
         Width::Many => {
-            if words::is_padded(&raw[..]) {
-                Some(raw)
-            } else {
-                None
-            }
+            *bytes = *raw;
+            words::is_padded(raw)
         }
     }
 }
@@ -122,7 +131,8 @@ pub fn len<const N: usize>(bytes: &[u8; N]) -> usize
     match width_of(N) {
         Width::Four => Aligned4::from_ascii_bytes(bytes).len(),
         Width::Eight => Aligned8::from_ascii_bytes(bytes).len(),
-        Width::Sixteen | Width::Many => words::len(bytes),
+        Width::Sixteen => Aligned16::from_ascii_bytes(bytes).len(),
+        Width::Many => words::len(bytes),
     }
 }
 
@@ -152,7 +162,8 @@ pub fn ask<const N: usize>(bytes: &[u8; N], question: Question) -> bool
     match width_of(N) {
         Width::Four => Aligned4::from_ascii_bytes(bytes).ask(question),
         Width::Eight => Aligned8::from_ascii_bytes(bytes).ask(question),
-        Width::Sixteen | Width::Many => words::ask(bytes, question),
+        Width::Sixteen => Aligned16::from_ascii_bytes(bytes).ask(question),
+        Width::Many => words::ask(bytes, question),
     }
 }
 
@@ -171,7 +182,11 @@ pub fn change<const N: usize>(bytes: &mut [u8; N], case: Case)
             let word = Aligned8::from_ascii_bytes(bytes).in_case(case);
             bytes.copy_from_slice(&word[..N]);
         }
-        Width::Sixteen | Width::Many => words::change(bytes, case),
+        Width::Sixteen => {
+            let word = Aligned16::from_ascii_bytes(bytes).in_case(case);
+            bytes.copy_from_slice(&word[..N]);
+        }
+        Width::Many => words::change(bytes, case),
     }
 }
 
@@ -197,6 +212,6 @@ pub fn join<const N: usize, const M: usize, const Q: usize>(
             let text = Aligned16::from_part(first).join(&Aligned16::from_part(second));
             cut(&text.to_bytes())
         }
-        Width::Many => copying::join(front, len(front), back),
+        Width::Many => copying::join(*front, len(front), back),
     }
 }

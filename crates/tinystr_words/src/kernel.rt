@@ -37,7 +37,7 @@ pub const DIGIT: Range = Range {
 pub const NOT_NUL: u8 = 0x7f;
 
 /// The high bit of each lane that isn't NUL.
-#[inline(always)]
+#[inline]
 #[tactic(auto, using(crate::proofs::WordAsNumber::mark_room))]
 pub fn present<T: Word<LEN>, const LEN: usize>(text: T) -> T
     requires { T.number text ≤ word (first_then LEN 0x7f 0x7f) }
@@ -48,7 +48,7 @@ pub fn present<T: Word<LEN>, const LEN: usize>(text: T) -> T
 }
 
 /// The high bit of each lane whose lower bits aren't all clear.
-#[inline(always)]
+#[inline]
 #[tactic(auto, using(std::proofs::lemmas::Nat::and_le_r))]
 pub fn marks<T: Word<LEN>, const LEN: usize>(bytes: T) -> T
     ensures { T.number result ≡ bit_and
@@ -59,7 +59,7 @@ pub fn marks<T: Word<LEN>, const LEN: usize>(bytes: T) -> T
 }
 
 /// The high bits of the lanes, and the marks of those that stand after a lane without one.
-#[inline(always)]
+#[inline]
 pub fn faults<T: Word<LEN>, const LEN: usize>(bytes: T, marks: T) -> T
     ensures { T.number result ≡ bit_or
         (bit_and (T.number bytes) (word (first_then LEN 0x80 0x80)))
@@ -70,7 +70,7 @@ pub fn faults<T: Word<LEN>, const LEN: usize>(bytes: T, marks: T) -> T
 }
 
 /// The high bit of each lane whose byte is outside its range.
-#[inline(always)]
+#[inline]
 #[tactic(auto, using(crate::proofs::WordAsNumber::first_then_room))]
 pub fn outside<T: Word<LEN>, const LEN: usize>(text: T, first: Range, others: Range) -> T
     requires { T.number text ≤ word (first_then LEN 0x7f 0x7f) }
@@ -84,7 +84,7 @@ pub fn outside<T: Word<LEN>, const LEN: usize>(text: T, first: Range, others: Ra
 }
 
 /// The case bit, 0x20, of each lane whose byte is in its range.
-#[inline(always)]
+#[inline]
 pub fn case_bits<T: Word<LEN>, const LEN: usize>(text: T, first: Range, others: Range) -> T
     requires { T.number text ≤ word (first_then LEN 0x7f 0x7f) }
     ensures { T.number result ≡ bit_and
@@ -100,7 +100,7 @@ pub fn case_bits<T: Word<LEN>, const LEN: usize>(text: T, first: Range, others: 
 }
 
 /// The text with the case bit set in each lane: its letters in lower case, and some of its other bytes changed.
-#[inline(always)]
+#[inline]
 pub fn with_case_bits<T: Word<LEN>, const LEN: usize>(text: T) -> T
     requires { HoldsText LEN (T.number text) }
     ensures bits { T.number result ≡ bit_or (T.number text) (word (first_then LEN 0x20 0x20)) }
@@ -110,7 +110,7 @@ pub fn with_case_bits<T: Word<LEN>, const LEN: usize>(text: T) -> T
 }
 
 /// Whether no character's lane is marked. A NUL's lane may be.
-#[inline(always)]
+#[inline]
 pub fn no_character_marked<T: Word<LEN>, const LEN: usize>(marks: T, text: T) -> bool
     requires { T.number text ≤ word (first_then LEN 0x7f 0x7f) }
     ensures { result ≡ (bit_and (T.number marks)
@@ -121,7 +121,7 @@ pub fn no_character_marked<T: Word<LEN>, const LEN: usize>(marks: T, text: T) ->
 }
 
 /// Whether every lane is marked.
-#[inline(always)]
+#[inline]
 pub fn every_lane_marked<T: Word<LEN>, const LEN: usize>(marks: T) -> bool
     ensures { result ≡
         (bit_and (T.number marks) (word (first_then LEN 0x80 0x80)) == word (first_then LEN 0x80 0x80)) }

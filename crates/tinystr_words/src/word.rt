@@ -20,7 +20,7 @@ pub trait Word<const LEN: usize>: Copy + Drop {
         ensures { result ≡ lanes_of LEN (number self) };
 
     /// The same bytes for an array in memory: a word of sixteen in halves, since its bytes are stored one at a time.
-    #[inline(always)]
+    #[inline]
     fn to_bytes_in_memory(self) -> [u8; LEN]
         ensures { result ≡ lanes_of LEN (number self) }
     {
@@ -72,7 +72,7 @@ pub trait Word<const LEN: usize>: Copy + Drop {
         ensures { result ≡ (number self == number other) };
 
     /// One byte in the first lane, another in each other lane.
-    #[inline(always)]
+    #[inline]
     fn first_then(first: u8, others: u8) -> Self
         ensures { number result ≡ word (first_then LEN first others) }
     {
@@ -82,7 +82,7 @@ pub trait Word<const LEN: usize>: Copy + Drop {
     }
 
     /// The same byte in each lane.
-    #[inline(always)]
+    #[inline]
     fn splat(byte: u8) -> Self
         ensures { number result ≡ word (first_then LEN byte byte) }
     {
@@ -97,12 +97,12 @@ impl Word<4> for u32 {
 
     ghost size = { (lit< tt, lit≤ tt) };
 
-    #[inline(always)]
+    #[inline]
     fn from_le_bytes(bytes: &[u8; 4]) -> u32 {
         u32::from_le_bytes(*bytes)
     }
 
-    #[inline(always)]
+    #[inline]
     fn to_bytes_in_registers(self) -> [u8; 4] {
         u32::to_le_bytes(self)
     }
@@ -124,47 +124,47 @@ impl Word<4> for u32 {
             | u32::from(src[last].low_byte()) << (8 * last)
     }
 
-    #[inline(always)]
+    #[inline]
     fn leading_zeros(self) -> usize {
         u32::leading_zeros(self) as usize
     }
 
-    #[inline(always)]
+    #[inline]
     fn plus(self, other: u32) -> u32 {
         self + other
     }
 
-    #[inline(always)]
+    #[inline]
     fn and(self, other: u32) -> u32 {
         self & other
     }
 
-    #[inline(always)]
+    #[inline]
     fn or(self, other: u32) -> u32 {
         self | other
     }
 
-    #[inline(always)]
+    #[inline]
     fn not(self) -> u32 {
         !self
     }
 
-    #[inline(always)]
+    #[inline]
     fn quarter(self) -> u32 {
         self >> 2
     }
 
-    #[inline(always)]
+    #[inline]
     fn next_lanes(self) -> u32 {
         self >> 8
     }
 
-    #[inline(always)]
+    #[inline]
     fn behind(self, lanes: usize) -> u32 {
         self << (8 * lanes)
     }
 
-    #[inline(always)]
+    #[inline]
     fn equals(self, other: u32) -> bool {
         self == other
     }
@@ -175,12 +175,12 @@ impl Word<8> for u64 {
 
     ghost size = { (lit< tt, lit≤ tt) };
 
-    #[inline(always)]
+    #[inline]
     fn from_le_bytes(bytes: &[u8; 8]) -> u64 {
         u64::from_le_bytes(*bytes)
     }
 
-    #[inline(always)]
+    #[inline]
     fn to_bytes_in_registers(self) -> [u8; 8] {
         u64::to_le_bytes(self)
     }
@@ -196,47 +196,47 @@ impl Word<8> for u64 {
         u64::from(low) + (u64::from(high >> (8 * (8 - len))) << 32)
     }
 
-    #[inline(always)]
+    #[inline]
     fn leading_zeros(self) -> usize {
         u64::leading_zeros(self) as usize
     }
 
-    #[inline(always)]
+    #[inline]
     fn plus(self, other: u64) -> u64 {
         self + other
     }
 
-    #[inline(always)]
+    #[inline]
     fn and(self, other: u64) -> u64 {
         self & other
     }
 
-    #[inline(always)]
+    #[inline]
     fn or(self, other: u64) -> u64 {
         self | other
     }
 
-    #[inline(always)]
+    #[inline]
     fn not(self) -> u64 {
         !self
     }
 
-    #[inline(always)]
+    #[inline]
     fn quarter(self) -> u64 {
         self >> 2
     }
 
-    #[inline(always)]
+    #[inline]
     fn next_lanes(self) -> u64 {
         self >> 8
     }
 
-    #[inline(always)]
+    #[inline]
     fn behind(self, lanes: usize) -> u64 {
         self << (8 * lanes)
     }
 
-    #[inline(always)]
+    #[inline]
     fn equals(self, other: u64) -> bool {
         self == other
     }
@@ -250,14 +250,14 @@ impl Word<16> for u128 {
 
     ghost size = { (lit< tt, lit≤ tt) };
 
-    #[inline(always)]
+    #[inline]
     fn from_le_bytes(bytes: &[u8; 16]) -> u128 {
         u128::from_le_bytes(*bytes)
     }
 
     // In pieces that end at the bytes 7 and 15, where the compiler cuts a `Result` of a text and an error of two
     // numbers: each then stays in a register.
-    #[inline(always)]
+    #[inline]
     fn to_bytes_in_registers(self) -> [u8; 16] {
         let mut bytes = [0; 16];
         bytes[15] = (self >> 120) as u8;
@@ -268,7 +268,7 @@ impl Word<16> for u128 {
         bytes
     }
 
-    #[inline(always)]
+    #[inline]
     fn to_bytes_in_memory(self) -> [u8; 16] {
         let low = (self % HALF) as u64;
         let high = (self / HALF) as u64;
@@ -289,47 +289,47 @@ impl Word<16> for u128 {
         u128::from(low) + (u128::from(high >> (8 * (16 - len))) << 64)
     }
 
-    #[inline(always)]
+    #[inline]
     fn leading_zeros(self) -> usize {
         u128::leading_zeros(self) as usize
     }
 
-    #[inline(always)]
+    #[inline]
     fn plus(self, other: u128) -> u128 {
         self + other
     }
 
-    #[inline(always)]
+    #[inline]
     fn and(self, other: u128) -> u128 {
         self & other
     }
 
-    #[inline(always)]
+    #[inline]
     fn or(self, other: u128) -> u128 {
         self | other
     }
 
-    #[inline(always)]
+    #[inline]
     fn not(self) -> u128 {
         !self
     }
 
-    #[inline(always)]
+    #[inline]
     fn quarter(self) -> u128 {
         self >> 2
     }
 
-    #[inline(always)]
+    #[inline]
     fn next_lanes(self) -> u128 {
         self >> 8
     }
 
-    #[inline(always)]
+    #[inline]
     fn behind(self, lanes: usize) -> u128 {
         self << (8 * lanes)
     }
 
-    #[inline(always)]
+    #[inline]
     fn equals(self, other: u128) -> bool {
         self == other
     }

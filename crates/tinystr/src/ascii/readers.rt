@@ -18,9 +18,11 @@ impl<const N: usize> TinyAsciiStr<N> {
         ensures text { IfOk result (λ t. t ≡ map U.number units.now) }
         ensures fault { IfErr result (λ e. fault_of e ≡ fault_in N (map U.number units.now)) }
     {
-        match padded::read(units) {
-            Some(bytes) => Ok(TinyAsciiStr { bytes }),
-            None => Err(padded::fault::<U, N>(units)),
+        let mut bytes = [0; N];
+        if padded::read(&mut bytes, units) {
+            Ok(TinyAsciiStr { bytes })
+        } else {
+            Err(padded::fault::<U, N>(units))
         }
     }
 
@@ -61,9 +63,11 @@ impl<const N: usize> TinyAsciiStr<N> {
         ensures text { IfOk result (λ t. t ≡ text_of raw.entry) }
         ensures fault { IfErr result (λ e. fault_of e ≡ fault_in N raw.entry) }
     {
-        match padded::check(raw) {
-            Some(bytes) => Ok(TinyAsciiStr { bytes }),
-            None => Err(padded::fault::<u8, N>(&raw[..])),
+        let mut bytes = [0; N];
+        if padded::read_padded(&mut bytes, &raw) {
+            Ok(TinyAsciiStr { bytes })
+        } else {
+            Err(padded::fault::<u8, N>(&raw[..]))
         }
     }
 

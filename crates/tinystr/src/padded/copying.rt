@@ -45,15 +45,15 @@ pub fn cut<const M: usize>(padded: &[u8]) -> [u8; M]
 /// The first `Q` bytes of the two texts joined.
 #[inline(always)]
 pub fn join<const N: usize, const M: usize, const Q: usize>(
-    front: &[u8; N],
+    front: [u8; N],
     front_len: usize,
     back: &[u8; M],
 ) -> [u8; Q]
-    requires front { IsPaddedText front.now N }
-    requires front_len { front_len ≡ length (text_of front.now) }
+    requires front { IsPaddedText front N }
+    requires front_len { front_len ≡ length (text_of front) }
     requires back { IsPaddedText back.now M }
     ensures padded { IsPaddedText result Q }
-    ensures text { text_of result ≡ take Q (text_of front.now ++ text_of back.now) }
+    ensures text { text_of result ≡ take Q (text_of front.entry ++ text_of back.now) }
 {
     if N % 8 == 0 && front_len == N {
         // both places are known when the program is built, so that no byte goes through memory
