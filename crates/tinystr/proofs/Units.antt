@@ -5,9 +5,9 @@ use Rattle.std.proofs.lemmas.List.Elements.{All-from_get_or, All-head, All-map, 
 use Rattle.std.proofs.lemmas.Bool.{cases_lt}
 use Rattle.std.specs.Prelude.{MatchBool}
 use Rattle.std.proofs.lemmas.Grind.{common_steps}
-use Rattle.tinystr_words.specs.Text.{IsPaddedText, IsStrictText, IsText, IsTextByte, pad, text_of}
+use Rattle.tinystr_words.specs.Text.{IsPaddedText, IsText, IsTextByte, pad, text_of}
 use Rattle.tinystr_words.specs.Reading.{lossy, lossy_byte}
-use Rattle.tinystr_words.proofs.Texts.{IsPaddedText-made, NULS, get_or-nuls, length-pad, text_of-made}
+use Rattle.tinystr_words.proofs.Texts.{NULS, get_or-nuls, length-pad}
 use Rattle.tinystr_words.proofs.Readers.{lossy_byte-character}
 use Rattle.tinystr.specs.Reading.{IsReadPart, IsSame}
 use Rattle.tinystr.proofs.Copying.{made_of, padded_at}
@@ -43,14 +43,11 @@ read_whole is_bad bytes units r n fits len read =
         ]
 
 -- where no unit is bad, all are read as they are
-pub read_text : (is_bad : Bool) (bytes units : List ℕ) (r n : ℕ) → length units ≤ n → length bytes ≡ n
-    → IsReadPart is_bad (NULS n) bytes units r 0 (length units)
-    → MatchBool (not is_bad) (IsPaddedText bytes n × (text_of bytes ≡ units)) (¬ IsStrictText units n)
-read_text true bytes units r n fits len read = λ strict. read.tested strict.text
-read_text false bytes units r n fits len read =
+pub read_text : (bytes units : List ℕ) (r n : ℕ) → length units ≤ n → length bytes ≡ n
+    → IsReadPart false (NULS n) bytes units r 0 (length units) → IsText units × (bytes ≡ pad units n)
+read_text bytes units r n fits len read =
     let text : IsText units = All-from_get_or IsTextByte units 0 (λ k inside. read.tested k (omega arith) inside) in
-    let made = read_whole false bytes units r n fits len read ∙ ap (λ (l : List ℕ). pad l n) (lossy_text r units text) in
-    (IsPaddedText-made bytes units n made (record { text = text; fits = fits }), text_of-made bytes units n made text)
+    (text, read_whole false bytes units r n fits len read ∙ ap (λ (l : List ℕ). pad l n) (lossy_text r units text))
 
 -- one more unit
 pub part_more : (old bytes units : List ℕ) (r i j x : ℕ) (bad char : Bool) → length units ≤ length bytes → j < length units → IsReadPart bad old bytes units r i j

@@ -1,11 +1,13 @@
 //! Padded bytes of any length: a text and then NULs. Nothing outside this file chooses the words that take them.
 
-ghost use Rattle.std.specs.Prelude.{◌≡◌, ◌≤◌, ◌++◌, ◌↔◌, length, map, take, IsTrue, IsOk, IfOk, IfErr, MatchBool};
+ghost use Rattle.std.specs.Prelude.{◌≡◌, ◌≤◌, ◌++◌, ◌↔◌, length, map, take, IsTrue, IsOk, IfOk, IfErr};
 ghost use Rattle.std.specs.Fmt.{decimal};
 ghost use Rattle.std.specs.Str.{bytes_eq};
 ghost use Rattle.tinystr_words.specs.Text.{IsPadded, IsPaddedText, IsStrictText, text_of, pad};
 ghost use Rattle.tinystr_words.specs.Decimal.{last};
+ghost use Rattle.tinystr_words.specs.Reading.{fault_in};
 ghost use Rattle.tinystr_words.specs.Questions.{answer, in_case};
+ghost use Rattle.tinystr.specs.Error.{fault_of};
 ghost use Rattle.tinystr.specs.Padded.{IsWidthOf};
 
 mod copying;
@@ -13,12 +15,14 @@ mod order;
 mod units;
 mod words;
 
+use crate::error::ParseError;
 use copying::cut;
 pub use copying::resize;
 pub use order::compare;
 use tinystr_words::int_ops::{Aligned4, Aligned8, Aligned16, decimal_fits};
 use tinystr_words::{Case, Question, Unit};
-pub use units::{fault, lossy};
+pub use units::lossy;
+use units::fault;
 
 /// The words that take padded bytes: the narrowest that holds all, since it is loaded and asked in the fewest steps.
 #[derive(Clone, Copy)]
@@ -49,63 +53,59 @@ fn width_of(len: usize) -> Width
     }
 }
 
-/// Reads the units into the bytes, if they are a text that fits, and says whether they are. An `Option` of the bytes would
-/// go through memory.
+/// The units as padded bytes, or why they are no text that fits.
 #[inline(always)]
-pub fn read<U: Unit, const N: usize>(bytes: &mut [u8; N], units: &[U]) -> bool
-    ensures { MatchBool result
-        (IsPaddedText bytes.new N × (text_of bytes.new ≡ map U.number units.now))
-        (¬ IsStrictText (map U.number units.now) N) }
+pub fn read<U: Unit, const N: usize>(units: &[U]) -> Result<[u8; N], ParseError>
+    ensures accepted { IsOk result ↔ IsStrictText (map U.number units.now) N }
+    ensures padded { IfOk result (λ bytes. IsPaddedText bytes N × (text_of bytes ≡ map U.number units.now)) }
+    ensures fault { IfErr result (λ e. fault_of e ≡ fault_in N (map U.number units.now)) }
 {
-    if units.len() > N {
-        return false;
-    }
     if units.len() > 16 {
-        return units::read_parts(bytes, units);
+        return units::read_parts(units);
     }
-    match width_of(N) {
-        Width::Four | Width::Eight => match Aligned8::try_from_text(units) {
-            Some(text) => {
-                *bytes = cut(&text.to_bytes());
-                true
+    if units.len() <= N {
+        match width_of(N) {
+            Width::Four | Width::Eight => {
+                if let Some(text) = Aligned8::try_from_text(units) {
+                    return Ok(cut(&text.to_bytes()));
+                }
             }
-            None => false,
-        },
-        Width::Sixteen | Width::Many => match Aligned16::try_from_text(units) {
-            Some(text) => {
-                *bytes = cut(&text.to_bytes());
-                true
+            Width::Sixteen | Width::Many => {
+                if let Some(text) = Aligned16::try_from_text(units) {
+                    return Ok(cut(&text.to_bytes()));
+                }
             }
-            None => false,
-        },
+        }
     }
+    Err(fault::<U, N>(units))
 }
 
-/// Copies the bytes, if they are padded, and says whether they are.
+/// The bytes, or why they aren't padded.
 #[inline(always)]
-pub fn read_padded<const N: usize>(bytes: &mut [u8; N], raw: &[u8; N]) -> bool
-    ensures { MatchBool result
-        (IsPaddedText raw.now N × (bytes.new ≡ raw.now))
-        (¬ IsPaddedText raw.now N) }
+pub fn read_padded<const N: usize>(raw: [u8; N]) -> Result<[u8; N], ParseError>
+    ensures accepted { IsOk result ↔ IsPaddedText raw.entry N }
+    ensures bytes { IfOk result (λ bytes. IsPaddedText bytes N × (bytes ≡ raw.entry)) }
+    ensures fault { IfErr result (λ e. fault_of e ≡ fault_in N raw.entry) }
 {
     match width_of(N) {
         // the word's own bytes, since the array would be moved in pieces that fit no register
-        Width::Sixteen => match Aligned16::try_from_part(raw) {
-            Some(text) => {
-                *bytes = cut(&text.to_bytes());
-                true
+        Width::Sixteen => {
+            if let Some(text) = Aligned16::try_from_part(&raw[..]) {
+                return Ok(cut(&text.to_bytes()));
             }
-            None => false,
-        },
+        }
         Width::Four | Width::Eight => {
-            *bytes = *raw;
-            Aligned8::try_from_part(raw).is_some()
+            if Aligned8::try_from_part(&raw[..]).is_some() {
+                return Ok(raw);
+            }
         }
         Width::Many => {
-            *bytes = *raw;
-            words::is_padded(raw)
+            if words::is_padded(&raw[..]) {
+                return Ok(raw);
+            }
         }
     }
+    Err(fault::<u8, N>(&raw[..]))
 }
 
 /// The decimal text of a number as padded bytes, or its last `N` digits where it has more.

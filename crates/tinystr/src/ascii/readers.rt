@@ -18,11 +18,9 @@ impl<const N: usize> TinyAsciiStr<N> {
         ensures text { IfOk result (λ t. t ≡ map U.number units.now) }
         ensures fault { IfErr result (λ e. fault_of e ≡ fault_in N (map U.number units.now)) }
     {
-        let mut bytes = [0; N];
-        if padded::read(&mut bytes, units) {
-            Ok(TinyAsciiStr { bytes })
-        } else {
-            Err(padded::fault::<U, N>(units))
+        match padded::read(units) {
+            Ok(bytes) => Ok(TinyAsciiStr { bytes }),
+            Err(fault) => Err(fault),
         }
     }
 
@@ -63,11 +61,9 @@ impl<const N: usize> TinyAsciiStr<N> {
         ensures text { IfOk result (λ t. t ≡ text_of raw.entry) }
         ensures fault { IfErr result (λ e. fault_of e ≡ fault_in N raw.entry) }
     {
-        let mut bytes = [0; N];
-        if padded::read_padded(&mut bytes, &raw) {
-            Ok(TinyAsciiStr { bytes })
-        } else {
-            Err(padded::fault::<u8, N>(&raw[..]))
+        match padded::read_padded(raw) {
+            Ok(bytes) => Ok(TinyAsciiStr { bytes }),
+            Err(fault) => Err(fault),
         }
     }
 

@@ -1,6 +1,6 @@
 //! Units read into padded bytes, and the fault of units that are refused.
 
-ghost use Rattle.std.specs.Prelude.{◌≡◌, ◌+◌, ◌*◌, ◌<◌, ◌≤◌, ◌↔◌, ℕ, map, length, IsTrue, MatchBool, option_map, if◌then◌else◌};
+ghost use Rattle.std.specs.Prelude.{◌≡◌, ◌+◌, ◌*◌, ◌<◌, ◌≤◌, ◌↔◌, ℕ, map, length, IsTrue, IsOk, IfOk, IfErr, option_map, if◌then◌else◌};
 ghost use Rattle.tinystr_words.specs.Text.{pad, text_of, IsText, IsTextByte, IsStrictText, IsPaddedText};
 ghost use Rattle.tinystr_words.specs.Reading.{first_fault, fault_in, lossy, lossy_byte};
 ghost use Rattle.tinystr.specs.Error.{fault_of};
@@ -100,17 +100,21 @@ fn read_all<U: Unit>(bytes: &mut [u8], units: &[U], replacement: u8) -> bool
     }
 }
 
-/// Reads the units into the bytes by parts, and says whether they are a text.
+/// The units as padded bytes, by parts, or why they are no text that fits.
 #[inline(always)]
-pub fn read_parts<U: Unit, const N: usize>(bytes: &mut [u8; N], units: &[U]) -> bool
-    requires { length units.now ≤ N }
-    ensures { MatchBool result
-        (IsPaddedText bytes.new N × (text_of bytes.new ≡ map U.number units.now))
-        (¬ IsStrictText (map U.number units.now) N) }
+pub fn read_parts<U: Unit, const N: usize>(units: &[U]) -> Result<[u8; N], ParseError>
+    ensures accepted { IsOk result ↔ IsStrictText (map U.number units.now) N }
+    ensures padded { IfOk result (λ bytes. IsPaddedText bytes N × (text_of bytes ≡ map U.number units.now)) }
+    ensures fault { IfErr result (λ e. fault_of e ≡ fault_in N (map U.number units.now)) }
 {
-    let empty = [0; N];
-    *bytes = empty;
-    !read_all(&mut bytes[..], units, 0)
+    if units.len() > N {
+        return Err(fault::<U, N>(units));
+    }
+    let mut bytes = [0; N];
+    if read_all(&mut bytes[..], units, 0) {
+        return Err(fault::<U, N>(units));
+    }
+    Ok(bytes)
 }
 
 // `N` units in an array of their own, which the compiler keeps in registers.
