@@ -39,11 +39,9 @@ len_step l w y n all sum c e left =
 pub ask_parts : (l w y : List ℕ) (q : Question) → IsFirstWord l w y → answer q (text_of l) ≡ (answer q w && answer (later_question q) (text_of y))
 ask_parts l w y q c = rw (c.word_text, c.others_text) (answer-parts q 15 (text_of l))
 
--- what passed before, and now one more word
-pub ask_step : (l w y : List ℕ) (q later : Question) (r passes all : Bool) → IsFirstWord l w y → r ≡ answer q w → later ≡ later_question q
-    → (passes && answer q (text_of l)) ≡ all → ((passes && r) && answer later (text_of y)) ≡ all
-ask_step l w y q later r true all c answered e left = rw (answered, e) (sym (ask_parts l w y q c) ∙ left)
-ask_step l w y q later r false all c answered e left = left
+-- where one word fails, the whole text does
+pub refused : (l w y : List ℕ) (q : Question) (r all : Bool) → IsFirstWord l w y → r ≡ answer q w → r ≡ false → answer q (text_of l) ≡ all → false ≡ all
+refused l w y q r all c answered fails left = sym (rw (← answered, fails) at (ask_parts l w y q c)) ∙ left
 
 -- ---- bytes tested for a padded text, word by word
 

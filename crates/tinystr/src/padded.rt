@@ -131,8 +131,7 @@ pub fn len<const N: usize>(bytes: &[u8; N]) -> usize
     match width_of(N) {
         Width::Four => Aligned4::from_ascii_bytes(bytes).len(),
         Width::Eight => Aligned8::from_ascii_bytes(bytes).len(),
-        Width::Sixteen => Aligned16::from_ascii_bytes(bytes).len(),
-        Width::Many => words::len(bytes),
+        Width::Sixteen | Width::Many => words::len(bytes),
     }
 }
 
@@ -162,8 +161,7 @@ pub fn ask<const N: usize>(bytes: &[u8; N], question: Question) -> bool
     match width_of(N) {
         Width::Four => Aligned4::from_ascii_bytes(bytes).ask(question),
         Width::Eight => Aligned8::from_ascii_bytes(bytes).ask(question),
-        Width::Sixteen => Aligned16::from_ascii_bytes(bytes).ask(question),
-        Width::Many => words::ask(bytes, question),
+        Width::Sixteen | Width::Many => words::ask(bytes, question),
     }
 }
 
@@ -182,11 +180,7 @@ pub fn change<const N: usize>(bytes: &mut [u8; N], case: Case)
             let word = Aligned8::from_ascii_bytes(bytes).in_case(case);
             bytes.copy_from_slice(&word[..N]);
         }
-        Width::Sixteen => {
-            let word = Aligned16::from_ascii_bytes(bytes).in_case(case);
-            bytes.copy_from_slice(&word[..N]);
-        }
-        Width::Many => words::change(bytes, case),
+        Width::Sixteen | Width::Many => words::change(bytes, case),
     }
 }
 

@@ -58,22 +58,23 @@ pub fn len(bytes: &[u8]) -> usize
     sum + Aligned16::from_part(rest).len()
 }
 
-/// Whether each word passes, the later ones without a first character. It never leaves early, so that the compiler can
-/// take all words at once.
+/// Whether each word passes, the later ones without a first character.
 #[inline(always)]
+#[tactic(auto, using(crate::proofs::Words::ask_parts))]
 pub fn ask(bytes: &[u8], question: Question) -> bool
     requires { IsPadded bytes.now }
     ensures { result ≡ answer question (text_of bytes.now) }
 {
     let mut rest = bytes;
     let mut asked = question;
-    let mut passes = true;
     while let Some((word, after)) = split_word(rest) {
-        passes &= word.ask(asked);
+        if !word.ask(asked) {
+            return false;
+        }
         rest = after;
         asked = question.of_later_words();
     }
-    passes & Aligned16::from_part(rest).ask(asked)
+    Aligned16::from_part(rest).ask(asked)
 }
 
 /// Changes each word in place, the later ones without a first character. The NULs behind the text stay.
