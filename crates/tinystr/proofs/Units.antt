@@ -5,9 +5,9 @@ use Rattle.std.proofs.lemmas.List.Elements.{All-from_get_or, All-head, All-map, 
 use Rattle.std.proofs.lemmas.Bool.{cases_lt}
 use Rattle.std.specs.Prelude.{MatchBool}
 use Rattle.std.proofs.lemmas.Grind.{common_steps}
-use Rattle.tinystr_words.specs.Text.{IsPaddedText, IsText, IsTextByte, pad, text_of}
+use Rattle.tinystr_words.specs.Text.{IsPaddedText, IsStrictText, IsText, IsTextByte, pad, text_of}
 use Rattle.tinystr_words.specs.Reading.{lossy, lossy_byte}
-use Rattle.tinystr_words.proofs.Texts.{NULS, get_or-nuls, length-pad}
+use Rattle.tinystr_words.proofs.Texts.{IsPaddedText-made, NULS, get_or-nuls, length-pad, text_of-made}
 use Rattle.tinystr_words.proofs.Readers.{lossy_byte-character}
 use Rattle.tinystr.specs.Reading.{IsReadPart, IsSame}
 use Rattle.tinystr.proofs.Copying.{made_of, padded_at}
@@ -44,10 +44,12 @@ read_whole is_bad bytes units r n fits len read =
 
 -- where no unit is bad, all are read as they are
 pub read_text : (bytes units : List ℕ) (r n : ℕ) → length units ≤ n → length bytes ≡ n
-    → IsReadPart false (NULS n) bytes units r 0 (length units) → IsText units × (bytes ≡ pad units n)
+    → IsReadPart false (NULS n) bytes units r 0 (length units) → IsStrictText units n × (IsPaddedText bytes n × (text_of bytes ≡ units))
 read_text bytes units r n fits len read =
     let text : IsText units = All-from_get_or IsTextByte units 0 (λ k inside. read.tested k (omega arith) inside) in
-    (text, read_whole false bytes units r n fits len read ∙ ap (λ (l : List ℕ). pad l n) (lossy_text r units text))
+    let strict : IsStrictText units n = record { text = text; fits = fits } in
+    let made = read_whole false bytes units r n fits len read ∙ ap (λ (l : List ℕ). pad l n) (lossy_text r units text) in
+    (strict, (IsPaddedText-made bytes units n made strict, text_of-made bytes units n made text))
 
 -- one more unit
 pub part_more : (old bytes units : List ℕ) (r i j x : ℕ) (bad char : Bool) → length units ≤ length bytes → j < length units → IsReadPart bad old bytes units r i j

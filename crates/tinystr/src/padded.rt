@@ -15,6 +15,7 @@ mod order;
 mod units;
 mod words;
 
+use crate::ascii::TinyAsciiStr;
 use crate::error::ParseError;
 use copying::cut;
 pub use copying::resize;
@@ -53,11 +54,12 @@ fn width_of(len: usize) -> Width
     }
 }
 
-/// The units as padded bytes, or why they are no text that fits.
+/// The text of the units, or why there is none. The value is made where its bytes are: an array in an `Option` or a `Result`
+/// of its own would be moved once more.
 #[inline(always)]
-pub fn read<U: Unit, const N: usize>(units: &[U]) -> Result<[u8; N], ParseError>
+pub fn read<U: Unit, const N: usize>(units: &[U]) -> Result<TinyAsciiStr<N>, ParseError>
     ensures accepted { IsOk result ↔ IsStrictText (map U.number units.now) N }
-    ensures padded { IfOk result (λ bytes. IsPaddedText bytes N × (text_of bytes ≡ map U.number units.now)) }
+    ensures text { IfOk result (λ t. t ≡ map U.number units.now) }
     ensures fault { IfErr result (λ e. fault_of e ≡ fault_in N (map U.number units.now)) }
 {
     if units.len() > 16 {
@@ -67,12 +69,12 @@ pub fn read<U: Unit, const N: usize>(units: &[U]) -> Result<[u8; N], ParseError>
         match width_of(N) {
             Width::Four | Width::Eight => {
                 if let Some(text) = Aligned8::try_from_text(units) {
-                    return Ok(cut(&text.to_bytes()));
+                    return Ok(TinyAsciiStr::from_utf8_unchecked(cut(&text.to_bytes())));
                 }
             }
             Width::Sixteen | Width::Many => {
                 if let Some(text) = Aligned16::try_from_text(units) {
-                    return Ok(cut(&text.to_bytes()));
+                    return Ok(TinyAsciiStr::from_utf8_unchecked(cut(&text.to_bytes())));
                 }
             }
         }
@@ -80,28 +82,28 @@ pub fn read<U: Unit, const N: usize>(units: &[U]) -> Result<[u8; N], ParseError>
     Err(fault::<U, N>(units))
 }
 
-/// The bytes, or why they aren't padded.
+/// The text of bytes, or why they aren't padded. The value is made where its bytes are, as in `read`.
 #[inline(always)]
-pub fn read_padded<const N: usize>(raw: [u8; N]) -> Result<[u8; N], ParseError>
+pub fn read_padded<const N: usize>(raw: [u8; N]) -> Result<TinyAsciiStr<N>, ParseError>
     ensures accepted { IsOk result ↔ IsPaddedText raw.entry N }
-    ensures bytes { IfOk result (λ bytes. IsPaddedText bytes N × (bytes ≡ raw.entry)) }
+    ensures text { IfOk result (λ t. t ≡ text_of raw.entry) }
     ensures fault { IfErr result (λ e. fault_of e ≡ fault_in N raw.entry) }
 {
     match width_of(N) {
         // the word's own bytes, since the array would be moved in pieces that fit no register
         Width::Sixteen => {
             if let Some(text) = Aligned16::try_from_part(&raw[..]) {
-                return Ok(cut(&text.to_bytes()));
+                return Ok(TinyAsciiStr::from_utf8_unchecked(cut(&text.to_bytes())));
             }
         }
         Width::Four | Width::Eight => {
             if Aligned8::try_from_part(&raw[..]).is_some() {
-                return Ok(raw);
+                return Ok(TinyAsciiStr::from_utf8_unchecked(raw));
             }
         }
         Width::Many => {
             if words::is_padded(&raw[..]) {
-                return Ok(raw);
+                return Ok(TinyAsciiStr::from_utf8_unchecked(raw));
             }
         }
     }

@@ -11,19 +11,6 @@ use crate::padded;
 use tinystr_words::Unit;
 
 impl<const N: usize> TinyAsciiStr<N> {
-    // The text of the units, or why there is none.
-    #[inline(always)]
-    fn read<U: Unit>(units: &[U]) -> Result<Self, ParseError>
-        ensures accepted { IsOk result ↔ IsStrictText (map U.number units.now) N }
-        ensures text { IfOk result (λ t. t ≡ map U.number units.now) }
-        ensures fault { IfErr result (λ e. fault_of e ≡ fault_in N (map U.number units.now)) }
-    {
-        match padded::read(units) {
-            Ok(bytes) => Ok(TinyAsciiStr { bytes }),
-            Err(fault) => Err(fault),
-        }
-    }
-
     /// Reads a text of at most `N` bytes. A NUL is refused at its end too.
     #[inline]
     pub fn try_from_str(s: &str) -> Result<Self, ParseError>
@@ -41,7 +28,7 @@ impl<const N: usize> TinyAsciiStr<N> {
         ensures text { IfOk result (λ t. t ≡ code_units.now) }
         ensures fault { IfErr result (λ e. fault_of e ≡ fault_in N code_units.now) }
     {
-        Self::read::<u8>(code_units)
+        padded::read::<u8, N>(code_units)
     }
 
     /// Reads a text of at most `N` units of 16 bits, each a character of its own. A NUL is refused at its end too.
@@ -51,7 +38,7 @@ impl<const N: usize> TinyAsciiStr<N> {
         ensures text { IfOk result (λ t. t ≡ code_units.now) }
         ensures fault { IfErr result (λ e. fault_of e ≡ fault_in N code_units.now) }
     {
-        Self::read::<u16>(code_units)
+        padded::read::<u16, N>(code_units)
     }
 
     /// Reads `N` bytes: a text and then NULs.
@@ -61,10 +48,7 @@ impl<const N: usize> TinyAsciiStr<N> {
         ensures text { IfOk result (λ t. t ≡ text_of raw.entry) }
         ensures fault { IfErr result (λ e. fault_of e ≡ fault_in N raw.entry) }
     {
-        match padded::read_padded(raw) {
-            Ok(bytes) => Ok(TinyAsciiStr { bytes }),
-            Err(fault) => Err(fault),
-        }
+        padded::read_padded(raw)
     }
 
     // The first units, with the replacement for each that is no character.

@@ -6,6 +6,7 @@ ghost use Rattle.tinystr_words.specs.Reading.{first_fault, fault_in, lossy, loss
 ghost use Rattle.tinystr.specs.Error.{fault_of};
 ghost use Rattle.tinystr.specs.Reading.{IsReadPart};
 
+use crate::ascii::TinyAsciiStr;
 use crate::error::ParseError;
 use tinystr_words::Unit;
 
@@ -100,11 +101,11 @@ fn read_all<U: Unit>(bytes: &mut [u8], units: &[U], replacement: u8) -> bool
     }
 }
 
-/// The units as padded bytes, by parts, or why they are no text that fits.
+/// The text of the units, read by parts, or why there is none.
 #[inline(always)]
-pub fn read_parts<U: Unit, const N: usize>(units: &[U]) -> Result<[u8; N], ParseError>
+pub fn read_parts<U: Unit, const N: usize>(units: &[U]) -> Result<TinyAsciiStr<N>, ParseError>
     ensures accepted { IsOk result ↔ IsStrictText (map U.number units.now) N }
-    ensures padded { IfOk result (λ bytes. IsPaddedText bytes N × (text_of bytes ≡ map U.number units.now)) }
+    ensures text { IfOk result (λ t. t ≡ map U.number units.now) }
     ensures fault { IfErr result (λ e. fault_of e ≡ fault_in N (map U.number units.now)) }
 {
     if units.len() > N {
@@ -114,7 +115,7 @@ pub fn read_parts<U: Unit, const N: usize>(units: &[U]) -> Result<[u8; N], Parse
     if read_all(&mut bytes[..], units, 0) {
         return Err(fault::<U, N>(units));
     }
-    Ok(bytes)
+    Ok(TinyAsciiStr::from_utf8_unchecked(bytes))
 }
 
 // `N` units in an array of their own, which the compiler keeps in registers.
