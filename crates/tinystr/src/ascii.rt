@@ -76,3 +76,14 @@ impl<const N: usize> FromStr for TinyAsciiStr<N> {
         Self::try_from_str(s)
     }
 }
+
+impl<'a, const N: usize> TryFrom<&'a str> for TinyAsciiStr<N> {
+    type Error = ParseError;
+
+    ghost try_from_gives = { λ s r. IsStrictRead fault_of s.now N r };
+
+    #[inline]
+    fn try_from(s: &'a str) -> Result<Self, ParseError> {
+        Self::from_str(s)
+    }
+}

@@ -1,15 +1,15 @@
 -- Packed records, one by one.
-use Rattle.std.proofs.Common.{◌≡◌, ℕ, suc, zero, ◌<◌, ◌≤◌, ◌+◌, ◌*◌, ◌%◌, List, [], ◌∷◌, ◌++◌, length, take, drop, refl, ap₂, sym, ◌∙◌, arith, below_more}
+use Rattle.std.proofs.Common.{◌≡◌, ℕ, suc, zero, ◌<◌, ◌≤◌, ◌+◌, ◌*◌, ◌%◌, List, [], ◌∷◌, ◌++◌, length, take, drop, get_or, refl, ap₂, sym, ◌∙◌, arith, below_more}
 use Rattle.std.specs.List.{All, flat_map}
 use Rattle.std.proofs.Math.Nat.{mul-mod_left, suc-mul, zero-mul}
 use Rattle.std.proofs.Math.Seq.{drop-append-add}
 use Rattle.std.proofs.lemmas.Nat.{mod-mul-add}
 use Rattle.std.proofs.lemmas.List.{length-append, length-drop, drop-drop, take_at, take-append-drop}
-use Rattle.std.proofs.lemmas.List.Elements.{All-nil, All-cons, All-head, All-tail}
+use Rattle.std.proofs.lemmas.List.Elements.{All-nil, All-cons, All-get_or, All-head, All-tail}
 use Rattle.tinystr_words.specs.Text.{IsStrictText, IsPaddedText, text_of, pad}
 use Rattle.tinystr_words.specs.Reading.{fault_in}
 use Rattle.tinystr_words.specs.Packed.{IsPacked, record_at, IsFirstBad}
-use Rattle.tinystr_words.proofs.Texts.{IsPaddedText-pad, length-pad}
+use Rattle.tinystr_words.proofs.Texts.{IsPaddedText-pad, length-pad, text_of-pad}
 
 abbrev padded : ℕ → List ℕ → List ℕ
 padded n t = pad t n
@@ -18,22 +18,31 @@ abbrev AllStrict : ℕ → List (List ℕ) → Type 0
 AllStrict n ts = All (λ t. IsStrictText t n) ts
 
 -- texts that are padded to n bytes and joined have n bytes for each
-length-joined : (n : ℕ) (ts : List (List ℕ)) → AllStrict n ts → length (flat_map (padded n) ts) ≡ length ts * n
+pub length-joined : (n : ℕ) (ts : List (List ℕ)) → AllStrict n ts → length (flat_map (padded n) ts) ≡ length ts * n
 length-joined n [] h = sym (zero-mul n)
 length-joined n (t ∷ ts) h =
     let strict = All-head (λ t. IsStrictText t n) t ts h in
     omega (arith, length-append (pad t n) (flat_map (padded n) ts), length-pad t n strict.fits, length-joined n ts (All-tail (λ t. IsStrictText t n) t ts h), suc-mul (length ts) n)
 
--- each record of padded texts joined is a padded text
-record_at-joined : (n : ℕ) (ts : List (List ℕ)) (i : ℕ) → AllStrict n ts → i < length ts → IsPaddedText (record_at n (flat_map (padded n) ts) i) n
+-- each record of padded texts joined is the padded form of its text
+record_at-joined : (n : ℕ) (ts : List (List ℕ)) (i : ℕ) → AllStrict n ts → i < length ts → record_at n (flat_map (padded n) ts) i ≡ pad (get_or ts i []) n
 record_at-joined n [] i h below = absurd (omega arith)
 record_at-joined n (t ∷ ts) zero h below =
     let strict = All-head (λ t. IsStrictText t n) t ts h in
-    rw (zero-mul n, take_at (pad t n) (flat_map (padded n) ts) n (length-pad t n strict.fits)) (IsPaddedText-pad t n strict)
+    rw (zero-mul n) (take_at (pad t n) (flat_map (padded n) ts) n (length-pad t n strict.fits))
 record_at-joined n (t ∷ ts) (suc i) h below =
     let strict = All-head (λ t. IsStrictText t n) t ts h in
     let past : suc i * n ≡ length (pad t n) + i * n = omega (arith, suc-mul i n, length-pad t n strict.fits) in
     rw (past, drop-append-add (pad t n) (flat_map (padded n) ts) (i * n)) (record_at-joined n ts i (All-tail (λ t. IsStrictText t n) t ts h) (omega arith))
+
+-- and so holds it
+pub text_of-record : (n : ℕ) (ts : List (List ℕ)) (i : ℕ) → AllStrict n ts → i < length ts → text_of (record_at n (flat_map (padded n) ts) i) ≡ get_or ts i []
+text_of-record n ts i h below =
+    rw (record_at-joined n ts i h below) (text_of-pad (get_or ts i []) n (All-get_or (λ t. IsStrictText t n) ts i [] below h).text)
+
+-- padded texts joined are packed
+pub IsPacked-joined : (n : ℕ) (ts : List (List ℕ)) → AllStrict n ts → IsPacked (flat_map (padded n) ts) n
+IsPacked-joined n ts h = record { texts = ts; each = h; joined = refl }
 
 -- the lesser product has the lesser factor
 below_times : (i k n : ℕ) → i * n < k * n → i < k
@@ -47,7 +56,8 @@ IsPacked-length bytes n h = rw (h.joined, length-joined n h.texts h.each) (mul-m
 pub IsPacked-record : (bytes : List ℕ) (n i : ℕ) → IsPacked bytes n → i * n < length bytes → IsPaddedText (record_at n bytes i) n
 IsPacked-record bytes n i h inside =
     let long : length bytes ≡ length h.texts * n = rw h.joined (length-joined n h.texts h.each) in
-    rw h.joined (record_at-joined n h.texts i h.each (below_times i (length h.texts) n (omega arith)))
+    let below = below_times i (length h.texts) n (omega arith) in
+    rw (h.joined, record_at-joined n h.texts i h.each below) (IsPaddedText-pad (get_or h.texts i []) n (All-get_or (λ t. IsStrictText t n) h.texts i [] below h.each))
 
 -- and the other way round
 pub IsPacked-from_records : (bytes : List ℕ) (n k : ℕ) → length bytes ≡ k * n → ((i : ℕ) → i < k → IsPaddedText (record_at n bytes i) n) → IsPacked bytes n

@@ -1,9 +1,10 @@
 //! Facts of the definitions alone. Each function computes nothing, and its contract is its law.
 
-ghost use Rattle.std.specs.Prelude.{IsTrue, ◌≡◌, ◌<◌, ◌≤◌, ◌^◌, ◌↔◌, ◌⊎◌, ℕ, List, ◌++◌, length, take, ◌+◌, ◌-◌, ◌*◌, Bool, [], ◌&&◌, All, slice_index, map, replicate, None};
+ghost use Rattle.std.specs.Prelude.{IsTrue, ◌≡◌, ◌<◌, ◌≤◌, ◌^◌, ◌↔◌, ◌⊎◌, ℕ, List, ◌++◌, length, take, ◌+◌, ◌-◌, ◌*◌, Bool, [], ◌&&◌, All, slice_index, slice_index_or, map, replicate, None};
 ghost use Rattle.std.specs.Cmp.Lexicographic.{slice_cmp};
 ghost use Rattle.std.specs.Fmt.{decimal};
 ghost use Rattle.std.specs.Int.{IsInRange};
+ghost use Rattle.std.specs.List.{flat_map};
 ghost use Rattle.std.specs.Ordering.{nat_cmp};
 ghost use Rattle.std.specs.declared.cmp.Ordering.TheVariants.{Less, Equal};
 ghost use Rattle.tinystr_words.specs.ByteForm.{byte_fault};
@@ -14,7 +15,7 @@ ghost use Rattle.tinystr_words.specs.Order.{IsBefore};
 ghost use Rattle.tinystr_words.specs.Packed.{IsPacked, record_at};
 ghost use Rattle.tinystr_words.specs.Reading.{fault_in};
 ghost use Rattle.tinystr_words.specs.Reading.Fault.{non_ascii};
-ghost use Rattle.tinystr_words.specs.Text.{IsStrictText, pad, IsText, IsPaddedText};
+ghost use Rattle.tinystr_words.specs.Text.{IsStrictText, pad, IsText, IsPaddedText, text_of};
 ghost use Rattle.tinystr_words.specs.Words.{word, lane};
 
 /// Of two lists one comes before the other, or they are one list, and padded texts are in the order of the texts.
@@ -67,6 +68,11 @@ pub fn class_joined()
 pub fn join_cut()
     ensures { (a b c : List ℕ) (p q r : ℕ) → q ≤ p → q ≤ r →
         take q (take p (a ++ b) ++ c) ≡ take q (a ++ take r (b ++ c)) }
+{}
+
+/// Texts that fit are joined whole.
+pub fn join_fits()
+    ensures { (a b : List ℕ) (q : ℕ) → length a + length b ≤ q → take q (a ++ b) ≡ a ++ b }
 {}
 
 /// A number of 32 bits has at most ten digits.
@@ -140,4 +146,14 @@ pub fn niche_fault()
 pub fn packed_records()
     ensures { (bytes : List ℕ) (n i : ℕ) → IsPacked bytes n → i * n < length bytes →
         IsPaddedText (record_at n bytes i) n }
+{}
+
+/// Texts that are padded and joined are packed records, as many as the texts, and each record holds its text.
+pub fn texts_packed()
+    ensures packed { (n : ℕ) (ts : List (List ℕ)) → All (λ t. IsStrictText t n) ts →
+        IsPacked (flat_map (λ t. pad t n) ts) n }
+    ensures len { (n : ℕ) (ts : List (List ℕ)) → All (λ t. IsStrictText t n) ts →
+        length (flat_map (λ t. pad t n) ts) ≡ length ts * n }
+    ensures text { (n : ℕ) (ts : List (List ℕ)) (i : ℕ) → All (λ t. IsStrictText t n) ts → i < length ts →
+        text_of (record_at n (flat_map (λ t. pad t n) ts) i) ≡ slice_index_or ts i [] }
 {}

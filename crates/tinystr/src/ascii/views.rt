@@ -5,6 +5,7 @@ ghost use Rattle.tinystr_words.specs.Text.{pad, text_of, IsText, IsPaddedText};
 
 use crate::ascii::TinyAsciiStr;
 use crate::padded;
+use std::convert::{AsSlice, AsStr};
 
 impl<const N: usize> TinyAsciiStr<N> {
     /// The length of the text in bytes.
@@ -54,5 +55,23 @@ impl<const N: usize> TinyAsciiStr<N> {
         ensures text { text_of result.now ≡ self.now }
     {
         &self.bytes
+    }
+}
+
+impl<const N: usize> AsStr for TinyAsciiStr<N> {
+    ghost text = { λ t. t };
+
+    #[inline]
+    fn as_str(&self) -> &str {
+        TinyAsciiStr::as_str(self)
+    }
+}
+
+impl<const N: usize> AsSlice<u8> for TinyAsciiStr<N> {
+    ghost items = { λ t. t };
+
+    #[inline]
+    fn as_slice(&self) -> &[u8] {
+        self.as_utf8()
     }
 }
