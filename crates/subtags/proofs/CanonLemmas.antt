@@ -52,7 +52,7 @@ is_region-canonical_part : (p : List ℕ) → is_region (canonical_part p) ≡ i
 is_region-canonical_part p = is_region_alike (canonical_part p) p (fold_text-canonical_part p)
 
 -- a region is no script
-region_no_script : (p : List ℕ) → is_region p ≡ true → is_script p ≡ false
+pub region_no_script : (p : List ℕ) → is_region p ≡ true → is_script p ≡ false
 region_no_script p h = grind (arith, nat_tests)
 
 -- the canonical part of a script or a region has letters and digits alone

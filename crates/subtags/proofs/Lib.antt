@@ -2,3 +2,4 @@ pub mod FoldLemmas
 pub mod CutLemmas
 pub mod CanonLemmas
 pub mod ReadLemmas
+pub mod JoinLemmas

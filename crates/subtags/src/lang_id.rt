@@ -1,9 +1,10 @@
 //! Language identifiers.
 
-ghost use Rattle.std.specs.Prelude.{◌≡◌, ◌+◌, ◌≤◌, ◌∷◌, ◌++◌, length, Some, IsOk, IfOk, IfErr, ◌↔◌};
+ghost use Rattle.std.specs.Prelude.{◌≡◌, ◌+◌, ◌≤◌, ◌∷◌, ◌++◌, length, Some, IsOk, IfOk, IfErr, IfSome, ◌↔◌};
 ghost use Rattle.std.specs.Fmt.{debug_str, styled_text};
-ghost use Rattle.subtags.specs.Grammar.{dash, fold_text, IsLangId, IsCanonical, canonical_text};
-ghost use Rattle.subtags.specs.Parts.{language_of, script_of, region_of, join_parts};
+ghost use Rattle.tinystr_words.specs.Case.{lowercase, titlecase, uppercase};
+ghost use Rattle.subtags.specs.Grammar.{dash, fold_text, is_language, is_script, is_region, IsLangId, IsCanonical, canonical_text};
+ghost use Rattle.subtags.specs.Parts.{IsCanonicalPart, language_of, script_of, region_of, join_parts};
 ghost use Rattle.subtags.specs.Answers.{refusal_of, IsLangIdRead};
 
 use crate::cut::{cut, last_region, take_script};
@@ -11,6 +12,7 @@ use crate::error::LangIdError;
 use crate::language::Language;
 use crate::region::Region;
 use crate::script::Script;
+use std::convert::{AsSlice, AsStr};
 use std::fmt;
 use std::marker::Model;
 use std::str::FromStr;
@@ -48,9 +50,19 @@ impl LangId {
         let language = Language::try_from_utf8(first).ok_or(LangIdError::InvalidLanguage)?;
         let (script, rest) = take_script(rest);
         let region = last_region(rest)?;
-        Ok(LangId {
+        Ok(Self::from_parts(language, script, region))
+    }
+
+    /// The identifier of these parts, which gives them back.
+    pub fn from_parts(language: Language, script: Option<Script>, region: Option<Region>) -> Self
+        ensures text { result ≡ join_parts language script region }
+        ensures language { language_of result ≡ language }
+        ensures script { script_of result ≡ script }
+        ensures region { region_of result ≡ region }
+    {
+        LangId {
             text: join_parts(language, script, region),
-        })
+        }
     }
 
     /// The canonical text, which is read back as this identifier.
@@ -60,6 +72,15 @@ impl LangId {
         ensures canonical { IsCanonical self.now }
     {
         self.text
+    }
+
+    /// The canonical text, in the value itself.
+    #[inline]
+    pub fn as_str(&self) -> &str
+        ensures text { result.now ≡ self.now }
+        ensures canonical { IsCanonical self.now }
+    {
+        TinyAsciiStr::as_str(&self.text)
     }
 
     /// The language, which each identifier has.
@@ -100,6 +121,35 @@ impl FromStr for LangId {
     }
 }
 
+impl<'a> TryFrom<&'a str> for LangId {
+    type Error = LangIdError;
+
+    ghost try_from_gives = { λ s r. IsLangIdRead s.now r };
+
+    #[inline]
+    fn try_from(s: &'a str) -> Result<Self, LangIdError> {
+        Self::from_str(s)
+    }
+}
+
+impl AsStr for LangId {
+    ghost text = { λ t. t };
+
+    #[inline]
+    fn as_str(&self) -> &str {
+        LangId::as_str(self)
+    }
+}
+
+impl AsSlice<u8> for LangId {
+    ghost items = { λ t. t };
+
+    #[inline]
+    fn as_slice(&self) -> &[u8] {
+        self.as_str().as_bytes()
+    }
+}
+
 impl fmt::Display for LangId {
     ghost output = { λ id. Some id };
 
@@ -118,20 +168,23 @@ impl fmt::Debug for LangId {
     }
 }
 
-// The parts, joined by dashes.
+// The parts, joined by dashes; and that they are canonical, each by its invariant.
 fn join_parts(
     language: Language,
     script: Option<Script>,
     region: Option<Region>,
 ) -> TinyAsciiStr<17>
-    ensures { result ≡ join_parts language script region }
+    ensures text { result ≡ join_parts language script region }
+    ensures language { IsCanonicalPart is_language lowercase language }
+    ensures script { IfSome script (IsCanonicalPart is_script titlecase) }
+    ensures region { IfSome region (IsCanonicalPart is_region uppercase) }
 {
-    let mut text = language.text().resize::<17>();
+    let mut text = language.to_text().resize::<17>();
     if let Some(script) = script {
-        text = with_part(text, script.text());
+        text = with_part(text, script.to_text());
     }
     if let Some(region) = region {
-        text = with_part(text, region.text());
+        text = with_part(text, region.to_text());
     }
     text
 }

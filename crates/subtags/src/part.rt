@@ -6,6 +6,7 @@ ghost use Rattle.subtags.specs.declared.error.LangIdError.{LangIdError};
 ghost use Rattle.subtags.specs.Parts.{IsCanonicalPart};
 
 use crate::error::LangIdError;
+use std::convert::{AsSlice, AsStr};
 use std::fmt;
 use std::marker::{Model, PhantomData};
 use std::str::FromStr;
@@ -69,13 +70,14 @@ impl<K: Kind<N>, const N: usize> Part<K, N> {
         ensures text { result.now ≡ self.now }
         ensures canonical { IsCanonicalPart K.has_form K.in_case self.now }
     {
-        self.text.as_str()
+        TinyAsciiStr::as_str(&self.text)
     }
 
+    /// The text as a value.
     #[inline]
-    pub(crate) fn text(self) -> TinyAsciiStr<N>
-        ensures text { result ≡ self }
-        ensures canonical { IsCanonicalPart K.has_form K.in_case self }
+    pub fn to_text(&self) -> TinyAsciiStr<N>
+        ensures text { result ≡ self.now }
+        ensures canonical { IsCanonicalPart K.has_form K.in_case self.now }
     {
         self.text
     }
@@ -89,6 +91,35 @@ impl<K: Kind<N>, const N: usize> FromStr for Part<K, N> {
     #[inline]
     fn from_str(s: &str) -> Result<Self, LangIdError> {
         Self::try_from_utf8(s.as_bytes()).ok_or(K::refusal())
+    }
+}
+
+impl<'a, K: Kind<N>, const N: usize> TryFrom<&'a str> for Part<K, N> {
+    type Error = LangIdError;
+
+    ghost try_from_gives = { λ s r. r ≡ (if K.has_form s.now then Ok (K.in_case s.now) else Err K.refusal) };
+
+    #[inline]
+    fn try_from(s: &'a str) -> Result<Self, LangIdError> {
+        Self::from_str(s)
+    }
+}
+
+impl<K: Kind<N>, const N: usize> AsStr for Part<K, N> {
+    ghost text = { λ t. t };
+
+    #[inline]
+    fn as_str(&self) -> &str {
+        Part::as_str(self)
+    }
+}
+
+impl<K: Kind<N>, const N: usize> AsSlice<u8> for Part<K, N> {
+    ghost items = { λ t. t };
+
+    #[inline]
+    fn as_slice(&self) -> &[u8] {
+        self.as_str().as_bytes()
     }
 }
 

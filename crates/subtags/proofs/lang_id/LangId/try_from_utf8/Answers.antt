@@ -1,7 +1,7 @@
 use Rattle.std.proofs.Common.{◌≡◌, ◌∙◌, ap, rules, arith}
 use Rattle.std.proofs.lemmas.Grind.{common_steps}
 use Rattle.subtags.specs.Grammar.{canonical_text, fold_text}
-use Rattle.subtags.proofs.CanonLemmas.{IsCanonical-canonical_text, fold_text-canonical_text}
+use Rattle.subtags.proofs.CanonLemmas.{fold_text-canonical_text}
 use Rattle.subtags.proofs.ReadLemmas.{no_language, no_tail, all_read}
 use Rattle.subtags.proofs.lang_id.LangId.try_from_utf8.Goals as goal
 
@@ -25,18 +25,11 @@ returns-in_err-region-clause-refusal c =
     let refused = no_tail c.args.code_units.now c.cut.result.0.now _ c.in_err-region.field-0.0 c.cut.ensures in
     grind (arith, common_steps)
 
-pub invariant_of-result : goal.invariant_of-result
-invariant_of-result c =
-    let u = c.args.code_units.now in
-    let read = all_read u c.cut.result.0.now _ c.in_ok-region.region c.cut.ensures (grind (arith, common_steps)) (grind (arith, common_steps)) in
-    let text : c.join_parts.result ≡ canonical_text u = grind (arith, common_steps) in
-    rw text (IsCanonical-canonical_text u read.0)
-
 pub returns : goal.returns
 returns c =
     let u = c.args.code_units.now in
     let read = all_read u c.cut.result.0.now _ c.in_ok-region.region c.cut.ensures (grind (arith, common_steps)) (grind (arith, common_steps)) in
-    let text : c.join_parts.result ≡ canonical_text u = grind (arith, common_steps) in
+    let text : c.from_parts.result ≡ canonical_text u = grind (arith, common_steps) in
     record {
       accepted = (λ _. read.0, λ _. search rules);
       text = text;
