@@ -10,7 +10,7 @@ use Rattle.subtags.specs.Parts.{IsCanonicalPart, language_of, script_of, region_
 use Rattle.subtags.specs.FromFront.{parts_behind, leading_script, behind_script, last_region}
 use Rattle.subtags.proofs.FoldLemmas.{folded_twice, alphanumeric_alike, language_plain, script_plain, region_plain}
 use Rattle.subtags.proofs.CutLemmas.{parts_plain, parts_before, script_first, no_script_first, one_last_region}
-use Rattle.subtags.proofs.CanonLemmas.{IsCanonical-canonical_text, region_no_script}
+use Rattle.subtags.proofs.CanonLemmas.{region_no_script}
 use Rattle.subtags.proofs.ReadLemmas.{all_read, parts_read}
 
 -- letters and digits, folded, are letters and digits

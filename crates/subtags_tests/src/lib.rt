@@ -10,3 +10,5 @@ mod parts;
 mod printing;
 #[cfg(test)]
 mod reading;
+#[cfg(test)]
+mod views;

@@ -1,4 +1,4 @@
-//! The parts, each read alone and those of an identifier.
+//! The parts: each read alone, those of an identifier, and an identifier made of them.
 
 use std::str::FromStr;
 use subtags::{LangId, LangIdError, Language, Region, Script};
@@ -85,4 +85,46 @@ fn is_region(id: LangId, text: &str) -> bool {
         Some(region) => region.as_str() == text,
         None => text.is_empty(),
     }
+}
+
+#[test]
+fn parts_make_an_identifier(rt: HostRuntime) {
+    let rows =
+        "en/en// en-Latn/EN/latn/ es-419/es//419 zh-Hant-TW/zh/Hant/TW abcdefgh-Latn-US/abcdefgh/LATN/us";
+    for row in rows.split_whitespace() {
+        assert!(rt; is_made_of_its_parts(row), "{row}");
+    }
+}
+
+/// Whether the language, the script and the region behind it, nothing for none, make the identifier in front.
+fn is_made_of_its_parts(row: &str) -> bool {
+    let mut words = row.split('/');
+    let text = words.next().unwrap_or("");
+    let Ok(language) = words.next().unwrap_or("").parse::<Language>() else {
+        return false;
+    };
+    let script = words.next().unwrap_or("").parse::<Script>().ok();
+    let region = words.next().unwrap_or("").parse::<Region>().ok();
+    LangId::from_parts(language, script, region).as_str() == text
+}
+
+#[test]
+fn an_identifier_moves_to_another_region(rt: HostRuntime) {
+    let rows = "zh-Hant-TW/HK/zh-Hant-HK en/GB/en-GB sr_latn/rs/sr-Latn-RS es-ES/419/es-419";
+    for row in rows.split_whitespace() {
+        assert!(rt; moves_to_its_region(row), "{row}");
+    }
+}
+
+/// Whether the identifier in front, with the region behind it, is the one at the end.
+fn moves_to_its_region(row: &str) -> bool {
+    let mut words = row.split('/');
+    let Ok(id) = words.next().unwrap_or("").parse::<LangId>() else {
+        return false;
+    };
+    let Ok(region) = words.next().unwrap_or("").parse::<Region>() else {
+        return false;
+    };
+    let moved = LangId::from_parts(id.language(), id.script(), Some(region));
+    words.next() == Some(moved.as_str())
 }
