@@ -134,6 +134,7 @@ pub fn bytes_back()
     ensures first { (t rest : List ℕ) (n : ℕ) → IsStrictText t n →
         take n (pad t n ++ rest) ≡ pad t n }
     ensures strict { (t : List ℕ) (n : ℕ) → IsText t → length t ≤ n → IsStrictText t n }
+    ensures alone { (bytes : List ℕ) (n : ℕ) → IsPaddedText bytes n → byte_fault n bytes ≡ None }
 {}
 
 /// Bytes 255 are refused for what they are.

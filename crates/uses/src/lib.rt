@@ -2,10 +2,12 @@
 #![tactic(auto)]
 
 pub mod currency;
+pub mod joining;
 pub mod json;
 pub mod keys;
 pub mod locale;
 pub mod packed;
+pub mod round_trip;
 pub mod script_code;
 #[cfg(test)]
 mod tests;
