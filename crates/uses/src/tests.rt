@@ -4,7 +4,7 @@ use crate::currency::{Places, places_of, set_places};
 use crate::json::{id_of, through_json};
 use crate::keys::{KeyError, Keys, add_key, has_key};
 use crate::locale::{Pages, is_same_locale, page_of};
-use crate::packed::record;
+use crate::packed::{Table, pack};
 use crate::script_code::is_script_code;
 use serde_json::Value;
 use std::alloc::{AllocError, Global};
@@ -91,11 +91,42 @@ fn records_are_read_in_place(rt: HostRuntime) {
     for (index, text) in "Latn ab Cyrl".split_whitespace().enumerate() {
         assert!(rt; has_record(file, index, text), "{text}");
     }
-    assert!(rt; record(file, 3) == Ok(None));
+    assert!(rt; is_past_the_end(file, 3));
+    assert!(rt; is_past_the_end(file, 4));
+    assert!(rt; is_past_the_end(file, 1 << 62), "its place is no usize");
+    assert!(rt; is_past_the_end(b"", 0));
 }
 
 fn has_record(file: &[u8], index: usize, text: &str) -> bool {
-    matches!(record(file, index), Ok(Some(found)) if found.as_str() == text)
+    match Table::<4>::new(file) {
+        Ok(table) => matches!(table.get(index), Some(found) if found.as_str() == text),
+        Err(_) => false,
+    }
+}
+
+fn is_past_the_end(file: &[u8], index: usize) -> bool {
+    match Table::<4>::new(file) {
+        Ok(table) => table.get(index).is_none(),
+        Err(_) => false,
+    }
+}
+
+#[test]
+fn packed_texts_are_read_in_place(rt: HostRuntime) {
+    for text in "Latn|ab||Cyrl".split('|') {
+        assert!(rt; is_read_back(rt.alloc(), text), "{text}");
+    }
+}
+
+/// Whether the text, packed behind another, is the record at 1, and nothing stands behind it.
+fn is_read_back(alloc: Global, text: &str) -> bool {
+    let Ok(value) = TinyAsciiStr::<4>::try_from_str(text) else {
+        return false;
+    };
+    match pack(alloc, &[TinyAsciiStr::<4>::default(), value]) {
+        Ok(made) => has_record(made.as_slice(), 1, text) && is_past_the_end(made.as_slice(), 2),
+        Err(_) => false,
+    }
 }
 
 #[test]
@@ -111,9 +142,11 @@ fn a_file_is_refused_for_its_length_or_its_first_bad_record(rt: HostRuntime) {
     assert!(rt; is_refused(b"LatnCyrl\xff\0\0\0", bad(2, high)));
 }
 
-/// Whether each record of the file, and none past its end, is refused for the error.
 fn is_refused(file: &[u8], error: UleError) -> bool {
-    record(file, 0) == Err(error) && record(file, 1) == Err(error) && record(file, 9) == Err(error)
+    match Table::<4>::new(file) {
+        Ok(_) => false,
+        Err(fault) => fault == error,
+    }
 }
 
 #[test]
