@@ -22,8 +22,8 @@ pub use copying::resize;
 pub use order::compare;
 use tinystr_words::int_ops::{Aligned4, Aligned8, Aligned16, decimal_fits};
 use tinystr_words::{Case, Question, Unit};
-pub use units::lossy;
 use units::fault;
+pub use units::lossy;
 
 /// The words that take padded bytes: the narrowest that holds all, since it is loaded and asked in the fewest steps.
 #[derive(Clone, Copy)]
