@@ -1,5 +1,5 @@
 -- Padded bytes in words of sixteen: their length, questions, changes, and whether they are padded.
-use Rattle.std.proofs.Common.{Bool, List, [], ap, ap₂, arith, drop, false, inl, inr, length, nat_lt, refl, subst, sym, take, true, zero, ℕ, ◌&&◌, ◌++◌, ◌+◌, ◌-◌, ◌<◌, ◌∙◌, ◌∷◌, ◌≡◌, ◌≤◌}
+use Rattle.std.proofs.Common.{Bool, List, [], ap, ap₂, arith, drop, false, inl, inr, length, nat_lt, refl, subst, sym, take, true, ℕ, ◌&&◌, ◌++◌, ◌+◌, ◌-◌, ◌<◌, ◌∙◌, ◌∷◌, ◌≡◌, ◌≤◌}
 use Rattle.std.proofs.lemmas.List.{append-nil, append_assoc, drop-drop, drop_all, length-append, length-drop, length-take, length-take-le, replicate-append-replicate, take-append-drop, take_all}
 use Rattle.std.proofs.lemmas.Bool.{cases_lt}
 use Rattle.std.proofs.lemmas.Bool.Decides.{nat_tests}

@@ -1,4 +1,4 @@
-use Rattle.std.proofs.Common.{◌≡◌, ◌++◌, ◌∙◌, [], None, ap}
+use Rattle.std.proofs.Common.{◌≡◌, ◌∙◌, [], None, ap}
 use Rattle.std.proofs.lemmas.List.{append-nil}
 use Rattle.tinystr_words.specs.ByteForm.{byte_fault}
 use Rattle.tinystr_words.specs.Text.{pad, text_of}

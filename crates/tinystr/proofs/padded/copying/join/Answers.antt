@@ -1,5 +1,5 @@
-use Rattle.std.proofs.Common.{◌≡◌, ◌∙◌, length, take, sym, subst, rules}
-use Rattle.tinystr_words.specs.Text.{IsPaddedText, text_of}
+use Rattle.std.proofs.Common.{◌≡◌, ◌∙◌, length, sym, subst, rules}
+use Rattle.tinystr_words.specs.Text.{IsPaddedText}
 use Rattle.tinystr.proofs.Copying.{both_copied}
 use Rattle.tinystr.proofs.padded.copying.join.Goals as goal
 
