@@ -1,0 +1,35 @@
+//! A table of currencies.
+
+use crate::currency::{Places, places_of, set_places};
+use std::collections::BTreeMap;
+use tinystr::TinyAsciiStr;
+
+#[test]
+fn decimal_places_are_looked_up_by_code(rt: HostRuntime) {
+    let mut table = BTreeMap::new(rt.alloc());
+    for row in "EUR=2 JPY=0 KWD=3 EUR=2".split_whitespace() {
+        assert!(rt; is_set(&mut table, row), "{row}");
+    }
+    assert!(rt; table.len() == 3);
+    for row in "EUR=2 JPY=0 KWD=3 eur= EURO=".split_whitespace() {
+        assert!(rt; has_its_places(&table, row), "{row}");
+    }
+}
+
+fn is_set(table: &mut Places, row: &str) -> bool {
+    let Some((code, places)) = row.split_once('=') else {
+        return false;
+    };
+    match (TinyAsciiStr::try_from_str(code), places.parse()) {
+        (Ok(code), Ok(places)) => set_places(table, code, places).is_ok(),
+        _ => false,
+    }
+}
+
+/// Whether the code before the `=` has the places behind it, or none where nothing stands there.
+fn has_its_places(table: &Places, row: &str) -> bool {
+    let Some((code, places)) = row.split_once('=') else {
+        return false;
+    };
+    places_of(table, code) == places.parse().ok()
+}

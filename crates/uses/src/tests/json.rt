@@ -1,0 +1,53 @@
+//! Keys in JSON.
+
+use crate::json::{id_of, through_json};
+use serde_json::Value;
+use std::alloc::Global;
+use tinystr::TinyStr8;
+use tinystr::forms::JsonReadError;
+
+#[test]
+fn keys_are_found_in_json(rt: HostRuntime) {
+    assert!(rt; has_id(rt.alloc(), r#"{"id": "en-US"}"#, Ok("en-US")));
+    assert!(rt; has_id(rt.alloc(), r#"{"key": "de", "id": ""}"#, Ok("")));
+}
+
+#[test]
+fn what_is_no_key_in_json_is_refused_for_its_kind(rt: HostRuntime) {
+    for json in r#"{"id": 7}|{"id": null}|{"id": ["en-US"]}|{}|"en-US"|["id"]"#.split('|') {
+        assert!(rt;
+            has_id(rt.alloc(), json, Err(JsonReadError::NotText)),
+            "{json}"
+        );
+    }
+    for json in r#"{"id": "ninechars"}|{"id": "en\u0000US"}|{"id": "caf\u00e9"}"#.split('|') {
+        assert!(rt;
+            has_id(rt.alloc(), json, Err(JsonReadError::InvalidText)),
+            "{json}"
+        );
+    }
+}
+
+fn has_id(alloc: Global, json: &str, id: Result<&str, JsonReadError>) -> bool {
+    let Ok(value) = Value::from_str(alloc, json) else {
+        return false;
+    };
+    match id_of(&value) {
+        Ok(found) => id == Ok(found.as_str()),
+        Err(fault) => id == Err(fault),
+    }
+}
+
+#[test]
+fn keys_come_back_from_json(rt: HostRuntime) {
+    for text in "en-US||abcdefgh|\"\\/\n\u{1}\u{7f}".split('|') {
+        assert!(rt; comes_back(rt.alloc(), text), "{text:?}");
+    }
+}
+
+fn comes_back(alloc: Global, text: &str) -> bool {
+    let Ok(key) = TinyStr8::try_from_str(text) else {
+        return false;
+    };
+    matches!(through_json(&key, alloc), Ok(Ok(back)) if back == key)
+}

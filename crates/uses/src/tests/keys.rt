@@ -1,0 +1,47 @@
+//! A set of keys.
+
+use crate::keys::{KeyError, Keys, add_key, has_key};
+use std::alloc::AllocError;
+use std::collections::HashSet;
+use std::test::Fail;
+use tinystr::ParseError;
+
+#[test]
+fn keys_are_asked_by_text(rt: HostRuntime) {
+    let mut keys = HashSet::new(rt.alloc());
+    assert!(rt; is_key(&mut keys, "en", true));
+    assert!(rt; is_key(&mut keys, "en", false));
+    assert!(rt; keys.len() == 1 && has_key(&keys, "en"));
+    for text in "EN|ninechars||en\0|\u{e9}".split('|') {
+        assert!(rt; !has_key(&keys, text), "{text}");
+    }
+}
+
+/// Whether the text is a key, and is added where it is new.
+fn is_key(keys: &mut Keys, text: &str, new: bool) -> bool {
+    matches!(add_key(keys, text), Ok(added) if added == new)
+}
+
+#[test]
+fn what_is_no_key_is_refused_for_its_fault(rt: HostRuntime) {
+    let mut keys = HashSet::new(rt.alloc());
+    let too_long = |len| ParseError::TooLong { max: 8, len };
+    assert!(rt; is_no_key(&mut keys, "ninechars", too_long(9)));
+    assert!(rt; is_no_key(&mut keys, "\0ninechars", too_long(10)));
+    assert!(rt; is_no_key(&mut keys, "en\0US", ParseError::ContainsNull));
+    assert!(rt; is_no_key(&mut keys, "caf\u{e9}", ParseError::NonAscii));
+    assert!(rt; keys.is_empty());
+}
+
+fn is_no_key(keys: &mut Keys, text: &str, fault: ParseError) -> bool {
+    matches!(add_key(keys, text), Err(KeyError::Text(found)) if found == fault)
+}
+
+#[test]
+fn refusals_of_a_key_are_cloned_and_printed_by_their_names(rt: HostRuntime) -> Result<(), Fail> {
+    let text = KeyError::Text(ParseError::NonAscii).clone()?;
+    let memory = KeyError::Memory(AllocError).clone()?;
+    let printed = format!(in rt.alloc(); "{text:?} {memory:?}")?;
+    assert!(rt; printed.as_str() == "Text(NonAscii) Memory(AllocError)");
+    Ok(())
+}

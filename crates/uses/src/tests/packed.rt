@@ -1,0 +1,70 @@
+//! Packed records.
+
+use crate::packed::{Table, pack};
+use std::alloc::Global;
+use tinystr::ule::UleError;
+use tinystr::{ParseError, TinyAsciiStr};
+
+#[test]
+fn records_are_read_in_place(rt: HostRuntime) {
+    let file = b"Latnab\0\0Cyrl";
+    for (index, text) in "Latn ab Cyrl".split_whitespace().enumerate() {
+        assert!(rt; has_record(file, index, text), "{text}");
+    }
+    assert!(rt; is_past_the_end(file, 3));
+    assert!(rt; is_past_the_end(file, 4));
+    assert!(rt; is_past_the_end(file, 1 << 62), "its place is no usize");
+    assert!(rt; is_past_the_end(b"", 0));
+}
+
+fn has_record(file: &[u8], index: usize, text: &str) -> bool {
+    match Table::<4>::new(file) {
+        Ok(table) => matches!(table.get(index), Some(found) if found.as_str() == text),
+        Err(_) => false,
+    }
+}
+
+fn is_past_the_end(file: &[u8], index: usize) -> bool {
+    match Table::<4>::new(file) {
+        Ok(table) => table.get(index).is_none(),
+        Err(_) => false,
+    }
+}
+
+#[test]
+fn packed_texts_are_read_in_place(rt: HostRuntime) {
+    for text in "Latn|ab||Cyrl".split('|') {
+        assert!(rt; is_read_back(rt.alloc(), text), "{text}");
+    }
+}
+
+/// Whether the text, packed behind another, is the record at 1, and nothing stands behind it.
+fn is_read_back(alloc: Global, text: &str) -> bool {
+    let Ok(value) = TinyAsciiStr::<4>::try_from_str(text) else {
+        return false;
+    };
+    match pack(alloc, &[TinyAsciiStr::<4>::default(), value]) {
+        Ok(made) => has_record(made.as_slice(), 1, text) && is_past_the_end(made.as_slice(), 2),
+        Err(_) => false,
+    }
+}
+
+#[test]
+fn a_file_is_refused_for_its_length_or_its_first_bad_record(rt: HostRuntime) {
+    assert!(rt; is_refused(b"Latna", UleError::Length { len: 5 }));
+    assert!(rt; is_refused(b"\0a\x80", UleError::Length { len: 3 }));
+    let bad = |index, fault| UleError::Parse { index, fault };
+    let null = ParseError::ContainsNull;
+    let high = ParseError::NonAscii;
+    assert!(rt; is_refused(b"Latna\0b\0", bad(1, null)));
+    assert!(rt; is_refused(b"a\0b\0Lat\x80", bad(0, null)));
+    assert!(rt; is_refused(b"Lat\x80a\0b\0", bad(0, high)));
+    assert!(rt; is_refused(b"LatnCyrl\xff\0\0\0", bad(2, high)));
+}
+
+fn is_refused(file: &[u8], error: UleError) -> bool {
+    match Table::<4>::new(file) {
+        Ok(_) => false,
+        Err(fault) => fault == error,
+    }
+}
