@@ -35,7 +35,7 @@ pub enum BytesReadError {
 /// Why bytes that may be no text aren't written.
 #[derive(Clone, Copy, Debug)]
 pub enum FormWriteError {
-    /// They are no text and then NULs.
+    /// The bytes are no text and then NULs.
     NotAscii,
     /// There was no memory for the JSON value.
     Memory(AllocError),
