@@ -7,6 +7,7 @@ pub mod json;
 pub mod keys;
 pub mod locale;
 pub mod packed;
+pub mod preconditions;
 pub mod round_trip;
 pub mod script_code;
 #[cfg(test)]

@@ -5,4 +5,5 @@ mod json;
 mod keys;
 mod locale;
 mod packed;
+mod preconditions;
 mod script_code;
