@@ -1,49 +1,32 @@
 //! Texts made of others and of numbers.
 
-ghost use Rattle.std.specs.Prelude.{◌≡◌, ◌++◌, ◌∷◌, ◌≤◌, ◌+◌, [], length, take, codes, Ok};
+ghost use Rattle.std.specs.Prelude.{◌≡◌, ◌++◌, ◌∷◌, ◌≤◌, ◌+◌, codes, Ok};
 ghost use Rattle.std.specs.Fmt.{decimal};
 
 use tinystr::{TinyAsciiStr, tinystr};
+use tinystr_words::laws;
 
-// A text and a dash behind it.
-fn with_dash(first: &TinyAsciiStr<3>) -> TinyAsciiStr<4>
-    ensures text { result ≡ first.now ++ 0x2d ∷ [] }
+// Two texts, joined at a capacity that holds both.
+fn join<const N: usize, const M: usize, const Q: usize>(
+    first: TinyAsciiStr<N>,
+    second: TinyAsciiStr<M>,
+) -> TinyAsciiStr<Q>
+    requires { N + M ≤ Q }
+    ensures { result ≡ first.entry ++ second.entry }
 {
-    tinystr_words::laws::join_fits();
-    let dash = tinystr!(1, "-").unwrap();
-    let _ = first.len();
-    first.concat::<1, 4>(dash)
-}
-
-// Two texts of four bytes have eight together.
-fn both_fit(first: &TinyAsciiStr<4>, second: &TinyAsciiStr<4>)
-    ensures { length first.now + length second.now ≤ 8 }
-{
-    let _ = first.len();
-    let _ = second.len();
-}
-
-// Two texts of four bytes are not cut at eight.
-fn not_cut(first: &TinyAsciiStr<4>, second: &TinyAsciiStr<4>)
-    ensures { take 8 (first.now ++ second.now) ≡ first.now ++ second.now }
-{
-    both_fit(first, second);
-    tinystr_words::laws::join_fits();
-}
-
-// The two texts, joined whole.
-fn whole(first: &TinyAsciiStr<4>, second: &TinyAsciiStr<4>) -> TinyAsciiStr<8>
-    ensures { result ≡ first.now ++ second.now }
-{
-    not_cut(first, second);
-    first.concat::<4, 8>(*second)
+    laws::join_fits();
+    // The contract of `len` says that a text fits.
+    let _ = (first.len(), second.len());
+    first.concat(second)
 }
 
 /// Two texts with a dash between them. Nothing is cut.
-pub fn dashed(first: &TinyAsciiStr<3>, second: &TinyAsciiStr<4>) -> TinyAsciiStr<8>
+pub fn join_by_dash(first: &TinyAsciiStr<3>, second: &TinyAsciiStr<4>) -> TinyAsciiStr<8>
     ensures { result ≡ first.now ++ 0x2d ∷ second.now }
 {
-    whole(&with_dash(first), second)
+    let dash = tinystr!(1, "-").unwrap();
+    let front: TinyAsciiStr<4> = join(*first, dash);
+    join(front, *second)
 }
 
 // The digits of the year.
