@@ -1,13 +1,18 @@
 //! Locales, told by language identifiers.
 
-ghost use Rattle.std.specs.Prelude.{◌≡◌, ◌↔◌, None, IsTrue};
+ghost use Rattle.std.specs.Prelude.{◌≡◌, ◌↔◌, None, Some, SomeIff, IsTrue, IfOk, codes};
 ghost use Rattle.std.specs.BTreeMap.{get};
 ghost use Rattle.std.specs.Cmp.Lexicographic.{slice_cmp};
+ghost use Rattle.std.specs.List.{join_by};
 ghost use Rattle.std.specs.Ordering.{nat_cmp};
+ghost use Rattle.std.specs.String.{string_bytes};
 ghost use Rattle.subtags.specs.Grammar.{IsLangId, canonical_text, fold_text};
+ghost use Rattle.subtags.specs.Parts.{language_of, script_of, region_of};
 
+use std::alloc::{AllocError, Global};
 use std::collections::BTreeMap;
-use subtags::{LangId, laws};
+use std::convert::AsStr;
+use subtags::{LangId, Region, laws};
 
 /// A number for each locale, as that of its first page.
 pub type Pages = BTreeMap<LangId, u32>;
@@ -32,4 +37,27 @@ pub fn is_same_locale(tag: &[u8], other: &[u8]) -> bool
         (Ok(id), Ok(other)) => id == other,
         _ => false,
     }
+}
+
+/// The identifier of a tag, whatever type holds its text; none for what is no tag.
+pub fn read_id<T: AsStr>(tag: &T) -> Option<LangId>
+    ensures { SomeIff result (IsLangId (T.text tag.now)) (canonical_text (T.text tag.now)) }
+{
+    LangId::try_from_utf8(tag.as_str().as_bytes()).ok()
+}
+
+/// The identifier in another region, with its language and its script.
+pub fn in_region(id: &LangId, region: Region) -> LangId
+    ensures language { language_of result ≡ language_of id.now }
+    ensures script { script_of result ≡ script_of id.now }
+    ensures region { region_of result ≡ Some region }
+{
+    LangId::from_parts(id.language(), id.script(), Some(region))
+}
+
+/// The tags of identifiers, with a comma and a space between them.
+pub fn tag_list(ids: &[LangId], alloc: Global) -> Result<String, AllocError>
+    ensures { IfOk result (λ text. string_bytes text ≡ join_by (λ id. id) (codes ", ") ids.now) }
+{
+    ids.join(alloc, ", ")
 }
