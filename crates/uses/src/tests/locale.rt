@@ -1,9 +1,11 @@
 //! Locales, in any spelling.
 
-use crate::locale::{Pages, is_same_locale, page_of};
+use crate::locale::{Pages, in_region, is_same_locale, page_of, read_id, tag_list};
 use std::collections::BTreeMap;
+use std::convert::AsStr;
 use std::test::Fail;
-use subtags::LangId;
+use subtags::{LangId, Language, Region};
+use tinystr::TinyStr8;
 
 #[test]
 fn a_locale_is_one_in_any_spelling(rt: HostRuntime) -> Result<(), Fail> {
@@ -23,4 +25,58 @@ fn a_locale_is_one_in_any_spelling(rt: HostRuntime) -> Result<(), Fail> {
 fn has_page(pages: &Pages, tag: &str, page: Option<u32>) -> bool {
     page_of(pages, tag.as_bytes()) == page
         && is_same_locale(tag.as_bytes(), b"zh-hant-tw") == page.is_some()
+}
+
+#[test]
+fn a_tag_is_read_from_any_type_that_holds_its_text(rt: HostRuntime) -> Result<(), Fail> {
+    for row in "en_us=en-US EN=en en-= zh-TW-x=".split_whitespace() {
+        assert!(rt; has_its_id(row), "{row}");
+    }
+    assert!(rt; has_id(&TinyStr8::try_from_str("EN_latn")?, "en-Latn"));
+    assert!(rt; has_id(&TinyStr8::try_from_str("latn")?, ""));
+    assert!(rt; has_id(&"ZH".parse::<Language>()?, "zh"));
+    assert!(rt; has_id(&"419".parse::<Region>()?, ""));
+    Ok(())
+}
+
+/// Whether the tag before the `=` is read as the identifier behind it, or as none where nothing stands there.
+fn has_its_id(row: &str) -> bool {
+    row.split_once('=')
+        .is_some_and(|(tag, text)| has_id(&tag, text))
+}
+
+fn has_id<T: AsStr>(tag: &T, text: &str) -> bool {
+    match read_id(tag) {
+        Some(id) => id.as_str() == text,
+        None => text.is_empty(),
+    }
+}
+
+#[test]
+fn an_identifier_moves_to_another_region(rt: HostRuntime) {
+    let rows = "zh-Hant-TW/HK/zh-Hant-HK en/GB/en-GB sr_latn/rs/sr-Latn-RS es-ES/419/es-419";
+    for row in rows.split_whitespace() {
+        assert!(rt; moves_to_its_region(row), "{row}");
+    }
+}
+
+/// Whether the identifier in front is the one at the end in the region between them.
+fn moves_to_its_region(row: &str) -> bool {
+    let mut words = row.split('/');
+    let id = words.next().unwrap_or("").parse::<LangId>();
+    let region = words.next().unwrap_or("").parse::<Region>();
+    match (id, region) {
+        (Ok(id), Ok(region)) => words.next() == Some(in_region(&id, region).as_str()),
+        _ => false,
+    }
+}
+
+#[test]
+fn identifiers_are_listed_in_their_order(rt: HostRuntime) -> Result<(), Fail> {
+    let (first, second): (LangId, LangId) = ("zh_hant_tw".parse()?, "EN".parse()?);
+    assert!(rt; tag_list(&[], rt.alloc())?.as_str() == "");
+    assert!(rt; tag_list(&[first], rt.alloc())?.as_str() == "zh-Hant-TW");
+    let all = tag_list(&[first, second, first], rt.alloc())?;
+    assert!(rt; all.as_str() == "zh-Hant-TW, en, zh-Hant-TW");
+    Ok(())
 }

@@ -1,0 +1,27 @@
+//! Texts made of others and of numbers.
+
+use crate::joining::{join_by_dash, year};
+use tinystr::TinyAsciiStr;
+
+#[test]
+fn two_texts_are_joined_by_a_dash(rt: HostRuntime) {
+    for row in "en/US/en-US abc/defg/abc-defg //- a//a- /b/-b -/-/---".split_whitespace() {
+        assert!(rt; are_joined(row), "{row}");
+    }
+}
+
+/// Whether the two texts in front are joined as the text behind them.
+fn are_joined(row: &str) -> bool {
+    let mut words = row.split('/');
+    let first = TinyAsciiStr::try_from_str(words.next().unwrap_or(""));
+    let second = TinyAsciiStr::try_from_str(words.next().unwrap_or(""));
+    match (first, second) {
+        (Ok(first), Ok(second)) => words.next() == Some(join_by_dash(&first, &second).as_str()),
+        _ => false,
+    }
+}
+
+#[test]
+fn a_year_has_its_four_digits(rt: HostRuntime) {
+    assert!(rt; matches!(year(), Ok(text) if text.as_str() == "2026"));
+}
