@@ -80,7 +80,7 @@ impl LangId {
         ensures text { result.now ≡ self.now }
         ensures canonical { IsCanonical self.now }
     {
-        TinyAsciiStr::as_str(&self.text)
+        self.text.as_str()
     }
 
     /// The language, which each identifier has.
@@ -146,7 +146,7 @@ impl AsSlice<u8> for LangId {
 
     #[inline]
     fn as_slice(&self) -> &[u8] {
-        self.as_str().as_bytes()
+        self.text.as_utf8()
     }
 }
 

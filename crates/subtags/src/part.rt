@@ -70,7 +70,7 @@ impl<K: Kind<N>, const N: usize> Part<K, N> {
         ensures text { result.now ≡ self.now }
         ensures canonical { IsCanonicalPart K.has_form K.in_case self.now }
     {
-        TinyAsciiStr::as_str(&self.text)
+        self.text.as_str()
     }
 
     /// The text as a value.
@@ -119,7 +119,7 @@ impl<K: Kind<N>, const N: usize> AsSlice<u8> for Part<K, N> {
 
     #[inline]
     fn as_slice(&self) -> &[u8] {
-        self.as_str().as_bytes()
+        self.text.as_utf8()
     }
 }
 

@@ -6,13 +6,17 @@ invariant_of-result c =
     let e = c.join_parts.ensures in
     rw e.text (IsCanonical-join_parts c.args.language c.args.script c.args.region e.language e.script e.region)
 
-pub returns : goal.returns
-returns c =
+pub returns-clause-language : goal.returns-clause-language
+returns-clause-language c =
     let e = c.join_parts.ensures in
-    let back = parts_back c.args.language c.args.script c.args.region e.language e.script e.region in
-    record {
-      text = e.text;
-      language = rw e.text back.0;
-      script = rw e.text back.1;
-      region = rw e.text back.2;
-    }
+    rw e.text (parts_back c.args.language c.args.script c.args.region e.language e.script e.region).0
+
+pub returns-clause-script : goal.returns-clause-script
+returns-clause-script c =
+    let e = c.join_parts.ensures in
+    rw e.text (parts_back c.args.language c.args.script c.args.region e.language e.script e.region).1
+
+pub returns-clause-region : goal.returns-clause-region
+returns-clause-region c =
+    let e = c.join_parts.ensures in
+    rw e.text (parts_back c.args.language c.args.script c.args.region e.language e.script e.region).2
