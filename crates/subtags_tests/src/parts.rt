@@ -22,7 +22,7 @@ fn each_part_has_its_form(rt: HostRuntime) {
 fn is_language_or_none(row: &str) -> bool {
     let (input, text) = row.split_once('=').unwrap_or(("", row));
     match Language::try_from_utf8(input.as_bytes()) {
-        Some(language) => language.as_str() == text,
+        Some(language) => language.to_text().as_str() == text,
         None => text.is_empty(),
     }
 }
@@ -30,7 +30,7 @@ fn is_language_or_none(row: &str) -> bool {
 fn is_script_or_none(row: &str) -> bool {
     let (input, text) = row.split_once('=').unwrap_or(("", row));
     match Script::try_from_utf8(input.as_bytes()) {
-        Some(script) => script.as_str() == text,
+        Some(script) => script.to_text().as_str() == text,
         None => text.is_empty(),
     }
 }
@@ -38,7 +38,7 @@ fn is_script_or_none(row: &str) -> bool {
 fn is_region_or_none(row: &str) -> bool {
     let (input, text) = row.split_once('=').unwrap_or(("", row));
     match Region::try_from_utf8(input.as_bytes()) {
-        Some(region) => region.as_str() == text,
+        Some(region) => region.to_text().as_str() == text,
         None => text.is_empty(),
     }
 }

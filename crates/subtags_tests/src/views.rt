@@ -17,55 +17,46 @@ fn parts_show_their_text_and_bytes(rt: HostRuntime) {
 }
 
 fn shows_its_text<T: FromStr<Err = LangIdError> + AsStr + AsSlice<u8> + Drop>(text: &str) -> bool {
-    text.parse::<T>().is_ok_and(|value| value.as_str() == text
-        && value.as_slice() == text.as_bytes())
+    text.parse::<T>().is_ok_and(|value| shows(&value, text))
+}
+
+fn shows<T: AsStr + AsSlice<u8>>(value: &T, text: &str) -> bool {
+    value.as_str() == text && value.as_slice() == text.as_bytes()
 }
 
 #[test]
 fn identifiers_are_tried_from_texts(rt: HostRuntime) {
-    assert!(rt; is_tried_identifier("EN_latn", "en-Latn"));
-    assert!(rt; is_tried_identifier("en-Latn-", ""));
+    assert!(rt; is_tried_as::<LangId>("EN_latn", "en-Latn"));
+    assert!(rt; is_tried_as::<LangId>("ABCDEFGH_HANT_419", "abcdefgh-Hant-419"));
+    assert!(rt; is_not_tried::<LangId>("", LangIdError::InvalidLanguage));
+    assert!(rt; is_not_tried::<LangId>("abcd-Latn", LangIdError::InvalidLanguage));
+    assert!(rt; is_not_tried::<LangId>("en-Latn-", LangIdError::InvalidSubtag));
 }
 
 #[test]
 fn parts_are_tried_from_texts(rt: HostRuntime) {
-    assert!(rt; is_tried_language("ZH", "zh"));
-    assert!(rt; is_tried_script("hANT", "Hant"));
-    assert!(rt; is_tried_region("tw", "TW"));
+    assert!(rt; is_tried_as::<Language>("ZH", "zh"));
+    assert!(rt; is_tried_as::<Script>("hANT", "Hant"));
+    assert!(rt; is_tried_as::<Region>("tw", "TW"));
+    assert!(rt; is_not_tried::<Language>("abcd", LangIdError::InvalidLanguage));
+    assert!(rt; is_not_tried::<Script>("abc", LangIdError::InvalidSubtag));
+    assert!(rt; is_not_tried::<Region>("abc", LangIdError::InvalidSubtag));
 }
 
-#[test]
-fn parts_of_another_form_are_refused(rt: HostRuntime) {
-    assert!(rt; is_tried_language("abcd", ""));
-    assert!(rt; is_tried_script("abc", ""));
-    assert!(rt; is_tried_region("abc", ""));
-}
-
-/// Whether the input is tried as the identifier of this text, or refused where the text is empty.
-fn is_tried_identifier(input: &str, text: &str) -> bool {
-    match LangId::try_from(input) {
-        Ok(id) => id.as_str() == text,
-        Err(error) => text.is_empty() && error == LangIdError::InvalidSubtag,
+/// Whether the input is tried as the value of this text.
+fn is_tried_as<'a, T: TryFrom<&'a str, Error = LangIdError> + AsStr + AsSlice<u8> + Drop>(
+    input: &'a str,
+    text: &str,
+) -> bool {
+    match T::try_from(input) {
+        Ok(value) => shows(&value, text),
+        Err(_) => false,
     }
 }
 
-fn is_tried_language(input: &str, text: &str) -> bool {
-    match Language::try_from(input) {
-        Ok(language) => language.to_text().as_str() == text,
-        Err(error) => text.is_empty() && error == LangIdError::InvalidLanguage,
-    }
-}
-
-fn is_tried_script(input: &str, text: &str) -> bool {
-    match Script::try_from(input) {
-        Ok(script) => script.to_text().as_str() == text,
-        Err(error) => text.is_empty() && error == LangIdError::InvalidSubtag,
-    }
-}
-
-fn is_tried_region(input: &str, text: &str) -> bool {
-    match Region::try_from(input) {
-        Ok(region) => region.to_text().as_str() == text,
-        Err(error) => text.is_empty() && error == LangIdError::InvalidSubtag,
-    }
+fn is_not_tried<'a, T: TryFrom<&'a str, Error = LangIdError> + Drop>(
+    input: &'a str,
+    error: LangIdError,
+) -> bool {
+    T::try_from(input).err() == Some(error)
 }
