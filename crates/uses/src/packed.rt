@@ -1,9 +1,9 @@
 //! Packed records: checked once, and then read in place.
 
-ghost use Rattle.std.specs.Prelude.{◌≡◌, ◌*◌, ◌<◌, ◌↔◌, length, All, IsOk, IsSome, IfOk, IfErr, IfSome};
+ghost use Rattle.std.specs.Prelude.{◌≡◌, ◌*◌, ◌<◌, ◌↔◌, length, All, IsOk, IsTrue, IfOk, IfErr, slice_get};
 ghost use Rattle.std.specs.List.{flat_map};
-ghost use Rattle.tinystr_words.specs.Packed.{IsPacked, record_at};
-ghost use Rattle.tinystr_words.specs.Text.{IsStrictText, text_of, pad};
+ghost use Rattle.tinystr_words.specs.Packed.{IsPacked};
+ghost use Rattle.tinystr_words.specs.Text.{IsStrictText, pad};
 ghost use Rattle.tinystr.specs.Records.{RefusesRecords};
 
 use std::alloc::{AllocError, Global};
@@ -11,55 +11,73 @@ use std::marker::Model;
 use tinystr::TinyAsciiStr;
 use tinystr::ule::UleError;
 
-/// Packed records of `N` bytes. A clause sees their bytes.
+/// Packed records of `N` bytes. A clause sees their texts.
 #[derive(Drop)]
 pub struct Table<'a, const N: usize> {
     bytes: &'a [u8],
 }
 
 impl<'a, const N: usize> Model for Table<'a, N> {
-    ghost use Rattle.std.specs.Prelude.{List, ℕ};
+    ghost use Rattle.std.specs.Prelude.{List, ℕ, ◌<◌};
     ghost use Rattle.tinystr_words.specs.Packed.{IsPacked};
+    ghost use Rattle.uses.specs.Packed.{texts_of};
 
-    ghost Value = { List ℕ };
+    ghost Value = { List (List ℕ) };
 
-    ghost view = { λ s. s.bytes.now };
+    ghost view = { λ s. texts_of N s.bytes.now };
 
-    ghost invariant = { λ s. IsPacked s.bytes.now N };
+    ghost invariant = { λ s. (0 < N) × IsPacked s.bytes.now N };
 }
 
 impl<'a, const N: usize> Table<'a, N> {
     /// The table of bytes, which are checked here alone.
+    #[tactic(auto, using(crate::proofs::PackedTexts::table_steps))]
     pub fn new(bytes: &'a [u8]) -> Result<Self, UleError>
         requires { 0 < N }
         ensures packed { IsOk result ↔ IsPacked bytes.now N }
-        ensures bytes { IfOk result (λ table. table ≡ bytes.now) }
+        ensures bytes { IfOk result (λ table. bytes.now ≡ flat_map (λ t. pad t N) table) }
+        ensures texts { IfOk result (λ table. All (λ t. IsStrictText t N) table) }
         ensures fault { IfErr result (λ e. RefusesRecords e bytes.now N) }
     {
         TinyAsciiStr::<N>::validate_bytes(bytes)?;
         Ok(Table { bytes })
     }
 
-    /// The record at an index, counted from 0, in constant time; none past the end.
+    /// How many texts.
+    #[tactic(auto, using(crate::proofs::PackedTexts::table_steps))]
+    pub fn len(&self) -> usize
+        ensures { result ≡ length self.now }
+    {
+        self.bytes.len() / N
+    }
+
+    /// Whether there is no text.
+    pub fn is_empty(&self) -> bool
+        ensures { IsTrue result ↔ (length self.now ≡ 0) }
+    {
+        self.len() == 0
+    }
+
+    /// The text at an index, counted from 0, in constant time; none past the end.
+    #[tactic(auto, using(crate::proofs::PackedTexts::table_steps))]
     pub fn get(&self, index: usize) -> Option<TinyAsciiStr<N>>
-        ensures inside { IsSome result ↔ (index * N < length self.now) }
-        ensures text { IfSome result (λ t. t ≡ text_of (record_at N self.now index)) }
+        ensures { result ≡ slice_get self.now index }
     {
         tinystr_words::laws::packed_records();
         let len = self.bytes.len();
-        let Some(start) = index.checked_mul(N) else {
-            return None;
-        };
+        let start = index.checked_mul(N)?;
         if start >= len {
             return None;
         }
         let (raw, _) = self.bytes[start..].split_first_chunk::<N>()?;
-        TinyAsciiStr::try_from_raw(*raw).ok()
+        match TinyAsciiStr::try_from_raw(*raw) {
+            Ok(text) => Some(text),
+            Err(_) => None,
+        }
     }
 }
 
 /// The texts, packed. Only memory can stop it.
-#[tactic(auto, using(crate::proofs::Joined::joined_steps))]
 pub fn pack<const N: usize>(alloc: Global, texts: &[TinyAsciiStr<N>]) -> Result<Vec<u8>, AllocError>
     ensures packed { IfOk result (λ made. IsPacked made.items N) }
     ensures each { IfOk result (λ _. All (λ t. IsStrictText t N) texts.now) }
@@ -71,5 +89,23 @@ pub fn pack<const N: usize>(alloc: Global, texts: &[TinyAsciiStr<N>]) -> Result<
         let _ = text.as_utf8();
         bytes.extend_from_slice(text.all_bytes())?;
     }
+    tinystr_words::laws::texts_packed();
     Ok(bytes)
+}
+
+/// The text at an index of texts that are packed and read in place. Only memory can stop it.
+#[tactic(auto, using(crate::proofs::PackedTexts::table_steps))]
+pub fn through<const N: usize>(
+    alloc: Global,
+    texts: &[TinyAsciiStr<N>],
+    index: usize,
+) -> Result<Option<TinyAsciiStr<N>>, AllocError>
+    requires { 0 < N }
+    ensures { IfOk result (λ found. found ≡ slice_get texts.now index) }
+{
+    let bytes = pack(alloc, texts)?;
+    match Table::new(bytes.as_slice()) {
+        Ok(table) => Ok(table.get(index)),
+        Err(_) => Ok(None),
+    }
 }

@@ -1,6 +1,6 @@
 //! Packed records.
 
-use crate::packed::{Table, pack};
+use crate::packed::{Table, pack, through};
 use std::alloc::Global;
 use tinystr::ule::UleError;
 use tinystr::{ParseError, TinyAsciiStr};
@@ -32,6 +32,23 @@ fn is_past_the_end(file: &[u8], index: usize) -> bool {
 }
 
 #[test]
+fn a_table_has_a_text_for_each_record(rt: HostRuntime) {
+    for (len, file) in ["", "Latn", "Latnab\0\0", "Latnab\0\0Cyrl"]
+        .into_iter()
+        .enumerate()
+    {
+        assert!(rt; has_len(file.as_bytes(), len), "{file}");
+    }
+}
+
+fn has_len(file: &[u8], len: usize) -> bool {
+    match Table::<4>::new(file) {
+        Ok(table) => table.len() == len && table.is_empty() == (len == 0),
+        Err(_) => false,
+    }
+}
+
+#[test]
 fn packed_texts_are_read_in_place(rt: HostRuntime) {
     for text in "Latn|ab||Cyrl".split('|') {
         assert!(rt; is_read_back(rt.alloc(), text), "{text}");
@@ -47,6 +64,22 @@ fn is_read_back(alloc: Global, text: &str) -> bool {
         Ok(made) => has_record(made.as_slice(), 1, text) && is_past_the_end(made.as_slice(), 2),
         Err(_) => false,
     }
+}
+
+#[test]
+fn texts_come_through_a_table(rt: HostRuntime) {
+    for text in "Latn|ab||Cyrl".split('|') {
+        assert!(rt; is_brought_through(rt.alloc(), text), "{text}");
+    }
+}
+
+/// Whether the text, behind another, comes through a table, and nothing does from past it.
+fn is_brought_through(alloc: Global, text: &str) -> bool {
+    let Ok(value) = TinyAsciiStr::<4>::try_from_str(text) else {
+        return false;
+    };
+    let texts = [TinyAsciiStr::<4>::default(), value];
+    through(alloc, &texts, 1) == Ok(Some(value)) && through(alloc, &texts, 2) == Ok(None)
 }
 
 #[test]

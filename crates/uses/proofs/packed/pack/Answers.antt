@@ -1,5 +1,5 @@
 use Rattle.std.proofs.Common.{arith}
-use Rattle.uses.proofs.Joined.{packed_more, AllStrict-more}
+use Rattle.uses.proofs.PackedTexts.{packed_more, AllStrict-more}
 use Rattle.uses.proofs.packed.pack.Goals as goal
 
 pub loop-text-preserved : goal.loop-text-preserved
