@@ -1,1 +1,2 @@
-mod PackedTexts
+pub mod PackedTexts
+pub mod RisingTexts

@@ -1,12 +1,18 @@
 //! Packed records: checked once, and then read in place.
 
-ghost use Rattle.std.specs.Prelude.{◌≡◌, ◌*◌, ◌<◌, ◌↔◌, length, All, IsOk, IsTrue, IfOk, IfErr, slice_get};
+ghost use Rattle.std.specs.Prelude.{◌≡◌, ◌*◌, ◌<◌, ◌↔◌, length, All, IsOk, IsTrue, IfOk, IfErr, slice_get, slice_index_or, []};
 ghost use Rattle.std.specs.List.{flat_map};
 ghost use Rattle.tinystr_words.specs.Packed.{IsPacked};
 ghost use Rattle.tinystr_words.specs.Text.{IsStrictText, pad};
 ghost use Rattle.tinystr.specs.Records.{RefusesRecords};
+ghost use Rattle.uses.specs.Packed.{IsRising};
 
+pub mod sorted;
+pub mod texts;
+
+use crate::packed::texts::Texts;
 use std::alloc::{AllocError, Global};
+use std::cmp::Ordering;
 use std::marker::Model;
 use tinystr::TinyAsciiStr;
 use tinystr::ule::UleError;
@@ -58,6 +64,13 @@ impl<'a, const N: usize> Table<'a, N> {
         self.len() == 0
     }
 
+    /// The texts in order.
+    pub fn iter(&self) -> Texts<'_, 'a, N>
+        ensures { result ≡ self.now }
+    {
+        Texts::new(self)
+    }
+
     /// The text at an index, counted from 0, in constant time; none past the end.
     #[tactic(auto, using(crate::proofs::PackedTexts::table_steps))]
     pub fn get(&self, index: usize) -> Option<TinyAsciiStr<N>>
@@ -75,6 +88,29 @@ impl<'a, const N: usize> Table<'a, N> {
             Err(_) => None,
         }
     }
+
+    /// Whether each text is below the next.
+    #[tactic(auto, using(crate::proofs::PackedTexts::table_steps))]
+    pub fn is_rising(&self) -> bool
+        ensures { IsTrue result ↔ IsRising self.now }
+    {
+        let len = self.bytes.len();
+        for index in 1..len / N {
+            match self.text_at(index - 1).cmp(&self.text_at(index)) {
+                Ordering::Less => {}
+                Ordering::Equal | Ordering::Greater => return false,
+            }
+        }
+        true
+    }
+
+    /// The text at an index of one.
+    pub(crate) fn text_at(&self, index: usize) -> TinyAsciiStr<N>
+        requires { index < length self.now }
+        ensures { result ≡ slice_index_or self.now index [] }
+    {
+        self.get(index).unwrap()
+    }
 }
 
 /// The texts, packed. Only memory can stop it.
@@ -91,6 +127,20 @@ pub fn pack<const N: usize>(alloc: Global, texts: &[TinyAsciiStr<N>]) -> Result<
     }
     tinystr_words::laws::texts_packed();
     Ok(bytes)
+}
+
+/// The texts of a table, in a vector. Only memory can stop it.
+pub fn unpack<const N: usize>(
+    alloc: Global,
+    table: &Table<'_, N>,
+) -> Result<Vec<TinyAsciiStr<N>>, AllocError>
+    ensures { IfOk result (λ made. made.items ≡ table.now) }
+{
+    let mut texts = Vec::new(alloc);
+    for text in table.iter() {
+        texts.push(text)?;
+    }
+    Ok(texts)
 }
 
 /// The text at an index of texts that are packed and read in place. Only memory can stop it.

@@ -1,6 +1,7 @@
 //! Packed records.
 
-use crate::packed::{Table, pack, through};
+use crate::packed::sorted::SortedTable;
+use crate::packed::{Table, pack, through, unpack};
 use std::alloc::Global;
 use tinystr::ule::UleError;
 use tinystr::{ParseError, TinyAsciiStr};
@@ -80,6 +81,66 @@ fn is_brought_through(alloc: Global, text: &str) -> bool {
     };
     let texts = [TinyAsciiStr::<4>::default(), value];
     through(alloc, &texts, 1) == Ok(Some(value)) && through(alloc, &texts, 2) == Ok(None)
+}
+
+#[test]
+fn texts_are_read_in_order(rt: HostRuntime) {
+    for file in ["", "Latn", "Latnab\0\0Cyrl", "ab\0\0\0\0\0\0ab\0\0"] {
+        assert!(rt;
+            is_unpacked_and_packed(rt.alloc(), file.as_bytes()),
+            "{file}"
+        );
+    }
+}
+
+/// Whether the texts of a file, packed again, are the file.
+fn is_unpacked_and_packed(alloc: Global, file: &[u8]) -> bool {
+    let Ok(table) = Table::<4>::new(file) else {
+        return false;
+    };
+    match unpack(alloc, &table) {
+        Ok(texts) => match pack(alloc, texts.as_slice()) {
+            Ok(made) => made.as_slice() == file,
+            Err(_) => false,
+        },
+        Err(_) => false,
+    }
+}
+
+#[test]
+fn sorted_tables_are_searched(rt: HostRuntime) {
+    let file = b"\0\0\0\0Cyrlab\0\0abc\0b\0\0\0";
+    for (index, text) in "|Cyrl|ab|abc|b".split('|').enumerate() {
+        assert!(rt; finds(file, text, Some(index)), "{text}");
+    }
+    for text in "A|D|a|abb|abca|bb|zzzz".split('|') {
+        assert!(rt; finds(file, text, None), "{text}");
+        assert!(rt; finds(b"", text, None), "{text}");
+    }
+}
+
+fn finds(file: &[u8], text: &str, place: Option<usize>) -> bool {
+    match (sorted_table(file), TinyAsciiStr::<4>::try_from_str(text)) {
+        (Some(sorted), Ok(key)) => sorted.find(&key) == place
+            && sorted.table().len() == file.len() / 4,
+        _ => false,
+    }
+}
+
+fn sorted_table(file: &[u8]) -> Option<SortedTable<'_, 4>> {
+    SortedTable::new(Table::<4>::new(file).ok()?)
+}
+
+#[test]
+fn tables_that_do_not_rise_are_refused(rt: HostRuntime) {
+    for file in [
+        "LatnCyrl",
+        "ab\0\0ab\0\0",
+        "ab\0\0abc\0abb\0",
+        "a\0\0\0\0\0\0\0",
+    ] {
+        assert!(rt; sorted_table(file.as_bytes()).is_none(), "{file}");
+    }
 }
 
 #[test]
