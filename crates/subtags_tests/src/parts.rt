@@ -107,24 +107,3 @@ fn is_made_of_its_parts(row: &str) -> bool {
     let region = words.next().unwrap_or("").parse::<Region>().ok();
     LangId::from_parts(language, script, region).as_str() == text
 }
-
-#[test]
-fn an_identifier_moves_to_another_region(rt: HostRuntime) {
-    let rows = "zh-Hant-TW/HK/zh-Hant-HK en/GB/en-GB sr_latn/rs/sr-Latn-RS es-ES/419/es-419";
-    for row in rows.split_whitespace() {
-        assert!(rt; moves_to_its_region(row), "{row}");
-    }
-}
-
-/// Whether the identifier in front, with the region behind it, is the one at the end.
-fn moves_to_its_region(row: &str) -> bool {
-    let mut words = row.split('/');
-    let Ok(id) = words.next().unwrap_or("").parse::<LangId>() else {
-        return false;
-    };
-    let Ok(region) = words.next().unwrap_or("").parse::<Region>() else {
-        return false;
-    };
-    let moved = LangId::from_parts(id.language(), id.script(), Some(region));
-    words.next() == Some(moved.as_str())
-}
