@@ -17,6 +17,8 @@ mod readers;
 #[cfg(test)]
 mod records;
 #[cfg(test)]
+mod traits;
+#[cfg(test)]
 mod unvalidated;
 #[cfg(test)]
 mod views;
