@@ -84,4 +84,4 @@ pub packed_once : (n : ℕ) (ts ss : List (List ℕ)) → 0 < n → AllStrict n 
 packed_once n ts ss some h k e =
     sym (texts_of-packed n ts some h) ∙ ap (λ (l : List ℕ). texts_of n l) e ∙ texts_of-packed n ss some k
 
-pub ruleset table_steps = (texts_of-joined, texts_of-strict, count-texts_of, slice_get-texts_of, slice_get-past_texts, packed_once)
+pub ruleset table_steps = (texts_of-strict, count-texts_of, slice_get-past_texts)

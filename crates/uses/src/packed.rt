@@ -1,6 +1,6 @@
 //! Packed records: checked once, and then read in place.
 
-ghost use Rattle.std.specs.Prelude.{◌≡◌, ◌*◌, ◌<◌, ◌↔◌, length, All, IsOk, IsTrue, IfOk, IfErr, slice_get, slice_index_or, []};
+ghost use Rattle.std.specs.Prelude.{◌≡◌, ◌<◌, ◌↔◌, length, All, IsOk, IsTrue, IfOk, IfErr, slice_get, slice_index_or, []};
 ghost use Rattle.std.specs.List.{flat_map};
 ghost use Rattle.tinystr_words.specs.Packed.{IsPacked};
 ghost use Rattle.tinystr_words.specs.Text.{IsStrictText, pad};
@@ -144,7 +144,6 @@ pub fn unpack<const N: usize>(
 }
 
 /// The text at an index of texts that are packed and read in place. Only memory can stop it.
-#[tactic(auto, using(crate::proofs::PackedTexts::table_steps))]
 pub fn through<const N: usize>(
     alloc: Global,
     texts: &[TinyAsciiStr<N>],
