@@ -1,32 +1,16 @@
 //! Texts made of others and of numbers.
 
-ghost use Rattle.std.specs.Prelude.{◌≡◌, ◌++◌, ◌∷◌, ◌≤◌, ◌+◌, codes, Ok};
+ghost use Rattle.std.specs.Prelude.{◌≡◌, ◌++◌, ◌∷◌, codes, Ok};
 ghost use Rattle.std.specs.Fmt.{decimal};
 
 use tinystr::{TinyAsciiStr, tinystr};
-use tinystr_words::laws;
-
-// Two texts, joined at a capacity that holds both.
-fn join<const N: usize, const M: usize, const Q: usize>(
-    first: TinyAsciiStr<N>,
-    second: TinyAsciiStr<M>,
-) -> TinyAsciiStr<Q>
-    requires { N + M ≤ Q }
-    ensures { result ≡ first.entry ++ second.entry }
-{
-    laws::join_fits();
-    // The contract of `len` says that a text fits.
-    let _ = (first.len(), second.len());
-    first.concat(second)
-}
 
 /// Two texts with a dash between them. Nothing is cut.
 pub fn join_by_dash(first: &TinyAsciiStr<3>, second: &TinyAsciiStr<4>) -> TinyAsciiStr<8>
     ensures { result ≡ first.now ++ 0x2d ∷ second.now }
 {
     let dash = tinystr!(1, "-").unwrap();
-    let front: TinyAsciiStr<4> = join(*first, dash);
-    join(front, *second)
+    first.concat::<1, 4>(dash).concat(*second)
 }
 
 // The digits of the year.

@@ -1,6 +1,6 @@
 //! Texts at other capacities, and joined.
 
-ghost use Rattle.std.specs.Prelude.{◌≡◌, ◌++◌, take};
+ghost use Rattle.std.specs.Prelude.{◌≡◌, ◌++◌, ◌+◌, ◌≤◌, take};
 
 use crate::ascii::TinyAsciiStr;
 use crate::padded;
@@ -16,10 +16,11 @@ impl<const N: usize> TinyAsciiStr<N> {
         }
     }
 
-    /// The two texts joined, cut where they are longer than `Q` bytes together.
+    /// The two texts joined, cut where they are longer than `Q` bytes together. At a `Q` of at least `N + M` nothing is cut.
     #[inline]
     pub fn concat<const M: usize, const Q: usize>(self, other: TinyAsciiStr<M>) -> TinyAsciiStr<Q>
-        ensures { result ≡ take Q (self.entry ++ other.entry) }
+        ensures text { result ≡ take Q (self.entry ++ other.entry) }
+        ensures whole { N + M ≤ Q → result ≡ self.entry ++ other.entry }
     {
         TinyAsciiStr {
             bytes: padded::join(&self.bytes, &other.bytes),

@@ -10,7 +10,7 @@ returns g c =
     let text = c.args.text in
     let part = c.args.part in
     let after_dash : c.concat.result ≡ text ++ dash ∷ [] =
-    c.concat.ensures ∙ ap (λ (d : List ℕ). take 17 (text ++ d)) mark
+    c.concat.ensures.text ∙ ap (λ (d : List ℕ). take 17 (text ++ d)) mark
     ∙ take_all 17 (text ++ dash ∷ []) (omega (arith, length-append text (dash ∷ []))) in
-    c.concat-2.ensures ∙ ap (λ (t : List ℕ). take 17 (t ++ part)) after_dash ∙ ap (take 17) (append_assoc text (dash ∷ []) part)
+    c.concat-2.ensures.text ∙ ap (λ (t : List ℕ). take 17 (t ++ part)) after_dash ∙ ap (take 17) (append_assoc text (dash ∷ []) part)
     ∙ take_all 17 (text ++ dash ∷ part) (omega (arith, length-append text (dash ∷ part)))
