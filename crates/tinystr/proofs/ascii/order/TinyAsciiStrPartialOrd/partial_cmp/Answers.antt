@@ -1,5 +1,5 @@
-use Rattle.std.proofs.Common.{ap, Some}
+use Rattle.std.proofs.Common.{rules}
 use Rattle.tinystr.proofs.ascii.order.TinyAsciiStrPartialOrd.partial_cmp.Goals as goal
 
 pub returns : goal.returns
-returns g c = ap Some c.cmp.ensures
+returns g c = search rules
