@@ -1,4 +1,5 @@
+use Rattle.std.proofs.Common.{rules}
 use Rattle.tinystr_words.proofs.int_ops.Aligned.from_ascii_bytes.Goals as goal
 
 pub returns : goal.returns
-returns g c = c.from_part.ensures
+returns g c = search rules

@@ -1,4 +1,5 @@
+use Rattle.std.proofs.Common.{rules}
 use Rattle.tinystr_words.proofs.int_ops.Aligned.is_ascii_alphabetic.Goals as goal
 
 pub returns : goal.returns
-returns g c = c.ask.ensures
+returns g c = search rules
