@@ -1,4 +1,5 @@
+use Rattle.std.proofs.Common.{rules}
 use Rattle.tinystr.proofs.ascii.views.TinyAsciiStrAsSliceU8.as_slice.Goals as goal
 
 pub returns : goal.returns
-returns g c = cc
+returns g c = search rules
