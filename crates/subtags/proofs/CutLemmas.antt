@@ -54,7 +54,7 @@ parts_plain p h = slice_split_none (λ b. b == dash) p (whole p h)
 pub parts_before : (p u : List ℕ) → list_all is_alphanumeric p ≡ true → parts (p ++ dash ∷ u) ≡ p ∷ parts u
 parts_before p u h = slice_split_at (λ b. b == dash) p dash u (whole p h) refl
 
--- a first part that is a script is read in title case, and the others are left
+-- a first part that is a script is read in titlecase, and the others are left
 pub script_first : (p : List ℕ) (ps qs : List (List ℕ)) → qs ≡ fold_text p ∷ ps → is_script p ≡ true → (leading_script qs ≡ Some (titlecase p)) × (behind_script qs ≡ ps)
 script_first p ps qs e h =
     let also : is_script (fold_text p) ≡ true = is_script_alike (fold_text p) p (folded_twice p) ∙ h in
@@ -78,7 +78,7 @@ not_alone r (p ∷ q ∷ ps) e some h = refl
 pub no_last_region : (r : List ℕ) → is_region r ≡ false → last_region (parts (fold_text r)) ≡ Err InvalidSubtag
 no_last_region r h = not_alone r (parts (fold_text r)) (join_with_byte-slice_split dash (fold_text r)) (omega (arith, length-slice_split (λ b. b == dash) (fold_text r))) h
 
--- a region is read as a last region, in upper case
+-- a region is read as a last region, in uppercase
 pub one_last_region : (r : List ℕ) → is_region r ≡ true → last_region (parts (fold_text r)) ≡ Ok (Some (uppercase r))
 one_last_region r h =
     let also : is_region (fold_text r) ≡ true = is_region_alike (fold_text r) r (folded_twice r) ∙ h in

@@ -42,7 +42,7 @@ weaker p q e (b ∷ l) h =
 pub folded_twice : (u : List ℕ) → fold_text (fold_text u) ≡ fold_text u
 folded_twice u = absorbed fold_byte fold_byte (λ b. grind (arith, nat_tests)) u
 
--- a text in lower case folds as the text does
+-- a text in lowercase folds as the text does
 pub fold_text-lowercase : (t : List ℕ) → fold_text (lowercase t) ≡ fold_text t
 fold_text-lowercase t = absorbed fold_byte lower (λ b. grind (arith, nat_tests)) t
 
@@ -50,11 +50,11 @@ fold_text-lowercase t = absorbed fold_byte lower (λ b. grind (arith, nat_tests)
 fold_byte-raise : (b : ℕ) → fold_byte (raise b) ≡ fold_byte b
 fold_byte-raise b = grind (arith, nat_tests)
 
--- a text in upper case folds as the text does
+-- a text in uppercase folds as the text does
 pub fold_text-uppercase : (t : List ℕ) → fold_text (uppercase t) ≡ fold_text t
 fold_text-uppercase t = absorbed fold_byte raise fold_byte-raise t
 
--- a text in title case folds as the text does
+-- a text in titlecase folds as the text does
 pub fold_text-titlecase : (t : List ℕ) → fold_text (titlecase t) ≡ fold_text t
 fold_text-titlecase [] = refl
 fold_text-titlecase (b ∷ t) = ap₂ (λ (x : ℕ) (y : List ℕ). x ∷ y) (fold_byte-raise b) (fold_text-lowercase t)
@@ -136,7 +136,7 @@ language_text p h = record { text = plain_text p (language_plain p h); fits = gr
 pub region_text : (p : List ℕ) → is_region p ≡ true → IsStrictText p 3
 region_text p h = record { text = plain_text p (region_plain p h); fits = grind (arith, nat_tests) }
 
--- to fold a language is to put it in lower case
+-- to fold a language is to put it in lowercase
 pub lowercase-fold_text : (p : List ℕ) → is_language p ≡ true → fold_text p ≡ lowercase p
 lowercase-fold_text p h = same_where is_alphanumeric fold_byte lower (λ b a. grind (arith, nat_tests)) p (language_plain p h)
 
@@ -144,7 +144,7 @@ lowercase-fold_text p h = same_where is_alphanumeric fold_byte lower (λ b a. gr
 raise-fold_byte : (b : ℕ) → is_alphanumeric b ≡ true → raise (fold_byte b) ≡ raise b
 raise-fold_byte b a = grind (arith, nat_tests)
 
--- a script, folded, has the same title case
+-- a script, folded, has the same titlecase
 pub titlecase-fold_text : (p : List ℕ) → is_script p ≡ true → titlecase (fold_text p) ≡ titlecase p
 titlecase-fold_text [] h = refl
 titlecase-fold_text (b ∷ p) h =
@@ -152,30 +152,30 @@ titlecase-fold_text (b ∷ p) h =
     ap₂ (λ (x : ℕ) (y : List ℕ). x ∷ y) (raise-fold_byte b (grind arith))
     (absorbed_where is_alphanumeric lower fold_byte (λ c a. grind (arith, nat_tests)) p (grind arith))
 
--- a region, folded, has the same upper case
+-- a region, folded, has the same uppercase
 pub uppercase-fold_text : (p : List ℕ) → is_region p ≡ true → uppercase (fold_text p) ≡ uppercase p
 uppercase-fold_text p h = absorbed_where is_alphanumeric raise fold_byte raise-fold_byte p (region_plain p h)
 
--- a language in lower case is canonical
+-- a language in lowercase is canonical
 pub canonical-lowercase : (p t : List ℕ) → is_language p ≡ true → t ≡ lowercase p → IsCanonicalPart is_language lowercase t
 canonical-lowercase p t h e = rw e record {
   form = is_language_alike (lowercase p) p (fold_text-lowercase p) ∙ h;
   canonical = absorbed lower lower (λ b. grind (arith, nat_tests)) p;
 }
 
--- to take the title case twice is to take it once
+-- to take the titlecase twice is to take it once
 titlecase_twice : (t : List ℕ) → titlecase (titlecase t) ≡ titlecase t
 titlecase_twice [] = refl
 titlecase_twice (b ∷ t) = ap₂ (λ (x : ℕ) (y : List ℕ). x ∷ y) (grind (arith, nat_tests)) (absorbed lower lower (λ c. grind (arith, nat_tests)) t)
 
--- a script in title case is canonical
+-- a script in titlecase is canonical
 pub canonical-titlecase : (p t : List ℕ) → is_script p ≡ true → t ≡ titlecase p → IsCanonicalPart is_script titlecase t
 canonical-titlecase p t h e = rw e record {
   form = is_script_alike (titlecase p) p (fold_text-titlecase p) ∙ h;
   canonical = titlecase_twice p;
 }
 
--- a region in upper case is canonical
+-- a region in uppercase is canonical
 pub canonical-uppercase : (p t : List ℕ) → is_region p ≡ true → t ≡ uppercase p → IsCanonicalPart is_region uppercase t
 canonical-uppercase p t h e = rw e record {
   form = is_region_alike (uppercase p) p (fold_text-uppercase p) ∙ h;

@@ -16,7 +16,7 @@ low_line = 0x5F
 abbrev pub is_separator : ℕ → Bool
 is_separator b = b == dash || b == low_line
 
--- '-' for '_', and a letter in lower case
+-- '-' for '_', and a letter in lowercase
 abbrev pub fold_byte : ℕ → ℕ
 fold_byte b = if b == low_line then dash else lower b
 
@@ -55,7 +55,7 @@ is_lang_id (l ∷ ps) = is_language l && is_tail ps
 abbrev pub IsLangId : List ℕ → Type 0
 IsLangId u = IsTrue (is_lang_id (parts (fold_text u)))
 
--- a script in title case, a region in upper case
+-- a script in titlecase, a region in uppercase
 abbrev pub canonical_part : List ℕ → List ℕ
 canonical_part p = if is_script p then titlecase p else uppercase p
 

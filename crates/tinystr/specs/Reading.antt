@@ -13,8 +13,8 @@ pub record IsStrictRead {E : Type 0} (fault_of : E → Fault) (units : List ℕ)
 abbrev pub IsSame : List ℕ → List ℕ → ℕ → Type 0
 IsSame bytes units k = slice_index bytes k ≡ slice_index units k
 
--- the units from i up to j are read, with r for each that is no character, and what was read before stays; unless one
--- of all is bad, those are characters
+-- Places i to j - 1 now hold the units, with r for each non-character; the places that held theirs before still do. If
+-- `is_bad` is false, the units from i to j - 1 are characters. If it is true, some unit isn't one.
 pub record IsReadPart (is_bad : Bool) (old bytes units : List ℕ) (r i j : ℕ) : Type 0 where
   pub tested : MatchBool is_bad (¬ IsText units) ((k : ℕ) → i ≤ k → k < j → IsTextByte (slice_index units k))
   pub read : (k : ℕ) → i ≤ k → k < j → IsSame bytes (map (lossy_byte r) units) k

@@ -16,7 +16,14 @@ use crate::error::ParseError;
 use std::marker::Model;
 use std::str::FromStr;
 
-/// A text of at most `N` bytes, each from 1 to 127, in `N` bytes: the text and then NULs. It takes no memory.
+/// A text of at most `N` bytes, each from 1 to 127, in `N` bytes: the text and then NULs. It never allocates.
+///
+/// ```rust
+/// let city = TinyAsciiStr::<8>::try_from_str("New York")?;
+/// assert_eq!(rt; city.len(), 8);
+/// assert_eq!(rt; city.to_ascii_uppercase().as_str(), "NEW YORK");
+/// assert!(rt; city < tinystr!(8, "Paris")?);
+/// ```
 #[derive(Clone, Copy, Hash)]
 pub struct TinyAsciiStr<const N: usize> {
     bytes: [u8; N],
@@ -46,7 +53,7 @@ impl<const N: usize> Model for TinyAsciiStr<N> {
 }
 
 impl<const N: usize> TinyAsciiStr<N> {
-    /// The empty text.
+    /// The empty text, which every capacity has.
     #[inline]
     pub fn default() -> Self
         ensures { result ≡ [] }

@@ -37,12 +37,12 @@ pub enum BytesReadError {
 pub enum FormWriteError {
     /// The bytes are no text and then NULs.
     NotAscii,
-    /// There was no memory for the JSON value.
+    /// There was no memory for the JSON string.
     Memory(AllocError),
 }
 
 impl<const N: usize> TinyAsciiStr<N> {
-    /// The string value of the text. Its memory is asked of `alloc`.
+    /// The JSON string of the text. It allocates a copy of the text from `alloc`, and the error is want of that memory.
     #[inline]
     pub fn to_json(&self, alloc: Global) -> Result<Value, AllocError>
         ensures { IfOk result (λ value. view value ≡ json_form self.now) }
@@ -50,7 +50,8 @@ impl<const N: usize> TinyAsciiStr<N> {
         Ok(Value::String(String::from_str(alloc, self.as_str())?))
     }
 
-    /// The text of a string value.
+    /// The text of a JSON string. The error is `NotText` where the value is no string, and `InvalidText` where the
+    /// string has more than `N` bytes, a NUL or a byte above 127.
     pub fn from_json(value: &Value) -> Result<Self, JsonReadError>
         ensures accepted { IsOk result
             ↔ IsSomeAnd (as_str (view value.now)) (λ t. IsStrictText t N) }
@@ -61,7 +62,7 @@ impl<const N: usize> TinyAsciiStr<N> {
         Self::try_from_str(text).map_err(|_| JsonReadError::InvalidText)
     }
 
-    /// The text and then NULs.
+    /// All `N` bytes: the text and then NULs.
     #[inline]
     pub fn to_bytes(&self) -> [u8; N]
         ensures bytes { result ≡ pad self.now N }
@@ -71,7 +72,10 @@ impl<const N: usize> TinyAsciiStr<N> {
         *self.all_bytes()
     }
 
-    /// The text of the first `N` bytes, and the bytes behind them as a part of the input.
+    /// The text of the first `N` bytes, a text and then NULs, and the bytes behind them as a part of the input.
+    ///
+    /// The error is that of the first of `N` positions that has one: the input has ended (`Length`), a byte behind a
+    /// NUL is no NUL (`Null`), or a byte is above 127 (`NonAscii`). A byte that is both is `Null`.
     #[tactic(auto, using(tinystr_words::proofs::ByteForms::byte_reading))]
     pub fn read_bytes(input: &[u8]) -> Result<(Self, &[u8]), BytesReadError>
         ensures accepted { IsOk result ↔ (byte_fault N input.now ≡ None) }
@@ -90,8 +94,8 @@ impl<const N: usize> TinyAsciiStr<N> {
 }
 
 impl<const N: usize> UnvalidatedTinyAsciiStr<N> {
-    /// The string value of the text, where the bytes are one and then NULs. They are tested before
-    /// memory is asked for.
+    /// The JSON string of the text, where the bytes are a text and then NULs, and else `NotAscii`. They are tested
+    /// before memory is asked of `alloc`. Want of it is `Memory`.
     pub fn to_json(&self, alloc: Global) -> Result<Value, FormWriteError>
         ensures padded { IfOk result (λ _. IsPaddedText self.now N) }
         ensures value { IfOk result (λ value. view value ≡ json_form (text_of self.now)) }
@@ -103,7 +107,7 @@ impl<const N: usize> UnvalidatedTinyAsciiStr<N> {
         text.to_json(alloc).map_err(FormWriteError::Memory)
     }
 
-    /// The text of a string value, and then NULs.
+    /// The text of a JSON string, and then NULs. The errors are those of `TinyAsciiStr::from_json`.
     #[inline]
     pub fn from_json(value: &Value) -> Result<Self, JsonReadError>
         ensures accepted { IsOk result
@@ -115,8 +119,8 @@ impl<const N: usize> UnvalidatedTinyAsciiStr<N> {
         Ok(TinyAsciiStr::from_json(value)?.to_unvalidated())
     }
 
-    /// The bytes, where they are a text and then NULs: not all that `read_bytes` gives can be written
-    /// again. Never answers `Memory`.
+    /// The bytes, where they are a text and then NULs, and else `NotAscii`: not all that `read_bytes` gives can be
+    /// written again. It never answers `Memory`.
     pub fn to_bytes(&self) -> Result<[u8; N], FormWriteError>
         ensures accepted { IsOk result ↔ IsPaddedText self.now N }
         ensures bytes { IfOk result (λ bytes. bytes ≡ self.now) }
@@ -128,8 +132,8 @@ impl<const N: usize> UnvalidatedTinyAsciiStr<N> {
         }
     }
 
-    /// Any first `N` bytes, and the bytes behind them as a part of the input. Refuses by `Length`
-    /// alone.
+    /// The first `N` bytes, whatever they are, and the bytes behind them as a part of the input. The error is `Length`
+    /// where there are fewer.
     pub fn read_bytes(input: &[u8]) -> Result<(Self, &[u8]), BytesReadError>
         ensures accepted { IsOk result ↔ (N ≤ length input.now) }
         ensures bytes { IfOk result (λ read. read.0 ≡ take N input.now) }

@@ -1,5 +1,5 @@
 //! Bounded ASCII strings: a `TinyAsciiStr<N>` holds a text of at most `N` bytes from 1 to 127 in `N` bytes, padded
-//! with NULs, and takes no memory.
+//! with NULs, and never allocates.
 #![tactic(auto)]
 
 pub mod ascii;

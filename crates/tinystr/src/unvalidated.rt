@@ -69,7 +69,7 @@ impl<const N: usize> PartialOrd for UnvalidatedTinyAsciiStr<N> {
 }
 
 impl<const N: usize> UnvalidatedTinyAsciiStr<N> {
-    /// The bytes that are all NUL.
+    /// `N` NULs.
     #[inline]
     pub fn default() -> Self
         ensures { result ≡ replicate N 0 }
@@ -77,7 +77,7 @@ impl<const N: usize> UnvalidatedTinyAsciiStr<N> {
         UnvalidatedTinyAsciiStr { bytes: [0; N] }
     }
 
-    /// The bytes and then NULs. Refuses by `TooLong` alone.
+    /// The bytes and then NULs, up to `N`. The error is `TooLong` where there are more than `N` bytes.
     pub fn try_from_utf8(bytes: &[u8]) -> Result<Self, ParseError>
         ensures accepted { IsOk result ↔ (length bytes.now ≤ N) }
         ensures padded { IfOk result (λ made. made ≡ pad bytes.now N) }
@@ -101,7 +101,7 @@ impl<const N: usize> UnvalidatedTinyAsciiStr<N> {
         UnvalidatedTinyAsciiStr { bytes }
     }
 
-    /// The text, where the bytes are one and then NULs, as `TinyAsciiStr::try_from_raw` reads it.
+    /// The text, where the bytes are a text and then NULs. The errors are those of `TinyAsciiStr::try_from_raw`.
     #[inline]
     pub fn try_into_tinystr(self) -> Result<TinyAsciiStr<N>, ParseError>
         ensures accepted { IsOk result ↔ IsPaddedText self.entry N }
@@ -113,7 +113,7 @@ impl<const N: usize> UnvalidatedTinyAsciiStr<N> {
 }
 
 impl<const N: usize> TinyAsciiStr<N> {
-    /// All `N` bytes, the NULs behind the text too.
+    /// All `N` bytes, with the NULs behind the text.
     #[inline]
     pub fn to_unvalidated(self) -> UnvalidatedTinyAsciiStr<N>
         ensures bytes { result ≡ pad self.entry N }

@@ -61,7 +61,8 @@ pub extern "C" fn tinystr_exports_compare(
     )
 }
 
-/// Each list of bytes as a reader reads it: list i stands from `starts[i]` to `starts[i + 1]`. A fault is told by a number.
+/// Each list of bytes as a reader reads it: list i stands from `starts[i]` to `starts[i + 1]`. A fault is told by a
+/// number.
 #[unsafe(no_mangle)]
 pub extern "C" fn tinystr_exports_read8(
     capacity: usize,

@@ -27,19 +27,19 @@ lower_raise b = grind (arith, nat_tests)
 map_after : (f g h : ℕ → ℕ) → ((b : ℕ) → f (g b) ≡ h b) → (t : List ℕ) → map f (map g t) ≡ map h t
 map_after f g h each t = map-map f g t ∙ ap (λ (change : ℕ → ℕ). map change t) (fun_ext each)
 
--- a text in lower case stays the same when it is put in lower case again
+-- a text in lowercase stays the same when it is put in lowercase again
 pub lowercase-twice : (t : List ℕ) → lowercase (lowercase t) ≡ lowercase t
 lowercase-twice = map_after lower lower lower lower_lower
 
--- and one in upper case when it is put in upper case again
+-- and one in uppercase when it is put in uppercase again
 pub uppercase-twice : (t : List ℕ) → uppercase (uppercase t) ≡ uppercase t
 uppercase-twice = map_after raise raise raise raise_raise
 
--- a text put in upper case and then in lower case is the text in lower case
+-- a text put in uppercase and then in lowercase is the text in lowercase
 pub lowercase-uppercase : (t : List ℕ) → lowercase (uppercase t) ≡ lowercase t
 lowercase-uppercase = map_after lower raise lower lower_raise
 
--- a text in title case stays the same when it is put in title case again
+-- a text in titlecase stays the same when it is put in titlecase again
 pub titlecase-twice : (t : List ℕ) → titlecase (titlecase t) ≡ titlecase t
 titlecase-twice [] = refl
 titlecase-twice (b ∷ t) = ap₂ (λ x xs. x ∷ xs) (raise_raise b) (lowercase-twice t)
@@ -66,15 +66,15 @@ map_alone : (f : ℕ → ℕ) (p : ℕ → Bool) → ((b : ℕ) → (f b ≡ b) 
 map_alone f p alone [] = (λ e. refl, λ e. refl)
 map_alone f p alone (b ∷ t) = cons_alone b (f b) t (map f t) (p b) (list_all p t) (alone b) (map_alone f p alone t)
 
--- a text is left alone by lower case exactly if no byte is upper
+-- a text is left alone by lowercase exactly if no byte is upper
 pub lowercase-alone : (t : List ℕ) → (lowercase t ≡ t) ↔ (ask is_not_upper is_not_upper t ≡ true)
 lowercase-alone t = rw (ask-same is_not_upper t) (map_alone lower is_not_upper lower_alone t)
 
--- by upper case exactly if no byte is lower
+-- by uppercase exactly if no byte is lower
 pub uppercase-alone : (t : List ℕ) → (uppercase t ≡ t) ↔ (ask is_not_lower is_not_lower t ≡ true)
 uppercase-alone t = rw (ask-same is_not_lower t) (map_alone raise is_not_lower raise_alone t)
 
--- and by title case exactly if its first byte isn't lower and no later one is upper
+-- and by titlecase exactly if its first byte isn't lower and no later one is upper
 pub titlecase-alone : (t : List ℕ) → (titlecase t ≡ t) ↔ (ask is_not_lower is_not_upper t ≡ true)
 titlecase-alone [] = (λ e. refl, λ e. refl)
 titlecase-alone (b ∷ t) =
@@ -115,7 +115,8 @@ upper_joined b = grind (arith, nat_tests)
 pub lowercase-joined : (t : List ℕ) → ask is_lower is_lower t ≡ (ask is_alphabetic is_alphabetic t && ask is_not_upper is_not_upper t)
 lowercase-joined = ask_joined is_lower is_lower is_alphabetic is_not_upper is_not_upper lower_joined lower_joined
 
--- the first byte is upper and each later one lower exactly if all are alphabetic, the first not lower, no later one upper
+-- the first byte is upper and each later one lower exactly if all are alphabetic, the first not lower, no later one
+-- upper
 pub titlecase-joined : (t : List ℕ) → ask is_upper is_lower t ≡ (ask is_alphabetic is_alphabetic t && ask is_not_lower is_not_upper t)
 titlecase-joined = ask_joined is_upper is_lower is_alphabetic is_not_lower is_not_upper upper_joined lower_joined
 

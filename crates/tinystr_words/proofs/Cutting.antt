@@ -3,15 +3,15 @@ use Rattle.std.proofs.Common.{◌≡◌, ℕ, zero, suc, ◌≤◌, List, [], �
 use Rattle.std.proofs.lemmas.List.{take-map, take-take}
 use Rattle.tinystr_words.specs.Case.{lower, raise, lowercase, titlecase, uppercase}
 
--- the front of a text, put in lower case, is the front of the text in lower case
+-- the front of a text, put in lowercase, is the front of the text in lowercase
 pub lowercase-take : (m : ℕ) (t : List ℕ) → lowercase (take m t) ≡ take m (lowercase t)
 lowercase-take m t = sym (take-map lower m t)
 
--- it is the same for upper case
+-- it is the same for uppercase
 pub uppercase-take : (m : ℕ) (t : List ℕ) → uppercase (take m t) ≡ take m (uppercase t)
 uppercase-take m t = sym (take-map raise m t)
 
--- and for title case
+-- and for titlecase
 pub titlecase-take : (m : ℕ) (t : List ℕ) → titlecase (take m t) ≡ take m (titlecase t)
 titlecase-take zero [] = refl
 titlecase-take zero (b ∷ t) = refl

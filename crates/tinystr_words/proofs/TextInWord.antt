@@ -103,7 +103,7 @@ each_ascii : (F : Bool → ℕ → ℕ) → ((i : Bool) (b : ℕ) → b < 128 �
 each_ascii F p i [] a = tt
 each_ascii F p i (b ∷ l) a = (p i b a.0, each_ascii F p false l a.1)
 
--- a text in lower case, by a formula that also changes other bytes, leaves the same room
+-- a text in lowercase, by a formula that also changes other bytes, leaves the same room
 pub with_case_bits_room : {n w : ℕ} → HoldsText n w → on with_case_bits n w ≤ word (first_then n 0x7f 0x7f)
 with_case_bits_room {n} {w} h =
     let l = lanes (at with_case_bits) true (pad (text_in n w) n) in

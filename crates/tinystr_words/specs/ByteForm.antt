@@ -17,7 +17,7 @@ byte_fault_at n input i =
     else (if nat_lt 127 (slice_index input i) then Some non_ascii
     else None))
 
--- the fault at the least position below n that has one
+-- the fault at the first position below n that has one, or `None`
 unfoldable pub byte_fault : ℕ → List ℕ → Option ByteFault
 byte_fault n input =
     option_and_then (byte_fault_at n input) (find (λ i. is_some (byte_fault_at n input i)) (range_with_len 0 n))

@@ -1,4 +1,5 @@
--- The fault of a list of units that a reader refuses, and what a lossy reader makes of a list. A unit is a byte, or a 16-bit number.
+-- The fault of a list of units that a reader refuses, and what a lossy reader makes of a list. A unit is a byte, or a
+-- 16-bit number.
 use Rattle.std.specs.Prelude.{ℕ, ◌==◌, Bool, ◌&&◌, ◌||◌, nat_lt, List, length, map, take, slice_index, Option, option_map, unwrap_or, if◌then◌else◌}
 use Rattle.std.specs.List.{find, list_any, range_with_len}
 use Rattle.tinystr_words.specs.Text.{is_text_byte}

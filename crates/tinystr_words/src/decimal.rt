@@ -13,7 +13,8 @@ fn two_digits(number: u32) -> u32
     number / 10 + 256 * (number % 10) + 0x3030
 }
 
-/// The shortest decimal text of a number, its first digit in the lowest lane. Four steps at most leave a number below 100.
+/// The shortest decimal text of a number, its first digit in the lowest lane. Four steps at most leave a number below
+/// 100.
 #[inline(always)]
 pub fn decimal_word(number: u32) -> u128
     ensures { result ≡ word (decimal number) }

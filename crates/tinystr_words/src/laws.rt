@@ -39,7 +39,7 @@ pub fn case_cut()
     ensures upper { (m : ℕ) (t : List ℕ) → uppercase (take m t) ≡ take m (uppercase t) }
 {}
 
-/// A case change keeps the length, done twice it is done once, and lower case forgets an upper case before it.
+/// A case change keeps the length, done twice it is done once, and lowercase forgets an uppercase before it.
 pub fn case_twice()
     ensures lower { (t : List ℕ) → (length (lowercase t) ≡ length t) × (lowercase (lowercase t) ≡ lowercase t) }
     ensures title { (t : List ℕ) → (length (titlecase t) ≡ length t) × (titlecase (titlecase t) ≡ titlecase t) }

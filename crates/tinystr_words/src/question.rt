@@ -3,7 +3,8 @@
 ghost use Rattle.std.specs.Prelude.{◌≡◌};
 ghost use Rattle.tinystr_words.specs.Questions.{later_question, later_case};
 
-/// A question that a text is asked: whether each byte is in a class. The titlecase ones have a class of their own for the first byte.
+/// A question that a text is asked: whether each byte is in a class. The titlecase ones have a class of their own for
+/// the first byte.
 #[derive(Clone, Copy)]
 pub enum Question {
     /// Each byte is a letter.
@@ -43,11 +44,11 @@ impl Question {
 /// A case that a text is brought to.
 #[derive(Clone, Copy)]
 pub enum Case {
-    /// Each letter in lower case.
+    /// Each letter in lowercase.
     Lower,
-    /// The first byte, if it is a letter, in upper case, and each later letter in lower case.
+    /// The first byte, if it is a letter, in uppercase, and each later letter in lowercase.
     Title,
-    /// Each letter in upper case.
+    /// Each letter in uppercase.
     Upper,
 }
 

@@ -10,16 +10,17 @@ pub struct Vector {
     /// Nine letters, `y` or `n` for each question: alphabetic, alphanumeric, numeric, lowercase, titlecase, uppercase,
     /// and alphabetic in lowercase, titlecase, uppercase.
     pub answers: &'static str,
-    /// The text in lower case.
+    /// The text in lowercase.
     pub lower: &'static str,
-    /// The text in title case: its first character in upper case and each later one in lower case.
+    /// The text in titlecase: its first character in uppercase and each later one in lowercase.
     pub title: &'static str,
-    /// The text in upper case.
+    /// The text in uppercase.
     pub upper: &'static str,
 }
 
-/// A row for each vector, its fields in their order. Most texts are those that the Rust crate's own tests ask about; none of
-/// the answers was made by the calls that are tested on them. It is one literal, since a proof reads each that it meets.
+/// A row for each vector, its fields in their order. Most texts are those that the Rust crate's own tests ask about. None
+/// of the answers was made by the calls that are tested on them. It is one literal, since a proof reads each literal that
+/// it meets.
 pub const TEXTS: &str = "\
 |yyyyyyyyy|||
 Latn|yynnynnyn|latn|Latn|LATN

@@ -8,7 +8,12 @@ use crate::ascii::TinyAsciiStr;
 use crate::padded;
 
 impl<const N: usize> TinyAsciiStr<N> {
-    /// The shortest decimal text of a number, or its last `N` digits where it has more.
+    /// The shortest decimal text of a number. Where it has more than `N` digits, its last `N` are the error.
+    ///
+    /// ```rust
+    /// assert_eq!(rt; TinyAsciiStr::new_unsigned_decimal(2026), Ok(tinystr!(4, "2026")?));
+    /// assert_eq!(rt; TinyAsciiStr::new_unsigned_decimal(2006), Err(tinystr!(2, "06")?));
+    /// ```
     #[inline]
     pub fn new_unsigned_decimal(number: u32) -> Result<Self, Self>
         ensures ok { IsOk result ↔ (length (decimal number) ≤ N) }

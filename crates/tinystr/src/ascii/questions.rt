@@ -28,7 +28,7 @@ impl<const N: usize> TinyAsciiStr<N> {
         TinyAsciiStr { bytes }
     }
 
-    /// Whether each byte is a letter. Like the other questions it is true of the empty text.
+    /// Whether each byte is a letter. Like the other questions, it is true of the empty text.
     #[inline]
     pub fn is_ascii_alphabetic(&self) -> bool
         ensures { result ≡ ask is_alphabetic is_alphabetic self.now }
@@ -52,7 +52,7 @@ impl<const N: usize> TinyAsciiStr<N> {
         self.ask(Question::Numeric)
     }
 
-    /// Whether no byte is an upper-case letter; bytes that are no letters pass.
+    /// Whether no byte is an uppercase letter. Bytes that are no letters pass.
     #[inline]
     pub fn is_ascii_lowercase(&self) -> bool
         ensures { result ≡ ask is_not_upper is_not_upper self.now }
@@ -60,7 +60,8 @@ impl<const N: usize> TinyAsciiStr<N> {
         self.ask(Question::Lowercase)
     }
 
-    /// Whether the first byte is no lower-case letter and no later one an upper-case one; bytes that are no letters pass.
+    /// Whether the first byte isn't a lowercase letter and no later byte is an uppercase letter. Bytes that are no
+    /// letters pass.
     #[inline]
     pub fn is_ascii_titlecase(&self) -> bool
         ensures { result ≡ ask is_not_lower is_not_upper self.now }
@@ -68,7 +69,7 @@ impl<const N: usize> TinyAsciiStr<N> {
         self.ask(Question::Titlecase)
     }
 
-    /// Whether no byte is a lower-case letter; bytes that are no letters pass.
+    /// Whether no byte is a lowercase letter. Bytes that are no letters pass.
     #[inline]
     pub fn is_ascii_uppercase(&self) -> bool
         ensures { result ≡ ask is_not_lower is_not_lower self.now }
@@ -76,7 +77,7 @@ impl<const N: usize> TinyAsciiStr<N> {
         self.ask(Question::Uppercase)
     }
 
-    /// Whether each byte is a lower-case letter.
+    /// Whether each byte is a lowercase letter.
     #[inline]
     pub fn is_ascii_alphabetic_lowercase(&self) -> bool
         ensures { result ≡ ask is_lower is_lower self.now }
@@ -84,7 +85,7 @@ impl<const N: usize> TinyAsciiStr<N> {
         self.ask(Question::AlphabeticLowercase)
     }
 
-    /// Whether the first byte is an upper-case letter and each later one a lower-case one.
+    /// Whether the first byte is an uppercase letter and each later byte is a lowercase letter.
     #[inline]
     pub fn is_ascii_alphabetic_titlecase(&self) -> bool
         ensures { result ≡ ask is_upper is_lower self.now }
@@ -92,7 +93,7 @@ impl<const N: usize> TinyAsciiStr<N> {
         self.ask(Question::AlphabeticTitlecase)
     }
 
-    /// Whether each byte is an upper-case letter.
+    /// Whether each byte is an uppercase letter.
     #[inline]
     pub fn is_ascii_alphabetic_uppercase(&self) -> bool
         ensures { result ≡ ask is_upper is_upper self.now }
@@ -100,7 +101,7 @@ impl<const N: usize> TinyAsciiStr<N> {
         self.ask(Question::AlphabeticUppercase)
     }
 
-    /// The text with each letter in lower case.
+    /// The text with each letter in lowercase.
     #[inline]
     pub fn to_ascii_lowercase(self) -> Self
         ensures { result ≡ lowercase self.entry }
@@ -108,7 +109,7 @@ impl<const N: usize> TinyAsciiStr<N> {
         self.in_case(Case::Lower)
     }
 
-    /// The text with its first byte in upper case, and each later letter in lower case.
+    /// The text with its first byte in uppercase, if that is a letter, and each later letter in lowercase.
     #[inline]
     pub fn to_ascii_titlecase(self) -> Self
         ensures { result ≡ titlecase self.entry }
@@ -116,7 +117,7 @@ impl<const N: usize> TinyAsciiStr<N> {
         self.in_case(Case::Title)
     }
 
-    /// The text with each letter in upper case.
+    /// The text with each letter in uppercase.
     #[inline]
     pub fn to_ascii_uppercase(self) -> Self
         ensures { result ≡ uppercase self.entry }

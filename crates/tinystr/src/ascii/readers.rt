@@ -11,7 +11,11 @@ use crate::padded;
 use tinystr_words::Unit;
 
 impl<const N: usize> TinyAsciiStr<N> {
-    /// Reads a text of at most `N` bytes. A NUL is refused at its end too.
+    /// Reads a string of at most `N` bytes, each from 1 to 127.
+    ///
+    /// The error is `TooLong` where there are more than `N` bytes. Else it is the fault of the first byte that is above
+    /// 127 (`NonAscii`) or is a character behind a NUL (`ContainsNull`). Where NULs stand at the end alone, it is
+    /// `ContainsNull`.
     #[inline]
     pub fn try_from_str(s: &str) -> Result<Self, ParseError>
         ensures accepted { IsOk result ↔ IsStrictText s.now N }
@@ -21,7 +25,7 @@ impl<const N: usize> TinyAsciiStr<N> {
         Self::try_from_utf8(s.as_bytes())
     }
 
-    /// Reads a text of at most `N` bytes. A NUL is refused at its end too.
+    /// Reads at most `N` bytes, each from 1 to 127. The errors are those of `try_from_str`.
     #[inline]
     pub fn try_from_utf8(code_units: &[u8]) -> Result<Self, ParseError>
         ensures accepted { IsOk result ↔ IsStrictText code_units.now N }
@@ -31,7 +35,8 @@ impl<const N: usize> TinyAsciiStr<N> {
         padded::read::<u8, N>(code_units)
     }
 
-    /// Reads a text of at most `N` units of 16 bits, each a character of its own. A NUL is refused at its end too.
+    /// Reads at most `N` numbers of 16 bits, each from 1 to 127 and a character of its own. The errors are those of
+    /// `try_from_str`, in which a number above 127 is `NonAscii` and `len` counts numbers.
     #[inline]
     pub fn try_from_utf16(code_units: &[u16]) -> Result<Self, ParseError>
         ensures accepted { IsOk result ↔ IsStrictText code_units.now N }
@@ -41,7 +46,15 @@ impl<const N: usize> TinyAsciiStr<N> {
         padded::read::<u16, N>(code_units)
     }
 
-    /// Reads `N` bytes: a text and then NULs.
+    /// Reads all `N` bytes: a text and then NULs.
+    ///
+    /// The error is the fault of the first byte that is above 127 (`NonAscii`) or is a character behind a NUL
+    /// (`ContainsNull`). It is never `TooLong`.
+    ///
+    /// ```rust
+    /// assert_eq!(rt; TinyAsciiStr::try_from_raw(*b"GB\0")?.as_str(), "GB");
+    /// assert_eq!(rt; TinyAsciiStr::try_from_raw(*b"G\0B").unwrap_err(), ParseError::ContainsNull);
+    /// ```
     #[inline]
     pub fn try_from_raw(raw: [u8; N]) -> Result<Self, ParseError>
         ensures accepted { IsOk result ↔ IsPaddedText raw.entry N }
@@ -62,7 +75,8 @@ impl<const N: usize> TinyAsciiStr<N> {
         }
     }
 
-    /// Reads the first `N` bytes, with the replacement for each that is NUL or above 127; the others are left out.
+    /// Reads the first `N` bytes, with the replacement for each that is NUL or above 127. Later bytes are left out. The
+    /// replacement has to be from 1 to 127.
     #[inline]
     pub fn from_utf8_lossy(code_units: &[u8], replacement: u8) -> Self
         requires { IsTextByte replacement }
@@ -71,7 +85,8 @@ impl<const N: usize> TinyAsciiStr<N> {
         Self::read_lossy::<u8>(code_units, replacement)
     }
 
-    /// Reads the first `N` units, with the replacement for each that is 0 or above 127; the others are left out.
+    /// Reads the first `N` numbers of 16 bits, with the replacement for each that is 0 or above 127. Later numbers are
+    /// left out. The replacement has to be from 1 to 127.
     #[inline]
     pub fn from_utf16_lossy(code_units: &[u16], replacement: u8) -> Self
         requires { IsTextByte replacement }
@@ -80,7 +95,8 @@ impl<const N: usize> TinyAsciiStr<N> {
         Self::read_lossy::<u16>(code_units, replacement)
     }
 
-    /// The text of an array that is known to be a text and then NULs. Nothing is tested when it runs.
+    /// The text of an array that has to be a text and then NULs. Nothing is tested when it runs: the condition is
+    /// proved at the call.
     #[inline]
     pub fn from_utf8_unchecked(code_units: [u8; N]) -> Self
         requires { IsPaddedText code_units N }

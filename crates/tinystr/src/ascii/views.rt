@@ -17,7 +17,7 @@ impl<const N: usize> TinyAsciiStr<N> {
         padded::len(&self.bytes)
     }
 
-    /// Whether the text is empty, as the one text of capacity 0 is.
+    /// Whether the text is empty. The one text of capacity 0 is.
     #[inline]
     pub fn is_empty(&self) -> bool
         ensures { IsTrue result ↔ (self.now ≡ []) }
@@ -25,7 +25,7 @@ impl<const N: usize> TinyAsciiStr<N> {
         self.len() == 0
     }
 
-    /// The bytes of the text, in the value itself.
+    /// The bytes of the text, in the value itself, without the NULs behind it.
     #[inline]
     #[tactic(auto, using(tinystr_words::proofs::Texts::padded_texts))]
     pub fn as_utf8(&self) -> &[u8]
@@ -37,7 +37,7 @@ impl<const N: usize> TinyAsciiStr<N> {
         &bytes[..self.len()]
     }
 
-    /// The text, in the value itself.
+    /// The text as a string, in the value itself.
     #[inline]
     pub fn as_str(&self) -> &str
         ensures text { result.now ≡ self.now }
@@ -47,7 +47,7 @@ impl<const N: usize> TinyAsciiStr<N> {
         std::str::from_utf8(self.as_utf8()).unwrap()
     }
 
-    /// The bytes of the text and then NULs, in the value itself.
+    /// All `N` bytes, in the value itself: the text and then NULs.
     #[inline]
     pub fn all_bytes(&self) -> &[u8; N]
         ensures bytes { result.now ≡ pad self.now N }

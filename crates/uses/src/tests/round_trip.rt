@@ -23,8 +23,8 @@ fn texts_come_back_from_their_bytes(rt: HostRuntime) -> Result<(), Fail> {
     Ok(())
 }
 
-/// Whether the value comes back as the text from its padded bytes, from bytes that may be no text, and from the whole of
-/// its byte form.
+/// Whether the value comes back as the text from its padded bytes, from bytes that may be no text, and from the whole
+/// of its byte form.
 fn comes_back<const N: usize>(value: TinyAsciiStr<N>, text: &str) -> bool {
     matches!(through_raw(&value), Ok(back) if back.as_str() == text)
         && matches!(through_unvalidated(&value), Ok(back) if back.as_str() == text)

@@ -5,7 +5,7 @@ use crate::script_code::is_script_code;
 #[test]
 fn script_codes_are_asked_as_words(rt: HostRuntime) {
     assert!(rt; is_script_code(b"Latn"));
-    assert!(rt; !is_script_code(b"latn"), "in lower case");
+    assert!(rt; !is_script_code(b"latn"), "in lowercase");
     assert!(rt; !is_script_code(b"Lat\0"), "too short");
     assert!(rt; !is_script_code(b"\0\0\0\0"), "empty");
 }

@@ -34,7 +34,7 @@ fn plain_answers(text: &[u8]) -> [bool; 9] {
     answers
 }
 
-// The text with its first byte and its later ones in upper or in lower case, and then NULs.
+// The text with its first byte and its later ones in uppercase or in lowercase, and then NULs.
 fn plain_change(text: &[u8], raises_first: bool, raises_later: bool) -> [u8; 32] {
     let mut changed = [0; 32];
     for i in 0..text.len().min(32) {

@@ -148,7 +148,7 @@ fn equal_texts_hash_alike(rt: HostRuntime) -> Result<(), Fail> {
     Ok(())
 }
 
-// A change keeps the length; done twice it is done once; lower case forgets an upper case before it. It leaves alone
+// A change keeps the length; done twice it is done once; lowercase forgets an uppercase before it. It leaves alone
 // exactly the texts of its case.
 fn keep_case_laws<const N: usize>(text: TinyAsciiStr<N>) -> bool {
     let lower = text.to_ascii_lowercase();

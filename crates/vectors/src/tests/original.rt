@@ -3,8 +3,8 @@
 use std::cmp::Ordering;
 use tinystr::{ParseError, TinyAsciiStr};
 
-// In each row a list, the text that the strict reader at 8 takes or after `!` the name of its fault, and the text of the
-// lossy reader with `?`.
+// In each row a list, the text that the strict reader at 8 takes or after `!` the name of its fault, and the text of
+// the lossy reader with `?`.
 const LISTS: &[u8] = b"\
 0|0|0
 cz|cz|cz
