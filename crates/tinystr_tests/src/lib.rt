@@ -1,5 +1,5 @@
-//! The tests of `tinystr`, each over its public calls. They stand apart from it, since a crate with tests is proved once
-//! more with them.
+//! The tests of `tinystr`, each over its public calls. They stand apart from it, since a crate with tests is proved
+//! once more with them.
 #![tactic(auto)]
 
 #[cfg(test)]
