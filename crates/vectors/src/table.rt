@@ -18,9 +18,9 @@ pub struct Vector {
     pub upper: &'static str,
 }
 
-/// A row for each vector, its fields in their order. Most texts are those that the Rust crate's own tests ask about. None
-/// of the answers was made by the calls that are tested on them. It is one literal, since a proof reads each literal that
-/// it meets.
+/// A row for each vector, its fields in their order. Most texts are those that the Rust crate's own tests ask about.
+/// None of the answers was made by the calls that are tested on them. It is one literal, since a proof reads each
+/// literal that it meets.
 pub const TEXTS: &str = "\
 |yyyyyyyyy|||
 Latn|yynnynnyn|latn|Latn|LATN
