@@ -35,7 +35,8 @@ no_tail u l ps e cut h refused =
     let not_read = tail_refused ps in
     (λ id. grind arith, grind arith)
 
--- where l is a language and the rest is read, the input is an identifier, and what was read, joined, is its canonical text
+-- where l is a language and the rest is read, the input is an identifier, and what was read, joined, is its canonical
+-- text
 pub all_read : (u l : List ℕ) (ps : List (List ℕ)) (r : Option (List ℕ)) → parts (fold_text u) ≡ fold_text l ∷ ps → is_language l ≡ true → last_region (behind_script ps) ≡ Ok r → IsLangId u × (join_parts (lowercase l) (leading_script ps) r ≡ canonical_text u)
 all_read u l ps r cut h region =
     let not_read = tail_refused ps in
