@@ -15,6 +15,7 @@ mod random;
 
 use original::COUNT;
 use random::Random;
+use std::hint::black_box;
 use std::time::Instant;
 
 const CAPACITIES: [usize; 7] = [4, 8, 12, 16, 24, 32, 64];
@@ -62,7 +63,7 @@ type Contender<'a> = &'a dyn Fn(usize, &mut Answers) -> bool;
 
 /// Least nanoseconds a value of each contender, in turns, without what a call costs with no round. The first has the call, and
 /// what the others answer is compared with its answers before.
-fn times(call: &str, contenders: &[Contender]) -> Vec<Option<f64>> {
+fn times(call: &str, values: usize, rounds: usize, contenders: &[Contender]) -> Vec<Option<f64>> {
     let mut answers = vec![Answers { texts: vec![0; COUNT * 128], codes: vec![0; COUNT], marks: vec![0; COUNT] }; contenders.len()];
     let has_call: Vec<bool> = contenders.iter().zip(&mut answers).map(|(contender, answers)| contender(1, answers)).collect();
     for k in 0..contenders.len() {
@@ -73,7 +74,7 @@ fn times(call: &str, contenders: &[Contender]) -> Vec<Option<f64>> {
     }
     let mut least = vec![[f64::MAX; 2]; contenders.len()];
     for _ in 0..TURNS {
-        for (i, rounds) in [0, ROUNDS].into_iter().enumerate() {
+        for (i, rounds) in [0, rounds].into_iter().enumerate() {
             for k in (0..contenders.len()).filter(|&k| has_call[k]) {
                 let start = Instant::now();
                 contenders[k](rounds, &mut answers[k]);
@@ -81,7 +82,7 @@ fn times(call: &str, contenders: &[Contender]) -> Vec<Option<f64>> {
             }
         }
     }
-    let each = |l: [f64; 2]| ((l[1] - l[0]) / (ROUNDS * COUNT) as f64).max(0.001);
+    let each = |l: [f64; 2]| ((l[1] - l[0]) / (rounds * values) as f64).max(0.001);
     has_call.into_iter().zip(least).map(|(has_call, least)| has_call.then(|| each(least))).collect()
 }
 
@@ -113,6 +114,38 @@ impl Table {
     }
 }
 
+const RECORD_CAPACITIES: [usize; 5] = [3, 4, 8, 16, 24];
+const RECORDS: usize = 1_000_000;
+
+/// Packed records of small letters: each text fills its record, or has any length.
+fn packed(random: &mut Random, capacity: usize, is_full: bool) -> Vec<u8> {
+    let mut bytes = Vec::with_capacity(RECORDS * capacity);
+    for i in 1..=RECORDS {
+        let len = if is_full { capacity } else { random.below(capacity + 1) };
+        bytes.extend((0..len).map(|_| b'a' + random.below(26) as u8));
+        bytes.resize(i * capacity, 0);
+    }
+    bytes
+}
+
+/// The time of `validate_bytes` for each record.
+fn records_table(random: &mut Random) -> Table {
+    let mut table = Table::default();
+    for (call, is_full) in [("full records", true), ("mixed records", false)] {
+        for n in RECORD_CAPACITIES {
+            let bytes = packed(random, n, is_full);
+            macro_rules! contender {
+                ($from:ident) => {
+                    &|rounds, answers| (0..rounds).all(|_| $from::records(n, black_box(&bytes), &mut answers.codes))
+                };
+            }
+            let times = times(call, RECORDS, 1, &[contender!(ours), contender!(original)]);
+            table.add(call, times[0], times[1]);
+        }
+    }
+    table
+}
+
 fn main() {
     let is_bare = std::env::args().any(|a| a == "--times");
     let only = std::env::args().skip(1).find(|a| !a.starts_with("--"));
@@ -134,7 +167,7 @@ fn main() {
             macro_rules! time {
                 ($call:literal, $name:ident $before:tt $after:tt -> $made:tt $(, and $older:ident)?) => {
                     if wanted($call) {
-                        let times = times($call, &[
+                        let times = times($call, COUNT, ROUNDS, &[
                             contender!(ours $name $before $after $made),
                             contender!(original $name $before $after $made),
                             $(#[cfg(has_older)] contender!($older $name $before $after $made))?
@@ -164,6 +197,9 @@ fn main() {
             time!("`concat` to N", concat(n, n)(&given.texts, &given.others) -> (texts));
         }
         table.print(if is_full { "Full texts" } else { "Mixed texts" }, &CAPACITIES.map(|n| n.to_string()), is_bare);
+    }
+    if wanted("`validate_bytes`") {
+        records_table(&mut random).print("`validate_bytes` of a million records", &RECORD_CAPACITIES.map(|n| n.to_string()), is_bare);
     }
     if cfg!(has_older) {
         let columns = ["full", "mixed"].map(|kind| OLDER_CAPACITIES.map(|n| format!("{n} {kind}"))).concat();

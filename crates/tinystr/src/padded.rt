@@ -1,6 +1,6 @@
 //! Padded bytes of any length: a text and then NULs. Nothing outside this file chooses the words that take them.
 
-ghost use Rattle.std.specs.Prelude.{◌≡◌, ◌≤◌, ◌++◌, ◌↔◌, length, map, take, IsTrue, IsOk, IfOk, IfErr};
+ghost use Rattle.std.specs.Prelude.{◌≡◌, ◌≤◌, ◌++◌, ◌↔◌, length, map, take, All, IsTrue, IsOk, IfOk, IfErr};
 ghost use Rattle.std.specs.Fmt.{decimal};
 ghost use Rattle.std.specs.Str.{bytes_eq};
 ghost use Rattle.tinystr_words.specs.Text.{IsPadded, IsPaddedText, IsStrictText, text_of, pad};
@@ -96,18 +96,38 @@ pub fn read_padded<const N: usize>(raw: [u8; N]) -> Result<TinyAsciiStr<N>, Pars
                 return Ok(TinyAsciiStr::from_utf8_unchecked(cut(&text.to_bytes())));
             }
         }
-        Width::Four | Width::Eight => {
-            if Aligned8::try_from_part(&raw[..]).is_some() {
-                return Ok(TinyAsciiStr::from_utf8_unchecked(raw));
-            }
-        }
-        Width::Many => {
-            if words::is_padded(&raw[..]) {
+        Width::Four | Width::Eight | Width::Many => {
+            if is_padded(&raw) {
                 return Ok(TinyAsciiStr::from_utf8_unchecked(raw));
             }
         }
     }
     Err(fault::<u8, N>(&raw[..]))
+}
+
+/// Whether the bytes are a text and then NULs.
+#[inline(always)]
+pub fn is_padded<const N: usize>(bytes: &[u8; N]) -> bool
+    ensures { IsTrue result ↔ IsPaddedText bytes.now N }
+{
+    match width_of(N) {
+        Width::Four => Aligned4::try_from_part(&bytes[..]).is_some(),
+        Width::Eight => Aligned8::try_from_part(&bytes[..]).is_some(),
+        Width::Sixteen => Aligned16::try_from_part(&bytes[..]).is_some(),
+        Width::Many => words::is_padded(&bytes[..]),
+    }
+}
+
+/// Whether all records are padded. None is left early, so that the compiler asks several at once.
+#[inline(always)]
+pub fn are_padded<const N: usize>(records: &[[u8; N]]) -> bool
+    ensures { IsTrue result ↔ All (λ bytes. IsPaddedText bytes N) records.now }
+{
+    let mut are_padded = true;
+    for bytes in records {
+        are_padded &= is_padded(bytes);
+    }
+    are_padded
 }
 
 /// The decimal text of a number as padded bytes, or its last `N` digits where it has more.

@@ -7,7 +7,11 @@ ghost use Rattle.tinystr.specs.Records.{RefusesRecords};
 
 use crate::ascii::TinyAsciiStr;
 use crate::error::ParseError;
+use crate::padded;
 use crate::unvalidated::UnvalidatedTinyAsciiStr;
+
+// How many records are asked together: enough that the compiler takes several at once, and few to search for a bad one.
+const BLOCK: usize = 64;
 
 /// Why bytes are no packed records.
 #[derive(Clone, Copy, Debug, PartialEq, Eq)]
@@ -29,14 +33,24 @@ impl<const N: usize> TinyAsciiStr<N> {
         ensures fault { IfErr result (λ e. RefusesRecords e bytes.now N) }
     {
         UnvalidatedTinyAsciiStr::<N>::validate_bytes(bytes)?;
-        let mut rest = bytes;
+        // where there is no record, an array of `N` bytes may have no size
+        if bytes.is_empty() {
+            return Ok(());
+        }
+        let mut rest = bytes.as_chunks::<N>().0;
         let mut index = 0;
-        while rest.len() >= N {
-            let (record, more) = rest.split_first_chunk::<N>().unwrap();
-            if let Err(fault) = Self::try_from_raw(*record) {
+        while !rest.is_empty() {
+            let (block, after) = rest.split_at(rest.len().min(BLOCK));
+            if !padded::are_padded(block) {
+                break;
+            }
+            rest = after;
+            index += block.len();
+        }
+        for raw in rest {
+            if let Err(fault) = Self::try_from_raw(*raw) {
                 return Err(UleError::Parse { index, fault });
             }
-            rest = more;
             index += 1;
         }
         Ok(())

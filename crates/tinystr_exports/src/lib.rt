@@ -10,11 +10,13 @@ mod capacities;
 mod cuts;
 mod printing;
 mod readers;
+mod records;
 
 use calls::{ask_batch, change_batch, compare_batch};
 use cuts::{concat_batch, resize_batch};
 use printing::print_batch;
 use readers::{decimal_batch, read8_batch, read16_batch};
+use records::records_found;
 
 /// A question or the length of each text, as a number.
 #[unsafe(no_mangle)]
@@ -156,4 +158,14 @@ pub extern "C" fn tinystr_exports_print(
     ends: &mut [u64],
 ) -> bool {
     crate::at_capacity!(capacity, print_batch, form, rounds, values, printed, ends)
+}
+
+/// What is found of packed records: whether they are packed, or else the first bad one and its fault, as a number.
+#[unsafe(no_mangle)]
+pub extern "C" fn tinystr_exports_records(
+    capacity: usize,
+    bytes: &[u8],
+    found: &mut [u32],
+) -> bool {
+    crate::at_few_capacities!(capacity, records_found, bytes, found)
 }

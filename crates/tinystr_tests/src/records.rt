@@ -62,6 +62,107 @@ fn records_past_the_two_hundred_and_fifty_fifth_are_counted(rt: HostRuntime) {
     assert!(rt; TinyAsciiStr::<1>::validate_bytes(&bytes) == bad(299, ParseError::NonAscii));
 }
 
+// What is found of 130 records of three letters, two blocks of 64 and two more, with one other byte.
+fn with_byte(place: usize, byte: u8) -> Result<(), UleError>
+    requires { place < 390 }
+{
+    let mut bytes = [b'a'; 390];
+    bytes[place] = byte;
+    TinyAsciiStr::<3>::validate_bytes(&bytes)
+}
+
+#[test]
+fn a_bad_record_is_found_at_each_place_of_a_block(rt: HostRuntime) {
+    // the first byte of records 0, 31, 63, 64, 96, 127, 128 and 129
+    let answers = [
+        with_byte(0, 0x80),
+        with_byte(93, 0),
+        with_byte(189, 0x80),
+        with_byte(192, 0),
+        with_byte(288, 0x80),
+        with_byte(381, 0),
+        with_byte(384, 0x80),
+        with_byte(387, 0),
+    ];
+    let expected = [
+        bad(0, ParseError::NonAscii),
+        bad(31, ParseError::ContainsNull),
+        bad(63, ParseError::NonAscii),
+        bad(64, ParseError::ContainsNull),
+        bad(96, ParseError::NonAscii),
+        bad(127, ParseError::ContainsNull),
+        bad(128, ParseError::NonAscii),
+        bad(129, ParseError::ContainsNull),
+    ];
+    assert_eq!(rt; answers, expected);
+}
+
+#[test]
+fn a_last_byte_of_nul_is_padding_in_each_block(rt: HostRuntime) {
+    // the last byte of records 0, 63, 64, 127, 128 and 129
+    let answers = [
+        with_byte(2, 0),
+        with_byte(191, 0),
+        with_byte(194, 0),
+        with_byte(383, 0),
+        with_byte(386, 0),
+        with_byte(389, 0),
+    ];
+    assert_eq!(rt; answers, [Ok(()); 6]);
+}
+
+// What is found of 1680 letters with one other byte, as records of 4, 8, 16 and 24: 420, 210, 105 and 70 records.
+fn at_each_width(place: usize, byte: u8) -> [Result<(), UleError>; 4]
+    requires { place < 1680 }
+{
+    let mut bytes = [b'a'; 1680];
+    bytes[place] = byte;
+    [
+        TinyAsciiStr::<4>::validate_bytes(&bytes),
+        TinyAsciiStr::<8>::validate_bytes(&bytes),
+        TinyAsciiStr::<16>::validate_bytes(&bytes),
+        TinyAsciiStr::<24>::validate_bytes(&bytes),
+    ]
+}
+
+#[test]
+fn a_bad_record_is_found_at_each_width(rt: HostRuntime) {
+    // 1536 is 64 times 24
+    assert_eq!(rt; at_each_width(1535, 0), [Ok(()); 4]);
+    let at_the_edge = [
+        bad(383, ParseError::NonAscii),
+        bad(191, ParseError::NonAscii),
+        bad(95, ParseError::NonAscii),
+        bad(63, ParseError::NonAscii),
+    ];
+    assert_eq!(rt; at_each_width(1535, 0x80), at_the_edge);
+    let past_the_edge = [
+        bad(384, ParseError::ContainsNull),
+        bad(192, ParseError::ContainsNull),
+        bad(96, ParseError::ContainsNull),
+        bad(64, ParseError::ContainsNull),
+    ];
+    assert_eq!(rt; at_each_width(1536, 0), past_the_edge);
+}
+
+#[test]
+fn the_first_of_two_bad_records_of_a_block_is_named(rt: HostRuntime) {
+    let mut bytes = [b'a'; 512];
+    bytes[300] = 0;
+    bytes[308] = 0x80;
+    let answers = [
+        TinyAsciiStr::<2>::validate_bytes(&bytes),
+        TinyAsciiStr::<4>::validate_bytes(&bytes),
+        TinyAsciiStr::<8>::validate_bytes(&bytes),
+    ];
+    let expected = [
+        bad(150, ParseError::ContainsNull),
+        bad(75, ParseError::ContainsNull),
+        bad(37, ParseError::ContainsNull),
+    ];
+    assert_eq!(rt; answers, expected);
+}
+
 // Whether the pattern at the capacity of the value given is bytes 255, and is refused.
 fn is_no_value<const N: usize>(_like: TinyAsciiStr<N>) -> bool {
     let niche = TinyAsciiStr::<N>::niche_bit_pattern();
