@@ -217,6 +217,10 @@ pub fn join<const N: usize, const M: usize, const Q: usize>(
     ensures padded { IsPaddedText result Q }
     ensures text { text_of result ≡ take Q (text_of front.now ++ text_of back.now) }
 {
+    if Q > 0 && Q <= N && front[Q - 1] != 0 {
+        // no word is made where the first text fills the result
+        return cut(front);
+    }
     let first = &front[..N.min(Q)];
     let second = &back[..M.min(Q)];
     match width_of(Q) {

@@ -1,6 +1,10 @@
 use Rattle.std.proofs.Common.{◌≤◌, ◌++◌, ◌∙◌, List, ℕ, take, ap, ap₂, rules, arith}
+use Rattle.std.proofs.lemmas.Grind.{common_steps}
 use Rattle.tinystr.proofs.Widths.{front_padded, fronts_joined}
 use Rattle.tinystr.proofs.padded.join.Goals as goal
+
+pub returns-then-front-ne0-clause-text : goal.returns-then-front-ne0-clause-text
+returns-then-front-ne0-clause-text g c = grind (arith, common_steps)
 
 pub from_part-requires : goal.from_part-requires
 from_part-requires g c =
@@ -15,7 +19,7 @@ from_part-requires-in-Four g c =
 pub returns-in-Four-clause-text : goal.returns-in-Four-clause-text
 returns-in-Four-clause-text g c =
     let small : g.row.Q ≤ 8 = search rules in
-    c.cut.ensures.text ∙ ap (λ (l : List ℕ). take g.row.Q l) (c.to_bytes.ensures.text ∙ c.join-text.ensures
+    c.cut-in-Four.ensures.text ∙ ap (λ (l : List ℕ). take g.row.Q l) (c.to_bytes.ensures.text ∙ c.join-text.ensures
     ∙ ap₂ (λ (a b : List ℕ). take 8 (a ++ b)) c.from_part.ensures c.from_part-in-Four.ensures)
     ∙ fronts_joined c.args.front.now c.args.back.now g.row.N g.row.M c.min.result c.min-2.result g.row.Q 8 c.requires.front c.requires.back c.min.ensures c.min-2.ensures small
 
