@@ -1,5 +1,5 @@
 -- The text that a word holds: how it comes in and out, what a kernel answers of it, and what a case change makes of it.
-use Rattle.std.proofs.Common.{Bool, true, false, ℕ, ◌-◌, ◌*◌, ◌/◌, ◌<◌, ◌≤◌, ◌≡◌, List, [], ◌∷◌, length, drop, nat_eq, sym, ap, ◌∙◌, subst, arith}
+use Rattle.std.proofs.Common.{Bool, true, false, ℕ, ◌+◌, ◌-◌, ◌*◌, ◌/◌, ◌<◌, ◌≤◌, ◌≡◌, List, [], ◌∷◌, length, drop, nat_eq, sym, ap, ◌∙◌, subst, arith}
 use Rattle.std.proofs.lemmas.Bool.{ltb-true}
 use Rattle.std.proofs.lemmas.List.{length-drop}
 use Rattle.std.proofs.lemmas.List.Elements.{All-head, All-drop}
@@ -12,7 +12,7 @@ use Rattle.tinystr_words.specs.declared.question.Case.{Case}
 use Rattle.tinystr_words.proofs.Texts.{IsPaddedText-made, text_of-made, length-pad, text_of-pad, length-text_of-le}
 use Rattle.tinystr_words.proofs.Lanes.{Ascii, IsBytes, lanes, length-lanes, IsBytes-lanes, everywhere_is}
 use Rattle.tinystr_words.proofs.Formulas.{Formula, IsSafe, on, at, is_safe, ascii_pad, safe_byte, changes_safe, on_pad, question, lanes-change}
-use Rattle.tinystr_words.proofs.WordAsNumber.{lanes_word, lanes_word_pad, word_nuls, word_ascii, leading_zeros_of}
+use Rattle.tinystr_words.proofs.WordAsNumber.{lanes_word, lanes_word_pad, word_nuls, word_ascii, leading_zeros_of, zeros_above_more}
 use Rattle.tinystr_words.proofs.Kernels.{kernel, pass_marks, kernel_asks, change, change_changes, with_case_bits, with_case_bits_safe, with_case_bits_ascii}
 
 -- ---- a word from a padded text
@@ -48,6 +48,12 @@ length-text_in {n} {w} h =
     let z : count_leading_zeros (8 * n) w / 8 ≡ n - length t = ap (λ v. count_leading_zeros (8 * n) v / 8) e ∙ leading_zeros_of n t h.text h.fits in
     let fits = h.fits in
     omega arith
+
+-- and by the place of the highest bit, above one more bit
+pub length-text_in-by_top : {w : ℕ} → HoldsText 8 w → (63 - count_leading_zeros 64 (2 * w + 1) + 7) / 8 ≡ length (text_in 8 w)
+length-text_in-by_top {w} h =
+    let ascii = h.ascii in
+    omega (arith, length-text_in h, zeros_above_more 63 w (omega arith))
 
 -- the lanes are the padded text
 pub lanes-text_in : {n w : ℕ} → HoldsText n w → lanes_of n w ≡ pad (text_in n w) n

@@ -2,11 +2,11 @@
 use Rattle.std.proofs.Common.{ℕ, zero, suc, ◌+◌, ◌-◌, ◌*◌, ◌/◌, ◌%◌, ◌^◌, ◌<◌, ◌≤◌, ◌≡◌, List, [], ◌∷◌, ◌++◌, length, replicate, refl, sym, ap, ap₂, ◌∙◌, subst, arith, lit<, ⊎_elim}
 use Rattle.std.proofs.Math.Nat.{mul_comm, pow-suc, div-div-eq-div-mul, pow-le-pow_right}
 use Rattle.std.proofs.Math.Arith.{mod-mul}
-use Rattle.std.proofs.lemmas.Nat.{leading_top, pow-add, pow_pos}
+use Rattle.std.proofs.lemmas.Nat.{leading_length, leading_top, pow-add, pow_pos}
 use Rattle.std.proofs.lemmas.Bool.{cases_lt}
 use Rattle.std.proofs.lemmas.List.Elements.{All-head, All-tail}
 use Rattle.std.specs.Int.{bytes_low_first, byte_at}
-use Rattle.std.specs.Int.Count.{count_leading_zeros, leading_of_zero}
+use Rattle.std.specs.Int.Count.{count_leading_zeros, leading_of_zero, leading_unique}
 use Rattle.tinystr_words.specs.Text.{IsTextByte, IsText, pad}
 use Rattle.tinystr_words.specs.Words.{word, first_then, lanes_of}
 use Rattle.tinystr_words.proofs.Texts.{NULS, length-pad}
@@ -164,3 +164,13 @@ leading_zeros_of n (b ∷ t) x le =
     leading_of_bits n (length t) found.0 _ le found.1
     (exponent_below 2 (8 * length t) (suc found.0) (lit< tt) (omega arith))
     (exponent_below 2 found.0 (8 * length t + 7) (lit< tt) (omega arith))
+
+-- one more bit below a number takes the place of a zero above it
+pub zeros_above_more : (k w : ℕ) → w < 2 ^ k → suc (count_leading_zeros (suc k) (2 * w + 1)) ≡ count_leading_zeros (suc k) w
+zeros_above_more k w h =
+    let found = leading_length (suc k) w (omega (arith, pow-suc 2 k)) in
+    let zeros = count_leading_zeros (suc k) w in
+    let inside : found.0 < suc k = exponent_below 2 found.0 (suc k) (lit< tt) (omega (arith, pow-suc 2 k)) in
+    let fewer : zeros - 1 ≡ count_leading_zeros (suc k) (2 * w + 1) =
+    leading_unique (suc k) (2 * w + 1) (zeros - 1) (suc found.0) (omega arith) (omega (arith, pow-suc 2 found.0)) (omega (arith, pow-suc 2 found.0)) in
+    omega arith

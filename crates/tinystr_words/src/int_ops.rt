@@ -56,12 +56,12 @@ impl<T: Word<LEN>, const LEN: usize> Aligned<T, LEN> {
         Self::from_part(src)
     }
 
-    /// The text's length, from how many zeros lead its word: only NULs stand above its last byte.
+    /// The text's length.
     #[inline(always)]
     pub fn len(&self) -> usize
         ensures { result ≡ length self.now }
     {
-        LEN - self.word.leading_zeros() / 8
+        self.word.text_len()
     }
 
     /// Whether each byte is a letter; so it is of the empty text, here and in the other questions.

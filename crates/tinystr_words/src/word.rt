@@ -2,8 +2,7 @@
 
 ghost use Rattle.std.specs.Prelude.{◌≡◌, ◌+◌, ◌-◌, ◌*◌, ◌/◌, ◌%◌, ◌^◌, ◌<◌, ◌≤◌, ◌==◌, ℕ, length, map, bit_and, bit_or};
 ghost use Rattle.std.proofs.Common.{lit<, lit≤};
-ghost use Rattle.std.specs.Int.Count.{count_leading_zeros};
-ghost use Rattle.tinystr_words.specs.Words.{word, first_then, lanes_of};
+ghost use Rattle.tinystr_words.specs.Words.{word, first_then, lanes_of, text_in, HoldsText};
 
 use crate::unit::Unit;
 
@@ -33,9 +32,10 @@ pub trait Word<const LEN: usize>: Copy + Drop {
         requires { length src.now ≤ LEN }
         ensures { number result ≡ word (map (λ u. U.number u % 256) src.now) };
 
-    /// How many bits, of all `8 * LEN`, are above the highest that is set.
-    fn leading_zeros(self) -> usize
-        ensures { result ≡ count_leading_zeros (8 * LEN) (number self) };
+    /// The length of the text in the lanes, from the highest bit that is set: only NULs stand above its last byte.
+    fn text_len(self) -> usize
+        requires { HoldsText LEN (number self) }
+        ensures { result ≡ length (text_in LEN (number self)) };
 
     /// The sum, which is that of each lane with its like where none of these is past 255.
     fn plus(self, other: Self) -> Self
@@ -125,8 +125,8 @@ impl Word<4> for u32 {
     }
 
     #[inline]
-    fn leading_zeros(self) -> usize {
-        u32::leading_zeros(self) as usize
+    fn text_len(self) -> usize {
+        4 - u32::leading_zeros(self) as usize / 8
     }
 
     #[inline]
@@ -196,9 +196,11 @@ impl Word<8> for u64 {
         u64::from(low) + (u64::from(high >> (8 * (8 - len))) << 32)
     }
 
+    // One more bit, below all, keeps the processor's count from a test for 0.
     #[inline]
-    fn leading_zeros(self) -> usize {
-        u64::leading_zeros(self) as usize
+    fn text_len(self) -> usize {
+        let bits = 63 - u64::leading_zeros(2 * self + 1) as usize;
+        (bits + 7) / 8
     }
 
     #[inline]
@@ -290,8 +292,8 @@ impl Word<16> for u128 {
     }
 
     #[inline]
-    fn leading_zeros(self) -> usize {
-        u128::leading_zeros(self) as usize
+    fn text_len(self) -> usize {
+        16 - u128::leading_zeros(self) as usize / 8
     }
 
     #[inline]

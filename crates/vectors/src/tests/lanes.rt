@@ -144,6 +144,6 @@ fn lanes_of_a_brace(rt: HostRuntime) {
 fn leading_zeros_of_a_length(rt: HostRuntime) {
     let word = u32::load(b"en");
     assert_eq!(rt; word, 0x00006e65);
-    assert_eq!(rt; Word::leading_zeros(word), 17);
+    assert_eq!(rt; word.leading_zeros(), 17);
     assert_eq!(rt; Aligned4::from_ascii_bytes(b"en").len(), 2);
 }

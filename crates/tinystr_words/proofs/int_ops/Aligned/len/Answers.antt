@@ -1,5 +1,5 @@
-use Rattle.tinystr_words.proofs.TextInWord.{length-text_in}
+use Rattle.std.proofs.Common.{rules}
 use Rattle.tinystr_words.proofs.int_ops.Aligned.len.Goals as goal
 
 pub returns : goal.returns
-returns g c = let e = length-text_in c.self.invariant in cc
+returns g c = search rules
