@@ -1,15 +1,20 @@
 -- Cutting.
-use Rattle.std.proofs.Common.{◌≡◌, ℕ, ◌+◌, ◌<◌, ◌≤◌, Bool, true, false, cond, ◌==◌, List, [], ◌∷◌, ◌++◌, map, length, take, drop, Some, None, Ok, Err, refl, sym, ap, ◌∙◌, arith}
-use Rattle.std.specs.List.{All, list_all, slice_split, onto_first, position, position_or_len, join_with_byte}
+use Rattle.std.proofs.Common.{◌≡◌, ℕ, ◌+◌, ◌<◌, ◌≤◌, Bool, true, false, cond, ◌==◌, ◌||◌, List, [], ◌∷◌, ◌++◌, map, length, take, drop, Option, Some, None, Ok, Err, Bor, refl, sym, ap, ◌∙◌, arith}
+use Rattle.std.specs.Option.{option_copied}
+use Rattle.std.specs.Slice.{IsGetRangeResult}
+use Rattle.std.specs.List.{All, list_all, slice_split, onto_first, position, slice_index, position_or_len, join_with_byte}
 use Rattle.std.proofs.lemmas.Bool.Decides.{nat_tests}
+use Rattle.std.proofs.Math.Seq.{drop-cons}
+use Rattle.std.proofs.lemmas.List.{take_all, take_rest, take-append-drop, length-take}
+use Rattle.std.proofs.lemmas.List.Quantifiers.{position-Some}
 use Rattle.std.proofs.lemmas.List.Splits.{slice_split_first, slice_split_none, slice_split_at, length-slice_split, join_with_byte-slice_split}
 use Rattle.std.proofs.lemmas.List.Sums.{fails_before_first}
 use Rattle.tinystr_words.specs.Classes.{is_alphanumeric}
 use Rattle.tinystr_words.specs.Case.{titlecase, uppercase}
 use Rattle.subtags.specs.declared.error.LangIdError.TheVariants.{InvalidSubtag}
 use Rattle.subtags.specs.Grammar.{dash, is_separator, fold_byte, fold_text, parts, is_script, is_region}
-use Rattle.subtags.specs.FromFront.{leading_script, behind_script, last_region}
-use Rattle.subtags.proofs.FoldLemmas.{all_from_test, folded_twice, is_script_alike, is_region_alike, region_plain, titlecase-fold_text, uppercase-fold_text}
+use Rattle.subtags.specs.FromFront.{parts_behind, ends_at_four, leading_script, behind_script, last_region}
+use Rattle.subtags.proofs.FoldLemmas.{all_from_test, folded_twice, is_script_alike, is_region_alike, script_plain, region_plain, titlecase-fold_text, uppercase-fold_text}
 
 -- to put a byte onto the first part and change all is to change all and then put the changed byte there
 onto_first-map : (f : ℕ → ℕ) (b : ℕ) (ps : List (List ℕ)) → onto_first (f b) (map (map f) ps) ≡ map (map f) (onto_first b ps)
@@ -46,6 +51,10 @@ parts_whole u h =
 whole : (p : List ℕ) → list_all is_alphanumeric p ≡ true → All (λ b. (b == dash) ≡ false) p
 whole p plain = all_from_test is_alphanumeric (λ b. (b == dash) ≡ false) (λ b a. grind (arith, nat_tests)) p plain
 
+-- no letter or digit is a separator
+no_separator : (p : List ℕ) → list_all is_alphanumeric p ≡ true → All (λ b. is_separator b ≡ false) p
+no_separator p plain = all_from_test is_alphanumeric (λ b. is_separator b ≡ false) (λ b a. grind (arith, nat_tests)) p plain
+
 -- letters and digits are one part
 pub parts_plain : (p : List ℕ) → list_all is_alphanumeric p ≡ true → parts p ≡ p ∷ []
 parts_plain p h = slice_split_none (λ b. b == dash) p (whole p h)
@@ -65,6 +74,70 @@ pub no_script_first : (p : List ℕ) (ps qs : List (List ℕ)) → qs ≡ fold_t
 no_script_first p ps qs e h =
     let also : is_script (fold_text p) ≡ false = is_script_alike (fold_text p) p (folded_twice p) ∙ h in
     (rw e (rw also), rw e (rw also))
+
+-- what stands behind 4 bytes and a byte more, if that is there
+abbrev pub behind_four : List ℕ → Option (List ℕ)
+behind_four u = cond (4 == length u) None (Some (drop 5 u))
+
+-- that is what a look behind the fifth byte gives
+pub got_behind_four : (u : List ℕ) (r : Option (Bor (List ℕ))) → IsGetRangeResult u 5 (length u) r → 4 ≤ length u → option_copied r ≡ behind_four u
+got_behind_four u None got le = let four : length u ≡ 4 = grind (arith, nat_tests) in rw four refl
+got_behind_four u (Some x) got le =
+    let past : (4 == length u) ≡ false = grind (arith, nat_tests) in
+    rw past (ap (λ t. Some t) (got.0.2 ∙ take_rest u 5))
+
+-- a script in front that can be a part is the first part
+pub script_in_front : (u : List ℕ) → ends_at_four u ≡ true → is_script (take 4 u) ≡ true → 4 ≤ length u → parts (fold_text u) ≡ fold_text (take 4 u) ∷ parts_behind (behind_four u)
+script_in_front u ends h le =
+    let plain = script_plain (take 4 u) h in
+    elim (4 == length u) as (λ b. (4 == length u) ≡ b → parts (fold_text u) ≡ fold_text (take 4 u) ∷ parts_behind (cond b None (Some (drop 5 u)))) [
+      | true ↦ λ e.
+          let all : take 4 u ≡ u = take_all 4 u (grind (arith, nat_tests)) in
+          rw all (parts-fold_text u ∙ ap (map fold_text) (slice_split_none is_separator u (no_separator u (rw all at plain))))
+      | false ↦ λ e.
+          let hit : is_separator (slice_index u 4) ≡ true = grind (arith, nat_tests) in
+          let is : u ≡ take 4 u ++ slice_index u 4 ∷ drop 5 u =
+          sym (take-append-drop 4 u) ∙ ap (λ v. take 4 u ++ v) (drop-cons u 4 0 (grind (arith, nat_tests))) in
+          parts-fold_text u ∙ ap (λ v. map fold_text (slice_split is_separator v)) is
+          ∙ ap (map fold_text) (slice_split_at is_separator (take 4 u) (slice_index u 4) (drop 5 u) (no_separator (take 4 u) plain) hit)
+          ∙ ap (λ ps. fold_text (take 4 u) ∷ ps) (sym (parts-fold_text (drop 5 u)))
+    ] refl
+
+or_true : (a b : Bool) → b ≡ true → (a || b) ≡ true
+or_true a b h = grind arith
+
+-- a script has four bytes
+script_length : (p : List ℕ) → is_script p ≡ true → length p ≡ 4
+script_length p h = grind (arith, nat_tests)
+
+-- where no script stands in front that can be a part, all bytes together are none
+no_script_whole : (u : List ℕ) → (ends_at_four u ≡ true → is_script (take 4 u) ≡ false) → is_script u ≡ false
+no_script_whole u h =
+    elim (is_script u) as (λ b. is_script u ≡ b → b ≡ false) [
+      | true ↦ λ e.
+          let four = script_length u e in
+          sym (ap is_script (take_all 4 u (omega arith)) ∙ e) ∙ h (rw four refl)
+      | false ↦ λ e. refl
+    ] refl
+
+-- nor are those before the first separator
+no_script_before : (u : List ℕ) (i : ℕ) → (ends_at_four u ≡ true → is_script (take 4 u) ≡ false) → i < length u → is_separator (slice_index u i) ≡ true → is_script (take i u) ≡ false
+no_script_before u i h lt hit =
+    elim (is_script (take i u)) as (λ b. is_script (take i u) ≡ b → b ≡ false) [
+      | true ↦ λ e.
+          let len = script_length (take i u) e in
+          let four : i ≡ 4 = omega (arith, length-take i u) in
+          sym (rw four at e) ∙ h (or_true (length u == 4) _ (rw four at hit))
+      | false ↦ λ e. refl
+    ] refl
+
+-- and the first part is no script
+pub no_script_in_front : (u : List ℕ) → (ends_at_four u ≡ true → is_script (take 4 u) ≡ false) → (leading_script (parts (fold_text u)) ≡ None) × (behind_script (parts (fold_text u)) ≡ parts (fold_text u))
+no_script_in_front u h =
+    elim (position is_separator u) as (λ o. position is_separator u ≡ o → (leading_script (parts (fold_text u)) ≡ None) × (behind_script (parts (fold_text u)) ≡ parts (fold_text u))) [
+      | None ↦ λ e. no_script_first u [] _ (parts_whole u e) (no_script_whole u h)
+      | Some i ↦ λ e. no_script_first (take i u) _ _ (parts_at u i e).1 (no_script_before u i h (parts_at u i e).0 (position-Some is_separator u i 0 e).1)
+    ] refl
 
 -- parts whose joined text is no region are refused as a last region
 not_alone : (r : List ℕ) (ps : List (List ℕ)) → join_with_byte dash ps ≡ fold_text r → 0 < length ps → is_region r ≡ false → last_region ps ≡ Err InvalidSubtag

@@ -132,6 +132,10 @@ plain_text p plain = all_from_test is_alphanumeric IsTextByte (λ b a. grind (ar
 pub language_text : (p : List ℕ) → is_language p ≡ true → IsStrictText p 8
 language_text p h = record { text = plain_text p (language_plain p h); fits = grind (arith, nat_tests) }
 
+-- a script is a text of at most 4 bytes
+pub script_text : (p : List ℕ) → is_script p ≡ true → IsStrictText p 4
+script_text p h = record { text = plain_text p (script_plain p h); fits = grind (arith, nat_tests) }
+
 -- a region is a text of at most 3 bytes
 pub region_text : (p : List ℕ) → is_region p ≡ true → IsStrictText p 3
 region_text p h = record { text = plain_text p (region_plain p h); fits = grind (arith, nat_tests) }

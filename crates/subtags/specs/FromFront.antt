@@ -1,14 +1,19 @@
 -- How an input is read from the front. Only private functions speak of it.
-use Rattle.std.specs.Prelude.{ℕ, if◌then◌else◌, List, [], ◌∷◌, Option, None, Some, Result, Ok, Err}
+use Rattle.std.specs.Prelude.{ℕ, ◌==◌, Bool, ◌||◌, if◌then◌else◌, List, [], ◌∷◌, length, Option, None, Some, Result, Ok, Err}
+use Rattle.std.specs.List.{slice_index}
 use Rattle.tinystr_words.specs.Case.{titlecase, uppercase}
 use Rattle.subtags.specs.declared.error.LangIdError.{LangIdError}
 use Rattle.subtags.specs.declared.error.LangIdError.TheVariants.{InvalidSubtag}
-use Rattle.subtags.specs.Grammar.{fold_text, parts, is_script, is_region}
+use Rattle.subtags.specs.Grammar.{is_separator, fold_text, parts, is_script, is_region}
 
 -- the parts of what stands behind a separator
 abbrev pub parts_behind : Option (List ℕ) → List (List ℕ)
 parts_behind None = []
 parts_behind (Some u) = parts (fold_text u)
+
+-- whether 4 bytes in front can be a part: nothing stands behind them, or a separator. Past the end a byte counts as 0
+abbrev pub ends_at_four : List ℕ → Bool
+ends_at_four u = length u == 4 || is_separator (slice_index u 4)
 
 -- the first part, where it is a script
 abbrev pub leading_script : List (List ℕ) → Option (List ℕ)

@@ -3,18 +3,20 @@
 ghost use Rattle.std.specs.Prelude.{◌≡◌, ◌∷◌, position};
 ghost use Rattle.std.specs.Option.{option_copied};
 ghost use Rattle.subtags.specs.Grammar.{is_separator, fold_text, parts};
-ghost use Rattle.subtags.specs.FromFront.{parts_behind, leading_script, behind_script, last_region};
+ghost use Rattle.subtags.specs.FromFront.{parts_behind, ends_at_four, leading_script, behind_script, last_region};
 
 use crate::error::LangIdError;
 use crate::region::Region;
 use crate::script::Script;
 
+#[inline]
 fn is_separator(byte: u8) -> bool
     ensures { result ≡ is_separator byte }
 {
     byte == b'-' || byte == b'_'
 }
 
+#[inline]
 fn separator_at(units: &[u8]) -> Option<usize>
     ensures { result ≡ position is_separator units.now }
 {
@@ -22,6 +24,7 @@ fn separator_at(units: &[u8]) -> Option<usize>
 }
 
 /// The part before the first separator, and what stands behind that separator.
+#[inline]
 pub fn cut(units: &[u8]) -> (&[u8], Option<&[u8]>)
     ensures { parts (fold_text units.now)
         ≡ fold_text result.0.now ∷ parts_behind (option_copied result.1) }
@@ -32,7 +35,16 @@ pub fn cut(units: &[u8]) -> (&[u8], Option<&[u8]>)
     }
 }
 
+// Whether a part may end behind the fourth byte, as a script does.
+#[inline]
+fn ends_at_four(units: &[u8]) -> bool
+    ensures { result ≡ ends_at_four units.now }
+{
+    units.len() == 4 || units.len() > 4 && is_separator(units[4])
+}
+
 /// Takes the first part off, where it is a script.
+#[inline]
 pub fn take_script(rest: Option<&[u8]>) -> (Option<Script>, Option<&[u8]>)
     ensures script { result.0 ≡ leading_script (parts_behind (option_copied rest.entry)) }
     ensures rest { parts_behind (option_copied result.1)
@@ -41,14 +53,17 @@ pub fn take_script(rest: Option<&[u8]>) -> (Option<Script>, Option<&[u8]>)
     let Some(units) = rest else {
         return (None, None);
     };
-    let (first, behind) = cut(units);
-    match Script::try_from_utf8(first) {
-        Some(script) => (Some(script), behind),
+    if !ends_at_four(units) {
+        return (None, rest);
+    }
+    match Script::try_from_utf8(&units[..4]) {
+        Some(script) => (Some(script), units.get(5..)),
         None => (None, rest),
     }
 }
 
 /// Reads what is left: a region, or nothing.
+#[inline]
 pub fn last_region(rest: Option<&[u8]>) -> Result<Option<Region>, LangIdError>
     ensures { result ≡ last_region (parts_behind (option_copied rest.entry)) }
 {

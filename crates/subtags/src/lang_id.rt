@@ -1,15 +1,16 @@
 //! Language identifiers.
 
-ghost use Rattle.std.specs.Prelude.{◌≡◌, ◌+◌, ◌≤◌, ◌∷◌, ◌++◌, length, Some, IsOk, IfOk, IfErr, IfSome, ◌↔◌};
+ghost use Rattle.std.specs.Prelude.{◌≡◌, ◌+◌, ◌≤◌, Some, IsOk, IfOk, IfErr, IfSome, ◌↔◌};
 ghost use Rattle.std.specs.Fmt.{debug_str, styled_text};
 ghost use Rattle.tinystr_words.specs.Case.{lowercase, titlecase, uppercase};
-ghost use Rattle.subtags.specs.Grammar.{dash, fold_text, is_language, is_script, is_region, IsLangId, IsCanonical, canonical_text};
-ghost use Rattle.subtags.specs.Parts.{IsCanonicalPart, language_of, script_of, region_of, join_parts};
+ghost use Rattle.subtags.specs.Grammar.{fold_text, is_language, is_script, is_region, IsLangId, IsCanonical, canonical_text};
+ghost use Rattle.subtags.specs.Parts.{IsCanonicalPart, language_of, script_of, region_of, after_dash, join_parts};
 ghost use Rattle.subtags.specs.Answers.{refusal_of, IsLangIdRead};
 
 use crate::cut::{cut, last_region, take_script};
 use crate::error::LangIdError;
 use crate::language::Language;
+use crate::part::{Kind, Part};
 use crate::region::Region;
 use crate::script::Script;
 use std::convert::{AsSlice, AsStr};
@@ -168,7 +169,9 @@ impl fmt::Debug for LangId {
     }
 }
 
-// The parts, joined by dashes; and that they are canonical, each by its invariant.
+// The parts, joined by dashes; and that they are canonical, each by its invariant. What stands behind the language is
+// joined first, in words, and a language alone isn't joined.
+#[inline]
 fn join_parts(
     language: Language,
     script: Option<Script>,
@@ -179,21 +182,28 @@ fn join_parts(
     ensures script { IfSome script (IsCanonicalPart is_script titlecase) }
     ensures region { IfSome region (IsCanonicalPart is_region uppercase) }
 {
-    let mut text = language.to_text().resize::<17>();
-    if let Some(script) = script {
-        text = with_part(text, script.to_text());
+    let language = language.to_text();
+    if script.is_none() && region.is_none() {
+        return language.resize();
     }
-    if let Some(region) = region {
-        text = with_part(text, region.to_text());
-    }
-    text
+    let script: TinyAsciiStr<5> = after_dash(script);
+    let region: TinyAsciiStr<4> = after_dash(region);
+    language.concat(script.concat::<4, 9>(region))
 }
 
-// The text with a dash and a part behind it.
-fn with_part<const M: usize>(text: TinyAsciiStr<17>, part: TinyAsciiStr<M>) -> TinyAsciiStr<17>
-    requires { length text + 1 + length part ≤ 17 }
-    ensures { result ≡ text ++ dash ∷ part.entry }
+// A dash and the part, or nothing.
+#[inline]
+fn after_dash<K: Kind<M>, const M: usize, const N: usize>(
+    part: Option<Part<K, M>>,
+) -> TinyAsciiStr<N>
+    requires { 1 + M ≤ N }
+    ensures { result ≡ after_dash part }
 {
-    let dash = tinystr!(1, "-").unwrap();
-    text.concat::<1, 17>(dash).concat(part)
+    match part {
+        Some(part) => {
+            let dash = tinystr!(1, "-").unwrap();
+            dash.concat(part.to_text())
+        }
+        None => TinyAsciiStr::<N>::default(),
+    }
 }

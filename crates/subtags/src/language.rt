@@ -5,7 +5,6 @@ ghost use Rattle.subtags.specs.Grammar.{is_language};
 ghost use Rattle.subtags.specs.declared.error.LangIdError.TheVariants.{InvalidLanguage};
 
 use crate::error::LangIdError;
-use crate::form::is_language;
 use crate::part::{Kind, Part};
 use tinystr::TinyAsciiStr;
 
@@ -22,12 +21,17 @@ impl Kind<8> for LanguageKind {
 
     ghost refusal = { InvalidLanguage };
 
+    #[inline]
     fn read(code_units: &[u8]) -> Option<TinyAsciiStr<8>> {
-        if !is_language(code_units) {
+        if !matches!(code_units.len(), 2 | 3 | 5..=8) {
             return None;
         }
-        let text = TinyAsciiStr::try_from_utf8(code_units).unwrap();
-        Some(text.to_ascii_lowercase())
+        let text = TinyAsciiStr::try_from_utf8(code_units).ok()?;
+        if text.is_ascii_alphabetic() {
+            Some(text.to_ascii_lowercase())
+        } else {
+            None
+        }
     }
 
     fn refusal() -> LangIdError {

@@ -5,7 +5,6 @@
 
 mod cut;
 pub mod error;
-mod form;
 pub mod lang_id;
 pub mod language;
 pub mod laws;

@@ -54,6 +54,7 @@ impl<K: Kind<N>, const N: usize> Model for Part<K, N> {
 impl<K: Kind<N>, const N: usize> Part<K, N> {
     /// Reads a language of 2, 3 or 5 to 8 letters in any case, a script of 4 letters in any case, or a region of 2 letters
     /// in any case or of 3 digits, without space around it.
+    #[inline]
     pub fn try_from_utf8(code_units: &[u8]) -> Option<Self>
         ensures { SomeIff result (IsTrue (K.has_form code_units.now)) (K.in_case code_units.now) }
     {

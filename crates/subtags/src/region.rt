@@ -5,7 +5,6 @@ ghost use Rattle.subtags.specs.Grammar.{is_region};
 ghost use Rattle.subtags.specs.declared.error.LangIdError.TheVariants.{InvalidSubtag};
 
 use crate::error::LangIdError;
-use crate::form::is_region;
 use crate::part::{Kind, Part};
 use tinystr::TinyAsciiStr;
 
@@ -22,12 +21,19 @@ impl Kind<3> for RegionKind {
 
     ghost refusal = { InvalidSubtag };
 
+    #[inline]
     fn read(code_units: &[u8]) -> Option<TinyAsciiStr<3>> {
-        if !is_region(code_units) {
-            return None;
+        let text = TinyAsciiStr::<3>::try_from_utf8(code_units).ok()?;
+        let has_form = match code_units.len() {
+            2 => text.is_ascii_alphabetic(),
+            3 => text.is_ascii_numeric(),
+            _ => false,
+        };
+        if has_form {
+            Some(text.to_ascii_uppercase())
+        } else {
+            None
         }
-        let text = TinyAsciiStr::try_from_utf8(code_units).unwrap();
-        Some(text.to_ascii_uppercase())
     }
 
     fn refusal() -> LangIdError {

@@ -5,7 +5,6 @@ ghost use Rattle.subtags.specs.Grammar.{is_script};
 ghost use Rattle.subtags.specs.declared.error.LangIdError.TheVariants.{InvalidSubtag};
 
 use crate::error::LangIdError;
-use crate::form::is_script;
 use crate::part::{Kind, Part};
 use tinystr::TinyAsciiStr;
 
@@ -22,12 +21,17 @@ impl Kind<4> for ScriptKind {
 
     ghost refusal = { InvalidSubtag };
 
+    #[inline]
     fn read(code_units: &[u8]) -> Option<TinyAsciiStr<4>> {
-        if !is_script(code_units) {
+        if code_units.len() != 4 {
             return None;
         }
-        let text = TinyAsciiStr::try_from_utf8(code_units).unwrap();
-        Some(text.to_ascii_titlecase())
+        let text = TinyAsciiStr::try_from_utf8(code_units).ok()?;
+        if text.is_ascii_alphabetic() {
+            Some(text.to_ascii_titlecase())
+        } else {
+            None
+        }
     }
 
     fn refusal() -> LangIdError {

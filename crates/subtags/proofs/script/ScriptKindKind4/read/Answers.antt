@@ -1,8 +1,13 @@
 use Rattle.std.proofs.Common.{arith}
 use Rattle.std.proofs.lemmas.Grind.{common_steps}
-use Rattle.subtags.proofs.FoldLemmas.{canonical-titlecase}
+use Rattle.subtags.proofs.FoldLemmas.{script_text, canonical-titlecase}
 use Rattle.subtags.proofs.script.ScriptKindKind4.read.Goals as goal
 
-pub returns-clause-canonical : goal.returns-clause-canonical
-returns-clause-canonical c =
+pub returns-in_err-text-clause-text : goal.returns-in_err-text-clause-text
+returns-in_err-text-clause-text c =
+    let text = script_text c.args.code_units.now in
+    grind (arith, common_steps)
+
+pub returns-then-is_ascii_alphabetic-clause-canonical : goal.returns-then-is_ascii_alphabetic-clause-canonical
+returns-then-is_ascii_alphabetic-clause-canonical c =
     canonical-titlecase c.args.code_units.now _ (grind (arith, common_steps)) (grind (arith, common_steps))
