@@ -27,47 +27,27 @@ capacities =
 unfoldable pub capacity_of : List ℕ → Option ℕ
 capacity_of word = option_map (λ c. c.1) (find (λ (c : List ℕ × ℕ). bytes_eq word c.0) capacities)
 
--- the word of a command
-abbrev pub name_of : Command → List ℕ
-name_of (OnText Text) = codes "text"
-name_of (OnText Len) = codes "len"
-name_of (OnText (Ask Alphabetic)) = codes "alphabetic"
-name_of (OnText (Ask Alphanumeric)) = codes "alphanumeric"
-name_of (OnText (Ask Numeric)) = codes "numeric"
-name_of (OnText (Ask Lowercase)) = codes "lowercase"
-name_of (OnText (Ask Titlecase)) = codes "titlecase"
-name_of (OnText (Ask Uppercase)) = codes "uppercase"
-name_of (OnText (Ask AlphabeticLowercase)) = codes "alphabetic_lowercase"
-name_of (OnText (Ask AlphabeticTitlecase)) = codes "alphabetic_titlecase"
-name_of (OnText (Ask AlphabeticUppercase)) = codes "alphabetic_uppercase"
-name_of (OnText (Change Lower)) = codes "lower"
-name_of (OnText (Change Title)) = codes "title"
-name_of (OnText (Change Upper)) = codes "upper"
-name_of Lossy = codes "lossy"
-name_of Records = codes "records"
-name_of Locale = codes "locale"
-
--- all of them
-abbrev pub commands : List Command
+-- each word that names a command, and the command
+abbrev pub commands : List (List ℕ × Command)
 commands =
-    OnText Text ∷
-    OnText Len ∷
-    OnText (Ask Alphabetic) ∷
-    OnText (Ask Alphanumeric) ∷
-    OnText (Ask Numeric) ∷
-    OnText (Ask Lowercase) ∷
-    OnText (Ask Titlecase) ∷
-    OnText (Ask Uppercase) ∷
-    OnText (Ask AlphabeticLowercase) ∷
-    OnText (Ask AlphabeticTitlecase) ∷
-    OnText (Ask AlphabeticUppercase) ∷
-    OnText (Change Lower) ∷
-    OnText (Change Title) ∷
-    OnText (Change Upper) ∷
-    Lossy ∷
-    Records ∷
-    Locale ∷ []
+    (codes "text", OnText Text) ∷
+    (codes "len", OnText Len) ∷
+    (codes "alphabetic", OnText (Ask Alphabetic)) ∷
+    (codes "alphanumeric", OnText (Ask Alphanumeric)) ∷
+    (codes "numeric", OnText (Ask Numeric)) ∷
+    (codes "lowercase", OnText (Ask Lowercase)) ∷
+    (codes "titlecase", OnText (Ask Titlecase)) ∷
+    (codes "uppercase", OnText (Ask Uppercase)) ∷
+    (codes "alphabetic_lowercase", OnText (Ask AlphabeticLowercase)) ∷
+    (codes "alphabetic_titlecase", OnText (Ask AlphabeticTitlecase)) ∷
+    (codes "alphabetic_uppercase", OnText (Ask AlphabeticUppercase)) ∷
+    (codes "lower", OnText (Change Lower)) ∷
+    (codes "title", OnText (Change Title)) ∷
+    (codes "upper", OnText (Change Upper)) ∷
+    (codes "lossy", Lossy) ∷
+    (codes "records", Records) ∷
+    (codes "locale", Locale) ∷ []
 
 -- the command that a word names
 unfoldable pub command_of : List ℕ → Option Command
-command_of word = find (λ command. bytes_eq (name_of command) word) commands
+command_of word = option_map (λ c. c.1) (find (λ (c : List ℕ × Command). bytes_eq word c.0) commands)

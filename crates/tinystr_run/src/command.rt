@@ -2,6 +2,8 @@
 
 ghost use Rattle.std.specs.Prelude.{◌≡◌};
 
+use self::Command::{Locale, Lossy, OnText, Records};
+use self::TextCall::{Ask, Change, Len, Text};
 use tinystr::{Case, Question};
 
 /// What a line asks for.
@@ -30,65 +32,51 @@ pub enum TextCall {
     Change(Case),
 }
 
-const COMMANDS: [Command; 17] = [
-    Command::OnText(TextCall::Text),
-    Command::OnText(TextCall::Len),
-    Command::OnText(TextCall::Ask(Question::Alphabetic)),
-    Command::OnText(TextCall::Ask(Question::Alphanumeric)),
-    Command::OnText(TextCall::Ask(Question::Numeric)),
-    Command::OnText(TextCall::Ask(Question::Lowercase)),
-    Command::OnText(TextCall::Ask(Question::Titlecase)),
-    Command::OnText(TextCall::Ask(Question::Uppercase)),
-    Command::OnText(TextCall::Ask(Question::AlphabeticLowercase)),
-    Command::OnText(TextCall::Ask(Question::AlphabeticTitlecase)),
-    Command::OnText(TextCall::Ask(Question::AlphabeticUppercase)),
-    Command::OnText(TextCall::Change(Case::Lower)),
-    Command::OnText(TextCall::Change(Case::Title)),
-    Command::OnText(TextCall::Change(Case::Upper)),
-    Command::Lossy,
-    Command::Records,
-    Command::Locale,
-];
-
 impl Command {
-    ghost use Rattle.tinystr_run.specs.Words.{name_of, command_of};
-
-    // The word of a command.
-    fn name(self) -> &'static [u8]
-        ensures { result.now ≡ name_of self }
-    {
-        match self {
-            Command::OnText(TextCall::Text) => b"text",
-            Command::OnText(TextCall::Len) => b"len",
-            Command::OnText(TextCall::Ask(Question::Alphabetic)) => b"alphabetic",
-            Command::OnText(TextCall::Ask(Question::Alphanumeric)) => b"alphanumeric",
-            Command::OnText(TextCall::Ask(Question::Numeric)) => b"numeric",
-            Command::OnText(TextCall::Ask(Question::Lowercase)) => b"lowercase",
-            Command::OnText(TextCall::Ask(Question::Titlecase)) => b"titlecase",
-            Command::OnText(TextCall::Ask(Question::Uppercase)) => b"uppercase",
-            Command::OnText(TextCall::Ask(Question::AlphabeticLowercase)) =>
-                b"alphabetic_lowercase",
-            Command::OnText(TextCall::Ask(Question::AlphabeticTitlecase)) =>
-                b"alphabetic_titlecase",
-            Command::OnText(TextCall::Ask(Question::AlphabeticUppercase)) =>
-                b"alphabetic_uppercase",
-            Command::OnText(TextCall::Change(Case::Lower)) => b"lower",
-            Command::OnText(TextCall::Change(Case::Title)) => b"title",
-            Command::OnText(TextCall::Change(Case::Upper)) => b"upper",
-            Command::Lossy => b"lossy",
-            Command::Records => b"records",
-            Command::Locale => b"locale",
-        }
-    }
+    ghost use Rattle.tinystr_run.specs.Words.{command_of};
 
     /// The command that a word names, by its one spelling in lower case.
     #[tactic(auto, unfolding(crate::specs::Words::command_of))]
     pub fn parse(word: &[u8]) -> Option<Command>
         ensures { result ≡ command_of word.now }
     {
-        COMMANDS
-            .iter()
-            .copied()
-            .find(|command| command.name() == word)
+        let command = if word == b"text".as_slice() {
+            OnText(Text)
+        } else if word == b"len".as_slice() {
+            OnText(Len)
+        } else if word == b"alphabetic".as_slice() {
+            OnText(Ask(Question::Alphabetic))
+        } else if word == b"alphanumeric".as_slice() {
+            OnText(Ask(Question::Alphanumeric))
+        } else if word == b"numeric".as_slice() {
+            OnText(Ask(Question::Numeric))
+        } else if word == b"lowercase".as_slice() {
+            OnText(Ask(Question::Lowercase))
+        } else if word == b"titlecase".as_slice() {
+            OnText(Ask(Question::Titlecase))
+        } else if word == b"uppercase".as_slice() {
+            OnText(Ask(Question::Uppercase))
+        } else if word == b"alphabetic_lowercase".as_slice() {
+            OnText(Ask(Question::AlphabeticLowercase))
+        } else if word == b"alphabetic_titlecase".as_slice() {
+            OnText(Ask(Question::AlphabeticTitlecase))
+        } else if word == b"alphabetic_uppercase".as_slice() {
+            OnText(Ask(Question::AlphabeticUppercase))
+        } else if word == b"lower".as_slice() {
+            OnText(Change(Case::Lower))
+        } else if word == b"title".as_slice() {
+            OnText(Change(Case::Title))
+        } else if word == b"upper".as_slice() {
+            OnText(Change(Case::Upper))
+        } else if word == b"lossy".as_slice() {
+            Lossy
+        } else if word == b"records".as_slice() {
+            Records
+        } else if word == b"locale".as_slice() {
+            Locale
+        } else {
+            return None;
+        };
+        Some(command)
     }
 }
