@@ -8,6 +8,7 @@ ghost use Rattle.tinystr_run.specs.Reply.{fault_text, truth_text, bad_index_text
 use crate::command::{Command, TextCall};
 use crate::cut::{cut_at, split_once};
 use std::alloc::AllocError;
+use std::io::Write;
 use subtags::LangId;
 use tinystr::ule::UleError;
 use tinystr::{ParseError, TinyAsciiStr};
@@ -21,11 +22,16 @@ fn push_text<const N: usize>(out: &mut Vec<u8>, text: TinyAsciiStr<N>) -> Result
     out.extend_from_slice(text.as_utf8())
 }
 
+// A number below 2^32 is made at once, without the steps of `write!`, since that is faster.
 fn push_number(out: &mut Vec<u8>, number: usize) -> Result<(), AllocError>
     ensures { OnOk result (out.new.items ≡ out.old.items ++ decimal number) }
 {
-    let text = number.to_string(*out.allocator())?;
-    out.extend_from_slice(text.as_bytes())
+    if let Ok(small) = u32::try_from(number)
+        && let Ok(digits) = TinyAsciiStr::<10>::new_unsigned_decimal(small)
+    {
+        return push_text(out, digits);
+    }
+    write!(out, "{number}").map_err(|_| AllocError)
 }
 
 fn push_truth(out: &mut Vec<u8>, truth: bool) -> Result<(), AllocError>
@@ -39,8 +45,10 @@ fn push_fault(out: &mut Vec<u8>, fault: ParseError) -> Result<(), AllocError>
 {
     match fault {
         ParseError::TooLong { max, len } => {
-            let text = format!(in *out.allocator(); "too long {len} > {max}")?;
-            out.extend_from_slice(text.as_bytes())
+            out.extend_from_slice(b"too long ")?;
+            push_number(out, len)?;
+            out.extend_from_slice(b" > ")?;
+            push_number(out, max)
         }
         ParseError::ContainsNull => out.extend_from_slice(b"contains null"),
         ParseError::NonAscii => out.extend_from_slice(b"non ascii"),
@@ -83,22 +91,19 @@ fn push_call_reply<const N: usize>(
 fn push_count(out: &mut Vec<u8>, count: usize) -> Result<(), AllocError>
     ensures { OnOk result (out.new.items ≡ out.old.items ++ (codes "ok " ++ decimal count)) }
 {
-    let text = format!(in *out.allocator(); "ok {count}")?;
-    out.extend_from_slice(text.as_bytes())
+    write!(out, "ok {count}").map_err(|_| AllocError)
 }
 
 fn push_bad_length(out: &mut Vec<u8>, len: usize) -> Result<(), AllocError>
     ensures { OnOk result (out.new.items ≡ out.old.items ++ (codes "bad length " ++ decimal len)) }
 {
-    let text = format!(in *out.allocator(); "bad length {len}")?;
-    out.extend_from_slice(text.as_bytes())
+    write!(out, "bad length {len}").map_err(|_| AllocError)
 }
 
 fn push_bad_index(out: &mut Vec<u8>, index: usize) -> Result<(), AllocError>
     ensures { OnOk result (out.new.items ≡ out.old.items ++ bad_index_text index) }
 {
-    let text = format!(in *out.allocator(); "bad record {index} ")?;
-    out.extend_from_slice(text.as_bytes())
+    write!(out, "bad record {index} ").map_err(|_| AllocError)
 }
 
 fn push_bad_record(out: &mut Vec<u8>, index: usize, fault: ParseError) -> Result<(), AllocError>
@@ -132,10 +137,7 @@ fn push_locale_reply(out: &mut Vec<u8>, units: &[u8]) -> Result<(), AllocError>
 {
     match LangId::try_from_utf8(units) {
         Ok(id) => push_text(out, id.to_text()),
-        Err(error) => {
-            let text = format!(in *out.allocator(); "{error}")?;
-            out.extend_from_slice(text.as_bytes())
-        }
+        Err(error) => write!(out, "{error}").map_err(|_| AllocError),
     }
 }
 
