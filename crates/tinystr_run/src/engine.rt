@@ -31,7 +31,7 @@ impl From<AllocError> for RunError {
 }
 
 // How many bytes a read takes at most.
-const PIECE: usize = 4096;
+const PIECE: usize = 65536;
 
 // Reads all that the reader has.
 fn read_input<R: Read>(alloc: Global, reader: &mut R) -> Result<Vec<u8>, RunError>

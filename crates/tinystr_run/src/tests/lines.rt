@@ -43,12 +43,42 @@ fn replies_to_every_line(rt: HostRuntime) -> Result<(), Fail> {
     Ok(())
 }
 
-// Reads take at most 4096 bytes.
+// Reads take at most 65,536 bytes.
 #[test]
 fn an_input_of_many_reads_is_answered_to_its_end(rt: HostRuntime) -> Result<(), Fail> {
-    let input = b"4 len abc\n".repeat(rt.alloc(), 1000)?;
-    let replies = b"3\n".repeat(rt.alloc(), 1000)?;
+    let input = b"4 len abc\n".repeat(rt.alloc(), 20_000)?;
+    let replies = b"3\n".repeat(rt.alloc(), 20_000)?;
     assert!(rt; output(rt.alloc(), &input)? == replies);
+    Ok(())
+}
+
+// A line of so many bytes and its line feed, and then a short one.
+fn long_line_first(alloc: Global, len: usize) -> Result<Vec<u8>, AllocError> {
+    let mut input = b"4 shout ".to_vec(alloc)?;
+    input.resize(len, b'a')?;
+    input.extend_from_slice(b"\n8 upper Hans\n")?;
+    Ok(input)
+}
+
+#[test]
+fn a_line_is_whole_where_reads_cut_it(rt: HostRuntime) -> Result<(), Fail> {
+    // The first read ends at each place of the second line, or inside the first.
+    for len in (65_520..65_540).chain([65_536 * 2, 65_536 * 3 - 1, 200_000]) {
+        let input = long_line_first(rt.alloc(), len)?;
+        let replies = output(rt.alloc(), &input)?;
+        assert!(rt;
+            replies.as_slice() == b"bad command\nHANS\n".as_slice(),
+            "{len}"
+        );
+    }
+    Ok(())
+}
+
+#[test]
+fn a_text_longer_than_a_read_has_its_length_told(rt: HostRuntime) -> Result<(), Fail> {
+    let mut input = b"32 len ".to_vec(rt.alloc())?;
+    input.resize(7 + 100_000, b'a')?;
+    assert!(rt; output(rt.alloc(), &input)?.as_slice() == b"too long 100000 > 32\n".as_slice());
     Ok(())
 }
 
