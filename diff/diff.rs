@@ -1,6 +1,9 @@
 //! Compares each answer with the original crate's. A difference that isn't listed as a departure fails.
 
+// some calls are only timed
+#[allow(dead_code)]
 mod original;
+#[allow(dead_code)]
 mod ours;
 mod random;
 

@@ -17,6 +17,7 @@ over_slices!(change is tinystr_exports_change(capacity, case, rounds; texts: u8;
 over_slices!(compare is tinystr_exports_compare(capacity, relation, rounds; left: u8, right: u8; answers: u8));
 over_slices!(read8 is tinystr_exports_read8(capacity, reader, rounds; units: u8, starts: u32; texts: u8, faults: u32));
 over_slices!(read16 is tinystr_exports_read16(capacity, reader, rounds; units: u16, starts: u32; texts: u8, faults: u32));
+over_slices!(read_bytes is tinystr_exports_read_bytes(capacity, rounds; bytes: u8; texts: u8));
 over_slices!(decimal is tinystr_exports_decimal(capacity, rounds; numbers: u32; texts: u8, cuts: u8));
 over_slices!(resize is tinystr_exports_resize(capacity, to, rounds; texts: u8; resized: u8));
 over_slices!(concat is tinystr_exports_concat(capacity, to, rounds; first: u8, second: u8; joined: u8));

@@ -15,7 +15,7 @@ mod records;
 use calls::{ask_batch, change_batch, compare_batch};
 use cuts::{concat_batch, resize_batch};
 use printing::print_batch;
-use readers::{decimal_batch, read8_batch, read16_batch};
+use readers::{decimal_batch, front_batch, read8_batch, read16_batch};
 use records::records_found;
 
 /// A question or the length of each text, as a number.
@@ -108,6 +108,17 @@ pub extern "C" fn tinystr_exports_read16(
         texts,
         faults
     )
+}
+
+/// Each text read in front of the bytes that are left, up to the first fault.
+#[unsafe(no_mangle)]
+pub extern "C" fn tinystr_exports_read_bytes(
+    capacity: usize,
+    rounds: usize,
+    bytes: &[u8],
+    texts: &mut [u8],
+) -> bool {
+    crate::at_few_capacities!(capacity, front_batch, rounds, bytes, texts)
 }
 
 /// The decimal text of each number, and 1 where it is cut.

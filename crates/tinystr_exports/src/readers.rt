@@ -149,6 +149,27 @@ fn lossy16_each<const N: usize>(rounds: usize, units: &[u16], starts: &[u32], te
     replace_each!(rounds, units, starts, texts, list => TinyAsciiStr::<N>::from_utf16_lossy(list, REPLACEMENT));
 }
 
+/// Reads each text in front of the bytes that are left, up to the first fault.
+pub fn front_batch<const N: usize>(rounds: usize, bytes: &[u8], texts: &mut [u8]) -> bool
+    requires { N ≤ 128 }
+{
+    let mut made = [TinyAsciiStr::<N>::default(); COUNT];
+    for _ in 0..rounds {
+        let mut rest = bytes;
+        for i in 0..COUNT {
+            match TinyAsciiStr::<N>::read_bytes(rest) {
+                Ok((text, more)) => {
+                    made[i] = text;
+                    rest = more;
+                }
+                Err(_) => break,
+            }
+        }
+    }
+    write_texts(&made, texts);
+    true
+}
+
 // 1 for a NUL, 2 for a unit above 127, and 3 for a list that is too long, with both lengths above that.
 fn code_of(fault: ParseError) -> u32 {
     match fault {
