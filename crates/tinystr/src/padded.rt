@@ -230,7 +230,7 @@ pub fn join<const N: usize, const M: usize, const Q: usize>(
         }
         Width::Sixteen => {
             let text = Aligned16::from_part(first).join(&Aligned16::from_part(second));
-            cut(&text.to_bytes())
+            cut(&text.to_bytes_in_memory())
         }
         Width::Many => copying::join(*front, len(front), back),
     }

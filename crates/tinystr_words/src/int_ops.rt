@@ -216,6 +216,15 @@ impl<T: Word<LEN>, const LEN: usize> Aligned<T, LEN> {
         self.word.to_bytes_in_registers()
     }
 
+    /// The same bytes for an array in memory, which may also be made of others.
+    #[inline(always)]
+    pub fn to_bytes_in_memory(&self) -> [u8; LEN]
+        ensures padded { IsPaddedText result LEN }
+        ensures text { text_of result ≡ self.now }
+    {
+        self.word.to_bytes_in_memory()
+    }
+
     /// Whether the other text is the same.
     #[inline(always)]
     pub fn equals(&self, other: &Self) -> bool

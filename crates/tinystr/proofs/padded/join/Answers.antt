@@ -33,6 +33,6 @@ from_part-requires-in-Sixteen-2 g c =
 
 pub returns-in-Sixteen-clause-text : goal.returns-in-Sixteen-clause-text
 returns-in-Sixteen-clause-text g c =
-    c.cut-in-Sixteen.ensures.text ∙ ap (λ (l : List ℕ). take g.row.Q l) (c.to_bytes-in-Sixteen.ensures.text ∙ c.join-text-in-Sixteen.ensures
+    c.cut-in-Sixteen.ensures.text ∙ ap (λ (l : List ℕ). take g.row.Q l) (c.to_bytes_in_memory.ensures.text ∙ c.join-text-in-Sixteen.ensures
     ∙ ap₂ (λ (a b : List ℕ). take 16 (a ++ b)) c.from_part-in-Sixteen.ensures c.from_part-in-Sixteen-2.ensures)
     ∙ fronts_joined c.args.front.now c.args.back.now g.row.N g.row.M c.min.result c.min-2.result g.row.Q 16 c.requires.front c.requires.back c.min.ensures c.min-2.ensures c.in-Sixteen.ensures
