@@ -1,5 +1,5 @@
 -- Units that were read as a whole, and their array.
-use Rattle.std.proofs.Common.{Bool, IsTrue, List, [], ap, ap₂, arith, false, get_or, inl, inr, length, map, not, refl, set, sym, take, true, ℕ, ◌+◌, ◌<◌, ◌||◌, ◌↔◌, ◌∙◌, ◌∷◌, ◌≡◌, ◌≤◌}
+use Rattle.std.proofs.Common.{Bool, IsTrue, List, [], ap, ap₂, arith, false, get_or, inl, inr, length, map, not, refl, set, sym, take, true, ℕ, ◌+◌, ◌<◌, ◌||◌, ◌%◌, ◌↔◌, ◌∙◌, ◌∷◌, ◌≡◌, ◌≤◌}
 use Rattle.std.proofs.lemmas.List.{ext_get_or, get_or-map, get_or_past, length-map, take-map}
 use Rattle.std.proofs.lemmas.List.Elements.{All-from_get_or, All-head, All-map, All-tail}
 use Rattle.std.proofs.lemmas.Bool.{cases_lt}
@@ -9,8 +9,9 @@ use Rattle.tinystr_words.specs.Text.{IsPaddedText, IsStrictText, IsText, IsTextB
 use Rattle.tinystr_words.specs.Reading.{lossy, lossy_byte}
 use Rattle.tinystr_words.proofs.Texts.{IsPaddedText-made, NULS, get_or-nuls, length-pad, text_of-made}
 use Rattle.tinystr_words.proofs.Readers.{lossy_byte-character}
+use Rattle.tinystr_words.proofs.WordFromParts.{low_of_text}
 use Rattle.tinystr.specs.Reading.{IsReadPart, IsSame}
-use Rattle.tinystr.proofs.Copying.{made_of, padded_at}
+use Rattle.tinystr.proofs.Copying.{made_of, pad_full, padded_at}
 use Rattle.std.proofs.lemmas.Bool.Decides.{nat_tests}
 
 abbrev Tested : Bool → List ℕ → ℕ → ℕ → Type 0
@@ -42,14 +43,26 @@ read_whole is_bad bytes units r n fits len read =
           | inr outside ↦ read.kept k (get_or-nuls n k ∙ sym (get_or_past (map (lossy_byte r) units) k 0 (omega (arith, length-map units (lossy_byte r)))))
         ]
 
+-- an array made of a text
+pub text_made : (bytes units : List ℕ) (n : ℕ) → length units ≤ n → IsText units → bytes ≡ pad units n
+    → IsStrictText units n × (IsPaddedText bytes n × (text_of bytes ≡ units))
+text_made bytes units n fits text made =
+    let strict : IsStrictText units n = record { text = text; fits = fits } in
+    (strict, (IsPaddedText-made bytes units n made strict, text_of-made bytes units n made text))
+
 -- where no unit is bad, all are read as they are
 pub read_text : (bytes units : List ℕ) (r n : ℕ) → length units ≤ n → length bytes ≡ n
     → IsReadPart false (NULS n) bytes units r 0 (length units) → IsStrictText units n × (IsPaddedText bytes n × (text_of bytes ≡ units))
 read_text bytes units r n fits len read =
     let text : IsText units = All-from_get_or IsTextByte units 0 (λ k inside. read.tested k (omega arith) inside) in
-    let strict : IsStrictText units n = record { text = text; fits = fits } in
-    let made = read_whole false bytes units r n fits len read ∙ ap (λ (l : List ℕ). pad l n) (lossy_text r units text) in
-    (strict, (IsPaddedText-made bytes units n made strict, text_of-made bytes units n made text))
+    text_made bytes units n fits text (read_whole false bytes units r n fits len read ∙ ap (λ (l : List ℕ). pad l n) (lossy_text r units text))
+
+-- a text that fills its array
+pub full_text : {X : Type 0} (number : X → ℕ) (bytes : List ℕ) (units : List X) (n : ℕ) → length units ≡ n → IsText (map number units)
+    → bytes ≡ map (λ u. number u % 256) units → IsStrictText (map number units) n × (IsPaddedText bytes n × (text_of bytes ≡ map number units))
+full_text number bytes units n len text made =
+    let long : length (map number units) ≡ length units = length-map units number in
+    text_made bytes (map number units) n (omega arith) text (made ∙ low_of_text number units text ∙ sym (pad_full (map number units) n (omega arith)))
 
 -- one more unit
 pub part_more : (old bytes units : List ℕ) (r i j x : ℕ) (bad char : Bool) → length units ≤ length bytes → j < length units → IsReadPart bad old bytes units r i j

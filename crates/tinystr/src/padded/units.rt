@@ -1,6 +1,6 @@
 //! Units read into padded bytes, and the fault of units that are refused.
 
-ghost use Rattle.std.specs.Prelude.{◌≡◌, ◌+◌, ◌*◌, ◌<◌, ◌≤◌, ◌↔◌, ℕ, map, length, IsTrue, IsOk, IfOk, IfErr, option_map, if◌then◌else◌};
+ghost use Rattle.std.specs.Prelude.{◌≡◌, ◌+◌, ◌*◌, ◌%◌, ◌<◌, ◌≤◌, ◌↔◌, ℕ, map, length, IsTrue, IsOk, IfOk, IfErr, option_map, if◌then◌else◌};
 ghost use Rattle.tinystr_words.specs.Text.{pad, text_of, IsText, IsTextByte, IsStrictText, IsPaddedText};
 ghost use Rattle.tinystr_words.specs.Reading.{first_fault, fault_in, lossy, lossy_byte};
 ghost use Rattle.tinystr.specs.Error.{fault_of};
@@ -101,6 +101,32 @@ fn read_all<U: Unit>(bytes: &mut [u8], units: &[U], replacement: u8) -> bool
     }
 }
 
+// Whether all units are characters. It never leaves early, so that the compiler can test a known number of them at once.
+#[inline(always)]
+fn is_text<U: Unit>(units: &[U]) -> bool
+    ensures { IsTrue result ↔ IsText (map U.number units.now) }
+{
+    let mut is_text = true;
+    for unit in units {
+        is_text &= unit.is_character();
+    }
+    is_text
+}
+
+// The low bytes of `N` units: of bytes one copy of a known length, which the compiler takes apart wherever a `Result` is
+// cut, so that none of them goes through memory.
+#[inline(always)]
+fn low_bytes<U: Unit, const N: usize>(units: &[U]) -> [u8; N]
+    requires { length units.now ≡ N }
+    ensures { result ≡ map (λ unit. U.number unit % 256) units.now }
+{
+    let mut bytes = [0; N];
+    for i in 0..N {
+        bytes[i] = units[i].low_byte();
+    }
+    bytes
+}
+
 /// The text of the units, read by parts, or why there is none.
 #[inline(always)]
 pub fn read_parts<U: Unit, const N: usize>(units: &[U]) -> Result<TinyAsciiStr<N>, ParseError>
@@ -110,6 +136,12 @@ pub fn read_parts<U: Unit, const N: usize>(units: &[U]) -> Result<TinyAsciiStr<N
 {
     if units.len() > N {
         return Err(fault::<U, N>(units));
+    }
+    if units.len() == N {
+        if !is_text(units) {
+            return Err(fault::<U, N>(units));
+        }
+        return Ok(TinyAsciiStr::from_utf8_unchecked(low_bytes(units)));
     }
     let mut bytes = [0; N];
     if read_all(&mut bytes[..], units, 0) {
