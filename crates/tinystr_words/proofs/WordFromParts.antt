@@ -1,9 +1,10 @@
 -- The word of some bytes is made of the words of their parts, which may overlap.
-use Rattle.std.proofs.Common.{ℕ, zero, suc, ◌+◌, ◌-◌, ◌*◌, ◌/◌, ◌%◌, ◌^◌, ◌<◌, ◌≤◌, ◌≡◌, List, [], ◌∷◌, length, get_or, take, drop, map, refl, sym, ap, ap₂, ◌∙◌, subst, arith, bit_or, Fits, w8, lit<}
+use Rattle.std.proofs.Common.{ℕ, zero, suc, ◌+◌, ◌-◌, ◌*◌, ◌/◌, ◌%◌, ◌^◌, ◌<◌, ◌≤◌, ◌≡◌, List, [], ◌∷◌, length, get_or, take, drop, map, refl, sym, ap, ap₂, ◌∙◌, subst, arith, bit_or, Fits, w8, w16, lit<}
+use lib.Lanes.{number_l}
 use Rattle.std.proofs.Math.Nat.{pow-suc, mul_comm, mul_assoc, pow-le-pow_right}
 use Rattle.std.proofs.lemmas.List.{drop-drop, length-map, take-map, drop-map, length-drop, length-take, take_all}
 use Rattle.std.proofs.lemmas.List.Elements.{All-head, All-tail}
-use Rattle.std.proofs.lemmas.Nat.{and_or_self, div-mul-add}
+use Rattle.std.proofs.lemmas.Nat.{and_or_self, div-mul-add, mod-mul-add}
 use Rattle.std.specs.Int.Bits.{or_self, or_add_and, or_shifted_r}
 use Rattle.tinystr_words.specs.Text.{IsText, IsTextByte}
 use Rattle.tinystr_words.specs.Words.{word}
@@ -116,3 +117,30 @@ load_is {X} f n l least most =
     let long : length (map low l) ≡ length l = length-map l low in
     let h = rw long at (joined_halves n (map low l) (IsBytes-low f l) (omega arith) (omega arith)) in
     rw (take-map low n l, drop-map low (length l - n) l, take-map low (length l - (length l - n)) (drop (length l - n) l)) at h
+
+-- ---- 16-bit numbers, narrowed in a vector
+
+-- every other byte of a number
+abbrev pub every_other : ℕ → ℕ → ℕ
+every_other zero x = 0
+every_other (suc n) x = x % 256 + 256 * every_other n (x / 256 / 256)
+
+-- they are the lowest of each of the numbers
+pub narrowed : (l : List ℕ) → ((i : ℕ) → Fits w16 (get_or l i 0)) → every_other (length l) (number_l 65536 l) ≡ word (map (λ u. u % 256) l)
+narrowed [] f = refl
+narrowed (u ∷ l) f =
+    let small : u < 65536 = (f 0).fits in
+    let low : (u + 65536 * number_l 65536 l) % 256 ≡ u % 256 = omega arith in
+    let others : (u + 65536 * number_l 65536 l) / 256 / 256 ≡ number_l 65536 l = omega arith in
+    ap₂ (λ b w. b + 256 * w) low (ap (every_other (length l)) others ∙ narrowed l (λ i. f (suc i)))
+
+-- as a word's lanes, of which none is lost
+pub narrowed_word : (n : ℕ) (l : List ℕ) → length l ≡ n → ((i : ℕ) → Fits w16 (get_or l i 0))
+    → every_other n (number_l 65536 (take n l)) % 256 ^ n ≡ word (map (λ u. u % 256) l)
+narrowed_word n l long f =
+    let all : take n l ≡ l = take_all n l (omega arith) in
+    let low : every_other n (number_l 65536 (take n l)) ≡ word (map (λ u. u % 256) l) = rw (all, ← long) (narrowed l f) in
+    let small : word (map (λ u. u % 256) l) < 256 ^ n =
+    subst (λ k. word (map (λ u. u % 256) l) < 256 ^ k) (length-map l (λ u. u % 256) ∙ long) (word-lt (map (λ u. u % 256) l) (IsBytes-low (λ u. u) l)) in
+    let none : 0 * 256 ^ n + word (map (λ u. u % 256) l) ≡ word (map (λ u. u % 256) l) = omega arith in
+    rw low (rw none at (mod-mul-add 0 (256 ^ n) (word (map (λ u. u % 256) l)) small))

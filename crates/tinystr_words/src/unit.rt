@@ -2,6 +2,9 @@
 
 ghost use Rattle.std.specs.Prelude.{◌≡◌, ◌*◌, ◌%◌, ◌≤◌, ◌↔◌, ℕ, length, map, IsTrue};
 ghost use Rattle.tinystr_words.specs.Text.{IsText, IsTextByte};
+ghost use Rattle.tinystr_words.specs.Words.{word};
+
+use std::simd::prelude::*;
 
 /// A unit that a reader takes: a byte, or a 16-bit number.
 pub trait Unit: Copy {
@@ -17,10 +20,10 @@ pub trait Unit: Copy {
     fn low_byte(self) -> u8
         ensures { result ≡ number self % 256 };
 
-    /// Those of four units.
-    fn four_low_bytes(units: &[Self]) -> [u8; 4]
+    /// The word of those of four units.
+    fn word_of_four(units: &[Self]) -> u32
         requires { length units.now ≡ 4 }
-        ensures { result ≡ map (λ unit. number unit % 256) units.now };
+        ensures { result ≡ word (map (λ unit. number unit % 256) units.now) };
 }
 
 // How many units from 1 on are characters.
@@ -45,8 +48,8 @@ impl Unit for u8 {
     }
 
     #[inline(always)]
-    fn four_low_bytes(units: &[u8]) -> [u8; 4] {
-        *units.first_chunk::<4>().unwrap()
+    fn word_of_four(units: &[u8]) -> u32 {
+        u32::from_le_bytes(*units.first_chunk::<4>().unwrap())
     }
 }
 
@@ -68,14 +71,11 @@ impl Unit for u16 {
         (self % 256) as u8
     }
 
+    // Every other byte of a vector: as an array on its way to the word, the compiler would take each byte by itself.
     #[inline(always)]
-    fn four_low_bytes(units: &[u16]) -> [u8; 4] {
-        [
-            units[0].low_byte(),
-            units[1].low_byte(),
-            units[2].low_byte(),
-            units[3].low_byte(),
-        ]
+    fn word_of_four(units: &[u16]) -> u32 {
+        let bytes = u16x4::from_slice(units).to_le_bytes();
+        u32x1::from_le_bytes(bytes.swizzle([0, 2, 4, 6])).to_array()[0]
     }
 }
 

@@ -115,7 +115,7 @@ impl Word<4> for u32 {
             return 0;
         }
         if len >= 4 {
-            return u32::from_le_bytes(U::four_low_bytes(src));
+            return U::word_of_four(src);
         }
         let middle = len / 2;
         let last = len - 1;
