@@ -1,5 +1,7 @@
 //! Packed records, and the bytes that no value has.
 
+ghost use Rattle.std.specs.Prelude.{◌<◌};
+
 use tinystr::ule::UleError;
 use tinystr::{ParseError, TinyAsciiStr, UnvalidatedTinyAsciiStr};
 

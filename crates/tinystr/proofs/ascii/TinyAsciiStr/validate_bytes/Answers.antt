@@ -3,7 +3,7 @@ use Rattle.std.proofs.lemmas.Bool.{cases_lt}
 use Rattle.std.proofs.lemmas.List.{length-drop}
 use Rattle.std.proofs.Math.Nat.{mod-eq_of_lt}
 use Rattle.tinystr_words.specs.Text.{IsPaddedText}
-use Rattle.tinystr_words.proofs.Packing.{IsChecked-block, IsChecked-more, IsChecked-none, IsFirstBad-next, IsFirstBad-unpacked, IsPacked-checked, fault_in-next}
+use Rattle.tinystr_words.proofs.Packing.{IsChecked-block, IsChecked-more, IsFirstBad-next, IsFirstBad-unpacked, IsPacked-checked, fault_in-next}
 use Rattle.tinystr.proofs.ascii.TinyAsciiStr.validate_bytes.Goals as goal
 
 pub loop-block-preserved : goal.loop-block-preserved
@@ -21,7 +21,7 @@ pub returns-in-Err-clause-fault : goal.returns-in-Err-clause-fault
 returns-in-Err-clause-fault g c = (
   search rules,
   IsFirstBad-next c.args.bytes.now _ c.raw-item.result g.row.N c.loop-raw.index c.loop-raw.raw-index c.loop-raw.invariant c.loop-raw-test.true c.raw-item.is (search rules) (search rules),
-  search (rules, fault_in-next),
+  c.in-Err.ensures.fault ∙ fault_in-next c.args.bytes.now _ c.raw-item.result g.row.N c.loop-raw.index c.loop-raw.raw-index c.loop-raw.invariant c.loop-raw-test.true c.raw-item.is,
 )
 
 -- a list that n divides has n elements, or none
