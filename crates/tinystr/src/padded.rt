@@ -62,7 +62,7 @@ pub fn read<U: Unit, const N: usize>(units: &[U]) -> Result<TinyAsciiStr<N>, Par
     ensures text { IfOk result (λ t. t ≡ map U.number units.now) }
     ensures fault { IfErr result (λ e. fault_of e ≡ fault_in N (map U.number units.now)) }
 {
-    if units.len() > 16 {
+    if N > 16 && units.len() > 16 {
         return units::read_parts(units);
     }
     if units.len() <= N {
