@@ -1,5 +1,5 @@
-//! Times the calls beside the original crate's, beside tinystr 0.3.2 where it is installed, and beside vectors written by hand:
-//! nanoseconds a value, the least of many turns. Prints tables of ratios.
+//! Times the calls beside the original crate's, beside tinystr 0.3.2 where it is installed, and beside vectors written
+//! by hand: nanoseconds a value, the least of many turns. Prints tables of ratios.
 
 mod by_hand;
 mod machine;

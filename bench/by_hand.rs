@@ -1,5 +1,5 @@
-//! Calls at capacity 16 by vectors written by hand, in the shape of the library's exports: what the machine can do of texts
-//! that are known to be padded.
+//! Calls at capacity 16 by vectors written by hand, in the shape of the library's exports: what the machine can do of
+//! texts that are known to be padded.
 
 use crate::original::COUNT;
 use std::arch::x86_64::*;

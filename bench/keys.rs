@@ -1,5 +1,6 @@
-//! Times maps, a sort and other calls by keys of two to eight letters, as the program of keys.txt does with the same keys, and
-//! prints one table. The argument is a file with what that program printed. A `String` stands for a JSON value.
+//! Times maps, a sort and other calls by keys of two to eight letters, as the program of keys.txt does with the same
+//! keys, and prints one table. The argument is a file with what that program printed. A `String` stands for a JSON
+//! value.
 
 use std::collections::{BTreeMap, HashMap};
 use std::fmt::{Display, Write};

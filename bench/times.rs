@@ -52,8 +52,8 @@ pub struct Timer {
 }
 
 impl Timer {
-    /// The least times of many turns, without what a call costs with no round. A round answers so many values, and what all
-    /// answer is compared first.
+    /// The least times of many turns, without what a call costs with no round. A round answers so many values, and what
+    /// all answer is compared first.
     pub fn time(&mut self, call: &str, values: usize, rounds: usize, contenders: &[Contender]) -> Times {
         let mut answers = vec![Answers::new(); contenders.len()];
         let timed = answer_alike(call, contenders, &mut answers);

@@ -20,6 +20,13 @@ use std::str::FromStr;
 use tinystr::{TinyAsciiStr, tinystr};
 
 /// A language identifier of at most 17 bytes, kept as its canonical text, as `zh-Hant-TW`, and compared by it.
+///
+/// ```rust
+/// let id = LangId::try_from_utf8(b"ZH_hant-tw")?;
+/// assert_eq!(rt; id.as_str(), "zh-Hant-TW");
+/// assert_eq!(rt; id.language().as_str(), "zh");
+/// assert_eq!(rt; id.region(), Some("TW".parse()?));
+/// ```
 #[derive(Clone, Copy, PartialEq, Eq, PartialOrd, Ord, Hash)]
 pub struct LangId {
     text: TinyAsciiStr<17>,
@@ -41,6 +48,8 @@ impl Model for LangId {
 impl LangId {
     /// Reads a language, and behind it a script, a region, both or nothing, in any case and with a `-` or a `_` before
     /// each later part.
+    ///
+    /// The error is `InvalidLanguage` where the first part is no language, else `InvalidSubtag`.
     pub fn try_from_utf8(code_units: &[u8]) -> Result<Self, LangIdError>
         ensures accepted { IsOk result ↔ IsLangId code_units.now }
         ensures text { IfOk result (λ id. id ≡ canonical_text code_units.now) }

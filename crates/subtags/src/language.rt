@@ -8,7 +8,7 @@ use crate::error::LangIdError;
 use crate::part::{Kind, Part};
 use tinystr::TinyAsciiStr;
 
-/// A language: 2, 3 or 5 to 8 letters, kept in lower case.
+/// A language: 2, 3 or 5 to 8 letters, kept in lowercase.
 pub type Language = Part<LanguageKind, 8>;
 
 /// The kind of a language.

@@ -12,8 +12,8 @@ use std::marker::{Model, PhantomData};
 use std::str::FromStr;
 use tinystr::TinyAsciiStr;
 
-/// What tells languages, scripts and regions apart: the form, the case that they are kept in, and the error where one is
-/// parsed and there is none.
+/// What tells languages, scripts and regions apart: the form, the case that they are kept in, and the error where one
+/// is parsed and there is none.
 pub trait Kind<const N: usize> {
     ghost has_form: { List ℕ → Bool };
 
@@ -52,8 +52,8 @@ impl<K: Kind<N>, const N: usize> Model for Part<K, N> {
 }
 
 impl<K: Kind<N>, const N: usize> Part<K, N> {
-    /// Reads a language of 2, 3 or 5 to 8 letters in any case, a script of 4 letters in any case, or a region of 2 letters
-    /// in any case or of 3 digits, without space around it.
+    /// Reads a language of 2, 3 or 5 to 8 letters in any case, a script of 4 letters in any case, or a region of 2
+    /// letters in any case or of 3 digits, without space around it.
     #[inline]
     pub fn try_from_utf8(code_units: &[u8]) -> Option<Self>
         ensures { SomeIff result (IsTrue (K.has_form code_units.now)) (K.in_case code_units.now) }
@@ -65,7 +65,7 @@ impl<K: Kind<N>, const N: usize> Part<K, N> {
         })
     }
 
-    /// The text: of a language in lower case, of a script in title case, of a region in upper case.
+    /// The text: of a language in lowercase, of a script in titlecase, of a region in uppercase.
     #[inline]
     pub fn as_str(&self) -> &str
         ensures text { result.now ≡ self.now }

@@ -8,7 +8,7 @@ use crate::error::LangIdError;
 use crate::part::{Kind, Part};
 use tinystr::TinyAsciiStr;
 
-/// A region: 2 letters or 3 digits, kept in upper case.
+/// A region: 2 letters or 3 digits, kept in uppercase.
 pub type Region = Part<RegionKind, 3>;
 
 /// The kind of a region.

@@ -8,7 +8,7 @@ use crate::error::LangIdError;
 use crate::part::{Kind, Part};
 use tinystr::TinyAsciiStr;
 
-/// A script: 4 letters, kept in title case.
+/// A script: 4 letters, kept in titlecase.
 pub type Script = Part<ScriptKind, 4>;
 
 /// The kind of a script.

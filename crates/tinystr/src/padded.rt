@@ -54,8 +54,8 @@ fn width_of(len: usize) -> Width
     }
 }
 
-/// The text of the units, or why there is none. The value is made where its bytes are: an array in an `Option` or a `Result`
-/// of its own would be moved once more.
+/// The text of the units, or why there is none. The value is made where its bytes are: an array in an `Option` or a
+/// `Result` of its own would be moved once more.
 #[inline(always)]
 pub fn read<U: Unit, const N: usize>(units: &[U]) -> Result<TinyAsciiStr<N>, ParseError>
     ensures accepted { IsOk result ↔ IsStrictText (map U.number units.now) N }

@@ -23,7 +23,16 @@ pub enum UleError {
 }
 
 impl<const N: usize> TinyAsciiStr<N> {
-    /// Whether the bytes are packed records of `N` bytes.
+    /// Whether the bytes are packed records of `N` bytes, each a text and then NULs. `N` has to be above 0.
+    ///
+    /// The error is `Length` where `N` doesn't divide the number of bytes. Else it is `Parse`: the first record that is no
+    /// padded text, counted from 0, and its fault, as `try_from_raw` tells it.
+    ///
+    /// ```rust
+    /// assert!(rt; TinyAsciiStr::<3>::validate_bytes(b"EURGB\0").is_ok());
+    /// let fault = ParseError::ContainsNull;
+    /// assert_eq!(rt; TinyAsciiStr::<3>::validate_bytes(b"EURG\0B"), Err(UleError::Parse { index: 1, fault }));
+    /// ```
     #[tactic(auto, using(tinystr_words::proofs::Packing::packing))]
     pub fn validate_bytes(bytes: &[u8]) -> Result<(), UleError>
         requires { 0 < N }

@@ -35,7 +35,7 @@ pub enum TextCall {
 impl Command {
     ghost use Rattle.tinystr_run.specs.Words.{command_of};
 
-    /// The command that a word names, by its one spelling in lower case.
+    /// The command that a word names, by its one spelling in lowercase.
     #[tactic(auto, unfolding(crate::specs::Words::command_of))]
     pub fn parse(word: &[u8]) -> Option<Command>
         ensures { result ≡ command_of word.now }

@@ -136,7 +136,7 @@ impl<T: Word<LEN>, const LEN: usize> Aligned<T, LEN> {
         self.ask(Question::AlphabeticUppercase)
     }
 
-    /// The text with each letter in lower case, and then NULs.
+    /// The text with each letter in lowercase, and then NULs.
     #[inline(always)]
     pub fn to_ascii_lowercase(&self) -> [u8; LEN]
         ensures { result ≡ pad (lowercase self.now) LEN }
@@ -144,7 +144,7 @@ impl<T: Word<LEN>, const LEN: usize> Aligned<T, LEN> {
         self.in_case(Case::Lower)
     }
 
-    /// The text with its first byte, if it is a letter, in upper case and each later letter in lower case, and then NULs.
+    /// The text with its first byte, if it is a letter, in uppercase and each later letter in lowercase, and then NULs.
     #[inline(always)]
     pub fn to_ascii_titlecase(&self) -> [u8; LEN]
         ensures { result ≡ pad (titlecase self.now) LEN }
@@ -152,7 +152,7 @@ impl<T: Word<LEN>, const LEN: usize> Aligned<T, LEN> {
         self.in_case(Case::Title)
     }
 
-    /// The text with each letter in upper case, and then NULs.
+    /// The text with each letter in uppercase, and then NULs.
     #[inline(always)]
     pub fn to_ascii_uppercase(&self) -> [u8; LEN]
         ensures { result ≡ pad (uppercase self.now) LEN }

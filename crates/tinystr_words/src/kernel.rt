@@ -99,7 +99,7 @@ pub fn case_bits<T: Word<LEN>, const LEN: usize>(text: T, first: Range, others: 
         .quarter()
 }
 
-/// The text with the case bit set in each lane: its letters in lower case, and some of its other bytes changed.
+/// The text with the case bit set in each lane: its letters in lowercase, and some of its other bytes changed.
 #[inline]
 pub fn with_case_bits<T: Word<LEN>, const LEN: usize>(text: T) -> T
     requires { HoldsText LEN (T.number text) }

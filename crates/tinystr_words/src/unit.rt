@@ -10,9 +10,11 @@ use std::simd::prelude::*;
 pub trait Unit: Copy {
     ghost number: { Self → ℕ };
 
+    /// The unit as a number: 0 to 255 of a byte, else all 16 bits.
     fn code(self) -> u16
         ensures { result ≡ number self };
 
+    /// Whether it is from 1 to 127.
     fn is_character(self) -> bool
         ensures { IsTrue result ↔ IsTextByte (number self) };
 
@@ -20,7 +22,7 @@ pub trait Unit: Copy {
     fn low_byte(self) -> u8
         ensures { result ≡ number self % 256 };
 
-    /// The word of those of four units.
+    /// The word of the lowest eight bits of each of four units, the first lowest. There have to be four.
     fn word_of_four(units: &[Self]) -> u32
         requires { length units.now ≡ 4 }
         ensures { result ≡ word (map (λ unit. number unit % 256) units.now) };

@@ -101,7 +101,8 @@ fn read_all<U: Unit>(bytes: &mut [u8], units: &[U], replacement: u8) -> bool
     }
 }
 
-// Whether all units are characters. It never leaves early, so that the compiler can test a known number of them at once.
+// Whether all units are characters. It never leaves early, so that the compiler can test a known number of them at
+// once.
 #[inline(always)]
 fn is_text<U: Unit>(units: &[U]) -> bool
     ensures { IsTrue result ↔ IsText (map U.number units.now) }
@@ -113,8 +114,8 @@ fn is_text<U: Unit>(units: &[U]) -> bool
     is_text
 }
 
-// The low bytes of `N` units: of bytes one copy of a known length, which the compiler takes apart wherever a `Result` is
-// cut, so that none of them goes through memory.
+// The low bytes of `N` units: of bytes one copy of a known length, which the compiler takes apart wherever a `Result`
+// is cut, so that none of them goes through memory.
 #[inline(always)]
 fn low_bytes<U: Unit, const N: usize>(units: &[U]) -> [u8; N]
     requires { length units.now ≡ N }
