@@ -10,6 +10,7 @@ mod order;
 mod print;
 mod questions;
 mod readers;
+mod strict;
 mod views;
 
 use crate::error::ParseError;

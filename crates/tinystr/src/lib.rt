@@ -7,7 +7,6 @@ pub mod error;
 pub mod forms;
 pub mod laws;
 pub mod macros;
-mod padded;
 pub mod ule;
 pub mod unvalidated;
 

@@ -7,8 +7,8 @@ ghost use Rattle.tinystr.specs.Records.{RefusesRecords};
 
 use crate::ascii::TinyAsciiStr;
 use crate::error::ParseError;
-use crate::padded;
 use crate::unvalidated::UnvalidatedTinyAsciiStr;
+use tinystr_padded::padded;
 
 // How many records are asked together: enough that the compiler takes several at once, and few to search for a bad one.
 const BLOCK: usize = 64;

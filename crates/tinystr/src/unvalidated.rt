@@ -8,10 +8,10 @@ ghost use Rattle.tinystr.specs.Unvalidated.{debug_bytes};
 
 use crate::ascii::TinyAsciiStr;
 use crate::error::ParseError;
-use crate::padded::resize;
 use std::cmp::Ordering;
 use std::fmt;
 use std::marker::Model;
+use tinystr_padded::padded::resize;
 
 /// Any `N` bytes, which may or may not be a text and then NULs. Values are compared byte by byte.
 #[derive(Clone, Copy, PartialEq, Eq)]

@@ -14,3 +14,5 @@ pub mod word;
 
 pub use question::{Case, Question};
 pub use unit::Unit;
+#[doc(hidden)]
+pub use unit::are_characters;

@@ -81,16 +81,17 @@ impl Unit for u16 {
     }
 }
 
-// It never leaves early, so that the compiler can test a part of a known length at once.
+/// Whether all units are characters. It never leaves early, so that the compiler can test a known number of them at
+/// once.
 #[inline(always)]
-fn is_part_of_text<U: Unit>(part: &[U]) -> bool
-    ensures { IsTrue result ↔ IsText (map U.number part.now) }
+pub fn are_characters<U: Unit>(units: &[U]) -> bool
+    ensures { IsTrue result ↔ IsText (map U.number units.now) }
 {
-    let mut is_text = true;
-    for unit in part {
-        is_text &= unit.is_character();
+    let mut are_characters = true;
+    for unit in units {
+        are_characters &= unit.is_character();
     }
-    is_text
+    are_characters
 }
 
 // By the first and the last `count` units, which are all.
@@ -100,7 +101,7 @@ fn is_text_by_ends<U: Unit>(units: &[U], count: usize) -> bool
     requires most { length units.now ≤ 2 * count }
     ensures { IsTrue result ↔ IsText (map U.number units.now) }
 {
-    is_part_of_text(&units[..count]) & is_part_of_text(&units[units.len() - count..])
+    are_characters(&units[..count]) & are_characters(&units[units.len() - count..])
 }
 
 /// Whether at most sixteen units are a text.

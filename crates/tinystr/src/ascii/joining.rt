@@ -3,7 +3,7 @@
 ghost use Rattle.std.specs.Prelude.{◌≡◌, ◌++◌, ◌+◌, ◌≤◌, take};
 
 use crate::ascii::TinyAsciiStr;
-use crate::padded;
+use tinystr_padded::padded;
 
 impl<const N: usize> TinyAsciiStr<N> {
     /// The text at another capacity: its first `M` bytes where it is longer.

@@ -1,8 +1,8 @@
 //! Equality and order of values, which are those of their texts.
 
 use crate::ascii::TinyAsciiStr;
-use crate::padded;
 use std::cmp::Ordering;
+use tinystr_padded::padded;
 
 impl<const N: usize> PartialEq for TinyAsciiStr<N> {
     ghost use Rattle.std.proofs.Common.{rules};

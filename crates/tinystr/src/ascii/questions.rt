@@ -6,7 +6,7 @@ ghost use Rattle.tinystr_words.specs.Case.{lowercase, titlecase, uppercase};
 ghost use Rattle.tinystr_words.specs.Questions.{answer, in_case};
 
 use crate::ascii::TinyAsciiStr;
-use crate::padded;
+use tinystr_padded::padded;
 use tinystr_words::{Case, Question};
 
 impl<const N: usize> TinyAsciiStr<N> {

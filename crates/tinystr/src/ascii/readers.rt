@@ -5,9 +5,9 @@ ghost use Rattle.tinystr_words.specs.Text.{text_of, IsTextByte, IsStrictText, Is
 ghost use Rattle.tinystr_words.specs.Reading.{fault_in, lossy};
 ghost use Rattle.tinystr.specs.Error.{fault_of};
 
-use crate::ascii::TinyAsciiStr;
+use crate::ascii::{TinyAsciiStr, strict};
 use crate::error::ParseError;
-use crate::padded;
+use tinystr_padded::padded;
 use tinystr_words::Unit;
 
 impl<const N: usize> TinyAsciiStr<N> {
@@ -32,7 +32,7 @@ impl<const N: usize> TinyAsciiStr<N> {
         ensures text { IfOk result (λ t. t ≡ code_units.now) }
         ensures fault { IfErr result (λ e. fault_of e ≡ fault_in N code_units.now) }
     {
-        padded::read::<u8, N>(code_units)
+        strict::read::<u8, N>(code_units)
     }
 
     /// Reads at most `N` numbers of 16 bits, each from 1 to 127 and a character of its own. The errors are those of
@@ -43,7 +43,7 @@ impl<const N: usize> TinyAsciiStr<N> {
         ensures text { IfOk result (λ t. t ≡ code_units.now) }
         ensures fault { IfErr result (λ e. fault_of e ≡ fault_in N code_units.now) }
     {
-        padded::read::<u16, N>(code_units)
+        strict::read::<u16, N>(code_units)
     }
 
     /// Reads all `N` bytes: a text and then NULs.
@@ -61,7 +61,7 @@ impl<const N: usize> TinyAsciiStr<N> {
         ensures text { IfOk result (λ t. t ≡ text_of raw.entry) }
         ensures fault { IfErr result (λ e. fault_of e ≡ fault_in N raw.entry) }
     {
-        padded::read_padded(raw)
+        strict::read_padded(raw)
     }
 
     // The first units, with the replacement for each that is no character.

@@ -4,8 +4,8 @@ ghost use Rattle.std.specs.Prelude.{◌≡◌, ◌≤◌, [], length, ◌↔◌,
 ghost use Rattle.tinystr_words.specs.Text.{pad, text_of, IsText, IsPaddedText};
 
 use crate::ascii::TinyAsciiStr;
-use crate::padded;
 use std::convert::{AsSlice, AsStr};
+use tinystr_padded::padded;
 
 impl<const N: usize> TinyAsciiStr<N> {
     /// The length of the text in bytes.

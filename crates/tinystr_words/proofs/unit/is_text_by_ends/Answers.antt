@@ -12,5 +12,5 @@ returns g c =
     let back : map number (take (length units - (length units - count)) (drop (length units - count) units)) ≡ drop (length (map number units) - count) (map number units) =
     ap (map number) (take_all (length units - (length units - count)) (drop (length units - count) units) (omega (arith, length-drop (length units - count) units)))
     ∙ sym (drop-map number (length units - count) units) ∙ ap (λ n. drop (n - count) (map number units)) (sym long) in
-    tested_ends (map number units) count c.is_part_of_text.result c.is_part_of_text-2.result (omega arith) (omega arith)
-    (rw (← take-map number count units) at c.is_part_of_text.ensures) (rw back at c.is_part_of_text-2.ensures)
+    tested_ends (map number units) count c.are_characters.result c.are_characters-2.result (omega arith) (omega arith)
+    (rw (← take-map number count units) at c.are_characters.ensures) (rw back at c.are_characters-2.ensures)

@@ -1,6 +1,0 @@
-use Rattle.std.proofs.Common.{map}
-use Rattle.tinystr_words.proofs.Readers.{IsScanned}
-use Rattle.tinystr.proofs.padded.units.find_fault.Given as goal
-
-abbrev pub invariant-loop-unit : goal.invariant-loop-unit
-invariant-loop-unit g l = IsScanned (map g.U.Unit.number l.units) l.unit-index l.is_after_nul

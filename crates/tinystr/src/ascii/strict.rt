@@ -1,0 +1,119 @@
+//! The strict readers' way from units to a value, or to the first fault.
+
+ghost use Rattle.std.specs.Prelude.{◌≡◌, ◌↔◌, map, IsOk, IfOk, IfErr, option_map};
+ghost use Rattle.tinystr_words.specs.Text.{text_of, IsStrictText, IsPaddedText};
+ghost use Rattle.tinystr_words.specs.Reading.{first_fault, fault_in};
+ghost use Rattle.tinystr.specs.Error.{fault_of};
+
+use crate::ascii::TinyAsciiStr;
+use crate::error::ParseError;
+use tinystr_padded::padded::{self, Width, cut, width_of};
+use tinystr_words::int_ops::{Aligned8, Aligned16};
+use tinystr_words::{Unit, are_characters};
+
+/// The text of the units, or why there is none. The value is made where its bytes are: an array in an `Option` or a
+/// `Result` of its own would be moved once more.
+#[inline(always)]
+pub fn read<U: Unit, const N: usize>(units: &[U]) -> Result<TinyAsciiStr<N>, ParseError>
+    ensures accepted { IsOk result ↔ IsStrictText (map U.number units.now) N }
+    ensures text { IfOk result (λ t. t ≡ map U.number units.now) }
+    ensures fault { IfErr result (λ e. fault_of e ≡ fault_in N (map U.number units.now)) }
+{
+    if N > 16 && units.len() > 16 {
+        return read_parts(units);
+    }
+    if units.len() <= N {
+        match width_of(N) {
+            Width::Four | Width::Eight => {
+                if let Some(text) = Aligned8::try_from_text(units) {
+                    return Ok(TinyAsciiStr::from_utf8_unchecked(cut(&text.to_bytes())));
+                }
+            }
+            Width::Sixteen | Width::Many => {
+                if let Some(text) = Aligned16::try_from_text(units) {
+                    return Ok(TinyAsciiStr::from_utf8_unchecked(cut(&text.to_bytes())));
+                }
+            }
+        }
+    }
+    Err(fault::<U, N>(units))
+}
+
+/// The text of bytes, or why they aren't padded. The value is made where its bytes are, as in `read`.
+#[inline(always)]
+pub fn read_padded<const N: usize>(raw: [u8; N]) -> Result<TinyAsciiStr<N>, ParseError>
+    ensures accepted { IsOk result ↔ IsPaddedText raw.entry N }
+    ensures text { IfOk result (λ t. t ≡ text_of raw.entry) }
+    ensures fault { IfErr result (λ e. fault_of e ≡ fault_in N raw.entry) }
+{
+    match width_of(N) {
+        // the word's own bytes, since the array would be moved in pieces that fit no register
+        Width::Sixteen => {
+            if let Some(text) = Aligned16::try_from_part(&raw[..]) {
+                return Ok(TinyAsciiStr::from_utf8_unchecked(cut(&text.to_bytes())));
+            }
+        }
+        Width::Four | Width::Eight | Width::Many => {
+            if padded::is_padded(&raw) {
+                return Ok(TinyAsciiStr::from_utf8_unchecked(raw));
+            }
+        }
+    }
+    Err(fault::<u8, N>(&raw[..]))
+}
+
+// The text of the units, read by parts, or why there is none.
+#[inline(always)]
+fn read_parts<U: Unit, const N: usize>(units: &[U]) -> Result<TinyAsciiStr<N>, ParseError>
+    ensures accepted { IsOk result ↔ IsStrictText (map U.number units.now) N }
+    ensures text { IfOk result (λ t. t ≡ map U.number units.now) }
+    ensures fault { IfErr result (λ e. fault_of e ≡ fault_in N (map U.number units.now)) }
+{
+    if units.len() > N {
+        return Err(fault::<U, N>(units));
+    }
+    if units.len() == N {
+        if !are_characters(units) {
+            return Err(fault::<U, N>(units));
+        }
+        return Ok(TinyAsciiStr::from_utf8_unchecked(padded::low_bytes(units)));
+    }
+    let mut bytes = [0; N];
+    if padded::read_all(&mut bytes[..], units, 0) {
+        return Err(fault::<U, N>(units));
+    }
+    Ok(TinyAsciiStr::from_utf8_unchecked(bytes))
+}
+
+// The fault at the first position whose unit is above 127, or is a character after a NUL.
+fn find_fault<U: Unit>(units: &[U]) -> Option<ParseError>
+    ensures { option_map fault_of result ≡ first_fault (map U.number units.now) }
+{
+    let mut is_after_nul = false;
+    for unit in units {
+        let code = unit.code();
+        if code > 127 {
+            return Some(ParseError::NonAscii);
+        }
+        if code == 0 {
+            is_after_nul = true;
+        } else if is_after_nul {
+            return Some(ParseError::ContainsNull);
+        }
+    }
+    None
+}
+
+// Why there is no text of at most `N` units.
+#[inline(always)]
+fn fault<U: Unit, const N: usize>(units: &[U]) -> ParseError
+    ensures { fault_of result ≡ fault_in N (map U.number units.now) }
+{
+    if units.len() > N {
+        return ParseError::TooLong {
+            max: N,
+            len: units.len(),
+        };
+    }
+    find_fault(units).unwrap_or(ParseError::ContainsNull)
+}

@@ -1,0 +1,19 @@
+-- The words that take padded bytes, and such bytes cut after their first word.
+use Rattle.std.specs.Prelude.{◌≡◌, ◌<◌, ◌≤◌, ℕ, ◌+◌, List, length, take, drop}
+use Rattle.tinystr_words.specs.Text.{IsPadded, text_of}
+use Rattle.tinystr_padded.specs.declared.padded.Width.{Width}
+use Rattle.tinystr_padded.specs.declared.padded.Width.TheVariants.{Four, Eight, Sixteen, Many}
+
+-- one word holds n bytes, or none does
+abbrev pub IsWidthOf : Width → ℕ → Type 0
+IsWidthOf Four n = n ≤ 4
+IsWidthOf Eight n = n ≤ 8
+IsWidthOf Sixteen n = n ≤ 16
+IsWidthOf Many n = 16 < n
+
+-- the text of the first sixteen bytes, and the bytes after them
+pub record IsFirstWord (bytes word others : List ℕ) : Type 0 where
+  pub word_text : word ≡ take 16 (text_of bytes)
+  pub others_text : text_of others ≡ drop 16 (text_of bytes)
+  pub padded : IsPadded others
+  pub len : length others + 16 ≡ length bytes
