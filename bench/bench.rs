@@ -27,9 +27,8 @@ const CAPACITIES: [usize; 7] = [4, 8, 12, 16, 24, 32, 64];
 const OLDER_CAPACITIES: [usize; 3] = [4, 8, 16];
 const ROUNDS: usize = 100;
 
-const READ_BYTES_CAPACITIES: [usize; 4] = [4, 8, 16, 24];
-
-const RECORD_CAPACITIES: [usize; 5] = [3, 4, 8, 16, 24];
+/// Of packed records, and of bytes in front of others.
+const PACKED_CAPACITIES: [usize; 5] = [3, 4, 8, 16, 24];
 const RECORDS: usize = 1_000_000;
 
 /// A batch of texts of small letters at a capacity: each fills its array, or has any length from 1 on.
@@ -119,30 +118,30 @@ impl Bench {
                 ])
             };
         }
-        time!("`try_from_utf8`", read8(n, 0)(&given.units, &given.starts) -> (texts, codes), and older);
-        time!("`try_from_utf16`", read16(n, 0)(&given.wide, &given.starts) -> (texts, codes));
-        time!("`try_from_raw`", read8(n, 2)(&given.texts, &given.raw_starts) -> (texts, codes));
-        time!("`from_utf8_lossy`", read8(n, 1)(&given.units, &given.starts) -> (texts, codes));
-        time!("`cmp`", compare(n, 0)(&given.texts, &given.others) -> (marks), and older);
-        time!("`==`", compare(n, 1)(&given.texts, &given.others) -> (marks), and older);
-        time!("`len`", ask(n, 0)(&given.texts) -> (marks), and older);
-        time!("`is_ascii_alphabetic`", ask(n, 2)(&given.texts) -> (marks), and older, and by_hand);
-        time!("`is_ascii_alphanumeric`", ask(n, 3)(&given.texts) -> (marks), and older);
-        time!("`is_ascii_lowercase`", ask(n, 5)(&given.texts) -> (marks), and older, and by_hand);
-        time!("`to_ascii_lowercase`", change(n, 0)(&given.texts) -> (texts), and older, and by_hand);
-        time!("`to_ascii_titlecase`", change(n, 1)(&given.texts) -> (texts), and older);
-        time!("`to_ascii_uppercase`", change(n, 2)(&given.texts) -> (texts), and older);
-        time!("`new_unsigned_decimal`", decimal(n)(&given.numbers) -> (texts, marks));
-        time!("`resize` to 2 N", resize(n, 2 * n)(&given.texts) -> (texts));
-        time!("`resize` from N to 4", resize(n, 4)(&given.texts) -> (texts));
-        time!("`concat` to 2 N", concat(n, 2 * n)(&given.texts, &given.others) -> (texts));
-        time!("`concat` to N", concat(n, n)(&given.texts, &given.others) -> (texts));
+        time!("try_from_utf8", read8(n, 0)(&given.units, &given.starts) -> (texts, codes), and older);
+        time!("try_from_utf16", read16(n, 0)(&given.wide, &given.starts) -> (texts, codes));
+        time!("try_from_raw", read8(n, 2)(&given.texts, &given.raw_starts) -> (texts, codes));
+        time!("from_utf8_lossy", read8(n, 1)(&given.units, &given.starts) -> (texts, codes));
+        time!("cmp", compare(n, 0)(&given.texts, &given.others) -> (marks), and older);
+        time!("==", compare(n, 1)(&given.texts, &given.others) -> (marks), and older);
+        time!("len", ask(n, 0)(&given.texts) -> (marks), and older);
+        time!("is_ascii_alphabetic", ask(n, 2)(&given.texts) -> (marks), and older, and by_hand);
+        time!("is_ascii_alphanumeric", ask(n, 3)(&given.texts) -> (marks), and older);
+        time!("is_ascii_lowercase", ask(n, 5)(&given.texts) -> (marks), and older, and by_hand);
+        time!("to_ascii_lowercase", change(n, 0)(&given.texts) -> (texts), and older, and by_hand);
+        time!("to_ascii_titlecase", change(n, 1)(&given.texts) -> (texts), and older);
+        time!("to_ascii_uppercase", change(n, 2)(&given.texts) -> (texts), and older);
+        time!("new_unsigned_decimal", decimal(n)(&given.numbers) -> (texts, marks));
+        time!("resize to 2N", resize(n, 2 * n)(&given.texts) -> (texts));
+        time!("resize from N to 4", resize(n, 4)(&given.texts) -> (texts));
+        time!("concat to 2N", concat(n, 2 * n)(&given.texts, &given.others) -> (texts));
+        time!("concat to N", concat(n, n)(&given.texts, &given.others) -> (texts));
     }
 
     fn time_read_bytes(&mut self, table: &mut Table, random: &mut Random) {
-        for n in READ_BYTES_CAPACITIES {
+        for n in PACKED_CAPACITIES {
             let given = Batch::random(random, n, false);
-            self.time(table, &format!("`read_bytes` at {n}"), &[
+            self.time(table, "read_bytes", &[
                 contender!(Here, ours read_bytes (n) (&given.texts) (texts)),
                 contender!(There, original read_bytes (n) (&given.texts) (texts)),
             ]);
@@ -152,11 +151,11 @@ impl Bench {
     /// Of each record.
     fn time_records(&mut self, table: &mut Table, random: &mut Random) {
         for (kind, is_full) in [("full", true), ("mixed", false)] {
-            for n in RECORD_CAPACITIES {
-                let call = format!("`validate_bytes` of {kind} records of {n}");
-                if !self.wants(&call) {
-                    continue;
-                }
+            let call = format!("validate_bytes, {kind}");
+            if !self.wants(&call) {
+                continue;
+            }
+            for n in PACKED_CAPACITIES {
                 let bytes = packed(random, n, is_full);
                 macro_rules! contender {
                     ($whose:ident, $from:ident) => {
@@ -200,6 +199,6 @@ fn main() {
     let mut others = Table::default();
     bench.time_read_bytes(&mut others, &mut random);
     bench.time_records(&mut others, &mut random);
-    others.print_times("Other calls");
+    others.print("Bytes in front of others, and packed records", &PACKED_CAPACITIES.map(|n| n.to_string()), has_times);
     bench.timer.print();
 }

@@ -21,30 +21,12 @@ impl Table {
         if self.rows.is_empty() {
             return;
         }
-        print_head(title, columns);
-        for (call, figures) in &self.rows {
-            let cells: Vec<String> = figures
-                .iter()
-                .map(|(a, b)| if has_times { format!("{a:.2} / {b:.2}") } else { format!("{:.2}", a / b) })
-                .collect();
-            println!("| {call} | {} |", cells.join(" | "));
-        }
-        let means: Vec<String> = (0..columns.len()).map(|k| format!("{:.2}", self.mean_of_column(k))).collect();
-        println!("| geometric mean | {} |", means.join(" | "));
-        println!("\nGeometric mean of all: {:.2}", mean(self.rows.iter().flat_map(|row| &row.1)));
-    }
-
-    /// Prints the first figure of each row as both times and their ratio.
-    pub fn print_times(&self, title: &str) {
-        if self.rows.is_empty() {
-            return;
-        }
-        print_head(title, &["ns here", "ns there", "ratio"].map(str::to_string));
-        for (call, figures) in &self.rows {
-            let (a, b) = figures[0];
-            println!("| {call} | {a:.2} | {b:.2} | {:.2} |", a / b);
-        }
-        println!("\nGeometric mean of all: {:.2}", mean(self.rows.iter().map(|row| &row.1[0])));
+        let cell = |&(a, b): &(f64, f64)| if has_times { format!("{a:.2} / {b:.2}") } else { format!("{:.2}", a / b) };
+        let mut lines = vec![line("call", columns.iter().cloned())];
+        lines.extend(self.rows.iter().map(|(call, figures)| line(call, figures.iter().map(cell))));
+        lines.push(line("geometric mean", (0..columns.len()).map(|k| format!("{:.2}", self.mean_of_column(k)))));
+        println!("\n{title}\n\n{}", aligned(&lines));
+        println!("Geometric mean of all: {:.2}", mean(self.rows.iter().flat_map(|row| &row.1)));
     }
 
     fn mean_of_column(&self, k: usize) -> f64 {
@@ -52,9 +34,22 @@ impl Table {
     }
 }
 
-fn print_head(title: &str, columns: &[String]) {
-    println!("\n{title}\n\n| call | {} |", columns.join(" | "));
-    println!("|---|{}", "---|".repeat(columns.len()));
+fn line(call: &str, cells: impl Iterator<Item = String>) -> Vec<String> {
+    std::iter::once(call.to_string()).chain(cells).collect()
+}
+
+/// The lines with their cells in columns, the calls from the left and the figures from the right.
+fn aligned(lines: &[Vec<String>]) -> String {
+    let width = |k: usize| lines.iter().filter_map(|line| line.get(k)).map(String::len).max().unwrap_or(0);
+    let mut text = String::new();
+    for line in lines {
+        text += &format!("{:<1$}", line[0], width(0));
+        for (k, cell) in line.iter().enumerate().skip(1) {
+            text += &format!("  {cell:>0$}", width(k));
+        }
+        text.push('\n');
+    }
+    text
 }
 
 fn mean<'a>(figures: impl Iterator<Item = &'a (f64, f64)>) -> f64 {
