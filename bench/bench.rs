@@ -133,7 +133,7 @@ impl Bench {
         time!("to_ascii_uppercase", change(n, 2)(&given.texts) -> (texts), and older);
         time!("new_unsigned_decimal", decimal(n)(&given.numbers) -> (texts, marks));
         time!("resize to 2N", resize(n, 2 * n)(&given.texts) -> (texts));
-        time!("resize from N to 4", resize(n, 4)(&given.texts) -> (texts));
+        time!("resize to 4", resize(n, 4)(&given.texts) -> (texts));
         time!("concat to 2N", concat(n, 2 * n)(&given.texts, &given.others) -> (texts));
         time!("concat to N", concat(n, n)(&given.texts, &given.others) -> (texts));
     }
