@@ -1,7 +1,9 @@
-//! Times the calls beside the original crate's, beside tinystr 0.3.2 where it is installed, and beside vectors written
-//! by hand: nanoseconds a value, the least of many turns. Prints tables of ratios.
+//! Times the calls beside the original crate's, beside tinystr 0.3.2 and unic-langid where they are installed, and
+//! beside vectors written by hand: nanoseconds a value, the least of many turns. Prints tables of ratios.
 
 mod by_hand;
+#[cfg(has_locale)]
+mod locale;
 mod machine;
 #[cfg(has_older)]
 mod older;
@@ -17,6 +19,8 @@ mod random;
 mod table;
 mod times;
 
+#[cfg(has_locale)]
+use locale::Lists;
 use original::COUNT;
 use random::Random;
 use std::hint::black_box;
@@ -148,6 +152,27 @@ impl Bench {
         }
     }
 
+    /// Beside unic-langid, which stands where the original does.
+    #[cfg(has_locale)]
+    fn time_identifiers(&mut self, table: &mut Table, random: &mut Random) {
+        if !self.wants("identifier") {
+            return;
+        }
+        let mut time = |call: String, lists: &Lists, rounds| {
+            let times = self.timer.time(&call, lists.len(), rounds, &[
+                (Whose::Here, &|rounds, answers| lists.read(ours::lang_ids, rounds, &mut answers.marks)),
+                (Whose::There, &|rounds, answers| lists.read(locale::lang_ids, rounds, &mut answers.marks)),
+            ]);
+            table.add(&call, times.of(Whose::Here), times.of(Whose::There));
+        };
+        for text in ["en", "en-US", "zh-Hant-TW"] {
+            time(format!("identifier `{text}`"), &Lists::same(text), ROUNDS);
+        }
+        let lists = Lists::mixed(random);
+        let identifiers = lists.read_alike();
+        time(format!("{} lists, {identifiers} of them identifiers", lists.len()), &lists, 1);
+    }
+
     /// Of each record.
     fn time_records(&mut self, table: &mut Table, random: &mut Random) {
         for (kind, is_full) in [("full", true), ("mixed", false)] {
@@ -200,5 +225,11 @@ fn main() {
     bench.time_read_bytes(&mut others, &mut random);
     bench.time_records(&mut others, &mut random);
     others.print("Bytes in front of others, and packed records", &PACKED_CAPACITIES.map(|n| n.to_string()), has_times);
+    #[cfg(has_locale)]
+    {
+        let mut identifiers = Table::default();
+        bench.time_identifiers(&mut identifiers, &mut random);
+        identifiers.print("Language identifiers", &["ratio".to_string()], has_times);
+    }
     bench.timer.print();
 }

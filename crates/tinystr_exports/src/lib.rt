@@ -8,12 +8,14 @@ mod batch;
 mod calls;
 mod capacities;
 mod cuts;
+mod lang_ids;
 mod printing;
 mod readers;
 mod records;
 
 use calls::{ask_batch, change_batch, compare_batch};
 use cuts::{concat_batch, resize_batch};
+use lang_ids::lang_id_batch;
 use printing::print_batch;
 use readers::{decimal_batch, front_batch, read8_batch, read16_batch};
 use records::records_found;
@@ -179,4 +181,16 @@ pub extern "C" fn tinystr_exports_records(
     found: &mut [u32],
 ) -> bool {
     crate::at_few_capacities!(capacity, records_found, bytes, found)
+}
+
+/// Each list of bytes as a language identifier: its canonical text at capacity 17, or a number for its error.
+#[unsafe(no_mangle)]
+pub extern "C" fn tinystr_exports_lang_ids(
+    rounds: usize,
+    units: &[u8],
+    starts: &[u32],
+    texts: &mut [u8],
+    faults: &mut [u8],
+) -> bool {
+    lang_id_batch(rounds, units, starts, texts, faults)
 }

@@ -1,0 +1,37 @@
+//! Batches of language identifiers read.
+
+use crate::batch::{COUNT, write_numbers, write_texts};
+use subtags::{LangId, LangIdError};
+use tinystr::TinyAsciiStr;
+
+/// Writes the canonical text of each identifier, and 0, or else a number for its error.
+pub fn lang_id_batch(
+    rounds: usize,
+    units: &[u8],
+    starts: &[u32],
+    texts: &mut [u8],
+    faults: &mut [u8],
+) -> bool {
+    let mut made = [TinyAsciiStr::<17>::default(); COUNT];
+    let mut codes = [0; COUNT];
+    let count = starts.len().saturating_sub(1).min(COUNT);
+    for _ in 0..rounds {
+        for i in 0..count {
+            let range = starts[i] as usize..starts[i + 1] as usize;
+            let Some(list) = units.get(range) else {
+                break;
+            };
+            match LangId::try_from_utf8(list) {
+                Ok(id) => {
+                    made[i] = id.to_text();
+                    codes[i] = 0;
+                }
+                Err(LangIdError::InvalidLanguage) => codes[i] = 1,
+                Err(LangIdError::InvalidSubtag) => codes[i] = 2,
+            }
+        }
+    }
+    write_texts(&made, texts);
+    write_numbers(&codes, faults);
+    true
+}
