@@ -1,23 +1,23 @@
 -- Parts, joined to an identifier.
-use Rattle.std.proofs.Common.{◌≡◌, ℕ, List, [], ◌∷◌, ◌++◌, take, Option, None, Some, Ok, true, refl, sym, ap, ◌∙◌, append-nil, arith}
+use Rattle.std.proofs.Common.{◌≡◌, ◌+◌, ◌≤◌, ℕ, length, List, [], ◌∷◌, ◌++◌, take, Option, None, Some, Ok, true, refl, sym, ap, ◌∙◌, append-nil, arith}
 use Rattle.std.specs.Option.{IfSome}
 use Rattle.std.specs.List.{list_all}
-use Rattle.std.proofs.lemmas.List.{map-append, take_all}
+use Rattle.std.proofs.lemmas.List.{length-append, map-append, take_all}
 use Rattle.tinystr_words.specs.Classes.{is_alphanumeric}
 use Rattle.tinystr_words.specs.Case.{lowercase, titlecase, uppercase}
 use Rattle.subtags.specs.Grammar.{dash, fold_byte, fold_text, parts, is_language, is_script, is_region, IsCanonical}
 use Rattle.subtags.specs.Parts.{IsCanonicalPart, language_of, script_of, region_of, after_dash, join_parts}
 use Rattle.subtags.specs.FromFront.{parts_behind, leading_script, behind_script, last_region}
-use Rattle.subtags.proofs.FoldLemmas.{folded_twice, alphanumeric_alike, language_text, language_plain, script_plain, region_plain}
+use Rattle.subtags.proofs.FoldLemmas.{folded_twice, alphanumeric_alike, language_plain, script_plain, region_plain}
 use Rattle.subtags.proofs.CutLemmas.{parts_plain, parts_before, script_first, no_script_first, one_last_region}
 use Rattle.subtags.proofs.CanonLemmas.{region_no_script}
 use Rattle.subtags.proofs.ReadLemmas.{all_read, parts_read}
 
--- a language alone is all of the joined text
-pub language_alone : (l : List ℕ) (s r : Option (List ℕ)) → is_language l ≡ true → s ≡ None → r ≡ None → take 17 l ≡ join_parts l s r
-language_alone l s r h no_script no_region =
-    let fits = (language_text l h).fits in
-    rw (no_script, no_region) (take_all 17 l (omega arith) ∙ sym (append-nil l))
+-- of two texts that have at most 16 bytes together nothing is cut
+pub joined_whole : (l t : List ℕ) → length l + length t ≤ 16 → take 17 (take 16 (l ++ t)) ≡ l ++ t
+joined_whole l t h =
+    let len = length-append l t in
+    ap (λ u. take 17 u) (take_all 16 (l ++ t) (omega arith)) ∙ take_all 17 (l ++ t) (omega arith)
 
 -- letters and digits, folded, are letters and digits
 folded_plain : (p : List ℕ) → list_all is_alphanumeric p ≡ true → list_all is_alphanumeric (fold_text p) ≡ true

@@ -1,10 +1,10 @@
 //! Language identifiers.
 
-ghost use Rattle.std.specs.Prelude.{◌≡◌, ◌+◌, ◌≤◌, Some, IsOk, IfOk, IfErr, IfSome, ◌↔◌};
+ghost use Rattle.std.specs.Prelude.{◌≡◌, ◌+◌, ◌≤◌, ◌∷◌, Some, IsOk, IfOk, IfErr, IfSome, ◌↔◌};
 ghost use Rattle.std.specs.Fmt.{debug_str, styled_text};
 ghost use Rattle.tinystr_words.specs.Case.{lowercase, titlecase, uppercase};
-ghost use Rattle.subtags.specs.Grammar.{fold_text, is_language, is_script, is_region, IsLangId, IsCanonical, canonical_text};
-ghost use Rattle.subtags.specs.Parts.{IsCanonicalPart, language_of, script_of, region_of, after_dash, join_parts};
+ghost use Rattle.subtags.specs.Grammar.{dash, fold_text, is_language, is_script, is_region, IsLangId, IsCanonical, canonical_text};
+ghost use Rattle.subtags.specs.Parts.{IsCanonicalPart, language_of, script_of, region_of, join_parts};
 ghost use Rattle.subtags.specs.Answers.{refusal_of, IsLangIdRead};
 
 use crate::cut::{cut, last_region, take_script};
@@ -178,8 +178,8 @@ impl fmt::Debug for LangId {
     }
 }
 
-// The parts, joined by dashes; and that they are canonical, each by its invariant. What stands behind the language is
-// joined first, in words, and a language alone isn't joined.
+// The parts, joined by dashes; and that they are canonical, each by its invariant. The language and one part behind it
+// fit into one word.
 #[inline]
 fn join_parts(
     language: Language,
@@ -192,27 +192,33 @@ fn join_parts(
     ensures region { IfSome region (IsCanonicalPart is_region uppercase) }
 {
     let language = language.to_text();
-    if script.is_none() && region.is_none() {
-        return language.resize();
+    match (script, region) {
+        (None, None) => language.resize(),
+        (Some(script), None) => language.concat::<5, 16>(after_dash(script)).resize(),
+        (None, Some(region)) => language.concat::<4, 16>(after_dash(region)).resize(),
+        (Some(script), Some(region)) => join_three(language, script, region),
     }
-    let script: TinyAsciiStr<5> = after_dash(script);
-    let region: TinyAsciiStr<4> = after_dash(region);
-    language.concat(script.concat::<4, 9>(region))
 }
 
-// A dash and the part, or nothing.
+// The same of all three, in one word where they fit into it.
 #[inline]
-fn after_dash<K: Kind<M>, const M: usize, const N: usize>(
-    part: Option<Part<K, M>>,
-) -> TinyAsciiStr<N>
-    requires { 1 + M ≤ N }
-    ensures { result ≡ after_dash part }
+fn join_three(language: TinyAsciiStr<8>, script: Script, region: Region) -> TinyAsciiStr<17>
+    ensures { result ≡ join_parts language (Some script) (Some region) }
 {
-    match part {
-        Some(part) => {
-            let dash = tinystr!(1, "-").unwrap();
-            dash.concat(part.to_text())
-        }
-        None => TinyAsciiStr::<N>::default(),
+    let script: TinyAsciiStr<5> = after_dash(script);
+    let tail = script.concat::<4, 9>(after_dash(region));
+    if language.len() + tail.len() <= 16 {
+        return language.concat::<9, 16>(tail).resize();
     }
+    language.concat(tail)
+}
+
+// A dash and the part.
+#[inline]
+fn after_dash<K: Kind<M>, const M: usize, const N: usize>(part: Part<K, M>) -> TinyAsciiStr<N>
+    requires { 1 + M ≤ N }
+    ensures { result ≡ dash ∷ part }
+{
+    let dash = tinystr!(1, "-").unwrap();
+    dash.concat(part.to_text())
 }

@@ -1,7 +1,7 @@
-//! The calls of `tinystr` for programs in other languages: each export answers one call for a batch of values, at a
-//! capacity and for a call that are given by number, and tells whether it knows both. Texts cross as arrays of
-//! capacity bytes each, one after another. It serves to compare and to measure, so each batch is answered as many
-//! times over as is asked.
+//! The calls of `tinystr`, and the reader of `subtags`, for programs in other languages: each export answers one call
+//! for a batch of values, at a capacity and for a call that are given by number, and tells whether it knows both. Texts
+//! cross as arrays of capacity bytes each, one after another. It serves to compare and to measure, so each batch is
+//! answered as many times over as is asked.
 #![tactic(auto)]
 
 mod batch;

@@ -1,0 +1,9 @@
+use Rattle.std.proofs.Common.{arith}
+use Rattle.std.proofs.lemmas.Grind.{common_steps}
+use Rattle.subtags.proofs.JoinLemmas.{joined_whole}
+use Rattle.subtags.proofs.lang_id.join_three.Goals as goal
+
+pub returns-then-len-le16 : goal.returns-then-len-le16
+returns-then-len-le16 c =
+    let whole = joined_whole c.args.language c.concat-tail.result (grind (arith, common_steps)) in
+    grind (arith, common_steps)
