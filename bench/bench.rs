@@ -166,11 +166,11 @@ impl Bench {
             table.add(&call, times.of(Whose::Here), times.of(Whose::There));
         };
         for text in ["en", "en-US", "zh-Hant-TW"] {
-            time(format!("identifier `{text}`"), &Lists::same(text), ROUNDS);
+            time(text.to_string(), &Lists::same(text), ROUNDS);
         }
         let lists = Lists::mixed(random);
-        let identifiers = lists.read_alike();
-        time(format!("{} lists, {identifiers} of them identifiers", lists.len()), &lists, 1);
+        println!("Lists near the grammar: {}, of them identifiers: {}", lists.len(), lists.read_alike());
+        time("near the grammar".to_string(), &lists, 1);
     }
 
     /// Of each record.
