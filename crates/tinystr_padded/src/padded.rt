@@ -110,6 +110,7 @@ pub fn equals<const N: usize>(left: &[u8; N], right: &[u8; N]) -> bool
     match width_of(N) {
         Width::Four => Aligned4::from_ascii_bytes(left).equals(&Aligned4::from_ascii_bytes(right)),
         Width::Eight => Aligned8::from_ascii_bytes(left).equals(&Aligned8::from_ascii_bytes(right)),
+        Width::Sixteen if N == 16 => order::sixteen_equal(&left[..], &right[..]),
         Width::Sixteen => Aligned16::from_ascii_bytes(left).equals(&Aligned16::from_ascii_bytes(
             right,
         )),
