@@ -1,4 +1,5 @@
--- Padded bytes by the word that holds them.
+-- Padded bytes by the word that holds them. The name `Padded` is the module's, and the kit takes none that differs in
+-- case alone.
 use Rattle.std.proofs.Common.{List, ap, ap₂, arith, inl, inr, length, min, sym, take, ℕ, ◌++◌, ◌∙◌, ◌≡◌, ◌≤◌}
 use Rattle.std.proofs.lemmas.List.{length-take, take-take, take_all}
 use Rattle.std.proofs.lemmas.Bool.{cases_lt}
