@@ -200,14 +200,14 @@ fn join_parts(
     }
 }
 
-// The same of all three, in one word where they fit into it.
+// The same of all three, which fit into one word unless the language has 8 letters.
 #[inline]
 fn join_three(language: TinyAsciiStr<8>, script: Script, region: Region) -> TinyAsciiStr<17>
     ensures { result ≡ join_parts language (Some script) (Some region) }
 {
     let script: TinyAsciiStr<5> = after_dash(script);
     let tail = script.concat::<4, 9>(after_dash(region));
-    if language.len() + tail.len() <= 16 {
+    if language.len() < 8 {
         return language.concat::<9, 16>(tail).resize();
     }
     language.concat(tail)

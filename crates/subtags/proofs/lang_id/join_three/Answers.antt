@@ -3,7 +3,7 @@ use Rattle.std.proofs.lemmas.Grind.{common_steps}
 use Rattle.subtags.proofs.JoinLemmas.{joined_whole}
 use Rattle.subtags.proofs.lang_id.join_three.Goals as goal
 
-pub returns-then-len-le16 : goal.returns-then-len-le16
-returns-then-len-le16 c =
+pub returns-then-len-lt8 : goal.returns-then-len-lt8
+returns-then-len-lt8 c =
     let whole = joined_whole c.args.language c.concat-tail.result (grind (arith, common_steps)) in
     grind (arith, common_steps)
