@@ -4,11 +4,11 @@ use Rattle.tinystr_words.specs.Text.{IsPadded, text_of}
 use Rattle.tinystr_padded.specs.declared.padded.Width.{Width}
 use Rattle.tinystr_padded.specs.declared.padded.Width.TheVariants.{Four, Eight, Sixteen, Many}
 
--- one word holds n bytes, or none does
+-- the narrowest word that holds n bytes, or none
 abbrev pub IsWidthOf : Width → ℕ → Type 0
 IsWidthOf Four n = n ≤ 4
-IsWidthOf Eight n = n ≤ 8
-IsWidthOf Sixteen n = n ≤ 16
+IsWidthOf Eight n = (4 < n) × (n ≤ 8)
+IsWidthOf Sixteen n = (8 < n) × (n ≤ 16)
 IsWidthOf Many n = 16 < n
 
 -- the text of the first sixteen bytes, and the bytes after them
