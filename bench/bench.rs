@@ -159,6 +159,7 @@ impl Bench {
             return;
         }
         let mut time = |call: String, lists: &Lists, rounds| {
+            lists.read_alike();
             let times = self.timer.time(&call, lists.len(), rounds, &[
                 (Whose::Here, &|rounds, answers| lists.read(ours::lang_ids, rounds, &mut answers.marks)),
                 (Whose::There, &|rounds, answers| lists.read(locale::lang_ids, rounds, &mut answers.marks)),
