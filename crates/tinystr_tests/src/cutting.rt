@@ -31,6 +31,9 @@ fn two_texts_are_joined_and_cut(rt: HostRuntime) -> Result<(), Fail> {
     assert!(rt; is_text(front.concat::<6, 6>(back), "abcdef"));
     assert!(rt; is_text(front.concat::<6, 2>(back), "ab"));
     assert!(rt; is_text(front.resize::<8>().concat::<6, 17>(back), "abcdefg"));
+    let long = TinyAsciiStr::<12>::try_from_str("abcdefghij")?;
+    assert!(rt; is_text(long.concat::<12, 24>(long), "abcdefghijabcdefghij"));
+    assert!(rt; is_text(long.concat::<12, 18>(long), "abcdefghijabcdefgh"));
     Ok(())
 }
 

@@ -1,6 +1,6 @@
 //! Texts in one word each, asked and changed by a few sums over the whole word.
 
-ghost use Rattle.std.specs.Prelude.{◌≡◌, ◌<◌, ◌≤◌, ◌++◌, length, map, take, MatchOption, IsTrue, ◌↔◌};
+ghost use Rattle.std.specs.Prelude.{◌≡◌, ◌<◌, ◌≤◌, ◌++◌, length, map, take, drop, MatchOption, IsTrue, ◌↔◌};
 ghost use Rattle.std.specs.Fmt.{decimal};
 ghost use Rattle.std.specs.Str.{bytes_eq};
 ghost use Rattle.tinystr_words.specs.Text.{IsText, IsPaddedText, IsPadded, pad, text_of};
@@ -320,5 +320,33 @@ impl Aligned<u128, 16> {
         Aligned {
             word: decimal_word(limit + number % limit).next_lanes(),
         }
+    }
+
+    /// What `join` cuts off of both texts.
+    #[inline(always)]
+    fn join_rest(&self, other: &Self) -> Self
+        ensures { result ≡ drop 16 (self.now ++ other.now) }
+    {
+        let (front, back) = (self.word, other.word);
+        let len = front.text_len();
+        if len == 0 {
+            return Aligned { word: 0 };
+        }
+        Aligned {
+            word: back >> (8 * (16 - len)),
+        }
+    }
+
+    /// The text and then all of another, and NULs. Both words are made in registers: a text stored at a place known only
+    /// when the program runs would be waited for.
+    #[inline(always)]
+    pub fn join_whole(&self, other: &Self) -> [u8; 32]
+        ensures padded { IsPaddedText result 32 }
+        ensures text { text_of result ≡ self.now ++ other.now }
+    {
+        let mut bytes = [0; 32];
+        bytes[..16].copy_from_slice(&self.join(other).to_bytes_in_memory());
+        bytes[16..].copy_from_slice(&self.join_rest(other).to_bytes_in_memory());
+        bytes
     }
 }
