@@ -1,11 +1,9 @@
 -- Cutting.
-use Rattle.std.proofs.Common.{◌≡◌, ℕ, ◌+◌, ◌<◌, ◌≤◌, Bool, true, false, cond, ◌==◌, ◌||◌, List, [], ◌∷◌, ◌++◌, map, length, take, drop, Option, Some, None, Ok, Err, Bor, refl, sym, ap, ◌∙◌, arith}
-use Rattle.std.specs.Option.{option_copied}
-use Rattle.std.specs.Slice.{IsGetRangeResult}
+use Rattle.std.proofs.Common.{◌≡◌, ℕ, ◌+◌, ◌<◌, ◌≤◌, Bool, true, false, cond, ◌==◌, ◌||◌, List, [], ◌∷◌, ◌++◌, map, length, take, drop, Some, None, Ok, Err, refl, sym, ap, ◌∙◌, arith}
 use Rattle.std.specs.List.{All, list_all, slice_split, onto_first, position, slice_index, position_or_len, join_with_byte}
 use Rattle.std.proofs.lemmas.Bool.Decides.{nat_tests}
 use Rattle.std.proofs.Math.Seq.{drop-cons}
-use Rattle.std.proofs.lemmas.List.{take_all, take_rest, take-append-drop, length-take}
+use Rattle.std.proofs.lemmas.List.{take_all, take-append-drop, length-take}
 use Rattle.std.proofs.lemmas.List.Quantifiers.{position-Some}
 use Rattle.std.proofs.lemmas.List.Splits.{slice_split_first, slice_split_none, slice_split_at, length-slice_split, join_with_byte-slice_split}
 use Rattle.std.proofs.lemmas.List.Sums.{fails_before_first}
@@ -13,7 +11,7 @@ use Rattle.tinystr_words.specs.Classes.{is_alphanumeric}
 use Rattle.tinystr_words.specs.Case.{titlecase, uppercase}
 use Rattle.subtags.specs.declared.error.LangIdError.TheVariants.{InvalidSubtag}
 use Rattle.subtags.specs.Grammar.{dash, is_separator, fold_byte, fold_text, parts, is_script, is_region}
-use Rattle.subtags.specs.FromFront.{parts_behind, ends_at_four, leading_script, behind_script, last_region}
+use Rattle.subtags.specs.FromFront.{behind, parts_behind, ends_at_four, leading_script, behind_script, last_region}
 use Rattle.subtags.proofs.FoldLemmas.{all_from_test, folded_twice, is_script_alike, is_region_alike, script_plain, region_plain, titlecase-fold_text, uppercase-fold_text}
 
 -- to put a byte onto the first part and change all is to change all and then put the changed byte there
@@ -75,19 +73,8 @@ no_script_first p ps qs e h =
     let also : is_script (fold_text p) ≡ false = is_script_alike (fold_text p) p (folded_twice p) ∙ h in
     (rw e (rw also), rw e (rw also))
 
--- what stands behind 4 bytes and a byte more, if that is there
-abbrev pub behind_four : List ℕ → Option (List ℕ)
-behind_four u = cond (4 == length u) None (Some (drop 5 u))
-
--- that is what a look behind the fifth byte gives
-pub got_behind_four : (u : List ℕ) (r : Option (Bor (List ℕ))) → IsGetRangeResult u 5 (length u) r → 4 ≤ length u → option_copied r ≡ behind_four u
-got_behind_four u None got le = let four : length u ≡ 4 = grind (arith, nat_tests) in rw four refl
-got_behind_four u (Some x) got le =
-    let past : (4 == length u) ≡ false = grind (arith, nat_tests) in
-    rw past (ap (λ t. Some t) (got.0.2 ∙ take_rest u 5))
-
 -- a script in front that can be a part is the first part
-pub script_in_front : (u : List ℕ) → ends_at_four u ≡ true → is_script (take 4 u) ≡ true → 4 ≤ length u → parts (fold_text u) ≡ fold_text (take 4 u) ∷ parts_behind (behind_four u)
+pub script_in_front : (u : List ℕ) → ends_at_four u ≡ true → is_script (take 4 u) ≡ true → 4 ≤ length u → parts (fold_text u) ≡ fold_text (take 4 u) ∷ parts_behind (behind 4 u)
 script_in_front u ends h le =
     let plain = script_plain (take 4 u) h in
     elim (4 == length u) as (λ b. (4 == length u) ≡ b → parts (fold_text u) ≡ fold_text (take 4 u) ∷ parts_behind (cond b None (Some (drop 5 u)))) [

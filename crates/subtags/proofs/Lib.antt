@@ -3,3 +3,4 @@ pub mod CutLemmas
 pub mod CanonLemmas
 pub mod ReadLemmas
 pub mod JoinLemmas
+pub mod PlaceLemmas

@@ -1,5 +1,5 @@
 -- How an input is read from the front. Only private functions speak of it.
-use Rattle.std.specs.Prelude.{ℕ, ◌==◌, Bool, ◌||◌, if◌then◌else◌, List, [], ◌∷◌, length, Option, None, Some, Result, Ok, Err}
+use Rattle.std.specs.Prelude.{ℕ, ◌+◌, ◌==◌, nat_lt, Bool, ◌||◌, if◌then◌else◌, List, [], ◌∷◌, length, drop, Option, None, Some, Result, Ok, Err}
 use Rattle.std.specs.List.{slice_index}
 use Rattle.tinystr_words.specs.Case.{titlecase, uppercase}
 use Rattle.subtags.specs.declared.error.LangIdError.{LangIdError}
@@ -10,6 +10,14 @@ use Rattle.subtags.specs.Grammar.{is_separator, fold_text, parts, is_script, is_
 abbrev pub parts_behind : Option (List ℕ) → List (List ℕ)
 parts_behind None = []
 parts_behind (Some u) = parts (fold_text u)
+
+-- what stands behind the first n bytes and a separator, if anything stands behind them
+abbrev pub behind : ℕ → List ℕ → Option (List ℕ)
+behind n u = if n == length u then None else Some (drop (n + 1) u)
+
+-- what stands behind a script and a separator, or all, where there is no room for a script
+abbrev pub past_script : List ℕ → Option (List ℕ)
+past_script u = if nat_lt (length u) 4 then Some u else behind 4 u
 
 -- whether 4 bytes in front can be a part: nothing stands behind them, or a separator. Past the end a byte counts as 0
 abbrev pub ends_at_four : List ℕ → Bool

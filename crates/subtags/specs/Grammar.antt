@@ -27,9 +27,13 @@ fold_text u = map fold_byte u
 abbrev pub parts : List ℕ → List (List ℕ)
 parts u = slice_split (λ b. b == dash) u
 
--- 2, 3 or 5 to 8 letters
+-- 2, 3 or 5 to 8
+abbrev pub is_language_length : ℕ → Bool
+is_language_length n = n == 2 || n == 3 || is_in_range 5 8 n
+
+-- that many letters
 abbrev pub is_language : List ℕ → Bool
-is_language p = list_all is_alphabetic p && (length p == 2 || length p == 3 || is_in_range 5 8 (length p))
+is_language p = list_all is_alphabetic p && is_language_length (length p)
 
 -- 4 letters
 abbrev pub is_script : List ℕ → Bool

@@ -1,9 +1,9 @@
 //! An input, cut at its separators and read from the front.
 
-ghost use Rattle.std.specs.Prelude.{◌≡◌, ◌∷◌, position};
+ghost use Rattle.std.specs.Prelude.{◌≡◌, ◌∷◌, length, take, position};
 ghost use Rattle.std.specs.Option.{option_copied};
 ghost use Rattle.subtags.specs.Grammar.{is_separator, fold_text, parts};
-ghost use Rattle.subtags.specs.FromFront.{parts_behind, ends_at_four, leading_script, behind_script, last_region};
+ghost use Rattle.subtags.specs.FromFront.{behind, past_script, parts_behind, ends_at_four, leading_script, behind_script, last_region};
 
 use crate::error::LangIdError;
 use crate::region::Region;
@@ -26,8 +26,10 @@ fn separator_at(units: &[u8]) -> Option<usize>
 /// The part before the first separator, and what stands behind that separator.
 #[inline]
 pub fn cut(units: &[u8]) -> (&[u8], Option<&[u8]>)
-    ensures { parts (fold_text units.now)
+    ensures parts { parts (fold_text units.now)
         ≡ fold_text result.0.now ∷ parts_behind (option_copied result.1) }
+    ensures front { result.0.now ≡ take (length result.0.now) units.now }
+    ensures behind { option_copied result.1 ≡ behind (length result.0.now) units.now }
 {
     match separator_at(units) {
         Some(at) => (&units[..at], Some(&units[at + 1..])),
@@ -41,6 +43,18 @@ fn ends_at_four(units: &[u8]) -> bool
     ensures { result ≡ ends_at_four units.now }
 {
     units.len() == 4 || units.len() > 4 && is_separator(units[4])
+}
+
+/// What stands behind a script and a separator, or all, where there is no room for a script.
+#[inline]
+pub fn past_script(units: &[u8]) -> Option<&[u8]>
+    ensures { option_copied result ≡ past_script units.now }
+{
+    if units.len() < 4 {
+        Some(units)
+    } else {
+        units.get(5..)
+    }
 }
 
 /// Takes the first part off, where it is a script.
@@ -57,7 +71,7 @@ pub fn take_script(rest: Option<&[u8]>) -> (Option<Script>, Option<&[u8]>)
         return (None, rest);
     }
     match Script::try_from_utf8(&units[..4]) {
-        Some(script) => (Some(script), units.get(5..)),
+        Some(script) => (Some(script), past_script(units)),
         None => (None, rest),
     }
 }

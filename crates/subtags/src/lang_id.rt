@@ -1,13 +1,13 @@
 //! Language identifiers.
 
-ghost use Rattle.std.specs.Prelude.{◌≡◌, ◌+◌, ◌≤◌, ◌∷◌, Some, IsOk, IfOk, IfErr, IfSome, ◌↔◌};
+ghost use Rattle.std.specs.Prelude.{◌≡◌, ◌+◌, ◌≤◌, ◌∷◌, take, Some, IsTrue, IsOk, IfOk, IfErr, IfSome, ◌↔◌};
 ghost use Rattle.std.specs.Fmt.{debug_str, styled_text};
 ghost use Rattle.tinystr_words.specs.Case.{lowercase, titlecase, uppercase};
-ghost use Rattle.subtags.specs.Grammar.{dash, fold_text, is_language, is_script, is_region, IsLangId, IsCanonical, canonical_text};
+ghost use Rattle.subtags.specs.Grammar.{dash, fold_text, is_language, is_language_length, is_script, is_region, IsLangId, IsCanonical, canonical_text};
 ghost use Rattle.subtags.specs.Parts.{IsCanonicalPart, language_of, script_of, region_of, join_parts};
 ghost use Rattle.subtags.specs.Answers.{refusal_of, IsLangIdRead};
 
-use crate::cut::{cut, last_region, take_script};
+use crate::cut::{cut, last_region, past_script, take_script};
 use crate::error::LangIdError;
 use crate::language::Language;
 use crate::part::{Kind, Part};
@@ -94,29 +94,34 @@ impl LangId {
     }
 
     /// The language, which each identifier has.
+    #[inline]
     pub fn language(&self) -> Language
         ensures { result ≡ language_of self.now }
     {
         let (first, _) = cut(self.text.as_utf8());
-        Language::try_from_utf8(first).unwrap()
+        Language::from_canonical(front(self.text, first.len()))
     }
 
     /// The script, if the identifier has one.
+    #[inline]
     pub fn script(&self) -> Option<Script>
         ensures { result ≡ script_of self.now }
     {
         let (_, rest) = cut(self.text.as_utf8());
-        let (script, _) = take_script(rest);
-        script
+        let script = rest?.first_chunk::<4>()?;
+        let text = TinyAsciiStr::try_from_utf8(script).unwrap();
+        Some(Script::from_canonical(text))
     }
 
     /// The region, if the identifier has one.
+    #[inline]
     pub fn region(&self) -> Option<Region>
         ensures { result ≡ region_of self.now }
     {
         let (_, rest) = cut(self.text.as_utf8());
-        let (_, rest) = take_script(rest);
-        last_region(rest).unwrap()
+        let region = past_script(rest?)?;
+        let text = TinyAsciiStr::try_from_utf8(region).unwrap();
+        Some(Region::from_canonical(text))
     }
 }
 
@@ -175,6 +180,22 @@ impl fmt::Debug for LangId {
 
     fn fmt<W: fmt::Write>(&self, f: &mut fmt::Formatter<W>) -> fmt::Result {
         fmt::Debug::fmt(&self.text, f)
+    }
+}
+
+// The first bytes of a text, as many as a language has: each number of them in a copy of known length.
+#[inline]
+fn front(text: TinyAsciiStr<17>, len: usize) -> TinyAsciiStr<8>
+    requires { IsTrue (is_language_length len) }
+    ensures { result ≡ take len text }
+{
+    match len {
+        2 => text.resize::<2>().resize(),
+        3 => text.resize::<3>().resize(),
+        5 => text.resize::<5>().resize(),
+        6 => text.resize::<6>().resize(),
+        7 => text.resize::<7>().resize(),
+        _ => text.resize(),
     }
 }
 

@@ -65,6 +65,18 @@ impl<K: Kind<N>, const N: usize> Part<K, N> {
         })
     }
 
+    /// The part of a text that has to be canonical. Nothing is tested when it runs.
+    #[inline]
+    pub(crate) fn from_canonical(text: TinyAsciiStr<N>) -> Self
+        requires { IsCanonicalPart K.has_form K.in_case text }
+        ensures { result ≡ text.entry }
+    {
+        Part {
+            text,
+            kind: PhantomData,
+        }
+    }
+
     /// The text: of a language in lowercase, of a script in titlecase, of a region in uppercase.
     #[inline]
     pub fn as_str(&self) -> &str

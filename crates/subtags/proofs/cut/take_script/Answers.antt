@@ -1,7 +1,7 @@
-use Rattle.std.proofs.Common.{sym, arith}
+use Rattle.std.proofs.Common.{◌≡◌, nat_lt, false, length, sym, arith}
 use Rattle.std.proofs.lemmas.Grind.{common_steps}
 use Rattle.std.proofs.lemmas.Bool.{false_from_ne_true}
-use Rattle.subtags.proofs.CutLemmas.{got_behind_four, script_in_front, script_first, no_script_in_front}
+use Rattle.subtags.proofs.CutLemmas.{script_in_front, script_first, no_script_in_front}
 use Rattle.subtags.proofs.cut.take_script.Goals as goal
 
 pub returns-then-not-ends_at_four-clause-script : goal.returns-then-not-ends_at_four-clause-script
@@ -23,8 +23,8 @@ pub returns-in-Some-try_from_utf8-clause-rest : goal.returns-in-Some-try_from_ut
 returns-in-Some-try_from_utf8-clause-rest c =
     let u = c.in-Some.units.now in
     let cut = script_in_front u (grind (arith, common_steps)) (grind (arith, common_steps)) (grind (arith, common_steps)) in
-    let behind = got_behind_four u _ c.get.ensures.lookup (grind (arith, common_steps)) in
-    rw (behind, c.in-Some.is) (sym (script_first _ _ _ cut (grind (arith, common_steps))).1)
+    let long : nat_lt (length u) 4 ≡ false = grind (arith, common_steps) in
+    rw (rw long at c.past_script.ensures, c.in-Some.is) (sym (script_first _ _ _ cut (grind (arith, common_steps))).1)
 
 pub returns-in-None-clause-script : goal.returns-in-None-clause-script
 returns-in-None-clause-script c =
