@@ -3,8 +3,8 @@
 mod failures;
 mod lines;
 
-use crate::engine::{RunError, run};
 use std::alloc::Global;
+use tinystr_lines::engine::{RunError, run};
 
 const INPUT: &[u8] =
     b"4 upper tEsT\n8 alphanumeric New York\n4 text abcde\n9 alphabetic_lowercase\n7 len a\n4 shout a\n\n";

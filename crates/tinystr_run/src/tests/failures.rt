@@ -3,10 +3,10 @@
 ghost use Rattle.std.specs.Prelude.{Some};
 
 use super::{INPUT, OUTPUT};
-use crate::engine::{RunError, run};
 use std::alloc::Global;
 use std::io::{self, ErrorKind, Read, Write};
 use std::test::Fail;
+use tinystr_lines::engine::{RunError, run};
 
 // The kinds of error that a caller may take for passing, and another.
 const KINDS: [ErrorKind; 3] = [

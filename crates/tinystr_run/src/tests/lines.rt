@@ -1,10 +1,10 @@
 //! Each line and its reply.
 
 use super::{INPUT, OUTPUT, output};
-use crate::engine::RunError;
 use std::alloc::{AllocError, Global};
 use std::process::Abort;
 use std::test::Fail;
+use tinystr_lines::engine::RunError;
 
 // Whether what stands before the row's first tab gets what stands after it.
 fn is_answered(alloc: Global, row: &[u8]) -> Result<bool, RunError> {

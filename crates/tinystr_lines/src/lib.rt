@@ -1,0 +1,7 @@
+//! Lines answered: what the line program does with its input.
+#![tactic(auto)]
+
+mod command;
+mod cut;
+pub mod engine;
+mod reply;
