@@ -59,7 +59,7 @@ impl<const N: usize> TinyAsciiStr<N> {
         ensures fault { IfErr result (λ e. RefusesJson e (view value.now) N) }
     {
         let text = value.as_str().ok_or(JsonReadError::NotText)?;
-        Self::try_from_str(text).map_err(|_| JsonReadError::InvalidText)
+        Self::try_from_str(text).or(Err(JsonReadError::InvalidText))
     }
 
     /// All `N` bytes: the text and then NULs.
@@ -101,9 +101,7 @@ impl<const N: usize> UnvalidatedTinyAsciiStr<N> {
         ensures value { IfOk result (λ value. view value ≡ json_form (text_of self.now)) }
         ensures fault { IfErr result (λ e. RefusesWrite e self.now N) }
     {
-        let text = self
-            .try_into_tinystr()
-            .map_err(|_| FormWriteError::NotAscii)?;
+        let text = self.try_into_tinystr().or(Err(FormWriteError::NotAscii))?;
         text.to_json(alloc).map_err(FormWriteError::Memory)
     }
 

@@ -1,6 +1,7 @@
 //! The commands of a line, and the words that name them.
 
 ghost use Rattle.std.specs.Prelude.{◌≡◌};
+ghost use Rattle.tinystr_lines.specs.Words.{question_of, case_of, call_of};
 
 use self::Command::{Locale, Lossy, OnText, Records};
 use self::TextCall::{Ask, Change, Len, Text};
@@ -32,6 +33,70 @@ pub enum TextCall {
     Change(Case),
 }
 
+// The question that a word names.
+#[tactic(auto, unfolding(crate::specs::Words::question_of))]
+fn question_of(word: &[u8]) -> Option<Question>
+    ensures { result ≡ question_of word.now }
+{
+    let question = if word == b"alphabetic".as_slice() {
+        Question::Alphabetic
+    } else if word == b"alphanumeric".as_slice() {
+        Question::Alphanumeric
+    } else if word == b"numeric".as_slice() {
+        Question::Numeric
+    } else if word == b"lowercase".as_slice() {
+        Question::Lowercase
+    } else if word == b"titlecase".as_slice() {
+        Question::Titlecase
+    } else if word == b"uppercase".as_slice() {
+        Question::Uppercase
+    } else if word == b"alphabetic_lowercase".as_slice() {
+        Question::AlphabeticLowercase
+    } else if word == b"alphabetic_titlecase".as_slice() {
+        Question::AlphabeticTitlecase
+    } else if word == b"alphabetic_uppercase".as_slice() {
+        Question::AlphabeticUppercase
+    } else {
+        return None;
+    };
+    Some(question)
+}
+
+// The case that a word names.
+#[tactic(auto, unfolding(crate::specs::Words::case_of))]
+fn case_of(word: &[u8]) -> Option<Case>
+    ensures { result ≡ case_of word.now }
+{
+    let case = if word == b"lower".as_slice() {
+        Case::Lower
+    } else if word == b"title".as_slice() {
+        Case::Title
+    } else if word == b"upper".as_slice() {
+        Case::Upper
+    } else {
+        return None;
+    };
+    Some(case)
+}
+
+// The call that a word names.
+#[tactic(auto, unfolding(crate::specs::Words::call_of))]
+fn call_of(word: &[u8]) -> Option<TextCall>
+    ensures { result ≡ call_of word.now }
+{
+    if word == b"text".as_slice() {
+        Some(Text)
+    } else if word == b"len".as_slice() {
+        Some(Len)
+    } else if let Some(question) = question_of(word) {
+        Some(Ask(question))
+    } else if let Some(case) = case_of(word) {
+        Some(Change(case))
+    } else {
+        None
+    }
+}
+
 impl Command {
     ghost use Rattle.tinystr_lines.specs.Words.{command_of};
 
@@ -40,43 +105,16 @@ impl Command {
     pub fn parse(word: &[u8]) -> Option<Command>
         ensures { result ≡ command_of word.now }
     {
-        let command = if word == b"text".as_slice() {
-            OnText(Text)
-        } else if word == b"len".as_slice() {
-            OnText(Len)
-        } else if word == b"alphabetic".as_slice() {
-            OnText(Ask(Question::Alphabetic))
-        } else if word == b"alphanumeric".as_slice() {
-            OnText(Ask(Question::Alphanumeric))
-        } else if word == b"numeric".as_slice() {
-            OnText(Ask(Question::Numeric))
-        } else if word == b"lowercase".as_slice() {
-            OnText(Ask(Question::Lowercase))
-        } else if word == b"titlecase".as_slice() {
-            OnText(Ask(Question::Titlecase))
-        } else if word == b"uppercase".as_slice() {
-            OnText(Ask(Question::Uppercase))
-        } else if word == b"alphabetic_lowercase".as_slice() {
-            OnText(Ask(Question::AlphabeticLowercase))
-        } else if word == b"alphabetic_titlecase".as_slice() {
-            OnText(Ask(Question::AlphabeticTitlecase))
-        } else if word == b"alphabetic_uppercase".as_slice() {
-            OnText(Ask(Question::AlphabeticUppercase))
-        } else if word == b"lower".as_slice() {
-            OnText(Change(Case::Lower))
-        } else if word == b"title".as_slice() {
-            OnText(Change(Case::Title))
-        } else if word == b"upper".as_slice() {
-            OnText(Change(Case::Upper))
+        if let Some(call) = call_of(word) {
+            Some(OnText(call))
         } else if word == b"lossy".as_slice() {
-            Lossy
+            Some(Lossy)
         } else if word == b"records".as_slice() {
-            Records
+            Some(Records)
         } else if word == b"locale".as_slice() {
-            Locale
+            Some(Locale)
         } else {
-            return None;
-        };
-        Some(command)
+            None
+        }
     }
 }

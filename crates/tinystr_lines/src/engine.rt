@@ -43,7 +43,7 @@ fn read_input<R: Read>(alloc: Global, reader: &mut R) -> Result<Vec<u8>, RunErro
     let mut input = Vec::new(alloc);
     let mut piece = [0u8; PIECE];
     loop {
-        let count = reader.read(&mut piece).map_err(|_| RunError::Read)?;
+        let count = reader.read(&mut piece).or(Err(RunError::Read))?;
         if count == 0 {
             return Ok(input);
         }
@@ -89,7 +89,7 @@ fn write_output<W: Write>(writer: &mut W, output: &[u8]) -> Result<(), RunError>
             _ => return Err(RunError::Write),
         }
     }
-    writer.flush().map_err(|_| RunError::Write)
+    writer.flush().or(Err(RunError::Write))
 }
 
 /// Reads the reader to its end, and writes the replies to the lines read, each followed by a line feed. A read or

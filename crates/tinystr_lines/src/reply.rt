@@ -31,7 +31,7 @@ fn push_number(out: &mut Vec<u8>, number: usize) -> Result<(), AllocError>
     {
         return push_text(out, digits);
     }
-    write!(out, "{number}").map_err(|_| AllocError)
+    write!(out, "{number}").or(Err(AllocError))
 }
 
 fn push_truth(out: &mut Vec<u8>, truth: bool) -> Result<(), AllocError>
@@ -91,19 +91,19 @@ fn push_call_reply<const N: usize>(
 fn push_count(out: &mut Vec<u8>, count: usize) -> Result<(), AllocError>
     ensures { OnOk result (out.new.items ≡ out.old.items ++ (codes "ok " ++ decimal count)) }
 {
-    write!(out, "ok {count}").map_err(|_| AllocError)
+    write!(out, "ok {count}").or(Err(AllocError))
 }
 
 fn push_bad_length(out: &mut Vec<u8>, len: usize) -> Result<(), AllocError>
     ensures { OnOk result (out.new.items ≡ out.old.items ++ (codes "bad length " ++ decimal len)) }
 {
-    write!(out, "bad length {len}").map_err(|_| AllocError)
+    write!(out, "bad length {len}").or(Err(AllocError))
 }
 
 fn push_bad_index(out: &mut Vec<u8>, index: usize) -> Result<(), AllocError>
     ensures { OnOk result (out.new.items ≡ out.old.items ++ bad_index_text index) }
 {
-    write!(out, "bad record {index} ").map_err(|_| AllocError)
+    write!(out, "bad record {index} ").or(Err(AllocError))
 }
 
 fn push_bad_record(out: &mut Vec<u8>, index: usize, fault: ParseError) -> Result<(), AllocError>
@@ -137,7 +137,7 @@ fn push_locale_reply(out: &mut Vec<u8>, units: &[u8]) -> Result<(), AllocError>
 {
     match LangId::try_from_utf8(units) {
         Ok(id) => push_text(out, id.to_text()),
-        Err(error) => write!(out, "{error}").map_err(|_| AllocError),
+        Err(error) => write!(out, "{error}").or(Err(AllocError)),
     }
 }
 
