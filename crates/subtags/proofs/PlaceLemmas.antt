@@ -67,6 +67,7 @@ pub record HasTail (s r : Option (List ℕ)) (u : List ℕ) : Type 0 where
   pub region : r ≡ past_script u
   pub canonical : (p : List ℕ) → r ≡ Some p → IsCanonicalPart is_region uppercase p
 
+-- of a script and a region, each canonical, what they are joined to
 has_tail : (s r : Option (List ℕ)) (u : List ℕ) → tail_text s r ≡ Some u → ((t : List ℕ) → s ≡ Some t → IsCanonicalPart is_script titlecase t)
     → ((t : List ℕ) → r ≡ Some t → IsCanonicalPart is_region uppercase t) → HasTail s r u
 has_tail None None u e script region = absurd (grind arith)
@@ -114,6 +115,7 @@ tail_of t p ps h cut front =
     ap₂ (λ (q u : List ℕ). behind (length q) u) (language_in_place t p ps h cut front).0 (join_parts-IsCanonical t h)
     ∙ tail_behind (language_of t) (script_of t) (region_of t)
 
+-- of a canonical text that has something behind its language p
 pub tail_in_place : (t p u : List ℕ) (ps : List (List ℕ)) → IsCanonical t → parts (fold_text t) ≡ fold_text p ∷ ps → p ≡ take (length p) t
     → behind (length p) t ≡ Some u → HasTail (script_of t) (region_of t) u
 tail_in_place t p u ps h cut front e =
@@ -122,6 +124,7 @@ tail_in_place t p u ps h cut front e =
     (λ s is. script_canonical ps s (read.2 ∙ is))
     (λ r is. region_canonical (behind_script ps) r (read.3 ∙ ap (λ (o : Option (List ℕ)). Ok o) is))
 
+-- and of one that has nothing there
 pub no_tail_in_place : (t p : List ℕ) (ps : List (List ℕ)) → IsCanonical t → parts (fold_text t) ≡ fold_text p ∷ ps → p ≡ take (length p) t
     → behind (length p) t ≡ None → (script_of t ≡ None) × (region_of t ≡ None)
 no_tail_in_place t p ps h cut front e = none (script_of t) (region_of t) (sym (tail_of t p ps h cut front) ∙ e)

@@ -1,6 +1,6 @@
 //! Language identifiers: a language, and behind it a script, a region, both or nothing, as `en`, `es-419` and
-//! `zh-Hant-TW`. They are read in any case, with `-` or `_` between the parts. A value is its canonical text and takes
-//! no memory. Nothing is looked up in a registry.
+//! `zh-Hant-TW`. They are read in any case, with `-` or `_` between the parts. A value is its canonical text, and
+//! nothing allocates. Nothing is looked up in a registry.
 #![tactic(auto)]
 
 mod cut;

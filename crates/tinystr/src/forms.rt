@@ -89,7 +89,7 @@ impl<const N: usize> TinyAsciiStr<N> {
                 return Ok((text, rest));
             }
         }
-        Err(find_byte_fault(input, N).unwrap_or(BytesReadError::Length { expected: N }))
+        Err(find_byte_fault(input, N).unwrap())
     }
 }
 

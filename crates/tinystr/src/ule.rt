@@ -75,7 +75,7 @@ impl<const N: usize> TinyAsciiStr<N> {
 }
 
 impl<const N: usize> UnvalidatedTinyAsciiStr<N> {
-    /// Whether the bytes are records of `N` bytes, whatever these are.
+    /// Whether the bytes are records of `N` bytes, whatever these are. `N` has to be above 0. The error is `Length`.
     pub fn validate_bytes(bytes: &[u8]) -> Result<(), UleError>
         requires { 0 < N }
         ensures accepted { IsOk result ↔ (length bytes.now % N ≡ 0) }

@@ -92,8 +92,9 @@ fn write_output<W: Write>(writer: &mut W, output: &[u8]) -> Result<(), RunError>
     writer.flush().or(Err(RunError::Write))
 }
 
-/// Reads the reader to its end, and writes the replies to the lines read, each followed by a line feed. A read or
-/// a write that was interrupted has failed, and isn't tried again.
+/// Reads the reader to its end, then writes the replies to the lines read, each followed by a line feed, and flushes.
+/// Memory of `alloc` holds the whole input and all replies. A read or a write that was interrupted has failed, and isn't
+/// tried again.
 pub fn run<R: Read, W: Write>(alloc: Global, r: &mut R, w: &mut W) -> Result<(), RunError>
     // It reads to the end before it writes.
     ensures ended { OnOk result (IsAtEnd (R.remaining r.new)) }

@@ -1,4 +1,4 @@
-//! Padded bytes of any length: a text and then NULs. `width_of` alone chooses the words that take them.
+//! Padded bytes of any length: a text and then NULs. `width_of` tells the narrowest words that take them.
 
 ghost use Rattle.std.specs.Prelude.{◌≡◌, ◌≤◌, ◌++◌, ◌↔◌, length, take, All, IsTrue, IsOk, IfOk, IfErr};
 ghost use Rattle.std.specs.Fmt.{decimal};

@@ -46,7 +46,7 @@ impl<T: Word<LEN>, const LEN: usize> Model for Aligned<T, LEN> {
 }
 
 impl<T: Word<LEN>, const LEN: usize> Aligned<T, LEN> {
-    /// Takes the text of an array, which may have NULs behind it.
+    /// Takes the text of an array of at most `LEN` bytes, which have to be a text and then NULs.
     #[inline(always)]
     pub fn from_ascii_bytes<const N: usize>(src: &[u8; N]) -> Self
         requires fits { N ≤ LEN }
@@ -161,9 +161,9 @@ impl<T: Word<LEN>, const LEN: usize> Aligned<T, LEN> {
     }
 }
 
-// What stands from here on is there for `tinystr`, which reads, joins and compares its values by words.
+// What stands from here on is there for `tinystr_padded` and for the strict readers of `tinystr`.
 impl<T: Word<LEN>, const LEN: usize> Aligned<T, LEN> {
-    /// Takes the text of a part of a longer array.
+    /// Takes the text of at most `LEN` bytes, which have to be a text and then NULs.
     #[inline(always)]
     pub fn from_part(part: &[u8]) -> Self
         requires fits { length part.now ≤ LEN }
@@ -175,7 +175,7 @@ impl<T: Word<LEN>, const LEN: usize> Aligned<T, LEN> {
         }
     }
 
-    /// Takes the text of a part, if it is a text and then NULs.
+    /// Takes the text of at most `LEN` bytes, if they are a text and then NULs.
     #[inline(always)]
     pub fn try_from_part(part: &[u8]) -> Option<Self>
         requires fits { length part.now ≤ LEN }
@@ -190,7 +190,7 @@ impl<T: Word<LEN>, const LEN: usize> Aligned<T, LEN> {
         }
     }
 
-    /// Takes units that are a text, with no NUL.
+    /// Takes at most `LEN` units, if they are a text, with no NUL.
     #[inline(always)]
     pub fn try_from_text<U: Unit>(units: &[U]) -> Option<Self>
         requires fits { length units.now ≤ LEN }
@@ -216,7 +216,7 @@ impl<T: Word<LEN>, const LEN: usize> Aligned<T, LEN> {
         self.word.to_bytes_in_registers()
     }
 
-    /// The same bytes for an array in memory, which may also be made of others.
+    /// The same bytes, for a caller that stores them: those of a word of sixteen are made in halves.
     #[inline(always)]
     pub fn to_bytes_in_memory(&self) -> [u8; LEN]
         ensures padded { IsPaddedText result LEN }

@@ -196,7 +196,7 @@ impl Word<8> for u64 {
         u64::from(low) + (u64::from(high >> (8 * (8 - len))) << 32)
     }
 
-    // One more bit, below all, keeps the processor's count from a test for 0.
+    // One more bit, below all, keeps the processor's count from a test for 0. There is room, since no byte is above 0x7f.
     #[inline]
     fn text_len(self) -> usize {
         let bits = 63 - u64::leading_zeros(2 * self + 1) as usize;

@@ -10,5 +10,3 @@ pub mod packed;
 pub mod preconditions;
 pub mod round_trip;
 pub mod script_code;
-#[cfg(test)]
-mod tests;

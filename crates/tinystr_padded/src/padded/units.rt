@@ -81,6 +81,7 @@ pub fn read_all<U: Unit>(bytes: &mut [u8], units: &[U], replacement: u8) -> bool
     ensures read { IsReadPart result bytes.old bytes.new (map U.number units.now) replacement 0 (length units.now) }
     ensures len { length bytes.new ≡ length bytes.old }
 {
+    // The room is known when the program is built: no code is left of what it has no place for.
     let room = bytes.len();
     let len = units.len();
     if room >= 32 && len >= 32 {

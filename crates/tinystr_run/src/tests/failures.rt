@@ -198,25 +198,3 @@ fn a_failed_write_or_flush_leaves_a_beginning(rt: HostRuntime) {
         }
     }
 }
-
-// For `rt try --test --fail-alloc N`, which refuses the growth N: then nothing is written and the answer is `Memory`.
-// It prints whether a growth was refused.
-#[test]
-fn a_refused_growth_writes_nothing(rt: HostRuntime) -> Result<(), Fail> {
-    let mut room = [0u8; OUTPUT.len()];
-    let mut rest = &mut room[..];
-    let outcome = run(rt.alloc(), &mut &INPUT[..], &mut rest);
-    let left = rest.len();
-    match outcome {
-        Err(RunError::Memory) => {
-            assert_eq!(rt; left, OUTPUT.len());
-            println!(rt; "run refused")?;
-        }
-        outcome => {
-            outcome?;
-            assert_eq!(rt; &room[..], OUTPUT);
-            println!(rt; "run given")?;
-        }
-    }
-    Ok(())
-}

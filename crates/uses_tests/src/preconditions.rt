@@ -1,6 +1,6 @@
 //! Calls whose preconditions are met by literals and by tests.
 
-use crate::preconditions::{english, is_packed, latin, with_question_marks, with_replacement};
+use uses::preconditions::{english, is_packed, latin, with_question_marks, with_replacement};
 
 #[test]
 fn literals_are_what_is_written(rt: HostRuntime) {

@@ -1,10 +1,10 @@
 //! Packed records.
 
-use crate::packed::sorted::SortedTable;
-use crate::packed::{Table, pack, through, unpack};
 use std::alloc::Global;
 use tinystr::ule::UleError;
 use tinystr::{ParseError, TinyAsciiStr};
+use uses::packed::sorted::SortedTable;
+use uses::packed::{Table, pack, through, unpack};
 
 #[test]
 fn records_are_read_in_place(rt: HostRuntime) {
@@ -105,6 +105,26 @@ fn is_unpacked_and_packed(alloc: Global, file: &[u8]) -> bool {
         },
         Err(_) => false,
     }
+}
+
+#[test]
+fn an_iterator_tells_how_many_texts_are_left(rt: HostRuntime) {
+    for file in ["", "Latn", "Latnab\0\0Cyrl"] {
+        assert!(rt; counts_down(file.as_bytes()), "{file}");
+    }
+}
+
+fn counts_down(file: &[u8]) -> bool {
+    let Ok(table) = Table::<4>::new(file) else {
+        return false;
+    };
+    let len = table.len();
+    let mut texts = table.iter();
+    let mut is_exact = texts.size_hint() == (len, Some(len));
+    for left in (0..len).rev() {
+        is_exact = is_exact && texts.next().is_some() && texts.size_hint() == (left, Some(left));
+    }
+    is_exact
 }
 
 #[test]

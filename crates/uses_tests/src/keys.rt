@@ -1,10 +1,10 @@
 //! A set of keys.
 
-use crate::keys::{KeyError, Keys, add_key, has_key};
 use std::alloc::AllocError;
 use std::collections::HashSet;
 use std::test::Fail;
 use tinystr::ParseError;
+use uses::keys::{KeyError, Keys, add_key, has_key};
 
 #[test]
 fn keys_are_asked_by_text(rt: HostRuntime) {

@@ -1,8 +1,8 @@
 //! A table of currencies.
 
-use crate::currency::{Places, places_of, set_places};
 use std::collections::BTreeMap;
 use tinystr::TinyAsciiStr;
+use uses::currency::{Places, places_of, set_places};
 
 #[test]
 fn decimal_places_are_looked_up_by_code(rt: HostRuntime) {

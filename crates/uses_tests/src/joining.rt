@@ -1,7 +1,7 @@
 //! Texts made of others and of numbers.
 
-use crate::joining::{join_by_dash, year};
 use tinystr::TinyAsciiStr;
+use uses::joining::{join_by_dash, year};
 
 #[test]
 fn two_texts_are_joined_by_a_dash(rt: HostRuntime) {

@@ -1,11 +1,11 @@
 //! Locales, in any spelling.
 
-use crate::locale::{Pages, in_region, is_same_locale, page_of, read_id, tag_list};
 use std::collections::BTreeMap;
 use std::convert::AsStr;
 use std::test::Fail;
 use subtags::{LangId, Language, Region};
 use tinystr::TinyStr8;
+use uses::locale::{Pages, in_region, is_same_locale, page_of, read_id, tag_list};
 
 #[test]
 fn a_locale_is_one_in_any_spelling(rt: HostRuntime) -> Result<(), Fail> {

@@ -1,11 +1,11 @@
 //! Texts, through their bytes and back.
 
-use crate::round_trip::{
+use std::test::Fail;
+use tinystr::{TinyAsciiStr, TinyStr8};
+use uses::round_trip::{
     nth_through_form, nth_through_raw, nth_through_unvalidated, through_form, through_raw,
     through_unvalidated,
 };
-use std::test::Fail;
-use tinystr::{TinyAsciiStr, TinyStr8};
 
 #[test]
 fn texts_come_back_from_their_bytes(rt: HostRuntime) -> Result<(), Fail> {

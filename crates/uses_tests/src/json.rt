@@ -1,10 +1,10 @@
 //! Keys in JSON.
 
-use crate::json::{id_of, through_json};
 use serde_json::Value;
 use std::alloc::Global;
 use tinystr::TinyStr8;
 use tinystr::forms::JsonReadError;
+use uses::json::{id_of, through_json};
 
 #[test]
 fn keys_are_found_in_json(rt: HostRuntime) {

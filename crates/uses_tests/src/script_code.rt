@@ -1,6 +1,6 @@
 //! Script codes.
 
-use crate::script_code::is_script_code;
+use uses::script_code::is_script_code;
 
 #[test]
 fn script_codes_are_asked_as_words(rt: HostRuntime) {

@@ -1,0 +1,8 @@
+//! The tests that `scripts/checks/refused-memory` runs with each growth refused in turn. Each prints what it met. They
+//! stand apart, since every such run compiles their crate anew.
+#![tactic(auto)]
+
+#[cfg(test)]
+mod forms;
+#[cfg(test)]
+mod run;

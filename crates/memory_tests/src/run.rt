@@ -1,0 +1,29 @@
+//! `run` writes nothing where memory is refused.
+
+use std::test::Fail;
+use tinystr_lines::engine::{RunError, run};
+
+const INPUT: &[u8] =
+    b"4 upper tEsT\n8 alphanumeric New York\n4 text abcde\n9 alphabetic_lowercase\n7 len a\n4 shout a\n\n";
+
+const OUTPUT: &[u8] = b"TEST\nfalse\ntoo long 5 > 4\ntrue\nbad capacity\nbad command\nbad line\n";
+
+#[test]
+fn a_refused_growth_writes_nothing(rt: HostRuntime) -> Result<(), Fail> {
+    let mut room = [0u8; OUTPUT.len()];
+    let mut rest = &mut room[..];
+    let outcome = run(rt.alloc(), &mut &INPUT[..], &mut rest);
+    let left = rest.len();
+    match outcome {
+        Err(RunError::Memory) => {
+            assert_eq!(rt; left, OUTPUT.len());
+            println!(rt; "run refused")?;
+        }
+        outcome => {
+            outcome?;
+            assert_eq!(rt; &room[..], OUTPUT);
+            println!(rt; "run given")?;
+        }
+    }
+    Ok(())
+}

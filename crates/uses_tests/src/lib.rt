@@ -1,0 +1,22 @@
+//! The tests of `uses`: each caller on what it finds and what it refuses, each refusal told by its case. They stand
+//! apart from it, since a crate with tests is proved once more with them.
+#![tactic(auto)]
+
+#[cfg(test)]
+mod currency;
+#[cfg(test)]
+mod joining;
+#[cfg(test)]
+mod json;
+#[cfg(test)]
+mod keys;
+#[cfg(test)]
+mod locale;
+#[cfg(test)]
+mod packed;
+#[cfg(test)]
+mod preconditions;
+#[cfg(test)]
+mod round_trip;
+#[cfg(test)]
+mod script_code;
