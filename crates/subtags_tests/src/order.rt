@@ -1,7 +1,9 @@
 //! Values, compared and cloned.
 
 use std::cmp::Ordering;
+use std::collections::HashSet;
 use std::str::FromStr;
+use std::test::Fail;
 use subtags::{LangId, LangIdError, Language, Region, Script};
 
 #[test]
@@ -43,6 +45,21 @@ fn compare_as<T: Ord>(a: &T, b: &T, order: Ordering) -> bool {
 fn spellings_of_one_identifier_are_equal(rt: HostRuntime) {
     let (id, other) = ("EN_latn-us".parse::<LangId>(), "en-Latn_US".parse());
     assert!(rt; id.is_ok() && id == other);
+}
+
+#[test]
+fn a_hash_set_holds_each_value_once(rt: HostRuntime) -> Result<(), Fail> {
+    let mut ids = HashSet::new(rt.alloc());
+    for spelling in ["EN_latn-us", "en-Latn_US", "en"] {
+        ids.insert(spelling.parse::<LangId>()?)?;
+    }
+    assert!(rt; ids.len() == 2 && ids.contains(&"en-Latn-US".parse()?));
+    let mut regions = HashSet::new(rt.alloc());
+    for spelling in ["tw", "TW", "419"] {
+        regions.insert(spelling.parse::<Region>()?)?;
+    }
+    assert!(rt; regions.len() == 2 && regions.contains(&"TW".parse()?));
+    Ok(())
 }
 
 #[test]

@@ -5,7 +5,7 @@ use std::alloc::{AllocError, Global};
 /// A text and what is known of it.
 #[derive(Clone, Copy)]
 pub struct Vector {
-    /// At most 17 characters, each a byte from 1 to 127.
+    /// Characters, each a byte from 1 to 127.
     pub text: &'static str,
     /// Nine letters, `y` or `n` for each question: alphabetic, alphanumeric, numeric, lowercase, titlecase, uppercase,
     /// and alphabetic in lowercase, titlecase, uppercase.
@@ -18,7 +18,7 @@ pub struct Vector {
     pub upper: &'static str,
 }
 
-/// A row for each vector, its fields in their order. Most texts are those that the Rust crate's own tests ask about.
+/// A row for each vector, its fields in their order, of at most 17 characters each. Most texts are those that the Rust crate's own tests ask about.
 /// None of the answers was made by the calls that are tested on them. It is one literal, since a proof reads each
 /// literal that it meets.
 pub const TEXTS: &str = "\

@@ -51,17 +51,20 @@ fn are_right_of_array<const N: usize>(text: &TinyAsciiStr<N>, vector: &Vector) -
         && (N > 16 || has_forms(&Aligned16::from_ascii_bytes(array), vector))
 }
 
-// The first vector whose text fits the capacity of the value given and whose words, made of an array of that length,
-// aren't right.
-fn first_wrong<const N: usize>(vectors: &[Vector], _like: TinyAsciiStr<N>) -> Option<&'static str> {
-    for vector in vectors {
-        if let Ok(text) = TinyAsciiStr::<N>::try_from_str(vector.text) {
-            if !are_right_of_array(&text, vector) || !are_right_of_part(&text, vector) {
-                return Some(vector.text);
-            }
-        }
+// Whether the vector's text, read at the capacity of the value given, has its forms in each word.
+fn is_right<const N: usize>(vector: &Vector, _like: TinyAsciiStr<N>) -> bool {
+    match TinyAsciiStr::<N>::try_from_str(vector.text) {
+        Ok(text) => are_right_of_array(&text, vector) && are_right_of_part(&text, vector),
+        Err(_) => false,
     }
-    None
+}
+
+// The first text that the capacity of the value given holds and whose words aren't right.
+fn first_wrong<const N: usize>(vectors: &[Vector], like: TinyAsciiStr<N>) -> Option<&'static str> {
+    let wrong = vectors
+        .iter()
+        .find(|vector| vector.text.len() <= N && !is_right(vector, like))?;
+    Some(wrong.text)
 }
 
 // An array of each length at which a text of at most sixteen characters stands in the table, and of each word's length.
@@ -69,6 +72,7 @@ fn first_wrong<const N: usize>(vectors: &[Vector], _like: TinyAsciiStr<N>) -> Op
 fn texts_answer_alike_in_each_word_that_holds_them(rt: HostRuntime) -> Result<(), Fail> {
     let vectors = vectors(rt.alloc(), TEXTS)?;
     let vectors = vectors.as_slice();
+    assert_eq!(rt; vectors.len(), 33);
     for wrong in [
         first_wrong(vectors, TinyAsciiStr::<0>::default()),
         first_wrong(vectors, TinyAsciiStr::<2>::default()),
