@@ -43,7 +43,7 @@ pub folded_twice : (u : List ℕ) → fold_text (fold_text u) ≡ fold_text u
 folded_twice u = absorbed fold_byte fold_byte (λ b. grind (arith, nat_tests)) u
 
 -- a text in lowercase folds as the text does
-pub fold_text-lowercase : (t : List ℕ) → fold_text (lowercase t) ≡ fold_text t
+fold_text-lowercase : (t : List ℕ) → fold_text (lowercase t) ≡ fold_text t
 fold_text-lowercase t = absorbed fold_byte lower (λ b. grind (arith, nat_tests)) t
 
 -- a raised byte folds as the byte does
@@ -51,11 +51,11 @@ fold_byte-raise : (b : ℕ) → fold_byte (raise b) ≡ fold_byte b
 fold_byte-raise b = grind (arith, nat_tests)
 
 -- a text in uppercase folds as the text does
-pub fold_text-uppercase : (t : List ℕ) → fold_text (uppercase t) ≡ fold_text t
+fold_text-uppercase : (t : List ℕ) → fold_text (uppercase t) ≡ fold_text t
 fold_text-uppercase t = absorbed fold_byte raise fold_byte-raise t
 
 -- a text in titlecase folds as the text does
-pub fold_text-titlecase : (t : List ℕ) → fold_text (titlecase t) ≡ fold_text t
+fold_text-titlecase : (t : List ℕ) → fold_text (titlecase t) ≡ fold_text t
 fold_text-titlecase [] = refl
 fold_text-titlecase (b ∷ t) = ap₂ (λ (x : ℕ) (y : List ℕ). x ∷ y) (fold_byte-raise b) (fold_text-lowercase t)
 

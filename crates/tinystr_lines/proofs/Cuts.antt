@@ -6,7 +6,7 @@ use Rattle.std.proofs.lemmas.List.Folds.{list_any_at, list_any_none}
 use Rattle.std.proofs.lemmas.List.Sums.{fails_before_first, passes_at_first}
 
 -- the first element to pass stands inside exactly where one passes
-pub list_any-inside : (p : ℕ → Bool) (xs : List ℕ) → list_any p xs ≡ nat_lt (position_or_len p xs) (length xs)
+list_any-inside : (p : ℕ → Bool) (xs : List ℕ) → list_any p xs ≡ nat_lt (position_or_len p xs) (length xs)
 list_any-inside p xs =
     let cases : (position_or_len p xs < length xs) ⊎ (length xs ≤ position_or_len p xs) = grind arith in
     elim cases [

@@ -16,7 +16,7 @@ one_part : (part : List ℕ) → 0 < length part → without_empty_last (part �
 one_part part some = grind (arith, nat_tests)
 
 -- the first line of an input, and those of what follows it
-pub lines_of-first : (input : List ℕ) → 0 < length input → lines_of input ≡ before_first (λ b. b == 10) input ∷ lines_of (after_first (λ b. b == 10) input)
+lines_of-first : (input : List ℕ) → 0 < length input → lines_of input ≡ before_first (λ b. b == 10) input ∷ lines_of (after_first (λ b. b == 10) input)
 lines_of-first input some =
     let p : ℕ → Bool = λ b. b == 10 in
     let at_end : position_or_len p input ≤ length input = prefix_len-le-length _ input in

@@ -31,13 +31,13 @@ in_count : (i n len : ℕ) → i * n < len → len % n ≡ 0 → 0 < n → i < l
 in_count i n len inside whole some = grind arith
 
 -- packed records have no bad one
-pub first_bad_record-none : (bytes : List ℕ) (n : ℕ) → 0 < n → IsPacked bytes n → first_bad_record n bytes ≡ None
+first_bad_record-none : (bytes : List ℕ) (n : ℕ) → 0 < n → IsPacked bytes n → first_bad_record n bytes ≡ None
 first_bad_record-none bytes n some packed =
     find_none (λ i. not (is_padded_text (record_at n bytes i) n)) 0 (length bytes / n)
     (λ i from below. is_good bytes n i (IsPacked-record bytes n i packed (below_count i n (length bytes) (omega arith) some)))
 
 -- the record that is first bad is the one that the search finds
-pub first_bad_record-some : (bytes : List ℕ) (n i : ℕ) → 0 < n → length bytes % n ≡ 0 → IsFirstBad bytes n i → first_bad_record n bytes ≡ Some i
+first_bad_record-some : (bytes : List ℕ) (n i : ℕ) → 0 < n → length bytes % n ≡ 0 → IsFirstBad bytes n i → first_bad_record n bytes ≡ Some i
 first_bad_record-some bytes n i some whole first =
     let below : i < length bytes / n = in_count i n (length bytes) first.inside whole some in
     find_first (λ k. not (is_padded_text (record_at n bytes k) n)) 0 (length bytes / n) i (omega arith) (omega arith)

@@ -153,7 +153,7 @@ made_of bytes t n made h =
     (IsPaddedText-made bytes (take n t) n made (record { text = text; fits = IsStrict-take t n h }), text_of-made bytes (take n t) n made text)
 
 -- k bytes of x, which are all of it or fill r, put behind the text of r
-pub put_behind : (r x y : List ℕ) (n at k : ℕ) → IsPaddedText r n → length r ≡ n → at ≡ length (text_of r) → at ≤ n → IsPadded x
+put_behind : (r x y : List ℕ) (n at k : ℕ) → IsPaddedText r n → length r ≡ n → at ≡ length (text_of r) → at ≤ n → IsPadded x
     → y ≡ take k x → k ≤ length x → at + k ≤ n → (k ≡ length x) ⊎ (k ≡ n - at)
     → IsPaddedText (put_mid at k r y) n × (text_of (put_mid at k r y) ≡ take n (text_of r ++ text_of x))
 put_behind r x y n at k p long here inside q y_is some fits all =

@@ -79,7 +79,7 @@ pub AreBytes-drop : (n : ℕ) (xs : List ℕ) → AreBytes xs → AreBytes (drop
 AreBytes-drop n xs h i = rw get_or-drop (h (n + i))
 
 -- the first eight bytes as numbers, and then the rest
-pub cmp_eight : (xs ys : List ℕ) → 8 ≤ length xs → length xs ≡ length ys → AreBytes xs → AreBytes ys
+cmp_eight : (xs ys : List ℕ) → 8 ≤ length xs → length xs ≡ length ys → AreBytes xs → AreBytes ys
     → slice_cmp nat_cmp xs ys ≡ ordering_then (nat_cmp (from_be_bytes w64 (take 8 xs)) (from_be_bytes w64 (take 8 ys))) (slice_cmp nat_cmp (drop 8 xs) (drop 8 ys))
 cmp_eight xs ys long e g h =
     let lx = length-take-le 8 xs long in

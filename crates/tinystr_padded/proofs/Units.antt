@@ -44,7 +44,7 @@ read_whole is_bad bytes units r n fits len read =
         ]
 
 -- an array made of a text
-pub text_made : (bytes units : List ℕ) (n : ℕ) → length units ≤ n → IsText units → bytes ≡ pad units n
+text_made : (bytes units : List ℕ) (n : ℕ) → length units ≤ n → IsText units → bytes ≡ pad units n
     → IsStrictText units n × (IsPaddedText bytes n × (text_of bytes ≡ units))
 text_made bytes units n fits text made =
     let strict : IsStrictText units n = record { text = text; fits = fits } in

@@ -3,7 +3,7 @@
 ghost use Rattle.std.specs.Prelude.{◌≡◌, ◌≤◌, ◌++◌, ◌↔◌, length, take, All, IsTrue, IsOk, IfOk, IfErr};
 ghost use Rattle.std.specs.Fmt.{decimal};
 ghost use Rattle.std.specs.Str.{bytes_eq};
-ghost use Rattle.tinystr_words.specs.Text.{IsPadded, IsPaddedText, text_of, pad};
+ghost use Rattle.tinystr_words.specs.Text.{IsPaddedText, text_of, pad};
 ghost use Rattle.tinystr_words.specs.Decimal.{last};
 ghost use Rattle.tinystr_words.specs.Questions.{answer, in_case};
 ghost use Rattle.tinystr_padded.specs.Padded.{IsWidthOf};

@@ -23,7 +23,7 @@ abbrev pub IsCut : ℕ → List ℕ → List ℕ → Type 0
 IsCut q a b = (length a ≡ suc q) ⊎ (b ≡ [])
 
 -- each list is cut so
-pub IsCut-at : (q : ℕ) (t : List ℕ) → IsCut q (take (suc q) t) (drop (suc q) t)
+IsCut-at : (q : ℕ) (t : List ℕ) → IsCut q (take (suc q) t) (drop (suc q) t)
 IsCut-at q t =
     ⊎_elim (λ short. inr (drop_all (suc q) t (omega arith))) (λ long. inl (length-take-le (suc q) t long)) (cases_lt (length t) (suc q))
 

@@ -50,7 +50,7 @@ before_rest a b t s (inr (suc i, at)) le =
 -- ---- the comparison
 
 -- a list that compares as less comes before the other
-pub before_from_less : (t s : List ℕ) → slice_cmp nat_cmp t s ≡ Less → IsBefore t s
+before_from_less : (t s : List ℕ) → slice_cmp nat_cmp t s ≡ Less → IsBefore t s
 before_from_less [] [] e = cc
 before_from_less [] (b ∷ s) e = inl (omega arith, refl)
 before_from_less (a ∷ t) [] e = cc
@@ -67,7 +67,7 @@ before_from_less (a ∷ t) (b ∷ s) e =
     ]
 
 -- and one that comes before the other compares as less
-pub less_from_before : (t s : List ℕ) → IsBefore t s → slice_cmp nat_cmp t s ≡ Less
+less_from_before : (t s : List ℕ) → IsBefore t s → slice_cmp nat_cmp t s ≡ Less
 less_from_before [] [] h = elim h [ inl front ↦ absurd (omega (arith, front.0)) | inr found ↦ absurd (omega (arith, found.1.inside)) ]
 less_from_before [] (b ∷ s) h = refl
 less_from_before (a ∷ t) [] h = elim h [ inl front ↦ absurd (omega (arith, front.0)) | inr found ↦ absurd (omega (arith, found.1.inside_other)) ]

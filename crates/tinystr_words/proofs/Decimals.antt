@@ -39,7 +39,7 @@ before_end [] d w = refl
 before_end (b ∷ l) d w = ap (λ n. b + 256 * n) (before_end l d w)
 
 -- so may the last digit of a number from 10 on
-pub before_digit : (r w : ℕ) → 10 ≤ r → r < 2 ^ 64 → before (decimal r) w ≡ before (decimal (r / 10)) (48 + r % 10 + 256 * w)
+before_digit : (r w : ℕ) → 10 ≤ r → r < 2 ^ 64 → before (decimal r) w ≡ before (decimal (r / 10)) (48 + r % 10 + 256 * w)
 before_digit r w big fits = ap (λ (l : List ℕ). before l w) (decimal_step r big fits) ∙ before_end (decimal (r / 10)) (48 + r % 10) w
 
 -- and the last two digits of one from 100 on

@@ -93,7 +93,7 @@ lanes-first_then a c [] = refl
 lanes-first_then a c (b ∷ l) = ap (λ m. a ∷ m) (tail_each a c l)
 
 -- a safe formula over a word of ASCII bytes does to each lane what it does to a lane alone
-pub lanewise : (f : Formula) (l : List ℕ) → Ascii l → IsSafe f → on f (length l) (word l) ≡ word (lanes (at f) true l)
+lanewise : (f : Formula) (l : List ℕ) → Ascii l → IsSafe f → on f (length l) (word l) ≡ word (lanes (at f) true l)
 lanewise itself l a s = word_itself true l
 lanewise (lead x c) l a s = ap word (lanes-first_then x c l)
 lanewise (plus f g) l a s =
@@ -127,7 +127,7 @@ not_zero : (b : ℕ) (r : Bool) → 1 ≤ b → (nat_eq b 0 || r) ≡ r
 not_zero b r h = grind (arith, nat_tests)
 
 -- of a text and then NULs, a test that also lets NUL pass says what the test alone says of the text
-pub holds_pad : (P Q : Bool → ℕ → Bool) → ((i : Bool) (b : ℕ) → b < 128 → P i b ≡ (nat_eq b 0 || Q i b)) → (i : Bool) (t : List ℕ) (k : ℕ) → IsText t → holds P i (t ++ NULS k) ≡ holds Q i t
+holds_pad : (P Q : Bool → ℕ → Bool) → ((i : Bool) (b : ℕ) → b < 128 → P i b ≡ (nat_eq b 0 || Q i b)) → (i : Bool) (t : List ℕ) (k : ℕ) → IsText t → holds P i (t ++ NULS k) ≡ holds Q i t
 holds_pad P Q same i [] k x = holds_nuls P Q same i k
 holds_pad P Q same i (b ∷ t) k x =
     let h = All-head (IsTextByte) b t x in
@@ -143,7 +143,7 @@ not_zero_lane : (b r : ℕ) → 1 ≤ b → cond (nat_eq b 0) 0 r ≡ r
 not_zero_lane b r h = grind (arith, nat_tests)
 
 -- a change that keeps NUL, of a text and then NULs, is the change of the text and then NULs
-pub lanes_pad : (F G : Bool → ℕ → ℕ) → ((i : Bool) (b : ℕ) → b < 128 → F i b ≡ cond (nat_eq b 0) 0 (G i b)) → (i : Bool) (t : List ℕ) (k : ℕ) → IsText t → lanes F i (t ++ NULS k) ≡ lanes G i t ++ NULS k
+lanes_pad : (F G : Bool → ℕ → ℕ) → ((i : Bool) (b : ℕ) → b < 128 → F i b ≡ cond (nat_eq b 0) 0 (G i b)) → (i : Bool) (t : List ℕ) (k : ℕ) → IsText t → lanes F i (t ++ NULS k) ≡ lanes G i t ++ NULS k
 lanes_pad F G same i [] k x = lanes_nuls F G same i k
 lanes_pad F G same i (b ∷ t) k x =
     let h = All-head (IsTextByte) b t x in

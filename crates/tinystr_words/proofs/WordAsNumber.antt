@@ -131,7 +131,7 @@ word_least b [] x = omega (arith, (All-head (IsTextByte) b [] x).0)
 word_least b (d ∷ t) x = omega (arith, pow-suc 256 (length t), word_least d t (All-tail (IsTextByte) b (d ∷ t) x))
 
 -- and leaves the highest bit clear
-pub word_below : (b : ℕ) (t : List ℕ) → IsText (b ∷ t) → word (b ∷ t) < 128 * 256 ^ length t
+word_below : (b : ℕ) (t : List ℕ) → IsText (b ∷ t) → word (b ∷ t) < 128 * 256 ^ length t
 word_below b [] x = omega (arith, (All-head (IsTextByte) b [] x).1)
 word_below b (d ∷ t) x = let h = (All-head (IsTextByte) b (d ∷ t) x).1 in omega (arith, pow-suc 256 (length t), word_below d t (All-tail (IsTextByte) b (d ∷ t) x))
 

@@ -29,7 +29,7 @@ IsBytes-take (suc n) [] a = tt
 IsBytes-take (suc n) (b ∷ l) a = (a.0, IsBytes-take n l a.1)
 
 -- and so is a back
-pub IsBytes-drop : (n : ℕ) (l : List ℕ) → IsBytes l → IsBytes (drop n l)
+IsBytes-drop : (n : ℕ) (l : List ℕ) → IsBytes l → IsBytes (drop n l)
 IsBytes-drop zero l a = a
 IsBytes-drop (suc n) [] a = tt
 IsBytes-drop (suc n) (b ∷ l) a = IsBytes-drop n l a.1
@@ -53,7 +53,7 @@ loaded_halves n l a least most =
     rw quotient (sym (word_split n l least))
 
 -- as the code shifts them, and that nothing is lost
-pub joined_halves : (n : ℕ) (l : List ℕ) → IsBytes l → n ≤ length l → length l ≤ n + n
+joined_halves : (n : ℕ) (l : List ℕ) → IsBytes l → n ≤ length l → length l ≤ n + n
     → (word (take n l) + 256 ^ n * (word (take (length l - (length l - n)) (drop (length l - n) l)) / 2 ^ (8 * (n + n - length l))) ≡ word l) × (word l < 256 ^ (n + n))
 joined_halves n l a least most =
     let back : take (length l - (length l - n)) (drop (length l - n) l) ≡ drop (length l - n) l = take_all (length l - (length l - n)) (drop (length l - n) l) (omega (arith, length-drop (length l - n) l)) in (

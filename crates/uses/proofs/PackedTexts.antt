@@ -40,7 +40,7 @@ chunks-packed n (t ∷ ts) h =
     rw (first, others, text_of-pad t n strict.text, chunks-packed n ts (All-tail (λ (t : List ℕ). IsStrictText t n) t ts h)) refl
 
 -- texts that are packed are read back
-pub texts_of-packed : (n : ℕ) (ts : List (List ℕ)) → 0 < n → AllStrict n ts → texts_of n (packed n ts) ≡ ts
+texts_of-packed : (n : ℕ) (ts : List (List ℕ)) → 0 < n → AllStrict n ts → texts_of n (packed n ts) ≡ ts
 unfolding texts_of
 texts_of-packed n ts some h =
     let count : length (packed n ts) / n ≡ length ts = rw (length-joined n ts h) (mul-div_cancel (length ts) some) in
@@ -58,7 +58,7 @@ pub texts_of-strict : (n : ℕ) (bytes : List ℕ) → 0 < n → IsPacked bytes 
 texts_of-strict n bytes some h = rw (texts_of-is n bytes some h) h.each
 
 -- n bytes for each text
-pub length-texts_of : (n : ℕ) (bytes : List ℕ) → 0 < n → IsPacked bytes n → length bytes ≡ length (texts_of n bytes) * n
+length-texts_of : (n : ℕ) (bytes : List ℕ) → 0 < n → IsPacked bytes n → length bytes ≡ length (texts_of n bytes) * n
 length-texts_of n bytes some h =
     ap (λ (l : List ℕ). length l) (texts_of-joined n bytes some h) ∙ length-joined n (texts_of n bytes) (texts_of-strict n bytes some h)
 

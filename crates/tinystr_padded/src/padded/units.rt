@@ -1,7 +1,7 @@
 //! Units read into bytes.
 
-ghost use Rattle.std.specs.Prelude.{◌≡◌, ◌+◌, ◌*◌, ◌%◌, ◌≤◌, ◌↔◌, map, length, IsTrue};
-ghost use Rattle.tinystr_words.specs.Text.{pad, IsText};
+ghost use Rattle.std.specs.Prelude.{◌≡◌, ◌+◌, ◌*◌, ◌%◌, ◌≤◌, map, length};
+ghost use Rattle.tinystr_words.specs.Text.{pad};
 ghost use Rattle.tinystr_words.specs.Reading.{lossy, lossy_byte};
 ghost use Rattle.tinystr_padded.specs.Reading.{IsReadPart};
 
