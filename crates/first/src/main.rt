@@ -1,0 +1,11 @@
+//! Prints a currency code as it is written, and why a word is none.
+#![tactic(auto)]
+
+use std::io::Error;
+use tinystr::{TinyAsciiStr, tinystr};
+
+fn main(rt: HostRuntime) -> Result<(), Error> {
+    let euro = tinystr!(3, "eur").unwrap().to_ascii_uppercase(); // proved to fit
+    let refused = TinyAsciiStr::<3>::try_from_str("euros");
+    println!(rt; "{euro} {refused:?}")
+}
