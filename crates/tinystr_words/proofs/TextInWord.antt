@@ -1,18 +1,25 @@
 -- The text that a word holds: how it comes in and out, what a kernel answers of it, and what a case change makes of it.
-use Rattle.std.proofs.Common.{Bool, true, false, ℕ, ◌+◌, ◌-◌, ◌*◌, ◌/◌, ◌<◌, ◌≤◌, ◌≡◌, List, [], ◌∷◌, length, drop, nat_eq, sym, ap, ◌∙◌, subst, arith}
+use Rattle.std.proofs.Common.{Bool, true, false, not, cond, ℕ, zero, suc, ◌+◌, ◌-◌, ◌*◌, ◌/◌, ◌%◌, ◌<◌, ◌≤◌, ◌≡◌, List, [], ◌∷◌, ◌++◌, length, drop, map, replicate, nat_eq, refl, sym, ap, ap₂, ◌∙◌, subst, arith, w8}
+use lib.Count.{ones}
+use lib.Lanes.{zip2, mask_l, top, digits_l}
+use Rattle.std.specs.List.{count_by}
+use Rattle.std.proofs.lemmas.List.Sums.{sum_by-cons}
+use Rattle.std.proofs.lemmas.Simd.{bitmask_splat, ones-mask_l}
+use Rattle.std.proofs.lemmas.Bool.Decides.{nat_tests}
 use Rattle.std.proofs.lemmas.Bool.{ltb-true}
 use Rattle.std.proofs.lemmas.List.{length-drop}
-use Rattle.std.proofs.lemmas.List.Elements.{All-head, All-drop}
+use Rattle.std.proofs.lemmas.List.Elements.{All-head, All-tail, All-drop}
 use Rattle.std.specs.Int.Count.{count_leading_zeros}
 use Rattle.tinystr_words.specs.Text.{IsTextByte, IsText, IsPaddedText, IsPadded, pad, text_of}
-use Rattle.tinystr_words.specs.Words.{word, first_then, lanes_of, text_in, HoldsText}
+use Rattle.tinystr_words.specs.Words.{word, lanes_of, text_in, HasLowLanes, HoldsText}
 use Rattle.tinystr_words.specs.Questions.{answer, in_case}
 use Rattle.tinystr_words.specs.declared.question.Question.{Question}
 use Rattle.tinystr_words.specs.declared.question.Case.{Case}
-use Rattle.tinystr_words.proofs.Texts.{IsPaddedText-made, text_of-made, length-pad, text_of-pad, length-text_of-le}
+use Rattle.tinystr_words.proofs.Texts.{NULS, IsPaddedText-made, text_of-made, length-pad, text_of-pad, length-text_of-le}
 use Rattle.tinystr_words.proofs.Lanes.{Ascii, IsBytes, lanes, length-lanes, IsBytes-lanes, everywhere_is}
 use Rattle.tinystr_words.proofs.Formulas.{Formula, IsSafe, on, at, is_safe, ascii_pad, safe_byte, changes_safe, on_pad, question, lanes-change}
-use Rattle.tinystr_words.proofs.WordAsNumber.{lanes_word, lanes_word_pad, word_nuls, word_ascii, leading_zeros_of, zeros_above_more}
+use Rattle.tinystr_words.proofs.WordAsNumber.{lanes_word, lanes_word_pad, word_nuls, leading_zeros_of, zeros_above_more}
+use Rattle.tinystr_words.proofs.LowLanes.{low_word, low_room}
 use Rattle.tinystr_words.proofs.Kernels.{kernel, pass_marks, kernel_asks, change, change_changes, with_case_bits, with_case_bits_safe, with_case_bits_ascii}
 
 -- ---- a word from a padded text
@@ -29,8 +36,7 @@ pub HoldsText-word : (n : ℕ) (t : List ℕ) → IsText t → length t ≤ n �
 HoldsText-word n t x le =
     let e = text_in-word n t x le in
     let z : word (pad t n) ≡ word t = word_nuls t (n - length t) in
-    let a : word (pad t n) ≤ word (first_then n 0x7f 0x7f) = subst (λ m. word (pad t n) ≤ word (first_then m 0x7f 0x7f)) (length-pad t n le) (word_ascii (pad t n) (ascii_pad t n x)) in
-    record { text = subst IsText (sym e) x; fits = rw e le; padded = rw e (sym z); ascii = rw (← z) a }
+    record { text = subst IsText (sym e) x; fits = rw e le; padded = rw e (sym z); low = rw (← z) (low_word (pad t n) (ascii_pad t n x)) }
 
 -- the word of a padded text holds the text
 pub HoldsText-padded : (n : ℕ) (l : List ℕ) → IsPadded l → length l ≤ n → HoldsText n (word l) × (text_in n (word l) ≡ text_of l)
@@ -50,14 +56,46 @@ length-text_in {n} {w} h =
     omega arith
 
 -- and by the place of the highest bit, above one more bit
-pub length-text_in-by_top : {w : ℕ} → HoldsText 8 w → (63 - count_leading_zeros 64 (2 * w + 1) + 7) / 8 ≡ length (text_in 8 w)
-length-text_in-by_top {w} h =
-    let ascii = h.ascii in
-    omega (arith, length-text_in h, zeros_above_more 63 w (omega arith))
+pub length-text_in-by_top : {w : ℕ} → HoldsText 8 w → w < 18446744073709551616 → (63 - count_leading_zeros 64 (2 * w + 1) + 7) / 8 ≡ length (text_in 8 w)
+length-text_in-by_top {w} h small =
+    omega (arith, length-text_in h, zeros_above_more 63 w (omega (arith, low_room 8 w h.low)))
 
 -- the lanes are the padded text
 pub lanes-text_in : {n w : ℕ} → HoldsText n w → lanes_of n w ≡ pad (text_in n w) n
 lanes-text_in {n} {w} h = ap (λ m. lanes_of n m) h.padded ∙ lanes_word_pad n (text_in n w) h.text h.fits
+
+-- std's bytes of a vector's number are the lanes
+pub digits-lanes : (n w : ℕ) → digits_l 256 n w ≡ lanes_of n w
+digits-lanes zero w = refl
+digits-lanes (suc n) w = ap (λ (l : List ℕ). (w % 256) ∷ l) (digits-lanes n (w / 256))
+
+abbrev is_not_nul : ℕ → ℕ → Bool
+is_not_nul b c = not (nat_eq b c)
+
+-- a byte of a text counts
+counts_one : (b : ℕ) → 1 ≤ b → cond {A = ℕ} (is_not_nul b 0) 1 0 ≡ 1
+counts_one b h = grind (arith, nat_tests)
+
+-- NULs don't
+counted_nuls : (k : ℕ) → count_by (λ b. is_not_nul b 0) (NULS k) ≡ 0
+counted_nuls zero = refl
+counted_nuls (suc k) = counted_nuls k
+
+-- of a text and then NULs its bytes are counted
+counted_text : (t : List ℕ) (k : ℕ) → IsText t → count_by (λ b. is_not_nul b 0) (t ++ NULS k) ≡ length t
+counted_text [] k x = counted_nuls k
+counted_text (b ∷ t) k x =
+    let byte = All-head IsTextByte b t x in
+    sum_by-cons (λ b. cond (is_not_nul b 0) 1 0) b (t ++ NULS k) ∙ ap₂ (λ m n. m + n) (counts_one b byte.0) (counted_text t k (All-tail IsTextByte b t x)) ∙ omega arith
+
+-- and by the number of lanes that aren't NUL
+pub length-text_in-by_count : {w : ℕ} → HoldsText 16 w → (lanes : List ℕ) → lanes ≡ lanes_of 16 w
+    → ones (mask_l (map (top 7) (zip2 (λ a b. cond (is_not_nul a b) 255 0) lanes (replicate 16 0))) % 18446744073709551616) ≡ length (text_in 16 w)
+length-text_in-by_count {w} h lanes is =
+    let t = text_in 16 w in
+    let long : length lanes ≡ 16 = ap (λ (l : List ℕ). length l) is in
+    ap ones (bitmask_splat w8 is_not_nul lanes 16 0 long (omega arith)) ∙ ones-mask_l (λ b. is_not_nul b 0) lanes
+    ∙ ap (λ (l : List ℕ). count_by (λ b. is_not_nul b 0) l) (is ∙ lanes-text_in h) ∙ counted_text t (16 - length t) h.text
 
 -- the word of a text, divided by 256, is that of the text without its first byte
 word_rest : (t : List ℕ) → IsText t → word t / 256 ≡ word (drop 1 t)
@@ -109,10 +147,9 @@ each_ascii : (F : Bool → ℕ → ℕ) → ((i : Bool) (b : ℕ) → b < 128 �
 each_ascii F p i [] a = tt
 each_ascii F p i (b ∷ l) a = (p i b a.0, each_ascii F p false l a.1)
 
--- a text in lowercase, by a formula that also changes other bytes, leaves the same room
-pub with_case_bits_room : {n w : ℕ} → HoldsText n w → on with_case_bits n w ≤ word (first_then n 0x7f 0x7f)
-with_case_bits_room {n} {w} h =
+-- a text in lowercase, by a formula that also changes other bytes, still has no high bit
+pub with_case_bits_low : {n w : ℕ} → HoldsText n w → HasLowLanes (on with_case_bits n w)
+with_case_bits_low {n} {w} h =
     let l = lanes (at with_case_bits) true (pad (text_in n w) n) in
     let small : Ascii l = each_ascii (at with_case_bits) (λ i b k. ltb-true _ _ (everywhere_is _ with_case_bits_ascii i b k)) true (pad (text_in n w) n) (ascii_pad (text_in n w) n h.text) in
-    rw (on-text_in h with_case_bits (everywhere_is (is_safe with_case_bits) with_case_bits_safe))
-    (subst (λ m. word l ≤ word (first_then m 0x7f 0x7f)) (length-lanes-pad h (at with_case_bits)) (word_ascii l small))
+    rw (on-text_in h with_case_bits (everywhere_is (is_safe with_case_bits) with_case_bits_safe)) (low_word l small)

@@ -90,7 +90,7 @@ lanes_word_pad n t x le =
     subst (λ m. lanes_of m (word (pad t n)) ≡ pad t n) (length-pad t n le)
     (lanes_word (pad t n) (IsBytes-ascii (pad t n) (ascii_pad t n x)))
 
--- ---- padding, and what it leaves room for
+-- ---- padding, and the room that it leaves
 
 -- NULs behind a text add nothing
 pub word_nuls : (t : List ℕ) (k : ℕ) → word (t ++ NULS k) ≡ word t
@@ -107,21 +107,6 @@ word_low (b ∷ l) a = let h : b < 128 = a.0 in omega (arith, word_low l a.1)
 pub word_ascii : (l : List ℕ) → Ascii l → word l ≤ word (first_then (length l) 0x7f 0x7f)
 word_ascii [] a = omega arith
 word_ascii (b ∷ l) a = let h : b < 128 = a.0 in omega (arith, word_low l a.1)
-
--- a lane of at most 0x80 leaves room for 0x7f more
-room_after : (n c : ℕ) → c ≤ 0x80 → word (replicate n c) + word (replicate n 0x7f) < 256 ^ n
-room_after zero c h = omega arith
-room_after (suc n) c h = omega (arith, pow-suc 256 n, room_after n c h)
-
--- a lane of at most 0x7f leaves room for 0x7f more
-pub first_then_room : (n a c : ℕ) → a ≤ 0x7f → c ≤ 0x7f → word (first_then n a c) + word (first_then n 0x7f 0x7f) < 256 ^ n
-first_then_room zero a c h k = omega arith
-first_then_room (suc n) a c h k = omega (arith, pow-suc 256 n, room_after n c (omega arith))
-
--- and so does one of 0x80
-pub mark_room : (n c : ℕ) → c ≤ 0x80 → word (first_then n c c) + word (first_then n 0x7f 0x7f) < 256 ^ n
-mark_room zero c h = omega arith
-mark_room (suc n) c h = omega (arith, pow-suc 256 n, room_after n c h)
 
 -- ---- the length of a text, by the leading zeros of its word
 

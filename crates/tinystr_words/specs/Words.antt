@@ -11,6 +11,10 @@ word (b ∷ rest) = b + 256 * word rest
 abbrev pub lane : ℕ → ℕ → ℕ
 lane w i = w / 256 ^ i % 256
 
+-- no lane has its high bit set, so each leaves room for another such lane
+abbrev pub HasLowLanes : ℕ → Type 0
+HasLowLanes w = (i : ℕ) → lane w i ≤ 0x7f
+
 -- n lanes, a in the first and c in the others
 abbrev pub first_then : ℕ → ℕ → ℕ → List ℕ
 first_then zero a c = []
@@ -25,9 +29,9 @@ lanes_of (suc n) w = (w % 256) ∷ lanes_of n (w / 256)
 unfoldable pub text_in : ℕ → ℕ → List ℕ
 text_in n w = text_of (lanes_of n w)
 
--- a word is a text padded to n bytes, each below 0x80
+-- a word is a text padded to n bytes
 pub record HoldsText (n w : ℕ) : Type 0 where
   pub text : IsText (text_in n w)
   pub fits : length (text_in n w) ≤ n
   pub padded : w ≡ word (pad (text_in n w) n)
-  pub ascii : w ≤ word (first_then n 0x7f 0x7f)
+  pub low : HasLowLanes w

@@ -61,7 +61,7 @@ impl<T: Word<LEN>, const LEN: usize> Aligned<T, LEN> {
     pub fn len(&self) -> usize
         ensures { result ≡ length self.now }
     {
-        self.word.text_len()
+        self.word.loaded_text_len()
     }
 
     /// Whether each byte is a letter; so it is of the empty text, here and in the other questions.
@@ -238,12 +238,12 @@ impl<T: Word<LEN>, const LEN: usize> Aligned<T, LEN> {
     pub fn join(&self, other: &Self) -> Self
         ensures { result ≡ take LEN (self.now ++ other.now) }
     {
-        let len = self.len();
+        let len = self.word.text_len();
         if len == LEN {
             return Aligned { word: self.word };
         }
         Aligned {
-            word: self.word.plus(other.word.behind(len)),
+            word: self.word.followed_by(len, other.word),
         }
     }
 

@@ -1,7 +1,7 @@
 //! The kernels: a word of lanes is asked and changed by a few sums over the whole word.
 
 ghost use Rattle.std.specs.Prelude.{◌≡◌, ◌+◌, ◌-◌, ◌/◌, ◌^◌, ◌≤◌, ◌==◌, bit_and, bit_or};
-ghost use Rattle.tinystr_words.specs.Words.{word, first_then, HoldsText};
+ghost use Rattle.tinystr_words.specs.Words.{word, first_then, HasLowLanes, HoldsText};
 
 use crate::word::Word;
 
@@ -37,10 +37,10 @@ pub const DIGIT: Range = Range {
 pub const NOT_NUL: u8 = 0x7f;
 
 /// The high bit of each lane that isn't NUL.
-#[inline]
-#[tactic(auto, using(crate::proofs::WordAsNumber::mark_room))]
+#[inline(always)]
+#[tactic(auto, using(crate::proofs::LowLanes::low_first_then))]
 pub fn present<T: Word<LEN>, const LEN: usize>(text: T) -> T
-    requires { T.number text ≤ word (first_then LEN 0x7f 0x7f) }
+    requires { HasLowLanes (T.number text) }
     ensures { T.number result ≡
         bit_and (T.number text + word (first_then LEN NOT_NUL NOT_NUL)) (word (first_then LEN 0x80 0x80)) }
 {
@@ -48,8 +48,8 @@ pub fn present<T: Word<LEN>, const LEN: usize>(text: T) -> T
 }
 
 /// The high bit of each lane whose lower bits aren't all clear.
-#[inline]
-#[tactic(auto, using(std::proofs::lemmas::Nat::and_le_r))]
+#[inline(always)]
+#[tactic(auto, using(crate::proofs::LowLanes::low_and))]
 pub fn marks<T: Word<LEN>, const LEN: usize>(bytes: T) -> T
     ensures { T.number result ≡ bit_and
         (bit_and (T.number bytes) (word (first_then LEN 0x7f 0x7f)) + word (first_then LEN NOT_NUL NOT_NUL))
@@ -59,7 +59,7 @@ pub fn marks<T: Word<LEN>, const LEN: usize>(bytes: T) -> T
 }
 
 /// The high bits of the lanes, and the marks of those that stand after a lane without one.
-#[inline]
+#[inline(always)]
 pub fn faults<T: Word<LEN>, const LEN: usize>(bytes: T, marks: T) -> T
     ensures { T.number result ≡ bit_or
         (bit_and (T.number bytes) (word (first_then LEN 0x80 0x80)))
@@ -70,10 +70,10 @@ pub fn faults<T: Word<LEN>, const LEN: usize>(bytes: T, marks: T) -> T
 }
 
 /// The high bit of each lane whose byte is outside its range.
-#[inline]
-#[tactic(auto, using(crate::proofs::WordAsNumber::first_then_room))]
+#[inline(always)]
+#[tactic(auto, using(crate::proofs::LowLanes::low_first_then))]
 pub fn outside<T: Word<LEN>, const LEN: usize>(text: T, first: Range, others: Range) -> T
-    requires { T.number text ≤ word (first_then LEN 0x7f 0x7f) }
+    requires { HasLowLanes (T.number text) }
     ensures { T.number result ≡ bit_or
         (256 ^ LEN - 1 - (T.number text + word (first_then LEN first.low others.low)))
         (T.number text + word (first_then LEN first.high others.high)) }
@@ -84,35 +84,32 @@ pub fn outside<T: Word<LEN>, const LEN: usize>(text: T, first: Range, others: Ra
 }
 
 /// The case bit, 0x20, of each lane whose byte is in its range.
-#[inline]
+#[inline(always)]
 pub fn case_bits<T: Word<LEN>, const LEN: usize>(text: T, first: Range, others: Range) -> T
-    requires { T.number text ≤ word (first_then LEN 0x7f 0x7f) }
+    requires { HasLowLanes (T.number text) }
     ensures { T.number result ≡ bit_and
         (256 ^ LEN - 1 - bit_or
         (256 ^ LEN - 1 - (T.number text + word (first_then LEN first.low others.low)))
         (T.number text + word (first_then LEN first.high others.high)))
         (word (first_then LEN 0x80 0x80)) / 4 }
 {
-    outside(text, first, others)
-        .not()
-        .and(T::splat(0x80))
-        .quarter()
+    outside(text, first, others).not().high_bits_as_case_bits()
 }
 
 /// The text with the case bit set in each lane: its letters in lowercase, and some of its other bytes changed.
-#[inline]
+#[inline(always)]
 pub fn with_case_bits<T: Word<LEN>, const LEN: usize>(text: T) -> T
     requires { HoldsText LEN (T.number text) }
     ensures bits { T.number result ≡ bit_or (T.number text) (word (first_then LEN 0x20 0x20)) }
-    ensures room { T.number result ≤ word (first_then LEN 0x7f 0x7f) }
+    ensures low { HasLowLanes (T.number result) }
 {
     text.or(T::splat(0x20))
 }
 
 /// Whether no character's lane is marked. A NUL's lane may be.
-#[inline]
+#[inline(always)]
 pub fn no_character_marked<T: Word<LEN>, const LEN: usize>(marks: T, text: T) -> bool
-    requires { T.number text ≤ word (first_then LEN 0x7f 0x7f) }
+    requires { HasLowLanes (T.number text) }
     ensures { result ≡ (bit_and (T.number marks)
         (bit_and (T.number text + word (first_then LEN NOT_NUL NOT_NUL)) (word (first_then LEN 0x80 0x80)))
         == word (first_then LEN 0 0)) }
@@ -121,7 +118,7 @@ pub fn no_character_marked<T: Word<LEN>, const LEN: usize>(marks: T, text: T) ->
 }
 
 /// Whether every lane is marked.
-#[inline]
+#[inline(always)]
 pub fn every_lane_marked<T: Word<LEN>, const LEN: usize>(marks: T) -> bool
     ensures { result ≡
         (bit_and (T.number marks) (word (first_then LEN 0x80 0x80)) == word (first_then LEN 0x80 0x80)) }

@@ -1,10 +1,11 @@
 //! An unsigned integer as a word of byte lanes, the first byte lowest.
 
-ghost use Rattle.std.specs.Prelude.{◌≡◌, ◌+◌, ◌-◌, ◌*◌, ◌/◌, ◌%◌, ◌^◌, ◌<◌, ◌≤◌, ◌==◌, ℕ, length, map, bit_and, bit_or};
+ghost use Rattle.std.specs.Prelude.{◌≡◌, ◌+◌, ◌-◌, ◌*◌, ◌/◌, ◌%◌, ◌^◌, ◌<◌, ◌≤◌, ◌==◌, ℕ, [], ◌∷◌, length, map, slice_index, bit_and, bit_or};
 ghost use Rattle.std.proofs.Common.{lit<, lit≤};
-ghost use Rattle.tinystr_words.specs.Words.{word, first_then, lanes_of, text_in, HoldsText};
+ghost use Rattle.tinystr_words.specs.Words.{word, first_then, lanes_of, text_in, HasLowLanes, HoldsText};
 
 use crate::unit::Unit;
+use std::simd::prelude::*;
 
 /// An integer of `LEN` bytes.
 pub trait Word<const LEN: usize>: Copy + Drop {
@@ -19,7 +20,7 @@ pub trait Word<const LEN: usize>: Copy + Drop {
         ensures { result ≡ lanes_of LEN (number self) };
 
     /// The same bytes for an array in memory: a word of sixteen in halves, since its bytes are stored one at a time.
-    #[inline]
+    #[inline(always)]
     fn to_bytes_in_memory(self) -> [u8; LEN]
         ensures { result ≡ lanes_of LEN (number self) }
     {
@@ -37,9 +38,20 @@ pub trait Word<const LEN: usize>: Copy + Drop {
         requires { HoldsText LEN (number self) }
         ensures { result ≡ length (text_in LEN (number self)) };
 
-    /// The sum, which is that of each lane with its like where none of these is past 255.
+    /// The same of a word that is loaded for it alone: one of sixteen is counted in a vector, while in `text_len` it stays
+    /// in the registers where a join wants it.
+    #[inline(always)]
+    fn loaded_text_len(self) -> usize
+        requires { HoldsText LEN (number self) }
+        ensures { result ≡ length (text_in LEN (number self)) }
+    {
+        self.text_len()
+    }
+
+    /// The sum, which is that of each lane with its like, since no lane carries.
     fn plus(self, other: Self) -> Self
-        requires { number self + number other < 256 ^ LEN }
+        requires left { HasLowLanes (number self) }
+        requires right { HasLowLanes (number other) }
         ensures { number result ≡ number self + number other };
 
     /// The bits that are set in both.
@@ -54,25 +66,26 @@ pub trait Word<const LEN: usize>: Copy + Drop {
     fn not(self) -> Self
         ensures { number result ≡ 256 ^ LEN - 1 - number self };
 
-    /// Each bit two places lower, as 0x20 of 0x80. The lowest two are lost.
-    fn quarter(self) -> Self
-        ensures { number result ≡ number self / 4 };
+    /// The high bit of each lane two places lower, 0x20 for 0x80, and no other bit.
+    fn high_bits_as_case_bits(self) -> Self
+        ensures { number result ≡ bit_and (number self) (word (first_then LEN 0x80 0x80)) / 4 };
 
     /// Each lane one place lower, without the lowest.
     fn next_lanes(self) -> Self
         ensures { number result ≡ number self / 256 };
 
-    /// Each lane so many places higher, behind NULs. Those past the last place are lost.
-    fn behind(self, lanes: usize) -> Self
-        requires { lanes < LEN }
-        ensures { number result ≡ number self * 256 ^ lanes % 256 ^ LEN };
+    /// The lanes, and behind so many of them those of another. Those past the last place are lost.
+    fn followed_by(self, lanes: usize, other: Self) -> Self
+        requires inside { lanes < LEN }
+        requires room { number self + number other * 256 ^ lanes % 256 ^ LEN < 256 ^ LEN }
+        ensures { number result ≡ number self + number other * 256 ^ lanes % 256 ^ LEN };
 
     /// Whether all lanes are the same.
     fn equals(self, other: Self) -> bool
         ensures { result ≡ (number self == number other) };
 
     /// One byte in the first lane, another in each other lane.
-    #[inline]
+    #[inline(always)]
     fn first_then(first: u8, others: u8) -> Self
         ensures { number result ≡ word (first_then LEN first others) }
     {
@@ -82,7 +95,7 @@ pub trait Word<const LEN: usize>: Copy + Drop {
     }
 
     /// The same byte in each lane.
-    #[inline]
+    #[inline(always)]
     fn splat(byte: u8) -> Self
         ensures { number result ≡ word (first_then LEN byte byte) }
     {
@@ -150,8 +163,8 @@ impl Word<4> for u32 {
     }
 
     #[inline]
-    fn quarter(self) -> u32 {
-        self >> 2
+    fn high_bits_as_case_bits(self) -> u32 {
+        (self & Self::splat(0x80)) >> 2
     }
 
     #[inline]
@@ -160,8 +173,8 @@ impl Word<4> for u32 {
     }
 
     #[inline]
-    fn behind(self, lanes: usize) -> u32 {
-        self << (8 * lanes)
+    fn followed_by(self, lanes: usize, other: u32) -> u32 {
+        self + (other << (8 * lanes))
     }
 
     #[inline]
@@ -224,8 +237,8 @@ impl Word<8> for u64 {
     }
 
     #[inline]
-    fn quarter(self) -> u64 {
-        self >> 2
+    fn high_bits_as_case_bits(self) -> u64 {
+        (self & Self::splat(0x80)) >> 2
     }
 
     #[inline]
@@ -234,8 +247,8 @@ impl Word<8> for u64 {
     }
 
     #[inline]
-    fn behind(self, lanes: usize) -> u64 {
-        self << (8 * lanes)
+    fn followed_by(self, lanes: usize, other: u64) -> u64 {
+        self + (other << (8 * lanes))
     }
 
     #[inline]
@@ -247,19 +260,46 @@ impl Word<8> for u64 {
 // The first number past 64 bits.
 const HALF: u128 = 1 << 64;
 
+// Both halves of a word, the low one first. The compiler keeps what is made of them in a vector, from the load of a word
+// on; in halves or as one number they would take two registers, and twice the steps.
+#[inline(always)]
+fn halves(word: u128) -> u64x2
+    ensures { result ≡ (word % 2 ^ 64) ∷ (word / 2 ^ 64) ∷ [] }
+{
+    u64x2::from_array([(word % HALF) as u64, (word / HALF) as u64])
+}
+
+// The word of two halves.
+#[inline(always)]
+fn joined(low: u64, high: u64) -> u128
+    ensures { result ≡ low + 2 ^ 64 * high }
+{
+    // a sum would be taken apart again
+    u128::from(low) | u128::from(high) << 64
+}
+
+// The word of the halves in a vector.
+#[inline(always)]
+fn whole(halves: u64x2) -> u128
+    ensures { result ≡ slice_index halves 0 + 2 ^ 64 * slice_index halves 1 }
+{
+    let [low, high] = halves.to_array();
+    joined(low, high)
+}
+
 impl Word<16> for u128 {
     ghost number = { λ w. w };
 
     ghost size = { (lit< tt, lit≤ tt) };
 
-    #[inline]
+    #[inline(always)]
     fn from_le_bytes(bytes: &[u8; 16]) -> u128 {
         u128::from_le_bytes(*bytes)
     }
 
     // In pieces that end at the bytes 7 and 15, where the compiler cuts a `Result` of a text and an error of two
     // numbers: each then stays in a register.
-    #[inline]
+    #[inline(always)]
     fn to_bytes_in_registers(self) -> [u8; 16] {
         let mut bytes = [0; 16];
         bytes[15] = (self >> 120) as u8;
@@ -270,7 +310,7 @@ impl Word<16> for u128 {
         bytes
     }
 
-    #[inline]
+    #[inline(always)]
     fn to_bytes_in_memory(self) -> [u8; 16] {
         let low = (self % HALF) as u64;
         let high = (self / HALF) as u64;
@@ -288,50 +328,57 @@ impl Word<16> for u128 {
         }
         let low = <u64 as Word<8>>::load(&src[..8]);
         let high = <u64 as Word<8>>::load(&src[len - 8..]);
-        u128::from(low) + (u128::from(high >> (8 * (16 - len))) << 64)
+        joined(low, high >> (8 * (16 - len)))
     }
 
-    #[inline]
+    #[inline(always)]
     fn text_len(self) -> usize {
         16 - u128::leading_zeros(self) as usize / 8
     }
 
-    #[inline]
+    // All lanes but the NULs.
+    #[inline(always)]
+    fn loaded_text_len(self) -> usize {
+        let lanes = halves(self).to_le_bytes();
+        lanes.simd_ne(u8x16::splat(0)).to_bitmask().count_ones() as usize
+    }
+
+    #[inline(always)]
     fn plus(self, other: u128) -> u128 {
-        self + other
+        whole(halves(self) + halves(other))
     }
 
-    #[inline]
+    #[inline(always)]
     fn and(self, other: u128) -> u128 {
-        self & other
+        whole(halves(self) & halves(other))
     }
 
-    #[inline]
+    #[inline(always)]
     fn or(self, other: u128) -> u128 {
-        self | other
+        whole(halves(self) | halves(other))
     }
 
-    #[inline]
+    #[inline(always)]
     fn not(self) -> u128 {
-        !self
+        whole(!halves(self))
     }
 
-    #[inline]
-    fn quarter(self) -> u128 {
-        self >> 2
+    #[inline(always)]
+    fn high_bits_as_case_bits(self) -> u128 {
+        whole((halves(self) & halves(Self::splat(0x80))) >> u64x2::splat(2))
     }
 
-    #[inline]
+    #[inline(always)]
     fn next_lanes(self) -> u128 {
         self >> 8
     }
 
-    #[inline]
-    fn behind(self, lanes: usize) -> u128 {
-        self << (8 * lanes)
+    #[inline(always)]
+    fn followed_by(self, lanes: usize, other: u128) -> u128 {
+        self + (other << (8 * lanes))
     }
 
-    #[inline]
+    #[inline(always)]
     fn equals(self, other: u128) -> bool {
         self == other
     }

@@ -1,5 +1,9 @@
 //! Words on their way from constants to answers, lane by lane, and the ends of each width.
 
+ghost use Rattle.std.specs.Prelude.{◌≤◌, length};
+ghost use Rattle.tinystr_words.specs.Text.{IsPadded};
+ghost use Rattle.tinystr_words.specs.Words.{HasLowLanes};
+
 use super::word_answers;
 use tinystr_words::int_ops::{Aligned, Aligned4, Aligned8, Aligned16};
 use tinystr_words::kernel::{DIGIT, LOWER, UPPER, case_bits, outside, present};
@@ -17,6 +21,24 @@ fn stays<T: Word<LEN>, const LEN: usize>(
         && word.to_ascii_lowercase() == bytes
         && word.to_ascii_titlecase() == bytes
         && word.to_ascii_uppercase() == bytes
+}
+
+// The word of a text of at most four bytes.
+fn word_of(text: &[u8]) -> u32
+    requires fits { length text.now ≤ 4 }
+    requires padded { IsPadded text.now }
+    ensures { HasLowLanes result }
+{
+    u32::load(text)
+}
+
+// The bytes of a word with a byte added to its first lane, and another to each other lane.
+fn with_added(text: u32, first: u8, others: u8) -> [u8; 4]
+    requires text { HasLowLanes text }
+    requires first { first ≤ 0x7f }
+    requires others { others ≤ 0x7f }
+{
+    text.plus(u32::first_then(first, others)).to_le_bytes()
 }
 
 #[test]
@@ -72,17 +94,16 @@ fn arrays_at_their_own_length(rt: HostRuntime) {
 
 #[test]
 fn lanes_of_a_title(rt: HostRuntime) {
-    let word = u32::load(b"tEsT");
+    let word = word_of(b"tEsT");
     let bits = case_bits(word, LOWER, UPPER);
     assert_eq!(rt; word, 0x54734574);
     assert_eq!(rt;
         [
-            word.plus(u32::first_then(LOWER.low, UPPER.low)),
-            word.plus(u32::first_then(LOWER.high, UPPER.high)),
-            bits,
-            word.or(bits),
-        ]
-        .map(u32::to_le_bytes),
+            with_added(word, LOWER.low, UPPER.low),
+            with_added(word, LOWER.high, UPPER.high),
+            bits.to_le_bytes(),
+            word.or(bits).to_le_bytes(),
+        ],
         [
             [0x93, 0x84, 0xb2, 0x93],
             [0x79, 0x6a, 0x98, 0x79],
@@ -96,18 +117,17 @@ fn lanes_of_a_title(rt: HostRuntime) {
 
 #[test]
 fn lanes_of_a_colon(rt: HostRuntime) {
-    let word = u32::load(b"3:");
+    let word = word_of(b"3:");
     let marks = outside(word, DIGIT, DIGIT).and(u32::splat(0x80));
     assert_eq!(rt; word, 0x3a33);
     assert_eq!(rt;
         [
-            word.plus(u32::splat(DIGIT.low)),
-            word.plus(u32::splat(DIGIT.high)),
-            marks,
-            present(word),
-            marks.and(present(word)),
-        ]
-        .map(u32::to_le_bytes),
+            with_added(word, DIGIT.low, DIGIT.low),
+            with_added(word, DIGIT.high, DIGIT.high),
+            marks.to_le_bytes(),
+            present(word).to_le_bytes(),
+            marks.and(present(word)).to_le_bytes(),
+        ],
         [
             [0x83, 0x8a, 0x50, 0x50],
             [0x79, 0x80, 0x46, 0x46],
@@ -120,17 +140,16 @@ fn lanes_of_a_colon(rt: HostRuntime) {
 
 #[test]
 fn lanes_of_a_brace(rt: HostRuntime) {
-    let word = u32::load(b"z{");
+    let word = word_of(b"z{");
     let bits = case_bits(word, LOWER, LOWER);
     assert_eq!(rt; word, 0x7b7a);
     assert_eq!(rt;
         [
-            word.plus(u32::splat(LOWER.low)),
-            word.plus(u32::splat(LOWER.high)),
-            bits,
-            word.and(bits.not()),
-        ]
-        .map(u32::to_le_bytes),
+            with_added(word, LOWER.low, LOWER.low),
+            with_added(word, LOWER.high, LOWER.high),
+            bits.to_le_bytes(),
+            word.and(bits.not()).to_le_bytes(),
+        ],
         [
             [0x99, 0x9a, 0x1f, 0x1f],
             [0x7f, 0x80, 0x05, 0x05],
@@ -142,7 +161,7 @@ fn lanes_of_a_brace(rt: HostRuntime) {
 
 #[test]
 fn leading_zeros_of_a_length(rt: HostRuntime) {
-    let word = u32::load(b"en");
+    let word = word_of(b"en");
     assert_eq!(rt; word, 0x00006e65);
     assert_eq!(rt; word.leading_zeros(), 17);
     assert_eq!(rt; Aligned4::from_ascii_bytes(b"en").len(), 2);

@@ -4,9 +4,5 @@ use Rattle.tinystr_words.proofs.word.U128Word16.load.Goals as goal
 
 pub returns : goal.returns
 returns g c =
-    let joined = load_is g.U.Unit.number 8 c.args.src.now (omega arith) c.requires in
-    let low = c.from-2.ensures in
-    let high = c.from-3.ensures in
-    let first = c.load-low.ensures in
-    let last = c.load-high.ensures in
-    rw (low, high, first, last) (omega (arith, joined.0, joined.1))
+    let both = load_is g.U.Unit.number 8 c.args.src.now (omega arith) c.requires in
+    rw (c.joined.ensures, c.load-low.ensures, c.load-high.ensures) (omega (arith, both.0))
