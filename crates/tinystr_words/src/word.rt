@@ -274,7 +274,6 @@ fn halves(word: u128) -> u64x2
 fn joined(low: u64, high: u64) -> u128
     ensures { result ≡ low + 2 ^ 64 * high }
 {
-    // a sum would be taken apart again
     u128::from(low) | u128::from(high) << 64
 }
 
