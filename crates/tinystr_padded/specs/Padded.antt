@@ -1,6 +1,6 @@
--- The words that take padded bytes, and such bytes cut after their first word.
+-- The words that take padded bytes, such bytes cut after their first word, and sixteen of them from any place on.
 use Rattle.std.specs.Prelude.{◌≡◌, ◌<◌, ◌≤◌, ℕ, ◌+◌, List, length, take, drop}
-use Rattle.tinystr_words.specs.Text.{IsPadded, text_of}
+use Rattle.tinystr_words.specs.Text.{IsPadded, pad, text_of}
 use Rattle.tinystr_padded.specs.declared.padded.Width.{Width}
 use Rattle.tinystr_padded.specs.declared.padded.Width.TheVariants.{Four, Eight, Sixteen, Many}
 
@@ -17,3 +17,7 @@ pub record IsFirstWord (bytes word others : List ℕ) : Type 0 where
   pub others_text : text_of others ≡ drop 16 (text_of bytes)
   pub padded : IsPadded others
   pub len : length others + 16 ≡ length bytes
+
+-- sixteen bytes of a list, from `at` on, with NULs where it ends
+abbrev pub sixteen_from : List ℕ → ℕ → List ℕ
+sixteen_from bytes at = pad (take 16 (drop at bytes)) 16

@@ -9,6 +9,7 @@ ghost use Rattle.tinystr_words.specs.Questions.{answer, in_case};
 ghost use Rattle.tinystr_padded.specs.Padded.{IsWidthOf};
 
 mod copying;
+mod joining;
 mod order;
 mod units;
 mod words;
@@ -161,21 +162,18 @@ pub fn join<const N: usize, const M: usize, const Q: usize>(
     ensures padded { IsPaddedText result Q }
     ensures text { text_of result ≡ take Q (text_of front.now ++ text_of back.now) }
 {
-    if Q > 0 && Q <= N && front[Q - 1] != 0 {
-        // no word is made where the first text fills the result
-        return cut(front);
-    }
     let first = &front[..N.min(Q)];
     let second = &back[..M.min(Q)];
     match width_of(Q) {
+        Width::Sixteen | Width::Many if first.len() <= 32 && second.len() <= 32 => {
+            joining::join(first, second)
+        }
+        // no word is made where the first text fills the result
+        _ if Q > 0 && Q <= N && front[Q - 1] != 0 => cut(front),
         Width::Four | Width::Eight => {
             let text = Aligned8::from_part(first).join(&Aligned8::from_part(second));
             cut(&text.to_bytes())
         }
-        Width::Sixteen => {
-            let text = Aligned16::from_part(first).join(&Aligned16::from_part(second));
-            cut(&text.to_bytes_in_memory())
-        }
-        Width::Many => copying::join(*front, len(front), back),
+        Width::Sixteen | Width::Many => copying::join(*front, len(front), back),
     }
 }

@@ -1,7 +1,8 @@
 -- Formulas over words: what each does to a lane alone, it does to that lane of the word.
 use Rattle.std.proofs.Common.{ℕ, zero, suc, ◌+◌, ◌-◌, ◌*◌, ◌/◌, ◌%◌, ◌^◌, ◌<◌, ◌≤◌, ◌≡◌, Bool, true, false, cond, ◌&&◌, ◌||◌, List, [], ◌∷◌, ◌++◌, length, refl, ap, ap₂, ◌∙◌, arith, bit_and, bit_or, nat_eq, nat_lt, replicate, lit<, subst, map}
 use Rattle.std.proofs.lemmas.Bool.Decides.{nat_tests}
-use Rattle.std.proofs.lemmas.Nat.{or_lt, and_le_l}
+use Rattle.std.proofs.lemmas.Nat.{or_lt, xor_lt, and_le_l}
+use Rattle.std.specs.Int.Bits.{bit_xor}
 use Rattle.std.specs.List.{list_all}
 use Rattle.std.proofs.lemmas.Bool.{ltb-true}
 use Rattle.std.proofs.lemmas.List.Elements.{All-head, All-tail}
@@ -15,7 +16,7 @@ use Rattle.tinystr_words.specs.declared.question.Case.{Case}
 use Rattle.tinystr_words.specs.declared.question.Case.TheVariants.{Lower, Title, Upper}
 use Rattle.tinystr_words.proofs.Texts.{NULS, length-pad}
 use Rattle.tinystr_words.proofs.AnswersByParts.{first_change, later_change, length-in_case}
-use Rattle.tinystr_words.proofs.Lanes.{both_true, everywhere, everywhere_is, Ascii, lanes, lanes_zip2, plus_step, and_step, or_step, word_not, word_quarter, same_words, holds}
+use Rattle.tinystr_words.proofs.Lanes.{both_true, everywhere, everywhere_is, Ascii, lanes, lanes_zip2, plus_step, and_step, or_step, xor_step, word_not, word_quarter, same_words, holds}
 
 -- a formula over a word, as `(w + u(0x50)) & H` is `both (plus itself (each 0x50)) (each 0x80)`
 pub data Formula : Type 0 where
@@ -24,6 +25,7 @@ pub data Formula : Type 0 where
   plus : Formula → Formula → Formula
   both : Formula → Formula → Formula
   either : Formula → Formula → Formula
+  one : Formula → Formula → Formula
   flip : Formula → Formula
   quarter : Formula → Formula
 
@@ -37,6 +39,7 @@ at (lead a c) i b = cond i a c
 at (plus f g) i b = at f i b + at g i b
 at (both f g) i b = bit_and (at f i b) (at g i b)
 at (either f g) i b = bit_or (at f i b) (at g i b)
+at (one f g) i b = bit_xor (at f i b) (at g i b)
 at (flip f) i b = 255 - at f i b
 at (quarter f) i b = at f i b / 4
 
@@ -47,6 +50,7 @@ on (lead a c) n w = word (first_then n a c)
 on (plus f g) n w = on f n w + on g n w
 on (both f g) n w = bit_and (on f n w) (on g n w)
 on (either f g) n w = bit_or (on f n w) (on g n w)
+on (one f g) n w = bit_xor (on f n w) (on g n w)
 on (flip f) n w = 256 ^ n - 1 - on f n w
 on (quarter f) n w = on f n w / 4
 
@@ -57,6 +61,7 @@ is_safe (lead a c) i b = nat_lt (cond i a c) 256
 is_safe (plus f g) i b = is_safe f i b && (is_safe g i b && nat_lt (at f i b + at g i b) 256)
 is_safe (both f g) i b = is_safe f i b && is_safe g i b
 is_safe (either f g) i b = is_safe f i b && is_safe g i b
+is_safe (one f g) i b = is_safe f i b && is_safe g i b
 is_safe (flip f) i b = is_safe f i b
 is_safe (quarter f) i b = is_safe f i b && nat_eq (at f i b % 4) 0
 
@@ -74,6 +79,7 @@ safe_byte (lead a c) i b l h = ltb-true _ _ h
 safe_byte (plus f g) i b l h = ltb-true _ _ (both_true (is_safe g i b) _ (both_true (is_safe f i b) _ h).1).1
 safe_byte (both f g) i b l h = let e = safe_byte f i b l (both_true (is_safe f i b) _ h).0 in omega (arith, and_le_l (at f i b) (at g i b))
 safe_byte (either f g) i b l h = or_lt 8 _ _ (safe_byte f i b l (both_true (is_safe f i b) _ h).0) (safe_byte g i b l (both_true (is_safe f i b) _ h).1)
+safe_byte (one f g) i b l h = xor_lt 8 _ _ (safe_byte f i b l (both_true (is_safe f i b) _ h).0) (safe_byte g i b l (both_true (is_safe f i b) _ h).1)
 safe_byte (flip f) i b l h = omega arith
 safe_byte (quarter f) i b l h = let e = safe_byte f i b l (both_true (is_safe f i b) _ h).0 in omega arith
 
@@ -108,6 +114,10 @@ lanewise (either f g) l a s =
     let p = λ (i : Bool) (b : ℕ) (h : b < 128). (both_true (is_safe f i b) _ (s i b h)).0 in
     let q = λ (i : Bool) (b : ℕ) (h : b < 128). (both_true (is_safe f i b) _ (s i b h)).1 in
     rw (lanewise f l a p, lanewise g l a q) (lanes_zip2 bit_or or_step refl (at f) (at g) (λ i b h. safe_byte f i b h (p i b h)) (λ i b h. safe_byte g i b h (q i b h)) true l a)
+lanewise (one f g) l a s =
+    let p = λ (i : Bool) (b : ℕ) (h : b < 128). (both_true (is_safe f i b) _ (s i b h)).0 in
+    let q = λ (i : Bool) (b : ℕ) (h : b < 128). (both_true (is_safe f i b) _ (s i b h)).1 in
+    rw (lanewise f l a p, lanewise g l a q) (lanes_zip2 bit_xor xor_step refl (at f) (at g) (λ i b h. safe_byte f i b h (p i b h)) (λ i b h. safe_byte g i b h (q i b h)) true l a)
 lanewise (flip f) l a s = rw (lanewise f l a s) (word_not (at f) (λ i b h. safe_byte f i b h (s i b h)) true l a)
 lanewise (quarter f) l a s =
     let p = λ (i : Bool) (b : ℕ) (h : b < 128). (both_true (is_safe f i b) _ (s i b h)).0 in

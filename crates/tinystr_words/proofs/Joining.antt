@@ -11,7 +11,7 @@ use Rattle.std.proofs.lemmas.List.{append-nil, take_all, length-take, length-app
 use Rattle.std.proofs.lemmas.List.Elements.{All-append, All-drop, All-take}
 use Rattle.tinystr_words.specs.Text.{IsPaddedText, IsText, IsTextByte, text_of}
 use Rattle.tinystr_words.specs.Words.{word, text_in, HoldsText}
-use Rattle.tinystr_words.proofs.Texts.{IsPaddedText-parts, drop-joined, length-pad, take-joined}
+use Rattle.tinystr_words.proofs.Texts.{take-joined}
 use Rattle.tinystr_words.proofs.WordAsNumber.{word_nuls, pow_256-pos}
 use Rattle.tinystr_words.proofs.Lanes.{IsBytes, IsBytes-text, word-lt}
 use Rattle.tinystr_words.proofs.WordFromParts.{IsBytes-take, word_split}
@@ -59,50 +59,3 @@ join_is {n} {w} {v} p q len is =
     ∙ ap (λ m. word t + m) (behind s len n (IsBytes-text s q.text) (omega (arith, is, p.fits)))
     ∙ sym (ap word cut ∙ word-append t (take (n - len) s) ∙ ap (λ m. word t + 256 ^ m * word (take (n - len) s)) (sym is)) in
     rw sum (word_lt-pow both n (IsBytes-text both text) fits, HoldsText-word n both text fits, text_in-word n both text fits)
-
--- the lanes above the lowest
-word-div : (s : List ℕ) (n : ℕ) → IsBytes s → word s / 256 ^ n ≡ word (drop n s)
-word-div s n h =
-    elim (cases_lt n (length s)) [
-      | inl more ↦ (let front : word (take n s) < 256 ^ n = word_lt-pow (take n s) n (IsBytes-take n s h) (omega (arith, length-take n s)) in
-          ap (λ w. w / 256 ^ n) (word_split n s (omega arith) ∙ omega (arith, mul_comm (256 ^ n) (word (drop n s)))) ∙ div-mul-add (word (drop n s)) (256 ^ n) (word (take n s)) front)
-      | inr all ↦ rw (drop_of_length-le s all) (div-eq_of_lt (word_lt-pow s n h all))
-    ]
-
--- what has no room behind the first text
-pub rest_is : {n w v : ℕ} → HoldsText n w → HoldsText n v → (len : ℕ) → len ≡ length (text_in n w)
-    → let rest = v / 256 ^ (n - len) in HoldsText n rest × (text_in n rest ≡ drop n (text_in n w ++ text_in n v))
-rest_is {n} {w} {v} p q len is =
-    let t = text_in n w in
-    let s = text_in n v in
-    let back : List ℕ = drop (n - len) s in
-    let text : IsText back = All-drop IsTextByte (n - len) s q.text in
-    let fits : length back ≤ n = omega (arith, length-drop (n - len) s, q.fits) in
-    let number : v / 256 ^ (n - len) ≡ word back =
-    ap (λ m. m / 256 ^ (n - len)) (q.padded ∙ word_nuls s (n - length s)) ∙ word-div s (n - len) (IsBytes-text s q.text) in
-    let cut : back ≡ drop n (t ++ s) =
-    ap (λ m. drop (n - m) s) is ∙ sym (drop-joined t s n ∙ ap (λ (l : List ℕ). l ++ drop (n - length t) s) (drop_of_length-le t p.fits)) in
-    rw number (HoldsText-word n back text fits, text_in-word n back text fits ∙ cut)
-
--- nothing has no text
-pub nothing_is : HoldsText 16 0 × (text_in 16 0 ≡ [])
-nothing_is =
-    let none : IsText [] = λ k d below. absurd (omega arith) in
-    (HoldsText-word 16 [] none (omega arith), text_in-word 16 [] none (omega arith))
-
--- the second half put behind the first
-put_second : (n : ℕ) (a z b : List ℕ) → length a ≡ n → length z ≡ n → put_mid n n (a ++ z) b ≡ a ++ b
-put_second n a z b long_a long_z =
-    let front : take n (a ++ z) ≡ a = ap (λ m. take m (a ++ z)) (sym long_a) ∙ take-append_seam a z in
-    let back : drop n (a ++ z) ≡ z = ap (λ m. drop m (a ++ z)) (sym long_a) ∙ drop-append_seam a z in
-    let none : drop n (drop n (a ++ z)) ≡ [] = ap (λ (l : List ℕ). drop n l) back ∙ drop_of_length-le z (omega arith) in
-    ap₂ (λ (l m : List ℕ). l ++ m) front (ap (λ (l : List ℕ). b ++ l) none ∙ append-nil b)
-
--- the bytes of two words
-pub whole_is : (a z b f r t : List ℕ) → length z ≡ 16 → a ≡ f → b ≡ r → IsPaddedText f 16 → text_of f ≡ take 16 t → IsPaddedText r 16 → text_of r ≡ drop 16 t
-    → IsPaddedText (put_mid 16 16 (a ++ z) b) 32 × (text_of (put_mid 16 16 (a ++ z) b) ≡ t)
-whole_is a z b f r t long ea eb pf tf pr tr =
-    let long_f : length f ≡ 16 = ap (λ (l : List ℕ). length l) pf.padded ∙ length-pad (text_of f) 16 pf.fits in
-    let made : put_mid 16 16 (a ++ z) b ≡ f ++ r = put_second 16 a z b (ap (λ (l : List ℕ). length l) ea ∙ long_f) long ∙ ap₂ (λ (l m : List ℕ). l ++ m) ea eb in
-    let both = IsPaddedText-parts f r t 16 16 pf tf pr tr in
-    (subst (λ (l : List ℕ). IsPaddedText l 32) (sym made) both.0, ap (λ (l : List ℕ). text_of l) made ∙ both.1)

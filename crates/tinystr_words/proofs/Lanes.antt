@@ -3,7 +3,8 @@ use Rattle.std.proofs.Common.{ℕ, zero, suc, ◌+◌, ◌-◌, ◌*◌, ◌/◌
 use Rattle.std.proofs.Math.Nat.{pow-suc}
 use Rattle.std.proofs.Math.Facts.{Fits-lt-pow}
 use Rattle.std.proofs.lemmas.Bool.Decides.{Decides-below_and, nat_tests}
-use Rattle.std.proofs.lemmas.Nat.{and_block, or_block}
+use Rattle.std.proofs.lemmas.Nat.{and_block, or_block, xor_block}
+use Rattle.std.specs.Int.Bits.{bit_xor}
 use Rattle.std.specs.Simd.Lanes.{zip2, Each1}
 use Rattle.std.proofs.lemmas.Simd.{Each1-weaker, Each1-from_get_or}
 use Rattle.tinystr_words.specs.Text.{IsText}
@@ -77,6 +78,10 @@ and_step = Bytewise-from_block bit_and (and_block 8)
 -- and "or"
 pub or_step : Bytewise bit_or
 or_step = Bytewise-from_block bit_or (or_block 8)
+
+-- and the bits of one alone
+pub xor_step : Bytewise bit_xor
+xor_step = Bytewise-from_block bit_xor (xor_block 8)
 
 -- and a sum, which may leave a lane that is no byte
 pub plus_step : Bytewise (λ m n. m + n)

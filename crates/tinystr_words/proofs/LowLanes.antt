@@ -2,7 +2,8 @@
 use Rattle.std.proofs.Common.{ℕ, zero, suc, ◌+◌, ◌*◌, ◌/◌, ◌%◌, ◌^◌, ◌<◌, ◌≤◌, ◌≡◌, List, [], ◌∷◌, length, replicate, refl, sym, ap, ◌∙◌, arith, bit_and, bit_or, lit<}
 use Rattle.std.proofs.Math.Nat.{pow-suc}
 use Rattle.std.proofs.Math.Arith.{mod-mul}
-use Rattle.std.proofs.lemmas.Nat.{and_block, or_block, and_le_r}
+use Rattle.std.proofs.lemmas.Nat.{and_block, or_block, xor_block, and_le_r}
+use Rattle.std.specs.Int.Bits.{bit_xor}
 use Rattle.tinystr_words.specs.Words.{word, lanes_of, first_then, HasLowLanes}
 use Rattle.tinystr_words.proofs.Lanes.{Ascii, and_step}
 use Rattle.tinystr_words.proofs.WordAsNumber.{lower_lanes, word_ascii, pow_256-pos}
@@ -92,6 +93,13 @@ or_halves a b =
     let left : a / 2 ^ 64 * 2 ^ 64 + a % 2 ^ 64 ≡ a = omega arith in
     let right : b / 2 ^ 64 * 2 ^ 64 + b % 2 ^ 64 ≡ b = omega arith in
     let both = rw (left, right) at (or_block 64 (a / 2 ^ 64) (b / 2 ^ 64) (a % 2 ^ 64) (b % 2 ^ 64) (omega arith) (omega arith)) in
+    omega arith
+
+pub xor_halves : (a b : ℕ) → bit_xor (a % 2 ^ 64) (b % 2 ^ 64) + 2 ^ 64 * bit_xor (a / 2 ^ 64) (b / 2 ^ 64) ≡ bit_xor a b
+xor_halves a b =
+    let left : a / 2 ^ 64 * 2 ^ 64 + a % 2 ^ 64 ≡ a = omega arith in
+    let right : b / 2 ^ 64 * 2 ^ 64 + b % 2 ^ 64 ≡ b = omega arith in
+    let both = rw (left, right) at (xor_block 64 (a / 2 ^ 64) (b / 2 ^ 64) (a % 2 ^ 64) (b % 2 ^ 64) (omega arith) (omega arith)) in
     omega arith
 
 -- no bit is left behind where the mask has none of the lowest two

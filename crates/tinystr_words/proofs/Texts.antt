@@ -176,23 +176,3 @@ IsPaddedText-drop l n q p = (padded-drop l n q p).0
 -- the text of a back is a back of the text
 pub text_of-drop : (l : List ℕ) (n q : ℕ) → IsPaddedText l n → text_of (drop q l) ≡ drop q (text_of l)
 text_of-drop l n q p = (padded-drop l n q p).1
-
--- two arrays, of the front of a text and of the rest, are an array of the text
-pub IsPaddedText-parts : (a b t : List ℕ) (n m : ℕ) → IsPaddedText a n → text_of a ≡ take n t → IsPaddedText b m → text_of b ≡ drop n t
-    → IsPaddedText (a ++ b) (n + m) × (text_of (a ++ b) ≡ t)
-IsPaddedText-parts a b t n m pa ta pb tb =
-    let h : IsText t =
-    subst (λ (s : List ℕ). IsText s) (take-append-drop n t)
-    (All-append IsTextByte (take n t) (drop n t) (subst (λ (s : List ℕ). IsText s) ta pa.text) (subst (λ (s : List ℕ). IsText s) tb pb.text)) in
-    let rest : length (drop n t) ≤ m = subst (λ (s : List ℕ). length s ≤ m) tb pb.fits in
-    let fits : length t ≤ n + m = omega (arith, length-drop n t) in
-    let w = pad t (n + m) in
-    let p = IsPaddedText-pad t (n + m) (record { text = h; fits = fits }) in
-    let whole : text_of w ≡ t = text_of-pad t (n + m) h in
-    let long : length w ≡ n + m = length-pad t (n + m) fits in
-    let front : take n w ≡ a =
-    (IsPaddedText-take w (n + m) n p).padded ∙ ap₂ (λ (s : List ℕ) (k : ℕ). pad s k) (text_of-take w (n + m) n p ∙ ap (λ (s : List ℕ). take n s) whole ∙ sym ta) (omega (arith, length-take n w)) ∙ sym pa.padded in
-    let back : drop n w ≡ b =
-    (IsPaddedText-drop w (n + m) n p).padded ∙ ap₂ (λ (s : List ℕ) (k : ℕ). pad s k) (text_of-drop w (n + m) n p ∙ ap (λ (s : List ℕ). drop n s) whole ∙ sym tb) (omega (arith, length-drop n w)) ∙ sym pb.padded in
-    let made : w ≡ a ++ b = sym (take-append-drop n w) ∙ ap₂ (λ (x y : List ℕ). x ++ y) front back in
-    (subst (λ (l : List ℕ). IsPaddedText l (n + m)) made p, ap (λ (l : List ℕ). text_of l) (sym made) ∙ whole)

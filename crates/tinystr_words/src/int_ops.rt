@@ -1,6 +1,6 @@
 //! Texts in one word each, asked and changed by a few sums over the whole word.
 
-ghost use Rattle.std.specs.Prelude.{◌≡◌, ◌<◌, ◌≤◌, ◌++◌, length, map, take, drop, MatchOption, IsTrue, ◌↔◌};
+ghost use Rattle.std.specs.Prelude.{◌≡◌, ◌<◌, ◌≤◌, ◌++◌, length, map, take, MatchOption, IsTrue, ◌↔◌};
 ghost use Rattle.std.specs.Fmt.{decimal};
 ghost use Rattle.std.specs.Str.{bytes_eq};
 ghost use Rattle.tinystr_words.specs.Text.{IsText, IsPaddedText, IsPadded, pad, text_of};
@@ -16,8 +16,9 @@ use crate::kernel::{
 };
 use crate::question::{Case, Question};
 use crate::unit::{Unit, is_text};
-use crate::word::Word;
+use crate::word::{Word, lanes};
 use std::marker::Model;
+use std::simd::prelude::*;
 
 /// A text of at most `LEN` bytes, each from 1 to 127: its bytes and then NULs, in one word.
 #[derive(Drop)]
@@ -61,7 +62,7 @@ impl<T: Word<LEN>, const LEN: usize> Aligned<T, LEN> {
     pub fn len(&self) -> usize
         ensures { result ≡ length self.now }
     {
-        self.word.loaded_text_len()
+        self.word.text_len()
     }
 
     /// Whether each byte is a letter; so it is of the empty text, here and in the other questions.
@@ -216,35 +217,12 @@ impl<T: Word<LEN>, const LEN: usize> Aligned<T, LEN> {
         self.word.to_bytes_in_registers()
     }
 
-    /// The same bytes, for a caller that stores them: those of a word of sixteen are made in halves.
-    #[inline(always)]
-    pub fn to_bytes_in_memory(&self) -> [u8; LEN]
-        ensures padded { IsPaddedText result LEN }
-        ensures text { text_of result ≡ self.now }
-    {
-        self.word.to_bytes_in_memory()
-    }
-
     /// Whether the other text is the same.
     #[inline(always)]
     pub fn equals(&self, other: &Self) -> bool
         ensures { result ≡ bytes_eq self.now other.now }
     {
         self.word.equals(other.word)
-    }
-
-    /// The text and then another, cut where they are longer than `LEN` bytes together.
-    #[inline(always)]
-    pub fn join(&self, other: &Self) -> Self
-        ensures { result ≡ take LEN (self.now ++ other.now) }
-    {
-        let len = self.word.text_len();
-        if len == LEN {
-            return Aligned { word: self.word };
-        }
-        Aligned {
-            word: self.word.followed_by(len, other.word),
-        }
     }
 
     /// The answer of the method that the question names, as `is_ascii_titlecase` for `Titlecase`.
@@ -279,15 +257,12 @@ impl<T: Word<LEN>, const LEN: usize> Aligned<T, LEN> {
         ensures { result ≡ pad (in_case case self.now) LEN }
     {
         let word = self.word;
-        let changed = match case {
-            Case::Lower => word.or(case_bits(word, UPPER, UPPER)),
-            Case::Title => {
-                let bits = case_bits(word, LOWER, UPPER);
-                word.or(bits).and(T::first_then(0x20, 0).and(bits).not())
-            }
-            Case::Upper => word.and(case_bits(word, LOWER, LOWER).not()),
+        let letters = match case {
+            Case::Lower => case_bits(word, UPPER, UPPER),
+            Case::Title => case_bits(word, LOWER, UPPER),
+            Case::Upper => case_bits(word, LOWER, LOWER),
         };
-        changed.to_bytes_in_memory()
+        word.xor(letters).to_bytes_in_memory()
     }
 }
 
@@ -299,7 +274,32 @@ pub fn decimal_fits(number: u32, most: usize) -> bool
     most >= 10 || (most > 0 && number < 10u32.pow(most as u32))
 }
 
+impl Aligned<u64, 8> {
+    /// The text and then another, cut where they are longer than 8 bytes together.
+    #[inline(always)]
+    pub fn join(&self, other: &Self) -> Self
+        ensures { result ≡ take 8 (self.now ++ other.now) }
+    {
+        let (front, back) = (self.word, other.word);
+        let len = front.text_len();
+        if len == 8 {
+            return Aligned { word: front };
+        }
+        Aligned {
+            word: front + (back << (8 * len)),
+        }
+    }
+}
+
 impl Aligned<u128, 16> {
+    /// The text and then NULs, in a vector.
+    #[inline(always)]
+    pub fn to_lanes(&self) -> u8x16
+        ensures { result ≡ pad self.now 16 }
+    {
+        lanes(self.word)
+    }
+
     /// The shortest decimal text of a number.
     #[inline(always)]
     pub fn from_decimal(number: u32) -> Self
@@ -320,33 +320,5 @@ impl Aligned<u128, 16> {
         Aligned {
             word: decimal_word(limit + number % limit).next_lanes(),
         }
-    }
-
-    /// What `join` cuts off of both texts.
-    #[inline(always)]
-    fn join_rest(&self, other: &Self) -> Self
-        ensures { result ≡ drop 16 (self.now ++ other.now) }
-    {
-        let (front, back) = (self.word, other.word);
-        let len = front.text_len();
-        if len == 0 {
-            return Aligned { word: 0 };
-        }
-        Aligned {
-            word: back >> (8 * (16 - len)),
-        }
-    }
-
-    /// The text and then all of another, and NULs. Both words are made in registers: a text stored at a place known only
-    /// when the program runs would be waited for.
-    #[inline(always)]
-    pub fn join_whole(&self, other: &Self) -> [u8; 32]
-        ensures padded { IsPaddedText result 32 }
-        ensures text { text_of result ≡ self.now ++ other.now }
-    {
-        let mut bytes = [0; 32];
-        bytes[..16].copy_from_slice(&self.join(other).to_bytes_in_memory());
-        bytes[16..].copy_from_slice(&self.join_rest(other).to_bytes_in_memory());
-        bytes
     }
 }

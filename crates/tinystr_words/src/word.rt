@@ -1,6 +1,7 @@
 //! An unsigned integer as a word of byte lanes, the first byte lowest.
 
 ghost use Rattle.std.specs.Prelude.{◌≡◌, ◌+◌, ◌-◌, ◌*◌, ◌/◌, ◌%◌, ◌^◌, ◌<◌, ◌≤◌, ◌==◌, ℕ, [], ◌∷◌, length, map, slice_index, bit_and, bit_or};
+ghost use Rattle.std.specs.Int.Bits.{bit_xor};
 ghost use Rattle.std.proofs.Common.{lit<, lit≤};
 ghost use Rattle.tinystr_words.specs.Words.{word, first_then, lanes_of, text_in, HasLowLanes, HoldsText};
 
@@ -33,20 +34,10 @@ pub trait Word<const LEN: usize>: Copy + Drop {
         requires { length src.now ≤ LEN }
         ensures { number result ≡ word (map (λ u. U.number u % 256) src.now) };
 
-    /// The length of the text in the lanes, from the highest bit that is set: only NULs stand above its last byte.
+    /// The length of the text in the lanes.
     fn text_len(self) -> usize
         requires { HoldsText LEN (number self) }
         ensures { result ≡ length (text_in LEN (number self)) };
-
-    /// The same of a word that is loaded for it alone: one of sixteen is counted in a vector, while in `text_len` it stays
-    /// in the registers where a join wants it.
-    #[inline(always)]
-    fn loaded_text_len(self) -> usize
-        requires { HoldsText LEN (number self) }
-        ensures { result ≡ length (text_in LEN (number self)) }
-    {
-        self.text_len()
-    }
 
     /// The sum, which is that of each lane with its like, since no lane carries.
     fn plus(self, other: Self) -> Self
@@ -62,6 +53,10 @@ pub trait Word<const LEN: usize>: Copy + Drop {
     fn or(self, other: Self) -> Self
         ensures { number result ≡ bit_or (number self) (number other) };
 
+    /// The bits that are set in one alone.
+    fn xor(self, other: Self) -> Self
+        ensures { number result ≡ bit_xor (number self) (number other) };
+
     /// The bits that aren't set.
     fn not(self) -> Self
         ensures { number result ≡ 256 ^ LEN - 1 - number self };
@@ -73,12 +68,6 @@ pub trait Word<const LEN: usize>: Copy + Drop {
     /// Each lane one place lower, without the lowest.
     fn next_lanes(self) -> Self
         ensures { number result ≡ number self / 256 };
-
-    /// The lanes, and behind so many of them those of another. Those past the last place are lost.
-    fn followed_by(self, lanes: usize, other: Self) -> Self
-        requires inside { lanes < LEN }
-        requires room { number self + number other * 256 ^ lanes % 256 ^ LEN < 256 ^ LEN }
-        ensures { number result ≡ number self + number other * 256 ^ lanes % 256 ^ LEN };
 
     /// Whether all lanes are the same.
     fn equals(self, other: Self) -> bool
@@ -137,6 +126,7 @@ impl Word<4> for u32 {
             | u32::from(src[last].low_byte()) << (8 * last)
     }
 
+    // Only NULs stand above the text's last byte.
     #[inline]
     fn text_len(self) -> usize {
         4 - u32::leading_zeros(self) as usize / 8
@@ -158,6 +148,11 @@ impl Word<4> for u32 {
     }
 
     #[inline]
+    fn xor(self, other: u32) -> u32 {
+        self ^ other
+    }
+
+    #[inline]
     fn not(self) -> u32 {
         !self
     }
@@ -170,11 +165,6 @@ impl Word<4> for u32 {
     #[inline]
     fn next_lanes(self) -> u32 {
         self >> 8
-    }
-
-    #[inline]
-    fn followed_by(self, lanes: usize, other: u32) -> u32 {
-        self + (other << (8 * lanes))
     }
 
     #[inline]
@@ -232,6 +222,11 @@ impl Word<8> for u64 {
     }
 
     #[inline]
+    fn xor(self, other: u64) -> u64 {
+        self ^ other
+    }
+
+    #[inline]
     fn not(self) -> u64 {
         !self
     }
@@ -244,11 +239,6 @@ impl Word<8> for u64 {
     #[inline]
     fn next_lanes(self) -> u64 {
         self >> 8
-    }
-
-    #[inline]
-    fn followed_by(self, lanes: usize, other: u64) -> u64 {
-        self + (other << (8 * lanes))
     }
 
     #[inline]
@@ -267,6 +257,14 @@ fn halves(word: u128) -> u64x2
     ensures { result ≡ (word % 2 ^ 64) ∷ (word / 2 ^ 64) ∷ [] }
 {
     u64x2::from_array([(word % HALF) as u64, (word / HALF) as u64])
+}
+
+// The lanes of a word, in a vector.
+#[inline(always)]
+pub fn lanes(word: u128) -> u8x16
+    ensures { result ≡ lanes_of 16 word }
+{
+    halves(word).to_le_bytes()
 }
 
 // The word of two halves.
@@ -330,16 +328,11 @@ impl Word<16> for u128 {
         joined(low, high >> (8 * (16 - len)))
     }
 
-    #[inline(always)]
-    fn text_len(self) -> usize {
-        16 - u128::leading_zeros(self) as usize / 8
-    }
-
     // All lanes but the NULs.
     #[inline(always)]
-    fn loaded_text_len(self) -> usize {
-        let lanes = halves(self).to_le_bytes();
-        lanes.simd_ne(u8x16::splat(0)).to_bitmask().count_ones() as usize
+    fn text_len(self) -> usize {
+        let nuls = u8x16::splat(0);
+        lanes(self).simd_ne(nuls).to_bitmask().count_ones() as usize
     }
 
     #[inline(always)]
@@ -358,6 +351,11 @@ impl Word<16> for u128 {
     }
 
     #[inline(always)]
+    fn xor(self, other: u128) -> u128 {
+        whole(halves(self) ^ halves(other))
+    }
+
+    #[inline(always)]
     fn not(self) -> u128 {
         whole(!halves(self))
     }
@@ -370,11 +368,6 @@ impl Word<16> for u128 {
     #[inline(always)]
     fn next_lanes(self) -> u128 {
         self >> 8
-    }
-
-    #[inline(always)]
-    fn followed_by(self, lanes: usize, other: u128) -> u128 {
-        self + (other << (8 * lanes))
     }
 
     #[inline(always)]

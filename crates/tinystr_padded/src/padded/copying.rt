@@ -3,8 +3,6 @@
 ghost use Rattle.std.specs.Prelude.{◌≡◌, ◌++◌, length, take, drop};
 ghost use Rattle.tinystr_words.specs.Text.{IsPadded, IsPaddedText, pad, text_of};
 
-use tinystr_words::int_ops::Aligned16;
-
 // Copies the bytes that both have, eight at a time: where their number is known when the program is built, they go
 // through registers, and a copy of all at once would keep the value in memory.
 #[inline(always)]
@@ -62,10 +60,6 @@ pub fn join<const N: usize, const M: usize, const Q: usize>(
         let mut bytes = [0; Q];
         put_both(&mut bytes[..], &front[..], &back[..]);
         return bytes;
-    }
-    if N <= 16 && M <= 16 {
-        let text = Aligned16::from_ascii_bytes(&front);
-        return cut(&text.join_whole(&Aligned16::from_ascii_bytes(back)));
     }
     let mut bytes = resize::<Q>(&front[..]);
     append(&mut bytes[..], front_len.min(Q), &back[..]);

@@ -16,6 +16,3 @@ returns-then-front_len-clause-text g c =
     let back : length c.args.back.now ≡ g.row.M = search rules in
     (both_copied c.put_both.new.bytes c.args.front c.args.back.now g.row.Q (subst (λ n. IsPaddedText c.args.front n) (sym front) c.requires.front)
     (front ∙ sym c.if-front_len.true ∙ c.requires.front_len) (subst (λ n. IsPaddedText c.args.back.now n) (sym back) c.requires.back) c.put_both.ensures).1
-
-pub returns-then-this-le16-2-clause-text : goal.returns-then-this-le16-2-clause-text
-returns-then-this-le16-2-clause-text g c = search rules
