@@ -1,15 +1,13 @@
 -- A word whose text is followed by that of another.
-use Rattle.std.proofs.Common.{ℕ, ◌+◌, ◌-◌, ◌*◌, ◌/◌, ◌%◌, ◌^◌, ◌<◌, ◌≤◌, ◌≡◌, List, [], ◌++◌, length, take, drop, subst, sym, ap, ap₂, ◌∙◌, arith, lit<, inl, inr}
-use Rattle.std.proofs.Math.Nat.{mul_comm, pow-le-pow_right, mul-mod_left, mod-eq_of_lt, add-mul-mod_self_left, div-eq_of_lt}
+use Rattle.std.proofs.Common.{ℕ, ◌+◌, ◌-◌, ◌*◌, ◌/◌, ◌%◌, ◌^◌, ◌<◌, ◌≤◌, ◌≡◌, List, ◌++◌, length, take, drop, sym, ap, ap₂, ◌∙◌, arith, lit<, inl, inr}
+use Rattle.std.proofs.Math.Nat.{mul_comm, pow-le-pow_right, mul-mod_left, mod-eq_of_lt, add-mul-mod_self_left}
 use Rattle.std.proofs.Math.Arith.{mod-mul}
-use borrow.Rule.Slice.PartMut.{put_mid}
-use Rattle.std.proofs.Math.ListN.{drop_of_length-le}
 use Rattle.std.proofs.Math.Seq.{take-append_seam, drop-append_seam}
 use Rattle.std.proofs.lemmas.Nat.{pow-add, div-mul-add}
 use Rattle.std.proofs.lemmas.Bool.{cases_lt}
-use Rattle.std.proofs.lemmas.List.{append-nil, take_all, length-take, length-append, length-drop}
-use Rattle.std.proofs.lemmas.List.Elements.{All-append, All-drop, All-take}
-use Rattle.tinystr_words.specs.Text.{IsPaddedText, IsText, IsTextByte, text_of}
+use Rattle.std.proofs.lemmas.List.{take_all, length-take, length-append}
+use Rattle.std.proofs.lemmas.List.Elements.{All-append, All-take}
+use Rattle.tinystr_words.specs.Text.{IsText, IsTextByte}
 use Rattle.tinystr_words.specs.Words.{word, text_in, HoldsText}
 use Rattle.tinystr_words.proofs.Texts.{take-joined}
 use Rattle.tinystr_words.proofs.WordAsNumber.{word_nuls, pow_256-pos}
