@@ -1,20 +1,17 @@
 -- Two texts of at most 32 bytes, joined lane by lane.
 use Rattle.std.proofs.Common.{List, [], ap, ap₂, arith, cond, drop, get_or, inl, inr, length, min, refl, replicate, subst, sym, take, w8, zero-add, ℕ, ◌++◌, ◌+◌, ◌-◌, ◌*◌, ◌/◌, ◌<◌, ◌∙◌, ◌≡◌, ◌≤◌, ◌⊎◌, ◌||◌, T, ltb}
-use Rattle.std.proofs.Math.Seq.{take-add}
 use Rattle.std.proofs.lemmas.List.{append-nil, drop_all, ext_get_or, get_or-append_right, get_or-drop, get_or-take, get_or_append_left, get_or_past, length-drop, length-replicate, length-take, length-take-le, take_all}
 use Rattle.std.proofs.lemmas.List.FromFn.{get_or-range_with_len}
 use Rattle.std.proofs.lemmas.Bool.{cases_lt, lt-leb, lt-ltb}
 use Rattle.std.proofs.lemmas.Simd.{Each1-from_get_or, SwzOk, SwzOk-from_Each1, get_or-replicate, get_or-swz_l, get_or-zip2, length-swz_l, length-zip2, swz_l}
-use Rattle.std.proofs.lemmas.Slice.{take-put_mid}
 use Rattle.std.specs.Int.Bits.{bit_or, or_zero_l, or_zero_r}
 use Rattle.std.specs.List.{range_with_len}
 use Rattle.std.specs.Simd.Lanes.{chunk, zip2}
-use borrow.Rule.Slice.PartMut.{put_mid}
 use mir.Val.{zeroes}
 use Rattle.tinystr_words.specs.Text.{IsPadded, pad, text_of}
 use Rattle.tinystr_words.proofs.Texts.{IsPaddedText-drop, NULS, get_or-nuls, length-pad, length-text_of-le, text_of-drop, text_of-take}
 use Rattle.tinystr_padded.specs.Padded.{sixteen_from}
-use Rattle.tinystr_padded.specs.declared.padded.joining.TheConstants.{LANES}
+use Rattle.tinystr_padded.specs.declared.padded.joining.TheConstants.{TAKEN_LANES}
 use Rattle.tinystr_padded.proofs.Copying.{padded_at}
 
 before : (n : ℕ) (l : List ℕ) (k : ℕ) → k < n → get_or (NULS n ++ l) k 0 ≡ 0
@@ -50,11 +47,8 @@ taken xs j = cond (zeroes 16 w8 j) 0 (get_or xs j 0)
 abbrev NONE : List ℕ
 NONE = replicate 48 128
 
-table : LANES ≡ NONE ++ (range_with_len 0 16 ++ NONE)
-table = refl
-
 -- 128, or the lane behind 48 others
-lane_at : (k : ℕ) → k < 112 → ((get_or LANES k 0 ≡ 128) × ((k < 48) ⊎ (64 ≤ k))) ⊎ ((get_or LANES k 0 ≡ k - 48) × ((48 ≤ k) × (k < 64)))
+lane_at : (k : ℕ) → k < 112 → ((get_or TAKEN_LANES k 0 ≡ 128) × ((k < 48) ⊎ (64 ≤ k))) ⊎ ((get_or TAKEN_LANES k 0 ≡ k - 48) × ((48 ≤ k) × (k < 64)))
 lane_at k inside = elim (cases_lt k 48) [
   | inl near ↦ inl (get_or_append_left NONE (range_with_len 0 16 ++ NONE) 0 k near ∙ get_or-replicate 48 k 128 0 near, inl near)
   | inr far ↦
@@ -65,7 +59,7 @@ lane_at k inside = elim (cases_lt k 48) [
       ]
 ]
 
-taken_at : (xs : List ℕ) (k : ℕ) → length xs ≡ 16 → k < 112 → taken xs (get_or LANES k 0) ≡ get_or (NULS 48 ++ xs) k 0
+taken_at : (xs : List ℕ) (k : ℕ) → length xs ≡ 16 → k < 112 → taken xs (get_or TAKEN_LANES k 0) ≡ get_or (NULS 48 ++ xs) k 0
 taken_at xs k long inside = elim (lane_at k inside) [
   | inl none ↦ ap (λ j. taken xs j) none.0 ∙ elim none.1 [
     | inl near ↦ sym (before 48 xs k near)
@@ -77,7 +71,7 @@ taken_at xs k long inside = elim (lane_at k inside) [
 abbrev Allowed : ℕ → Type 0
 Allowed j = T (zeroes 16 w8 j || ltb j 16)
 
-allowed_at : (k : ℕ) → k < 112 → Allowed (get_or LANES k 0)
+allowed_at : (k : ℕ) → k < 112 → Allowed (get_or TAKEN_LANES k 0)
 allowed_at k inside = elim (lane_at k inside) [
   | inl none ↦ subst (λ j. Allowed j) (sym none.0) tt
   | inr one ↦ subst (λ j. Allowed j) (sym one.0) (rw (lt-leb 128 (k - 48) (omega arith), lt-ltb (k - 48) 16 (omega arith)) tt)
@@ -85,15 +79,15 @@ allowed_at k inside = elim (lane_at k inside) [
 
 -- sixteen lanes of the table, as they are loaded
 abbrev pub lanes_of_table : ℕ → List ℕ
-lanes_of_table start = chunk 0 16 (take (112 - start) (drop start LANES))
+lanes_of_table start = chunk 0 16 (take (112 - start) (drop start TAKEN_LANES))
 
 length-lanes_of_table : (start : ℕ) → start ≤ 96 → length (lanes_of_table start) ≡ 16
 length-lanes_of_table start inside =
-    let rest : length (take (112 - start) (drop start LANES)) ≡ 112 - start = length-take-le (112 - start) (drop start LANES) (omega (arith, length-drop start LANES)) in
-    length-take-le 16 (take (112 - start) (drop start LANES)) (omega arith)
+    let rest : length (take (112 - start) (drop start TAKEN_LANES)) ≡ 112 - start = length-take-le (112 - start) (drop start TAKEN_LANES) (omega (arith, length-drop start TAKEN_LANES)) in
+    length-take-le 16 (take (112 - start) (drop start TAKEN_LANES)) (omega arith)
 
-lane_of_table : (start i : ℕ) → start ≤ 96 → i < 16 → get_or (lanes_of_table start) i 0 ≡ get_or LANES (start + i) 0
-lane_of_table start i inside small = get_or-take 16 (take (112 - start) (drop start LANES)) i 0 small ∙ get_or-take (112 - start) (drop start LANES) i 0 (omega arith) ∙ get_or-drop start LANES i 0
+lane_of_table : (start i : ℕ) → start ≤ 96 → i < 16 → get_or (lanes_of_table start) i 0 ≡ get_or TAKEN_LANES (start + i) 0
+lane_of_table start i inside small = get_or-take 16 (take (112 - start) (drop start TAKEN_LANES)) i 0 small ∙ get_or-take (112 - start) (drop start TAKEN_LANES) i 0 (omega arith) ∙ get_or-drop start TAKEN_LANES i 0
 
 pub table_is_allowed : (start : ℕ) → start ≤ 96 → SwzOk w8 16 16 0 (lanes_of_table start)
 table_is_allowed start inside =
@@ -133,7 +127,7 @@ moved_to ys l b e at start is made same = let y = has_lanes ys (NULS 48 ++ l) st
 
 -- ---- one text and another
 
--- no byte is behind another
+-- at each place at most one of the two texts has a byte
 joined_at : (a b : List ℕ) (e p : ℕ) → (b ≡ []) ⊎ (e ≡ length a) → bit_or (get_or a p 0) (get_or (NULS e ++ b) p 0) ≡ get_or (a ++ b) p 0
 joined_at a b e p (inl none) =
     let nul : get_or (NULS e ++ b) p 0 ≡ 0 = ap (λ (l : List ℕ). get_or (NULS e ++ l) p 0) none ∙ ap (λ (l : List ℕ). get_or l p 0) (append-nil (NULS e)) ∙ get_or-nuls e p in
@@ -162,18 +156,13 @@ same_lanes xs a b e at end x out = (
     none i small (inr below) = behind e b (at + i) (omega arith) ∙ get_or_past b (at + i - e) 0 (omega arith)
 
 -- the first sixteen bytes of a text
-pub first_sixteen : (l b : List ℕ) → HasLanes l b 0 → (k : ℕ) → get_or l k 0 ≡ get_or (take 16 b) k 0
-first_sixteen l b x k = elim (cases_lt k 16) [
-  | inl small ↦ x.1 k small ∙ ap (λ j. get_or b j 0) (zero-add k) ∙ sym (get_or-take 16 b k 0 small)
-  | inr past ↦ get_or_past l k 0 (omega (arith, x.0)) ∙ sym (get_or_past (take 16 b) k 0 (omega (arith, length-take 16 b)))
-]
+pub first_sixteen : (l b : List ℕ) → l ≡ sixteen_from b 0 → (k : ℕ) → get_or l k 0 ≡ get_or (take 16 b) k 0
+first_sixteen l b made k = ap (λ (m : List ℕ). get_or m k 0) made ∙ padded_at (take 16 b) 16 k
 
 -- and those behind them
-pub last_sixteen : (l b : List ℕ) → HasLanes l b 16 → length b ≤ 32 → (k : ℕ) → get_or l k 0 ≡ get_or (drop 16 b) k 0
-last_sixteen l b x fits k = elim (cases_lt k 16) [
-  | inl small ↦ x.1 k small ∙ sym (get_or-drop 16 b k 0)
-  | inr past ↦ get_or_past l k 0 (omega (arith, x.0)) ∙ sym (get_or_past (drop 16 b) k 0 (omega (arith, length-drop 16 b)))
-]
+pub last_sixteen : (l b : List ℕ) → l ≡ sixteen_from b 16 → length b ≤ 32 → (k : ℕ) → get_or l k 0 ≡ get_or (drop 16 b) k 0
+last_sixteen l b made fits k =
+    ap (λ (m : List ℕ). get_or m k 0) made ∙ padded_at (take 16 (drop 16 b)) 16 k ∙ ap (λ (m : List ℕ). get_or m k 0) (take_all 16 (drop 16 b) (omega (arith, length-drop 16 b)))
 
 -- ---- lanes loaded and stored
 
@@ -200,22 +189,28 @@ loaded l x start count at p is many made =
         ∙ ap (λ (b : List ℕ). take count b) (text_of-drop l (length l) start p)
 
 -- one more piece of t, which fills its array
-pub stored_more : (bytes lanes piece t : List ℕ) (n at k next : ℕ) → next ≡ at + k → length bytes ≡ n → next ≤ n → k ≤ 16 → HasLanes lanes t at → piece ≡ take k lanes
-    → take at bytes ≡ take at (pad (take n t) n) → take next (put_mid at k bytes piece) ≡ take next (pad (take n t) n)
-stored_more bytes lanes piece t n at k next step long room few x is e =
-    let whole = pad (take n t) n in
-    let whole_long : length whole ≡ n = length-pad (take n t) n (omega (arith, length-take n t)) in
-    let size : length piece ≡ k = ap (λ (l : List ℕ). length l) is ∙ length-take-le k lanes (omega (arith, x.0)) in
-    let rest_long : length (take k (drop at whole)) ≡ k = length-take-le k (drop at whole) (omega (arith, whole_long, length-drop at whole)) in
-    let same : piece ≡ take k (drop at whole) =
+pub piece_of : (lanes piece t : List ℕ) (n at k : ℕ) → at + k ≤ n → k ≤ 16 → lanes ≡ sixteen_from t at → piece ≡ take k lanes → piece ≡ take k (drop at (pad (take n t) n))
+piece_of lanes piece t n at k room few made is =
     ext_get_or 0 piece (take k (drop at whole)) (size ∙ sym rest_long) (λ i inside.
     let below : i < k = omega (arith, size) in
     ap (λ (l : List ℕ). get_or l i 0) is ∙ get_or-take k lanes i 0 below ∙ x.1 i (omega arith)
-    ∙ sym (get_or-take k (drop at whole) i 0 below ∙ get_or-drop at whole i 0 ∙ padded_at (take n t) n (at + i) ∙ get_or-take n t (at + i) 0 (omega arith))) in
-    take-put_mid at k bytes piece next (omega (arith, size)) (omega (arith, long)) ∙ ap₂ (λ (l m : List ℕ). l ++ m) e same
-    ∙ sym (ap (λ j. take j whole) step ∙ take-add at k whole)
+    ∙ sym (get_or-take k (drop at whole) i 0 below ∙ get_or-drop at whole i 0 ∙ padded_at (take n t) n (at + i) ∙ get_or-take n t (at + i) 0 (omega arith)))
+  where
+    whole : List ℕ
+    whole = pad (take n t) n
+
+    x : HasLanes lanes t at
+    x = has_lanes lanes t at made
+
+    size : length piece ≡ k
+    size = ap (λ (l : List ℕ). length l) is ∙ length-take-le k lanes (omega (arith, x.0))
+
+    rest_long : length (take k (drop at whole)) ≡ k
+    rest_long = length-take-le k (drop at whole) (omega (arith, length-drop at whole, length-pad (take n t) n (omega (arith, length-take n t))))
 
 -- all pieces
-pub stored_all : (bytes t : List ℕ) (n at : ℕ) → length bytes ≡ n → n ≤ at → at ≤ n → take at bytes ≡ take at (pad (take n t) n) → bytes ≡ pad (take n t) n
-stored_all bytes t n at long end inside e =
-    sym (take_all at bytes (omega (arith, long))) ∙ e ∙ take_all at (pad (take n t) n) (omega (arith, length-pad (take n t) n (omega (arith, length-take n t))))
+pub stored_all : (bytes t : List ℕ) (n at : ℕ) → n ≤ at → bytes ≡ take at (pad (take n t) n) ++ drop at (NULS n) → bytes ≡ pad (take n t) n
+stored_all bytes t n at end e =
+    let long : length (pad (take n t) n) ≡ n = length-pad (take n t) n (omega (arith, length-take n t)) in
+    e ∙ ap₂ (λ (l m : List ℕ). l ++ m) (take_all at (pad (take n t) n) (omega (arith, long))) (drop_all at (NULS n) (omega (arith, length-replicate {A = ℕ} n 0)))
+    ∙ append-nil (pad (take n t) n)

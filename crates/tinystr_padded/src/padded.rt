@@ -168,7 +168,7 @@ pub fn join<const N: usize, const M: usize, const Q: usize>(
         Width::Sixteen | Width::Many if first.len() <= 32 && second.len() <= 32 => {
             joining::join(first, second)
         }
-        // no word is made where the first text fills the result
+        // a first text that fills the result is copied as it is
         _ if Q > 0 && Q <= N && front[Q - 1] != 0 => cut(front),
         Width::Four | Width::Eight => {
             let text = Aligned8::from_part(first).join(&Aligned8::from_part(second));

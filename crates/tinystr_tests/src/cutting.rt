@@ -52,6 +52,92 @@ fn a_full_text_is_joined_and_cut(rt: HostRuntime) -> Result<(), Fail> {
     Ok(())
 }
 
+#[test]
+fn long_texts_are_joined_and_cut(rt: HostRuntime) -> Result<(), Fail> {
+    let full = TinyAsciiStr::<32>::try_from_str("abcdefghijklmnopqrstuvwxyz012345")?;
+    let less = TinyAsciiStr::<32>::try_from_str("ABCDEFGHIJKLMNOPQRSTUVWXYZ67890")?;
+    let forty = TinyAsciiStr::<40>::try_from_str("abcdefghijklmnopqrstuvwxyz012345!#$%&*+-")?;
+    assert!(rt;
+        is_text(
+            full.concat::<32, 64>(less),
+            "abcdefghijklmnopqrstuvwxyz012345ABCDEFGHIJKLMNOPQRSTUVWXYZ67890"
+        )
+    );
+    assert!(rt;
+        is_text(
+            full.concat::<32, 80>(less),
+            "abcdefghijklmnopqrstuvwxyz012345ABCDEFGHIJKLMNOPQRSTUVWXYZ67890"
+        )
+    );
+    assert!(rt;
+        is_text(
+            full.concat::<32, 33>(less),
+            "abcdefghijklmnopqrstuvwxyz012345A"
+        )
+    );
+    assert!(rt;
+        is_text(
+            full.concat::<32, 32>(less),
+            "abcdefghijklmnopqrstuvwxyz012345"
+        )
+    );
+    assert!(rt;
+        is_text(
+            less.concat::<32, 64>(full),
+            "ABCDEFGHIJKLMNOPQRSTUVWXYZ67890abcdefghijklmnopqrstuvwxyz012345"
+        )
+    );
+    assert!(rt;
+        is_text(
+            less.concat::<32, 80>(full),
+            "ABCDEFGHIJKLMNOPQRSTUVWXYZ67890abcdefghijklmnopqrstuvwxyz012345"
+        )
+    );
+    assert!(rt;
+        is_text(
+            less.concat::<32, 33>(full),
+            "ABCDEFGHIJKLMNOPQRSTUVWXYZ67890ab"
+        )
+    );
+    assert!(rt;
+        is_text(
+            less.concat::<32, 32>(full),
+            "ABCDEFGHIJKLMNOPQRSTUVWXYZ67890a"
+        )
+    );
+    assert!(rt;
+        is_text(
+            full.concat::<32, 64>(full),
+            "abcdefghijklmnopqrstuvwxyz012345abcdefghijklmnopqrstuvwxyz012345"
+        )
+    );
+    assert!(rt;
+        is_text(
+            full.resize::<40>().concat::<32, 64>(less),
+            "abcdefghijklmnopqrstuvwxyz012345ABCDEFGHIJKLMNOPQRSTUVWXYZ67890"
+        )
+    );
+    assert!(rt;
+        is_text(
+            forty.concat::<32, 72>(full),
+            "abcdefghijklmnopqrstuvwxyz012345!#$%&*+-abcdefghijklmnopqrstuvwxyz012345"
+        )
+    );
+    assert!(rt;
+        is_text(
+            forty.concat::<32, 40>(less),
+            "abcdefghijklmnopqrstuvwxyz012345!#$%&*+-"
+        )
+    );
+    assert!(rt;
+        is_text(
+            less.concat::<40, 65>(forty),
+            "ABCDEFGHIJKLMNOPQRSTUVWXYZ67890abcdefghijklmnopqrstuvwxyz012345!#"
+        )
+    );
+    Ok(())
+}
+
 type Decimal<const N: usize> = TinyAsciiStr<N>;
 
 // Whether the decimal text at the capacity of the value given is this one, whole or cut.

@@ -25,7 +25,7 @@ pub data Formula : Type 0 where
   plus : Formula → Formula → Formula
   both : Formula → Formula → Formula
   either : Formula → Formula → Formula
-  one : Formula → Formula → Formula
+  one_alone : Formula → Formula → Formula
   flip : Formula → Formula
   quarter : Formula → Formula
 
@@ -39,7 +39,7 @@ at (lead a c) i b = cond i a c
 at (plus f g) i b = at f i b + at g i b
 at (both f g) i b = bit_and (at f i b) (at g i b)
 at (either f g) i b = bit_or (at f i b) (at g i b)
-at (one f g) i b = bit_xor (at f i b) (at g i b)
+at (one_alone f g) i b = bit_xor (at f i b) (at g i b)
 at (flip f) i b = 255 - at f i b
 at (quarter f) i b = at f i b / 4
 
@@ -50,7 +50,7 @@ on (lead a c) n w = word (first_then n a c)
 on (plus f g) n w = on f n w + on g n w
 on (both f g) n w = bit_and (on f n w) (on g n w)
 on (either f g) n w = bit_or (on f n w) (on g n w)
-on (one f g) n w = bit_xor (on f n w) (on g n w)
+on (one_alone f g) n w = bit_xor (on f n w) (on g n w)
 on (flip f) n w = 256 ^ n - 1 - on f n w
 on (quarter f) n w = on f n w / 4
 
@@ -61,7 +61,7 @@ is_safe (lead a c) i b = nat_lt (cond i a c) 256
 is_safe (plus f g) i b = is_safe f i b && (is_safe g i b && nat_lt (at f i b + at g i b) 256)
 is_safe (both f g) i b = is_safe f i b && is_safe g i b
 is_safe (either f g) i b = is_safe f i b && is_safe g i b
-is_safe (one f g) i b = is_safe f i b && is_safe g i b
+is_safe (one_alone f g) i b = is_safe f i b && is_safe g i b
 is_safe (flip f) i b = is_safe f i b
 is_safe (quarter f) i b = is_safe f i b && nat_eq (at f i b % 4) 0
 
@@ -79,7 +79,7 @@ safe_byte (lead a c) i b l h = ltb-true _ _ h
 safe_byte (plus f g) i b l h = ltb-true _ _ (both_true (is_safe g i b) _ (both_true (is_safe f i b) _ h).1).1
 safe_byte (both f g) i b l h = let e = safe_byte f i b l (both_true (is_safe f i b) _ h).0 in omega (arith, and_le_l (at f i b) (at g i b))
 safe_byte (either f g) i b l h = or_lt 8 _ _ (safe_byte f i b l (both_true (is_safe f i b) _ h).0) (safe_byte g i b l (both_true (is_safe f i b) _ h).1)
-safe_byte (one f g) i b l h = xor_lt 8 _ _ (safe_byte f i b l (both_true (is_safe f i b) _ h).0) (safe_byte g i b l (both_true (is_safe f i b) _ h).1)
+safe_byte (one_alone f g) i b l h = xor_lt 8 _ _ (safe_byte f i b l (both_true (is_safe f i b) _ h).0) (safe_byte g i b l (both_true (is_safe f i b) _ h).1)
 safe_byte (flip f) i b l h = omega arith
 safe_byte (quarter f) i b l h = let e = safe_byte f i b l (both_true (is_safe f i b) _ h).0 in omega arith
 
@@ -114,7 +114,7 @@ lanewise (either f g) l a s =
     let p = λ (i : Bool) (b : ℕ) (h : b < 128). (both_true (is_safe f i b) _ (s i b h)).0 in
     let q = λ (i : Bool) (b : ℕ) (h : b < 128). (both_true (is_safe f i b) _ (s i b h)).1 in
     rw (lanewise f l a p, lanewise g l a q) (lanes_zip2 bit_or or_step refl (at f) (at g) (λ i b h. safe_byte f i b h (p i b h)) (λ i b h. safe_byte g i b h (q i b h)) true l a)
-lanewise (one f g) l a s =
+lanewise (one_alone f g) l a s =
     let p = λ (i : Bool) (b : ℕ) (h : b < 128). (both_true (is_safe f i b) _ (s i b h)).0 in
     let q = λ (i : Bool) (b : ℕ) (h : b < 128). (both_true (is_safe f i b) _ (s i b h)).1 in
     rw (lanewise f l a p, lanewise g l a q) (lanes_zip2 bit_xor xor_step refl (at f) (at g) (λ i b h. safe_byte f i b h (p i b h)) (λ i b h. safe_byte g i b h (q i b h)) true l a)

@@ -5,7 +5,7 @@ use Rattle.tinystr_words.specs.declared.question.Question.TheVariants.{Alphabeti
 use Rattle.tinystr_words.specs.declared.question.Case.{Case}
 use Rattle.tinystr_words.specs.declared.question.Case.TheVariants.{Lower, Title, Upper}
 use Rattle.tinystr_words.proofs.Lanes.{everywhere}
-use Rattle.tinystr_words.proofs.Formulas.{Formula, itself, each, lead, plus, both, either, one, flip, quarter, Asks, Changes, is_safe, at}
+use Rattle.tinystr_words.proofs.Formulas.{Formula, itself, each, lead, plus, both, either, one_alone, flip, quarter, Asks, Changes, is_safe, at}
 
 -- the code's ranges: what sets the high bit from the first byte on, and past the last
 abbrev pub UPPER : ℕ × ℕ
@@ -63,9 +63,9 @@ kernel_asks AlphabeticUppercase = refl
 
 -- the word in another case
 abbrev pub change : Case → Formula
-change Lower = one itself (case_bits UPPER UPPER)
-change Title = one itself (case_bits LOWER UPPER)
-change Upper = one itself (case_bits LOWER LOWER)
+change Lower = one_alone itself (case_bits UPPER UPPER)
+change Title = one_alone itself (case_bits LOWER UPPER)
+change Upper = one_alone itself (case_bits LOWER LOWER)
 
 -- at each byte, the formula of a case keeps NUL and changes another as the case does
 pub change_changes : (c : Case) → Changes (change c) c

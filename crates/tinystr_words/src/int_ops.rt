@@ -257,12 +257,12 @@ impl<T: Word<LEN>, const LEN: usize> Aligned<T, LEN> {
         ensures { result ≡ pad (in_case case self.now) LEN }
     {
         let word = self.word;
-        let letters = match case {
+        let bits = match case {
             Case::Lower => case_bits(word, UPPER, UPPER),
             Case::Title => case_bits(word, LOWER, UPPER),
             Case::Upper => case_bits(word, LOWER, LOWER),
         };
-        word.xor(letters).to_bytes_in_memory()
+        word.xor(bits).to_bytes_in_memory()
     }
 }
 

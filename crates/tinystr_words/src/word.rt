@@ -259,7 +259,7 @@ fn halves(word: u128) -> u64x2
     u64x2::from_array([(word % HALF) as u64, (word / HALF) as u64])
 }
 
-// The lanes of a word, in a vector.
+/// The sixteen lanes of a word, the lowest first, in a vector.
 #[inline(always)]
 pub fn lanes(word: u128) -> u8x16
     ensures { result ≡ lanes_of 16 word }

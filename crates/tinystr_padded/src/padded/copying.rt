@@ -1,4 +1,4 @@
-//! Bytes copied into arrays. Nothing else writes behind a text.
+//! Bytes copied into arrays, also behind a text.
 
 ghost use Rattle.std.specs.Prelude.{◌≡◌, ◌++◌, length, take, drop};
 ghost use Rattle.tinystr_words.specs.Text.{IsPadded, IsPaddedText, pad, text_of};

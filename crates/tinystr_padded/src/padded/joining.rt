@@ -1,5 +1,5 @@
-//! Two texts joined in vectors of sixteen bytes. Nothing is stored at a place that is known only when the program runs,
-//! since a load would wait for it.
+//! Two texts joined in vectors of sixteen bytes. Each is stored at a place known when the program is built: a load of
+//! bytes stored elsewhere would wait for them.
 
 ghost use Rattle.std.specs.Prelude.{◌≡◌, ◌≤◌, ◌++◌, length, replicate, take};
 ghost use Rattle.tinystr_words.specs.Text.{IsPadded, IsPaddedText, text_of};
@@ -9,8 +9,8 @@ use super::words;
 use std::simd::prelude::*;
 use tinystr_words::int_ops::Aligned16;
 
-// The lanes that `moved` takes. 128 takes none, and makes a NUL.
-static LANES: [u8; 112] = [
+// The lane that each byte of `moved` takes. 128 takes none, and gives a NUL.
+static TAKEN_LANES: [u8; 112] = [
     128, 128, 128, 128, 128, 128, 128, 128, 128, 128, 128, 128, 128, 128, 128, 128, //
     128, 128, 128, 128, 128, 128, 128, 128, 128, 128, 128, 128, 128, 128, 128, 128, //
     128, 128, 128, 128, 128, 128, 128, 128, 128, 128, 128, 128, 128, 128, 128, 128, //
@@ -20,7 +20,7 @@ static LANES: [u8; 112] = [
     128, 128, 128, 128, 128, 128, 128, 128, 128, 128, 128, 128, 128, 128, 128, 128, //
 ];
 
-/// The first `Q` bytes of two texts joined.
+/// The first `Q` bytes of two texts joined, each in at most 32 bytes.
 #[inline(always)]
 pub fn join<const Q: usize>(front: &[u8], back: &[u8]) -> [u8; Q]
     requires front { IsPadded front.now }
@@ -54,7 +54,7 @@ fn joined_from(front: &[u8], front_len: usize, back: &[u8], at: usize) -> u8x16
     ensures { result ≡ sixteen_from (text_of front.now ++ text_of back.now) at }
 {
     let mut lanes = lanes_from(front, at);
-    // the first text has at most 32 bytes: the second's first sixteen end by 48, and its others stand from 16 to 64
+    // the first text ends by 32, so the second's first sixteen end by 48, and its others stand between 16 and 64
     if at < 48 {
         lanes = lanes | moved(lanes_from(back, 0), 48 + at - front_len);
     }
@@ -64,7 +64,7 @@ fn joined_from(front: &[u8], front_len: usize, back: &[u8], at: usize) -> u8x16
     lanes
 }
 
-// The sixteen bytes of a text from `at` on, and NULs behind it.
+// Sixteen bytes of a text from `at` on, with NULs where it has ended.
 #[inline(always)]
 fn lanes_from(bytes: &[u8], at: usize) -> u8x16
     requires { IsPadded bytes.now }
@@ -75,12 +75,12 @@ fn lanes_from(bytes: &[u8], at: usize) -> u8x16
     Aligned16::from_part(&bytes[start..start + count]).to_lanes()
 }
 
-// Sixteen bytes behind 48 NULs, from `start` on.
+// Of 48 NULs, the lanes and then NULs, the sixteen bytes from `start` on.
 #[inline(always)]
 fn moved(lanes: u8x16, start: usize) -> u8x16
     requires len { length lanes ≡ 16 }
     requires start { start ≤ 96 }
     ensures { result ≡ sixteen_from (replicate 48 0 ++ lanes) start }
 {
-    lanes.swizzle_dyn(u8x16::from_slice(&LANES[start..]))
+    lanes.swizzle_dyn(u8x16::from_slice(&TAKEN_LANES[start..]))
 }

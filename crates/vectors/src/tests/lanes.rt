@@ -102,13 +102,13 @@ fn lanes_of_a_title(rt: HostRuntime) {
             with_added(word, LOWER.low, UPPER.low),
             with_added(word, LOWER.high, UPPER.high),
             bits.to_le_bytes(),
-            word.or(bits).to_le_bytes(),
+            word.xor(bits).to_le_bytes(),
         ],
         [
             [0x93, 0x84, 0xb2, 0x93],
             [0x79, 0x6a, 0x98, 0x79],
             [0x20, 0x20, 0, 0x20],
-            *b"test",
+            *b"Test",
         ]
     );
     let title = Aligned4::from_ascii_bytes(b"tEsT").to_ascii_titlecase();
@@ -148,7 +148,7 @@ fn lanes_of_a_brace(rt: HostRuntime) {
             with_added(word, LOWER.low, LOWER.low),
             with_added(word, LOWER.high, LOWER.high),
             bits.to_le_bytes(),
-            word.and(bits.not()).to_le_bytes(),
+            word.xor(bits).to_le_bytes(),
         ],
         [
             [0x99, 0x9a, 0x1f, 0x1f],

@@ -27,7 +27,7 @@ returns c =
     let first : HasLanes c.if-at-lt48.lanes (a ++ take 16 b) at = elim c.if-at-lt48.branch [
       | then-at-lt48 w ↦
           let l = w.lanes_from.result in
-          let moved = moved_to w.moved-lanes.result l (take 16 b) n at (48 + at - n) (omega arith) w.moved-lanes.ensures (first_sixteen l b (has_lanes l b 0 w.lanes_from.ensures)) in
+          let moved = moved_to w.moved-lanes.result l (take 16 b) n at (48 + at - n) (omega arith) w.moved-lanes.ensures (first_sixteen l b w.lanes_from.ensures) in
           subst (λ l. HasLanes l (a ++ take 16 b) at) (sym w.lanes-is) (or_lanes lanes w.moved-lanes.result a (take 16 b) n at (inr c.requires.front_len) front moved)
       | else-at-lt48 w ↦ subst (λ l. HasLanes l (a ++ take 16 b) at) (sym w.lanes-is)
           (same_lanes lanes a (take 16 b) n at (inr c.requires.front_len) front (inr (omega (arith, length-take 16 b, length-text_of-le c.args.front.now))))
@@ -37,7 +37,7 @@ returns c =
       | then-at-gt0+then-at-lt64 w ↦
           let l = w.lanes_from-then-at-lt64.result in
           let moved = moved_to w.moved-lanes-then-at-lt64.result l (drop 16 b) (n + 16) at (32 + at - n) (omega arith) w.moved-lanes-then-at-lt64.ensures
-          (last_sixteen l b (has_lanes l b 16 w.lanes_from-then-at-lt64.ensures) (omega arith)) in
+          (last_sixteen l b w.lanes_from-then-at-lt64.ensures (omega arith)) in
           subst (λ l. HasLanes l ((a ++ take 16 b) ++ drop 16 b) at) (sym w.lanes-is)
           (or_lanes c.if-at-lt48.lanes w.moved-lanes-then-at-lt64.result (a ++ take 16 b) (drop 16 b) (n + 16) at end first moved)
       | else-at-gt0 w ↦ subst (λ l. HasLanes l ((a ++ take 16 b) ++ drop 16 b) at) (sym w.lanes-is)
