@@ -52,89 +52,36 @@ fn a_full_text_is_joined_and_cut(rt: HostRuntime) -> Result<(), Fail> {
     Ok(())
 }
 
+const FULL: &str = "abcdefghijklmnopqrstuvwxyz012345";
+
+const LESS: &str = "ABCDEFGHIJKLMNOPQRSTUVWXYZ67890";
+
+const FORTY: &str = "abcdefghijklmnopqrstuvwxyz012345!#$%&*+-";
+
+// Whether a value is the one text and then the other.
+fn is_joined<const N: usize>(value: TinyAsciiStr<N>, front: &str, back: &str) -> bool {
+    value.as_str().strip_prefix(front) == Some(back)
+}
+
 #[test]
 fn long_texts_are_joined_and_cut(rt: HostRuntime) -> Result<(), Fail> {
-    let full = TinyAsciiStr::<32>::try_from_str("abcdefghijklmnopqrstuvwxyz012345")?;
-    let less = TinyAsciiStr::<32>::try_from_str("ABCDEFGHIJKLMNOPQRSTUVWXYZ67890")?;
-    let forty = TinyAsciiStr::<40>::try_from_str("abcdefghijklmnopqrstuvwxyz012345!#$%&*+-")?;
-    assert!(rt;
-        is_text(
-            full.concat::<32, 64>(less),
-            "abcdefghijklmnopqrstuvwxyz012345ABCDEFGHIJKLMNOPQRSTUVWXYZ67890"
-        )
-    );
-    assert!(rt;
-        is_text(
-            full.concat::<32, 80>(less),
-            "abcdefghijklmnopqrstuvwxyz012345ABCDEFGHIJKLMNOPQRSTUVWXYZ67890"
-        )
-    );
-    assert!(rt;
-        is_text(
-            full.concat::<32, 33>(less),
-            "abcdefghijklmnopqrstuvwxyz012345A"
-        )
-    );
-    assert!(rt;
-        is_text(
-            full.concat::<32, 32>(less),
-            "abcdefghijklmnopqrstuvwxyz012345"
-        )
-    );
-    assert!(rt;
-        is_text(
-            less.concat::<32, 64>(full),
-            "ABCDEFGHIJKLMNOPQRSTUVWXYZ67890abcdefghijklmnopqrstuvwxyz012345"
-        )
-    );
-    assert!(rt;
-        is_text(
-            less.concat::<32, 80>(full),
-            "ABCDEFGHIJKLMNOPQRSTUVWXYZ67890abcdefghijklmnopqrstuvwxyz012345"
-        )
-    );
-    assert!(rt;
-        is_text(
-            less.concat::<32, 33>(full),
-            "ABCDEFGHIJKLMNOPQRSTUVWXYZ67890ab"
-        )
-    );
-    assert!(rt;
-        is_text(
-            less.concat::<32, 32>(full),
-            "ABCDEFGHIJKLMNOPQRSTUVWXYZ67890a"
-        )
-    );
-    assert!(rt;
-        is_text(
-            full.concat::<32, 64>(full),
-            "abcdefghijklmnopqrstuvwxyz012345abcdefghijklmnopqrstuvwxyz012345"
-        )
-    );
-    assert!(rt;
-        is_text(
-            full.resize::<40>().concat::<32, 64>(less),
-            "abcdefghijklmnopqrstuvwxyz012345ABCDEFGHIJKLMNOPQRSTUVWXYZ67890"
-        )
-    );
-    assert!(rt;
-        is_text(
-            forty.concat::<32, 72>(full),
-            "abcdefghijklmnopqrstuvwxyz012345!#$%&*+-abcdefghijklmnopqrstuvwxyz012345"
-        )
-    );
-    assert!(rt;
-        is_text(
-            forty.concat::<32, 40>(less),
-            "abcdefghijklmnopqrstuvwxyz012345!#$%&*+-"
-        )
-    );
-    assert!(rt;
-        is_text(
-            less.concat::<40, 65>(forty),
-            "ABCDEFGHIJKLMNOPQRSTUVWXYZ67890abcdefghijklmnopqrstuvwxyz012345!#"
-        )
-    );
+    let full = TinyAsciiStr::<32>::try_from_str(FULL)?;
+    let less = TinyAsciiStr::<32>::try_from_str(LESS)?;
+    let forty = TinyAsciiStr::<40>::try_from_str(FORTY)?;
+    assert!(rt; is_joined(full.concat::<32, 64>(full), FULL, FULL));
+    assert!(rt; is_joined(full.concat::<32, 64>(less), FULL, LESS));
+    assert!(rt; is_joined(full.concat::<32, 80>(less), FULL, LESS));
+    assert!(rt; is_joined(full.concat::<32, 33>(less), FULL, "A"));
+    assert!(rt; is_joined(full.concat::<32, 32>(less), FULL, ""));
+    assert!(rt; is_joined(less.concat::<32, 64>(full), LESS, FULL));
+    assert!(rt; is_joined(less.concat::<32, 80>(full), LESS, FULL));
+    assert!(rt; is_joined(less.concat::<32, 33>(full), LESS, "ab"));
+    assert!(rt; is_joined(less.concat::<32, 32>(full), LESS, "a"));
+    assert!(rt; is_joined(full.resize::<40>().concat::<32, 64>(less), FULL, LESS));
+    assert!(rt; is_joined(forty.concat::<32, 72>(full), FORTY, FULL));
+    assert!(rt; is_joined(forty.concat::<32, 40>(less), FORTY, ""));
+    assert!(rt; is_joined(less.concat::<40, 71>(forty), LESS, FORTY));
+    assert!(rt; is_joined(less.concat::<40, 63>(forty), LESS, FULL));
     Ok(())
 }
 
