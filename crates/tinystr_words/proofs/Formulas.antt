@@ -10,8 +10,7 @@ use Rattle.tinystr_words.specs.Text.{IsTextByte, IsText, pad}
 use Rattle.tinystr_words.specs.Classes.{ask}
 use Rattle.tinystr_words.specs.Case.{lower, raise}
 use Rattle.tinystr_words.specs.Words.{word, first_then}
-use Rattle.tinystr_words.specs.Questions.{first_class, later_class, answer, in_case}
-use Rattle.tinystr_words.specs.declared.question.Question.{Question}
+use Rattle.tinystr_words.specs.Questions.{in_case}
 use Rattle.tinystr_words.specs.declared.question.Case.{Case}
 use Rattle.tinystr_words.specs.declared.question.Case.TheVariants.{Lower, Title, Upper}
 use Rattle.tinystr_words.proofs.Texts.{NULS, length-pad}
@@ -69,7 +68,7 @@ abbrev pub IsSafe : Formula → Type 0
 IsSafe f = (i : Bool) (b : ℕ) → b < 128 → is_safe f i b ≡ true
 
 -- numbers that the test finds equal are equal
-eqb_is : (x y : ℕ) → nat_eq x y ≡ true → x ≡ y
+pub eqb_is : (x y : ℕ) → nat_eq x y ≡ true → x ≡ y
 eqb_is x y h = grind (arith, nat_tests)
 
 -- a formula that is safe at an ASCII byte makes a byte of it
@@ -133,7 +132,7 @@ holds_nuls P Q same i zero = refl
 holds_nuls P Q same i (suc k) = rw (same i 0 (lit< tt)) (holds_nuls P Q same false k)
 
 -- of a byte that is no NUL, a test that also lets NUL pass says what the test alone says
-not_zero : (b : ℕ) (r : Bool) → 1 ≤ b → (nat_eq b 0 || r) ≡ r
+pub not_zero : (b : ℕ) (r : Bool) → 1 ≤ b → (nat_eq b 0 || r) ≡ r
 not_zero b r h = grind (arith, nat_tests)
 
 -- of a text and then NULs, a test that also lets NUL pass says what the test alone says of the text
@@ -213,9 +212,16 @@ same_is true false h = cc
 same_is false true h = cc
 same_is false false h = refl
 
--- at each byte, first or later, f and g are equal exactly if the byte is NUL or in the question's class
-abbrev pub Asks : Formula → Formula → Question → Type 0
-Asks f g q = everywhere (λ i b. is_safe f i b && (is_safe g i b && same (nat_eq (at f i b) (at g i b)) (nat_eq b 0 || pick (first_class q) (later_class q) i b))) ≡ true
+-- at each byte, first or later, f and g are equal exactly if the byte is NUL or in its class
+abbrev pub Asks : Formula → Formula → (ℕ → Bool) → (ℕ → Bool) → Type 0
+Asks f g first others = (i : Bool) (b : ℕ) → b < 128 → (is_safe f i b ≡ true) × ((is_safe g i b ≡ true) × (nat_eq (at f i b) (at g i b) ≡ (nat_eq b 0 || pick first others i b)))
+
+-- they are, if computing finds it at each byte
+pub asks_everywhere : (f g : Formula) (first others : ℕ → Bool) → everywhere (λ i b. is_safe f i b && (is_safe g i b && same (nat_eq (at f i b) (at g i b)) (nat_eq b 0 || pick first others i b))) ≡ true → Asks f g first others
+asks_everywhere f g first others h i b l =
+    let all = both_true (is_safe f i b) _ (everywhere_is _ h i b l) in
+    let rest = both_true (is_safe g i b) _ all.1 in
+    (all.0, (rest.0, same_is _ _ rest.1))
 
 -- at each byte, f keeps NUL and changes another as the case does
 abbrev pub Changes : Formula → Case → Type 0
@@ -226,18 +232,14 @@ pub on_pad : (f : Formula) → IsSafe f → (n : ℕ) (t : List ℕ) → IsText 
 on_pad f s n t x le =
     subst (λ m. on f m (word (pad t n)) ≡ word (lanes (at f) true (pad t n))) (length-pad t n le) (lanewise f (pad t n) (ascii_pad t n x) s)
 
--- two formulas that ask a question are equal on the word of a padded text exactly if the answer for the text is yes
-pub question : (f g : Formula) (q : Question) → Asks f g q → (n : ℕ) (t : List ℕ) → IsText t → length t ≤ n → nat_eq (on f n (word (pad t n))) (on g n (word (pad t n))) ≡ answer q t
-question f g q h n t x le =
-    let each = everywhere_is _ h in
-    let p : IsSafe f = λ i b l. (both_true (is_safe f i b) _ (each i b l)).0 in
-    let rest = λ (i : Bool) (b : ℕ) (l : b < 128). both_true (is_safe g i b) _ (both_true (is_safe f i b) _ (each i b l)).1 in
-    let r : IsSafe g = λ i b l. (rest i b l).0 in
-    let test = pick (first_class q) (later_class q) in
-    let agree : (i : Bool) (b : ℕ) → b < 128 → nat_eq (at f i b) (at g i b) ≡ (nat_eq b 0 || test i b) = λ i b l. same_is _ _ (rest i b l).1 in
+-- two formulas that ask for classes are equal on the word of a padded text exactly if the text is in them
+pub question : (f g : Formula) (first others : ℕ → Bool) → Asks f g first others → (n : ℕ) (t : List ℕ) → IsText t → length t ≤ n → nat_eq (on f n (word (pad t n))) (on g n (word (pad t n))) ≡ ask first others t
+question f g first others h n t x le =
+    let p : IsSafe f = λ i b l. (h i b l).0 in
+    let r : IsSafe g = λ i b l. (h i b l).1.0 in
     rw (on_pad f p n t x le, on_pad g r n t x le)
     (same_words (at f) (at g) (λ i b l. safe_byte f i b l (p i b l)) (λ i b l. safe_byte g i b l (r i b l)) true (pad t n) (ascii_pad t n x)
-    ∙ holds_pad _ test agree true t (n - length t) x ∙ ask_is (first_class q) (later_class q) t)
+    ∙ holds_pad _ (pick first others) (λ i b l. (h i b l).1.1) true t (n - length t) x ∙ ask_is first others t)
 
 -- a formula that changes bytes as a case does is safe
 pub changes_safe : (f : Formula) (c : Case) → Changes f c → IsSafe f

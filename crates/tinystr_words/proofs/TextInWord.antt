@@ -12,15 +12,15 @@ use Rattle.std.proofs.lemmas.List.Elements.{All-head, All-tail, All-drop}
 use Rattle.std.specs.Int.Count.{count_leading_zeros}
 use Rattle.tinystr_words.specs.Text.{IsTextByte, IsText, IsPaddedText, IsPadded, pad, text_of}
 use Rattle.tinystr_words.specs.Words.{word, lanes_of, text_in, HasLowLanes, HoldsText}
-use Rattle.tinystr_words.specs.Questions.{answer, in_case}
-use Rattle.tinystr_words.specs.declared.question.Question.{Question}
+use Rattle.tinystr_words.specs.Classes.{is_alphabetic, is_alphanumeric, ask}
+use Rattle.tinystr_words.specs.Questions.{in_case}
 use Rattle.tinystr_words.specs.declared.question.Case.{Case}
 use Rattle.tinystr_words.proofs.Texts.{NULS, IsPaddedText-made, text_of-made, length-pad, text_of-pad, length-text_of-le}
 use Rattle.tinystr_words.proofs.Lanes.{Ascii, IsBytes, lanes, length-lanes, IsBytes-lanes, everywhere_is}
-use Rattle.tinystr_words.proofs.Formulas.{Formula, IsSafe, on, at, is_safe, ascii_pad, safe_byte, changes_safe, on_pad, question, lanes-change}
+use Rattle.tinystr_words.proofs.Formulas.{Formula, each, Asks, IsSafe, on, at, is_safe, ascii_pad, safe_byte, changes_safe, on_pad, question, lanes-change}
 use Rattle.tinystr_words.proofs.WordAsNumber.{lanes_word, lanes_word_pad, word_nuls, leading_zeros_of, zeros_above_more}
 use Rattle.tinystr_words.proofs.LowLanes.{low_word, low_room}
-use Rattle.tinystr_words.proofs.Kernels.{kernel, pass_marks, kernel_asks, change, change_changes, with_case_bits, with_case_bits_safe, with_case_bits_ascii}
+use Rattle.tinystr_words.proofs.Kernels.{in_range, IsRange, strangers, strangers_asks, all_outside, all_outside_asks, not_letters, not_letters_asks, not_letters_or_digits, not_letters_or_digits_asks, change, change_changes, with_case_bits, with_case_bits_safe, with_case_bits_ascii}
 
 -- ---- a word from a padded text
 
@@ -117,11 +117,23 @@ padded_lanes {n} {w} h bytes e =
 
 -- ---- its questions and changes
 
--- what a kernel compares answers its question
-pub kernel-answer : {n w : ℕ} → HoldsText n w → (q : Question) → nat_eq (on (kernel q) n w) (on (pass_marks q) n w) ≡ answer q (text_in n w)
-kernel-answer {n} {w} h q =
-    subst (λ v. nat_eq (on (kernel q) n v) (on (pass_marks q) n v) ≡ answer q (text_in n w)) (sym h.padded)
-    (question (kernel q) (pass_marks q) q (kernel_asks q) n (text_in n w) h.text h.fits)
+-- what two formulas ask of a word, they ask of its text
+asked : {n w : ℕ} → HoldsText n w → (f g : Formula) (first others : ℕ → Bool) → Asks f g first others → nat_eq (on f n w) (on g n w) ≡ ask first others (text_in n w)
+asked {n} {w} h f g first others a =
+    subst (λ v. nat_eq (on f n v) (on g n v) ≡ ask first others (text_in n w)) (sym h.padded) (question f g first others a n (text_in n w) h.text h.fits)
+
+-- what the code compares for each question
+pub ask-in : {n w : ℕ} → HoldsText n w → (first others : ℕ × ℕ) → IsRange first → IsRange others → nat_eq (on (strangers first others) n w) (on (each 0) n w) ≡ ask (in_range first) (in_range others) (text_in n w)
+ask-in h first others p q = asked h (strangers first others) (each 0) (in_range first) (in_range others) (strangers_asks first others p q)
+
+pub ask-outside : {n w : ℕ} → HoldsText n w → (first others : ℕ × ℕ) → IsRange first → IsRange others → nat_eq (on (all_outside first others) n w) (on (each 0x80) n w) ≡ ask (λ b. not (in_range first b)) (λ b. not (in_range others b)) (text_in n w)
+ask-outside h first others p q = asked h (all_outside first others) (each 0x80) _ _ (all_outside_asks first others p q)
+
+pub ask-letters : {n w : ℕ} → HoldsText n w → nat_eq (on not_letters n w) (on (each 0) n w) ≡ ask is_alphabetic is_alphabetic (text_in n w)
+ask-letters h = asked h not_letters (each 0) is_alphabetic is_alphabetic not_letters_asks
+
+pub ask-letters_or_digits : {n w : ℕ} → HoldsText n w → nat_eq (on not_letters_or_digits n w) (on (each 0) n w) ≡ ask is_alphanumeric is_alphanumeric (text_in n w)
+ask-letters_or_digits h = asked h not_letters_or_digits (each 0) is_alphanumeric is_alphanumeric not_letters_or_digits_asks
 
 -- a formula acts on each lane
 on-text_in : {n w : ℕ} → HoldsText n w → (f : Formula) → IsSafe f → on f n w ≡ word (lanes (at f) true (pad (text_in n w) n))

@@ -4,15 +4,15 @@ ghost use Rattle.std.specs.Prelude.{◌≡◌, ◌<◌, ◌≤◌, ◌++◌, len
 ghost use Rattle.std.specs.Fmt.{decimal};
 ghost use Rattle.std.specs.Str.{bytes_eq};
 ghost use Rattle.tinystr_words.specs.Text.{IsText, IsPaddedText, IsPadded, pad, text_of};
-ghost use Rattle.tinystr_words.specs.Classes.{ask, is_upper, is_lower, is_digit, is_alphabetic, is_alphanumeric, is_not_upper, is_not_lower};
+ghost use Rattle.tinystr_words.specs.Classes.{ask, is_upper, is_lower, is_digit, is_alphabetic, is_alphanumeric, is_not_upper, is_not_lower, is_in, is_not_in};
 ghost use Rattle.tinystr_words.specs.Case.{lowercase, titlecase, uppercase};
 ghost use Rattle.tinystr_words.specs.Decimal.{last};
 ghost use Rattle.tinystr_words.specs.Questions.{answer, in_case};
 
 use crate::decimal::decimal_word;
 use crate::kernel::{
-    DIGIT, LOWER, UPPER, case_bits, every_lane_marked, faults, marks, no_character_marked, outside,
-    with_case_bits,
+    DIGIT, LOWER, Range, UPPER, case_bits, every_lane_marked, faults, marks, no_character_marked,
+    outside, with_case_bits,
 };
 use crate::question::{Case, Question};
 use crate::unit::{Unit, is_text};
@@ -230,25 +230,54 @@ impl<T: Word<LEN>, const LEN: usize> Aligned<T, LEN> {
     pub fn ask(&self, question: Question) -> bool
         ensures { result ≡ answer question self.now }
     {
-        let word = self.word;
         match question {
-            Question::Alphabetic => {
-                let not_letter = outside(with_case_bits(word), LOWER, LOWER);
-                no_character_marked(not_letter, word)
-            }
-            Question::Alphanumeric => {
-                let not_letter = outside(with_case_bits(word), LOWER, LOWER);
-                let not_digit = outside(word, DIGIT, DIGIT);
-                no_character_marked(not_letter.and(not_digit), word)
-            }
-            Question::Numeric => no_character_marked(outside(word, DIGIT, DIGIT), word),
-            Question::Lowercase => every_lane_marked(outside(word, UPPER, UPPER)),
-            Question::Titlecase => every_lane_marked(outside(word, LOWER, UPPER)),
-            Question::Uppercase => every_lane_marked(outside(word, LOWER, LOWER)),
-            Question::AlphabeticLowercase => no_character_marked(outside(word, LOWER, LOWER), word),
-            Question::AlphabeticTitlecase => no_character_marked(outside(word, UPPER, LOWER), word),
-            Question::AlphabeticUppercase => no_character_marked(outside(word, UPPER, UPPER), word),
+            Question::Alphabetic => self.each_letter(),
+            Question::Alphanumeric => self.each_letter_or_digit(),
+            Question::Numeric => self.each_in(DIGIT, DIGIT),
+            Question::Lowercase => self.none_in(UPPER, UPPER),
+            Question::Titlecase => self.none_in(LOWER, UPPER),
+            Question::Uppercase => self.none_in(LOWER, LOWER),
+            Question::AlphabeticLowercase => self.each_in(LOWER, LOWER),
+            Question::AlphabeticTitlecase => self.each_in(UPPER, LOWER),
+            Question::AlphabeticUppercase => self.each_in(UPPER, UPPER),
         }
+    }
+
+    // Whether the first byte is in one range, and each later byte in another.
+    #[inline(always)]
+    fn each_in(&self, first: Range, others: Range) -> bool
+        ensures { result ≡ ask (is_in first) (is_in others) self.now }
+    {
+        let word = self.word;
+        no_character_marked(outside(word, first, others), word)
+    }
+
+    // Whether the first byte is outside one range, and each later byte outside another.
+    #[inline(always)]
+    fn none_in(&self, first: Range, others: Range) -> bool
+        ensures { result ≡ ask (is_not_in first) (is_not_in others) self.now }
+    {
+        every_lane_marked(outside(self.word, first, others))
+    }
+
+    // Whether each byte is a letter.
+    #[inline(always)]
+    fn each_letter(&self) -> bool
+        ensures { result ≡ ask is_alphabetic is_alphabetic self.now }
+    {
+        let word = self.word;
+        no_character_marked(outside(with_case_bits(word), LOWER, LOWER), word)
+    }
+
+    // Whether each byte is a letter or a digit.
+    #[inline(always)]
+    fn each_letter_or_digit(&self) -> bool
+        ensures { result ≡ ask is_alphanumeric is_alphanumeric self.now }
+    {
+        let word = self.word;
+        let not_letter = outside(with_case_bits(word), LOWER, LOWER);
+        let not_digit = outside(word, DIGIT, DIGIT);
+        no_character_marked(not_letter.and(not_digit), word)
     }
 
     /// The bytes of the method that the case names, as `to_ascii_titlecase` for `Title`.

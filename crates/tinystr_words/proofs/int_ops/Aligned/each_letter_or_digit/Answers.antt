@@ -1,0 +1,5 @@
+use Rattle.tinystr_words.proofs.TextInWord.{ask-letters_or_digits}
+use Rattle.tinystr_words.proofs.int_ops.Aligned.each_letter_or_digit.Goals as goal
+
+pub returns : goal.returns
+returns g c = rw (← c.self.view_is, c.no_character_marked.ensures, c.and.ensures, c.outside-not_letter.ensures, c.outside-not_digit.ensures, c.with_case_bits.ensures.bits) (ask-letters_or_digits c.self.invariant)
