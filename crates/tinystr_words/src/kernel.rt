@@ -38,7 +38,6 @@ pub const NOT_NUL: u8 = 0x7f;
 
 /// The high bit of each lane that isn't NUL.
 #[inline(always)]
-#[tactic(auto, using(crate::proofs::LowLanes::low_first_then))]
 pub fn present<T: Word<LEN>, const LEN: usize>(text: T) -> T
     requires { HasLowLanes (T.number text) }
     ensures { T.number result ≡
@@ -49,7 +48,6 @@ pub fn present<T: Word<LEN>, const LEN: usize>(text: T) -> T
 
 /// The high bit of each lane whose lower bits aren't all clear.
 #[inline(always)]
-#[tactic(auto, using(crate::proofs::LowLanes::low_and))]
 pub fn marks<T: Word<LEN>, const LEN: usize>(bytes: T) -> T
     ensures { T.number result ≡ bit_and
         (bit_and (T.number bytes) (word (first_then LEN 0x7f 0x7f)) + word (first_then LEN NOT_NUL NOT_NUL))
@@ -71,7 +69,6 @@ pub fn faults<T: Word<LEN>, const LEN: usize>(bytes: T, marks: T) -> T
 
 /// The high bit of each lane whose byte is outside its range.
 #[inline(always)]
-#[tactic(auto, using(crate::proofs::LowLanes::low_first_then))]
 pub fn outside<T: Word<LEN>, const LEN: usize>(text: T, first: Range, others: Range) -> T
     requires { HasLowLanes (T.number text) }
     ensures { T.number result ≡ bit_or

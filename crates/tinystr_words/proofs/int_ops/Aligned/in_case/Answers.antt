@@ -5,7 +5,7 @@ use Rattle.tinystr_words.proofs.int_ops.Aligned.in_case.Goals.{in-Lower, in-Titl
 
 pub returns : goal.returns
 returns g c = elim c.match-case.branch [
-  | in-Lower w ↦ let e = changed_bytes c.self.invariant Lower in cc
-  | in-Title w ↦ let e = changed_bytes c.self.invariant Title in cc
-  | in-Upper w ↦ let e = changed_bytes c.self.invariant Upper in cc
+  | in-Lower w ↦ rw (← c.self.view_is, c.to_bytes_in_memory.ensures, c.xor.ensures, w.bits-is, w.case_bits-bits.ensures, w.in-Lower.is) (changed_bytes c.self.invariant Lower)
+  | in-Title w ↦ rw (← c.self.view_is, c.to_bytes_in_memory.ensures, c.xor.ensures, w.bits-is, w.case_bits-bits-in-Title.ensures, w.in-Title.is) (changed_bytes c.self.invariant Title)
+  | in-Upper w ↦ rw (← c.self.view_is, c.to_bytes_in_memory.ensures, c.xor.ensures, w.bits-is, w.case_bits-bits-in-Upper.ensures, w.in-Upper.is) (changed_bytes c.self.invariant Upper)
 ]

@@ -1,4 +1,5 @@
 use Rattle.std.proofs.Common.{◌∙◌, sym}
+use Rattle.std.proofs.lemmas.Bool.{false≢true}
 use Rattle.tinystr_words.proofs.WordFromParts.{low_of_bytes}
 use Rattle.tinystr_words.proofs.Lanes.{IsBytes-fit}
 use Rattle.tinystr_words.proofs.PaddedTest.{padded_test}
@@ -21,5 +22,4 @@ pub returns-else-equals : goal.returns-else-equals
 returns-else-equals g c = λ p.
     let e = rw (c.faults.ensures, c.splat.ensures, c.marks.ensures, c.load-word.ensures, low_of_bytes c.args.part.now c.type_inv.part) at c.equals.ensures in
     let t = (padded_test g.row.LEN c.args.part.now (IsBytes-fit c.args.part.now c.type_inv.part) c.requires.fits).1 p in
-    let f = c.if-equals.false in
-    cc
+    absurd (false≢true (sym c.if-equals.false ∙ e ∙ t))
