@@ -1,9 +1,10 @@
 //! Packed records: padded texts of `N` bytes, one behind another, which are checked once and then
 //! read in place.
 
-ghost use Rattle.std.specs.Prelude.{◌≡◌, ◌≢◌, ◌<◌, ◌%◌, ◌↔◌, length, replicate, IsOk, IfErr, IsErrOf};
+ghost use Rattle.std.specs.Prelude.{◌≡◌, ◌≢◌, ◌<◌, ◌≤◌, ◌%◌, ◌↔◌, length, replicate, take, All, IsOk, IfErr, IsErrOf};
+ghost use Rattle.tinystr_words.specs.Text.{IsPaddedText};
 ghost use Rattle.tinystr_words.specs.Packed.{IsPacked};
-ghost use Rattle.tinystr.specs.Records.{RefusesRecords};
+ghost use Rattle.tinystr.specs.Records.{RefusesRecords, RefusesOneOf};
 
 use crate::ascii::TinyAsciiStr;
 use crate::error::ParseError;
@@ -33,7 +34,6 @@ impl<const N: usize> TinyAsciiStr<N> {
     /// let fault = ParseError::ContainsNull;
     /// assert_eq!(rt; TinyAsciiStr::<3>::validate_bytes(b"EURG\0B"), Err(UleError::Parse { index: 1, fault }));
     /// ```
-    #[tactic(auto, using(tinystr_words::proofs::Packing::packing))]
     pub fn validate_bytes(bytes: &[u8]) -> Result<(), UleError>
         requires { 0 < N }
         ensures accepted { IsOk result ↔ IsPacked bytes.now N }
@@ -46,7 +46,33 @@ impl<const N: usize> TinyAsciiStr<N> {
         if bytes.is_empty() {
             return Ok(());
         }
-        let mut rest = bytes.as_chunks::<N>().0;
+        Self::validate_records(bytes.as_chunks::<N>().0)
+    }
+
+    // Whether all records are padded texts, and else the first that is none and its fault.
+    #[inline]
+    fn validate_records(records: &[[u8; N]]) -> Result<(), UleError>
+        ensures accepted { IsOk result ↔ All (λ raw. IsPaddedText raw N) records.now }
+        ensures fault { IfErr result (λ e. RefusesOneOf e records.now N) }
+    {
+        let mut index = Self::skip_padded(records);
+        let (_, rest) = records.split_at(index);
+        for raw in rest {
+            if let Err(fault) = Self::try_from_raw(*raw) {
+                return Err(UleError::Parse { index, fault });
+            }
+            index += 1;
+        }
+        Ok(())
+    }
+
+    // How many records at the beginning are padded texts, as far as whole blocks tell.
+    #[inline]
+    fn skip_padded(records: &[[u8; N]]) -> usize
+        ensures inside { result ≤ length records.now }
+        ensures padded { All (λ raw. IsPaddedText raw N) (take result records.now) }
+    {
+        let mut rest = records;
         let mut index = 0;
         while !rest.is_empty() {
             let (block, after) = rest.split_at(rest.len().min(BLOCK));
@@ -56,13 +82,7 @@ impl<const N: usize> TinyAsciiStr<N> {
             rest = after;
             index += block.len();
         }
-        for raw in rest {
-            if let Err(fault) = Self::try_from_raw(*raw) {
-                return Err(UleError::Parse { index, fault });
-            }
-            index += 1;
-        }
-        Ok(())
+        index
     }
 
     /// Bytes that are those of no value, for `N` above 0: 255 each.

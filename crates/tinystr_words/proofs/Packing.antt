@@ -1,19 +1,21 @@
 -- Packed records, one by one.
-use Rattle.std.proofs.Common.{◌≡◌, ℕ, suc, zero, ◌<◌, ◌≤◌, ◌+◌, ◌-◌, ◌*◌, ◌/◌, ◌%◌, inl, inr, ap, List, [], ◌∷◌, ◌++◌, length, take, drop, get_or, refl, ap₂, sym, ◌∙◌, arith, below_more}
+use Rattle.std.proofs.Common.{◌≡◌, ℕ, suc, zero, ◌<◌, ◌≤◌, ◌+◌, ◌*◌, ◌/◌, ◌%◌, ap, List, [], ◌∷◌, ◌++◌, length, take, drop, get_or, refl, ap₂, sym, ◌∙◌, arith}
 use Rattle.std.specs.List.{All, flat_map}
 use Rattle.std.specs.Simd.{first_chunks}
 use Rattle.std.proofs.Math.Nat.{div-add-mod, mul-mod_left, suc-mul, zero-mul}
-use Rattle.std.proofs.Math.Seq.{drop-append-add}
-use Rattle.std.proofs.lemmas.Bool.{cases_lt}
-use Rattle.std.proofs.lemmas.List.{length-append, length-drop, length-take, drop-drop, get_or-drop, get_or-take, take_at, take-append-drop}
-use Rattle.std.proofs.lemmas.List.Elements.{All-nil, All-cons, All-get_or, All-head, All-tail}
+use Rattle.std.proofs.Math.Seq.{drop-append-add, take-add}
+use Rattle.std.proofs.lemmas.List.{length-append, length-drop, length-take, drop-drop, get_or-drop, get_or-take, get_or_default, take_all, take_at, take-append-drop}
+use Rattle.std.proofs.lemmas.List.Elements.{All-append, All-more, All-nil, All-cons, All-get_or, All-head, All-tail}
 use Rattle.tinystr_words.specs.Text.{IsStrictText, IsPaddedText, text_of, pad}
 use Rattle.tinystr_words.specs.Reading.{fault_in}
-use Rattle.tinystr_words.specs.Packed.{IsPacked, record_at, IsFirstBad}
+use Rattle.tinystr_words.specs.Packed.{IsPacked, record_at, IsFirstBad, IsFirstUnpadded}
 use Rattle.tinystr_words.proofs.Texts.{IsPaddedText-pad, length-pad, text_of-pad}
 
 abbrev padded : ℕ → List ℕ → List ℕ
 padded n t = pad t n
+
+abbrev AllPadded : ℕ → List (List ℕ) → Type 0
+AllPadded n records = All (λ raw. IsPaddedText raw n) records
 
 abbrev AllStrict : ℕ → List (List ℕ) → Type 0
 AllStrict n ts = All (λ t. IsStrictText t n) ts
@@ -75,7 +77,72 @@ IsPacked-from_records bytes n (suc k) long good =
       joined = sym (take-append-drop n bytes) ∙ ap₂ (λ (a b : List ℕ). a ++ b) first.padded rest.joined;
     }
 
--- ---- one pass over the records, several at a time
+-- ---- one pass over a list of records, several at a time
+
+-- in a list of records the first i are padded texts, and `rest` are those behind them
+pub record IsChecked (records : List (List ℕ)) (n i : ℕ) (rest : List (List ℕ)) : Type 0 where
+  pub left : rest ≡ drop i records
+  pub seen : i + length rest ≡ length records
+  pub good : AllPadded n (take i records)
+
+-- at the beginning, all records are left
+pub IsChecked-none : (records : List (List ℕ)) (n : ℕ) → IsChecked records n 0 records
+IsChecked-none records n = record { left = refl; seen = omega arith; good = λ k d h. absurd (omega arith) }
+
+-- or the first i are known
+pub IsChecked-some : (records rest : List (List ℕ)) (n i : ℕ) → i ≤ length records → rest ≡ drop i records → AllPadded n (take i records) → IsChecked records n i rest
+IsChecked-some records rest n i inside behind padded = record { left = behind; seen = rw behind (omega (arith, length-drop i records)); good = padded }
+
+-- the next records are padded texts
+pub IsChecked-block : (records rest block more : List (List ℕ)) (n i m : ℕ) → IsChecked records n i rest → block ≡ take m rest → more ≡ drop m rest → length block ≡ m
+    → AllPadded n block → IsChecked records n (i + length block) more
+IsChecked-block records rest block more n i m h first behind count padded =
+    let long : length block ≤ length rest = omega (arith, ap (λ (l : List (List ℕ)). length l) first, length-take m rest) in
+    record {
+      left = rw (count, behind, h.left) (drop-drop m i records);
+      seen = rw behind (omega (arith, h.seen, length-drop m rest));
+      good = rw (count, take-add i m records, ← h.left, ← first) (All-append (λ (raw : List ℕ). IsPaddedText raw n) (take i records) block h.good padded);
+    }
+
+-- the next record
+next : (records rest : List (List ℕ)) (raw d : List ℕ) (n i j : ℕ) → IsChecked records n i (drop j rest) → j < length rest → raw ≡ get_or rest j raw → raw ≡ get_or records i d
+next records rest raw d n i j h inside is =
+    let first_left : j + 0 ≡ j = omega arith in
+    let first : i + 0 ≡ i = omega arith in
+    is ∙ get_or_default rest j raw d inside ∙ sym (rw first_left at (get_or-drop j rest 0 d)) ∙ ap (λ (l : List (List ℕ)). get_or l 0 d) h.left ∙ rw first at (get_or-drop i records 0 d)
+
+-- it is a padded text
+pub IsChecked-more : (records rest : List (List ℕ)) (raw : List ℕ) (n i j : ℕ) → IsChecked records n i (drop j rest) → j < length rest → raw ≡ get_or rest j raw
+    → IsPaddedText raw n → IsChecked records n (i + 1) (drop (j + 1) rest)
+IsChecked-more records rest raw n i j h inside is padded = record {
+  left = rw (← drop-drop 1 j rest, h.left) (drop-drop 1 i records);
+  seen = omega (arith, h.seen, length-drop j rest, length-drop (j + 1) rest);
+  good = All-more (λ (r : List ℕ). IsPaddedText r n) records i raw (omega (arith, h.seen, length-drop j rest)) h.good (rw (← next records rest raw raw n i j h inside is) padded);
+}
+
+-- it is bad
+pub IsFirstUnpadded-next : (records rest : List (List ℕ)) (raw : List ℕ) (n i j : ℕ) → IsChecked records n i (drop j rest) → j < length rest → raw ≡ get_or rest j raw
+    → ¬ IsPaddedText raw n → IsFirstUnpadded records n i
+IsFirstUnpadded-next records rest raw n i j h inside is unpadded = record {
+  inside = omega (arith, h.seen, length-drop j rest);
+  bad = λ padded. unpadded (rw (← next records rest raw [] n i j h inside is) at padded);
+  before = h.good;
+}
+
+-- and has its own fault
+pub fault_in-next : (records rest : List (List ℕ)) (raw : List ℕ) (n i j : ℕ) → IsChecked records n i (drop j rest) → j < length rest → raw ≡ get_or rest j raw
+    → fault_in n raw ≡ fault_in n (get_or records i [])
+fault_in-next records rest raw n i j h inside is = ap (λ (b : List ℕ). fault_in n b) (next records rest raw [] n i j h inside is)
+
+-- no record is left
+pub AllPadded-checked : (records rest : List (List ℕ)) (n i : ℕ) → IsChecked records n i rest → length rest ≡ 0 → AllPadded n records
+AllPadded-checked records rest n i h none = rw (take_all i records (omega (arith, h.seen))) at h.good
+
+-- records with a bad one aren't all padded
+pub IsFirstUnpadded-some : (records : List (List ℕ)) (n i : ℕ) → IsFirstUnpadded records n i → ¬ AllPadded n records
+IsFirstUnpadded-some records n i h padded = h.bad (padded i [] h.inside)
+
+-- ---- the records of bytes, as a list
 
 -- each of the first chunks is a record
 get_or-first_chunks : (n k : ℕ) (bytes : List ℕ) (i : ℕ) (d : List ℕ) → i < k → get_or (first_chunks n k bytes) i d ≡ record_at n bytes i
@@ -85,79 +152,32 @@ get_or-first_chunks n (suc k) bytes (suc i) d h =
     let more : suc i * n ≡ n + i * n = omega (arith, suc-mul i n) in
     rw (more, ← drop-drop (i * n) n bytes) (get_or-first_chunks n k (drop n bytes) i d (omega arith))
 
--- the first i records are padded texts, and `rest` are those behind them
-pub record IsChecked (bytes : List ℕ) (n i : ℕ) (rest : List (List ℕ)) : Type 0 where
-  pub left : rest ≡ drop i (first_chunks n (length bytes / n) bytes)
-  pub seen : i + length rest ≡ length bytes / n
-  pub good : (k : ℕ) → k < i → IsPaddedText (record_at n bytes k) n
+-- `records` are all the records of the bytes
+pub record AreRecords (records : List (List ℕ)) (bytes : List ℕ) (n : ℕ) : Type 0 where
+  pub are : records ≡ first_chunks n (length bytes / n) bytes
+  pub count : length records ≡ length bytes / n
+  pub whole : length bytes % n ≡ 0
 
--- at the beginning, all records are left
-pub IsChecked-none : (bytes : List ℕ) (records : List (List ℕ)) (n : ℕ) → records ≡ first_chunks n (length bytes / n) bytes → length records ≡ length bytes / n → IsChecked bytes n 0 records
-IsChecked-none bytes records n all count = record { left = all; seen = omega (arith, count); good = λ k h. absurd (omega arith) }
+-- each is a record of theirs
+pub record_in : (records : List (List ℕ)) (bytes : List ℕ) (n i : ℕ) (d : List ℕ) → AreRecords records bytes n → i < length records → get_or records i d ≡ record_at n bytes i
+record_in records bytes n i d h inside = rw h.are (get_or-first_chunks n (length bytes / n) bytes i d (omega (arith, h.count)))
 
--- record j of those that are left
-record-left : (bytes : List ℕ) (rest : List (List ℕ)) (n i j : ℕ) (d : List ℕ) → IsChecked bytes n i rest → j < length rest → get_or rest j d ≡ record_at n bytes (i + j)
-record-left bytes rest n i j d h inside =
-    let chunks = first_chunks n (length bytes / n) bytes in
-    rw (h.left, get_or-drop i chunks j d) (get_or-first_chunks n (length bytes / n) bytes (i + j) d (omega (arith, h.seen)))
+-- they are packed where each is a padded text
+pub IsPacked-records : (records : List (List ℕ)) (bytes : List ℕ) (n : ℕ) → AreRecords records bytes n → AllPadded n records → IsPacked bytes n
+IsPacked-records records bytes n h padded =
+    IsPacked-from_records bytes n (length records) (rw h.count (omega (arith, h.whole, div-add-mod (length bytes) n))) (λ i below. rw (← record_in records bytes n i [] h below) (padded i [] below))
 
--- the next records are padded texts
-pub IsChecked-block : (bytes : List ℕ) (rest block more : List (List ℕ)) (n i m : ℕ) → IsChecked bytes n i rest → block ≡ take m rest → more ≡ drop m rest → length block ≡ m
-    → All (λ b. IsPaddedText b n) block → IsChecked bytes n (i + length block) more
-IsChecked-block bytes rest block more n i m h first behind count padded =
-    let long : length block ≤ length rest = omega (arith, ap (λ (l : List (List ℕ)). length l) first, length-take m rest) in
-    record {
-      left = rw (count, behind, h.left) (drop-drop m i (first_chunks n (length bytes / n) bytes));
-      seen = rw behind (omega (arith, h.seen, length-drop m rest));
-      good = λ k below. elim (cases_lt k i) [
-        | inl before ↦ h.good k before
-        | inr after ↦ (
-            let j = k - i in
-            let place : i + j ≡ k = omega arith in
-            let is : get_or block j [] ≡ record_at n bytes k =
-            ap (λ (l : List (List ℕ)). get_or l j []) first ∙ get_or-take m rest j [] (omega arith) ∙ record-left bytes rest n i j [] h (omega arith) ∙ ap (λ p. record_at n bytes p) place in
-            rw (← is) (padded j [] (omega arith)))
-      ];
-    }
-
--- the next record
-next : (bytes : List ℕ) (rest : List (List ℕ)) (raw : List ℕ) (n i j : ℕ) → IsChecked bytes n i (drop j rest) → j < length rest → raw ≡ get_or rest j raw → raw ≡ record_at n bytes i
-next bytes rest raw n i j h inside is =
-    let first_left : j + 0 ≡ j = omega arith in
-    let first : i + 0 ≡ i = omega arith in
-    is ∙ sym (rw first_left at (get_or-drop j rest 0 raw)) ∙ rw first at (record-left bytes (drop j rest) n i 0 raw h (omega (arith, length-drop j rest)))
-
--- it is a padded text
-pub IsChecked-more : (bytes : List ℕ) (rest : List (List ℕ)) (raw : List ℕ) (n i j : ℕ) → IsChecked bytes n i (drop j rest) → j < length rest → raw ≡ get_or rest j raw
-    → IsPaddedText raw n → IsChecked bytes n (i + 1) (drop (j + 1) rest)
-IsChecked-more bytes rest raw n i j h inside is padded = record {
-  left = rw (← drop-drop 1 j rest, h.left) (drop-drop 1 i (first_chunks n (length bytes / n) bytes));
-  seen = omega (arith, h.seen, length-drop j rest, length-drop (j + 1) rest);
-  good = below_more _ _ h.good (rw (← next bytes rest raw n i j h inside is) padded);
+-- the first bad one of the list is the first bad one of the bytes
+pub IsFirstBad-records : (records : List (List ℕ)) (bytes : List ℕ) (n i : ℕ) → AreRecords records bytes n → 0 < n → IsFirstUnpadded records n i → IsFirstBad bytes n i
+IsFirstBad-records records bytes n i h some first = record {
+  inside = grind (arith, h.count, first.inside, div-add-mod (length bytes) n);
+  bad = λ padded. first.bad (rw (record_in records bytes n i [] h first.inside) padded);
+  before = λ k below.
+      let inside : k < length records = omega (arith, first.inside) in
+      rw (← record_in records bytes n k [] h inside, ← get_or-take i records k [] below) (first.before k [] (omega (arith, length-take i records, first.inside)));
 }
 
--- it is bad
-pub IsFirstBad-next : (bytes : List ℕ) (rest : List (List ℕ)) (raw : List ℕ) (n i j : ℕ) → IsChecked bytes n i (drop j rest) → j < length rest → raw ≡ get_or rest j raw
-    → 0 < n → ¬ IsPaddedText raw n → IsFirstBad bytes n i
-IsFirstBad-next bytes rest raw n i j h inside is some unpadded = record {
-  inside = grind (arith, h.seen, length-drop j rest, div-add-mod (length bytes) n);
-  bad = λ padded. unpadded (rw (← next bytes rest raw n i j h inside is) at padded);
-  before = h.good;
-}
-
--- and has its own fault
-pub fault_in-next : (bytes : List ℕ) (rest : List (List ℕ)) (raw : List ℕ) (n i j : ℕ) → IsChecked bytes n i (drop j rest) → j < length rest → raw ≡ get_or rest j raw
-    → fault_in n raw ≡ fault_in n (record_at n bytes i)
-fault_in-next bytes rest raw n i j h inside is = ap (λ (b : List ℕ). fault_in n b) (next bytes rest raw n i j h inside is)
-
--- no record is left
-pub IsPacked-checked : (bytes : List ℕ) (rest : List (List ℕ)) (n i : ℕ) → IsChecked bytes n i rest → length bytes % n ≡ 0 → length rest ≡ 0 → IsPacked bytes n
-IsPacked-checked bytes rest n i h whole none =
-    let all : i ≡ length bytes / n = omega (arith, h.seen) in
-    IsPacked-from_records bytes n i (rw all (omega (arith, div-add-mod (length bytes) n))) h.good
-
--- bytes with a bad record aren't packed
-pub IsFirstBad-unpacked : (bytes : List ℕ) (n i : ℕ) → IsFirstBad bytes n i → ¬ IsPacked bytes n
-IsFirstBad-unpacked bytes n i h packed = h.bad (IsPacked-record bytes n i packed h.inside)
-
-pub ruleset packing = (IsChecked-none, IsChecked-block, IsChecked-more, IsFirstBad-next, fault_in-next, IsPacked-checked, IsFirstBad-unpacked, IsPacked-length)
+-- and the other way round, packed bytes have padded texts alone
+pub AllPadded-packed : (records : List (List ℕ)) (bytes : List ℕ) (n : ℕ) → AreRecords records bytes n → 0 < n → IsPacked bytes n → AllPadded n records
+AllPadded-packed records bytes n h some packed i d below =
+    rw (record_in records bytes n i d h below) (IsPacked-record bytes n i packed (grind (arith, h.count, div-add-mod (length bytes) n)))
