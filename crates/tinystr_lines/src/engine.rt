@@ -43,11 +43,11 @@ fn read_input<R: Read>(alloc: Global, reader: &mut R) -> Result<Vec<u8>, RunErro
     let mut input = Vec::new(alloc);
     let mut piece = [0u8; PIECE];
     loop {
-        let count = reader.read(&mut piece).or(Err(RunError::Read))?;
-        if count == 0 {
-            return Ok(input);
+        match reader.read(&mut piece) {
+            Ok(0) => return Ok(input),
+            Ok(count) => input.extend_from_slice(&piece[..count])?,
+            Err(_) => return Err(RunError::Read),
         }
-        input.extend_from_slice(&piece[..count])?;
     }
 }
 
@@ -85,8 +85,8 @@ fn write_output<W: Write>(writer: &mut W, output: &[u8]) -> Result<(), RunError>
     let mut rest = output;
     while !rest.is_empty() {
         match writer.write(rest) {
-            Ok(count) if count > 0 => rest = &rest[count..],
-            _ => return Err(RunError::Write),
+            Ok(0) | Err(_) => return Err(RunError::Write),
+            Ok(count) => rest = &rest[count..],
         }
     }
     writer.flush().or(Err(RunError::Write))

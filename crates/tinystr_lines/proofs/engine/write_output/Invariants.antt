@@ -1,10 +1,10 @@
 -- What is gone from `rest` was written.
-use Rattle.std.proofs.Common.{◌≡◌, ℕ, ◌++◌, List, length}
-use Rattle.std.specs.Io.KnownBytes.{Appends}
+use Rattle.std.proofs.Common.{length}
+use Rattle.tinystr_lines.proofs.Written.{AllBut}
 use Rattle.tinystr_lines.proofs.engine.write_output.Given as goal
 
 abbrev pub invariant-loop-rest : goal.invariant-loop-rest
-invariant-loop-rest g l = (done : List ℕ) × (l.output ≡ done ++ l.rest) × Appends (g.W.Write.contents l.initial.writer) (g.W.Write.contents l.writer) done
+invariant-loop-rest g l = AllBut (g.W.Write.contents l.initial.writer) (g.W.Write.contents l.writer) l.output l.rest
 
 abbrev pub decreases-loop-rest : goal.decreases-loop-rest
 decreases-loop-rest g l = length l.rest
