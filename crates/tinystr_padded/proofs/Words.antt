@@ -1,7 +1,7 @@
 -- Padded bytes in words of sixteen: their length, questions, changes, and whether they are padded.
-use Rattle.std.proofs.Common.{Bool, List, [], ap, ap₂, arith, drop, false, inl, inr, length, nat_lt, refl, subst, sym, take, true, ℕ, ◌&&◌, ◌++◌, ◌+◌, ◌-◌, ◌<◌, ◌∙◌, ◌∷◌, ◌≡◌, ◌≤◌}
+use Rattle.std.proofs.Common.{Bool, IsTrue, List, [], ap, ap₂, arith, drop, eqb, false, inl, inr, length, nat_lt, refl, subst, sym, take, true, ℕ, ◌&&◌, ◌++◌, ◌+◌, ◌-◌, ◌<◌, ◌∙◌, ◌∷◌, ◌≡◌, ◌≤◌, ◌↔◌}
 use Rattle.std.proofs.lemmas.List.{append-nil, append_assoc, drop-drop, drop_all, length-append, length-drop, length-take, length-take-le, replicate-append-replicate, take-append-drop, take_all}
-use Rattle.std.proofs.lemmas.Bool.{cases_lt}
+use Rattle.std.proofs.lemmas.Bool.{cases_lt, eqb-true}
 use Rattle.std.proofs.lemmas.Bool.Decides.{nat_tests}
 use Rattle.std.proofs.lemmas.List.Elements.{All-append}
 use Rattle.tinystr_words.specs.Text.{IsPadded, IsPaddedText, IsTextByte, pad, text_of}
@@ -53,6 +53,17 @@ pub record IsSoFar (bytes rest : List ℕ) (ended : Bool) : Type 0 where
 -- where one word is no padded text, the bytes are none
 pub word_refused : (bytes rest x : List ℕ) (ended : Bool) → IsSoFar bytes rest ended → x ≡ take 16 rest → ¬ IsPadded x → ¬ IsPadded bytes
 word_refused bytes rest x ended far e bad = λ p. bad (rw e (IsPaddedText-take rest (length rest) 16 (far.to p).0))
+
+-- before the first word
+pub none_so_far : (bytes : List ℕ) → IsSoFar bytes bytes false
+none_so_far bytes = record { from = λ p after. p; to = λ p. (p, λ no. cc) }
+
+-- a word of a text after its end
+pub word_after_end : (bytes rest x : List ℕ) (ended : Bool) (n : ℕ) → IsSoFar bytes rest ended → ended ≡ true → x ≡ take 16 rest → n ≡ length (text_of x) → 0 < n → ¬ IsPadded bytes
+word_after_end bytes rest x ended n far on e is some = λ p.
+    let q = far.to p in
+    let here = ap (λ (b : List ℕ). length (text_of b)) e ∙ ap (λ (b : List ℕ). length b) (text_of-take rest (length rest) 16 q.0) in
+    omega (arith, here, ap (λ (t : List ℕ). length (take 16 t)) (q.1 on))
 
 -- padded bytes joined are padded, if the second have no text where the first have NULs
 padded-joined : (x y : List ℕ) → IsPadded x → IsPadded y → (length (text_of x) < length x → text_of y ≡ []) → IsPadded (x ++ y)
@@ -106,6 +117,13 @@ next_word bytes rest x y ended n far fits e h p is none =
                 cut.1 ∙ drop_all 16 (text_of rest) (omega (arith, length-take 16 (text_of rest))),
           );
     }
+
+-- the last word after the text's end
+pub last_word : (bytes rest : List ℕ) (ended : Bool) (n : ℕ) → IsSoFar bytes rest ended → IsPadded rest → ended ≡ true → n ≡ length (text_of rest) → IsTrue (eqb n 0) ↔ IsPadded bytes
+last_word bytes rest ended n far p on is = (
+  λ yes. far.from p (λ ended. no_text (text_of rest) (sym is ∙ eqb-true n 0 yes)),
+  λ all. rw (is, (far.to all).1 on) refl,
+)
 
 -- padded bytes of a text in another case
 pub in_case_is_padded : (c : Case) (l made : List ℕ) (n : ℕ) → IsPaddedText l n → made ≡ pad (in_case c (text_of l)) n → IsPaddedText made n × (text_of made ≡ in_case c (text_of l))
