@@ -76,6 +76,11 @@ part_more old bytes units r i j x bad char room inside h is copy =
       kept = grind (arith, common_steps);
     }
 
+-- one more byte that is the list's
+pub byte_more : (made bytes : List ℕ) (i x : ℕ) → i < length bytes → x ≡ get_or made i 0 → ((k : ℕ) → k < i → get_or bytes k 0 ≡ get_or made k 0)
+    → (k : ℕ) → k < i + 1 → get_or (set bytes i x) k 0 ≡ get_or made k 0
+byte_more made bytes i x inside is before = grind (arith, common_steps)
+
 -- what a lossy reader puts is a character
 lossy_char : (r u : ℕ) → IsTextByte r → IsTextByte (lossy_byte r u)
 lossy_char r u h = grind (arith, nat_tests)
