@@ -134,7 +134,7 @@ in_case_is_padded c l made n p e =
     )
 
 -- a word of w bytes, cut to the array
-in_case_fitted : (c : Case) (l made word t : List ℕ) (n w : ℕ) → length l ≡ n → n ≤ w → made ≡ take n word → word ≡ pad (in_case c t) w → t ≡ text_of l → made ≡ pad (in_case c (text_of l)) n
+pub in_case_fitted : (c : Case) (l made word t : List ℕ) (n w : ℕ) → length l ≡ n → n ≤ w → made ≡ take n word → word ≡ pad (in_case c t) w → t ≡ text_of l → made ≡ pad (in_case c (text_of l)) n
 in_case_fitted c l made word t n w long fits e h is =
     let small : length (in_case c (text_of l)) ≤ n = omega (arith, length-in_case c (text_of l), length-text_of-le l) in
     e ∙ ap (λ (b : List ℕ). take n b) (h ∙ ap (λ (x : List ℕ). pad (in_case c x) w) is) ∙ take-pad (in_case c (text_of l)) n w small fits
