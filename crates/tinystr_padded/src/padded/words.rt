@@ -86,9 +86,10 @@ pub fn change(bytes: &mut [u8], case: Case)
     let mut start = 0;
     let mut applied = case;
     while bytes.len() - start >= 16 {
-        let word = Aligned16::from_part(&bytes[start..start + 16]).in_case(applied);
-        bytes[start..start + 16].copy_from_slice(&word);
-        start += 16;
+        let end = start + 16;
+        let word = Aligned16::from_part(&bytes[start..end]).in_case(applied);
+        bytes[start..end].copy_from_slice(&word);
+        start = end;
         applied = case.of_later_words();
     }
     let count = bytes.len() - start;
