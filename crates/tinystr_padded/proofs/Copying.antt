@@ -7,6 +7,7 @@ use Rattle.std.proofs.lemmas.Slice.{drop-put_mid, take-put_mid}
 use Rattle.std.proofs.lemmas.Bool.{cases_lt}
 use borrow.Rule.Slice.PartMut.{put_mid}
 use Rattle.tinystr_words.specs.Text.{IsPadded, IsPaddedText, IsText, IsTextByte, pad, text_of}
+use Rattle.tinystr_words.proofs.Cutting.{take-front}
 use Rattle.tinystr_words.proofs.Texts.{IsPaddedText-drop, IsPaddedText-made, IsPaddedText-take, NULS, get_or-nuls, length-pad, length-text_of-le, padded-nuls, take-joined, take-text_of, text_of-drop, text_of-made, text_of-take}
 
 -- past its end a list is padded already
@@ -207,3 +208,11 @@ appended r x y at k p here q y_is some fits all =
     let made = put_behind r x y (length r) at k p refl here (omega (arith, here, length-text_of-le r)) q y_is some fits all in
     let long : length (put_mid at k r y) ≡ length r = ap (λ (l : List ℕ). length l) made.0.padded ∙ length-pad (text_of (put_mid at k r y)) (length r) made.0.fits in
     (subst (λ n. IsPaddedText (put_mid at k r y) n) (sym long) made.0, made.1)
+
+-- no text in NULs
+pub padded_nuls : (n : ℕ) → IsPadded (NULS n) × (text_of (NULS n) ≡ [])
+padded_nuls n = padded-nuls (NULS n) [] n refl (λ i d inside. absurd (omega arith))
+
+-- a text put behind what was cut of another
+pub cut_joined : (t s cut made : List ℕ) (room n : ℕ) → cut ≡ take n t → room ≡ n → made ≡ take room (cut ++ s) → made ≡ take n (t ++ s)
+cut_joined t s cut made room n cut_is room_is is = is ∙ ap₂ (λ k (l : List ℕ). take k (l ++ s)) room_is cut_is ∙ take-front t s n n (omega arith)
