@@ -23,6 +23,27 @@ tested_more units i j true char inside h is = h
 tested_more units i j false true inside h is = grind (arith, common_steps)
 tested_more units i j false false inside h is = λ text. (let no : false ≡ true = is.1 (text j 0 inside) in grind arith)
 
+-- two parts tested, which leave no unit out
+both_tested : (units : List ℕ) (i m n : ℕ) (a b : Bool) → m ≤ i → Tested a units 0 i → Tested b units m n → Tested (a || b) units 0 n
+both_tested units i m n true b close h g = h
+both_tested units i m n false true close h g = g
+both_tested units i m n false false close h g = λ k from below. elim (cases_lt k i) [
+  | inl front ↦ h k from front
+  | inr back ↦ g k (omega arith) below
+]
+
+-- two parts read, which leave no unit out
+pub both_read : (old between bytes units : List ℕ) (r i m j n : ℕ) (a b : Bool) → m ≤ i → j ≡ n
+    → IsReadPart a old between units r 0 i → IsReadPart b between bytes units r m j → IsReadPart (a || b) old bytes units r 0 n
+both_read old between bytes units r i m j n a b close end h g = record {
+  tested = both_tested units i m n a b close h.tested (rw (← end) g.tested);
+  read = λ k from below. elim (cases_lt k i) [
+    | inl front ↦ g.kept k (h.read k from front)
+    | inr back ↦ g.read k (omega arith) (omega arith)
+  ];
+  kept = λ k same. g.kept k (h.kept k same);
+}
+
 -- characters are read as they are
 lossy_text : (r : ℕ) (t : List ℕ) → IsText t → map (lossy_byte r) t ≡ t
 lossy_text r [] h = refl

@@ -43,6 +43,10 @@ ask_parts l w y q c = rw (c.word_text, c.others_text) (answer-parts q 15 (text_o
 pub refused : (l w y : List ℕ) (q : Question) (r all : Bool) → IsFirstWord l w y → r ≡ answer q w → r ≡ false → answer q (text_of l) ≡ all → false ≡ all
 refused l w y q r all c answered fails left = sym (rw (← answered, fails) at (ask_parts l w y q c)) ∙ left
 
+-- where one word passes, the others decide
+pub passed : (l w y : List ℕ) (q later : Question) (r all : Bool) → IsFirstWord l w y → r ≡ answer q w → r ≡ true → later ≡ later_question q → answer q (text_of l) ≡ all → answer later (text_of y) ≡ all
+passed l w y q later r all c answered passes later_is left = rw later_is (sym (rw (← answered, passes) at (ask_parts l w y q c)) ∙ left)
+
 -- ---- bytes tested for a padded text, word by word
 
 -- all bytes are a padded text exactly if the rest is, and has no text once the text has ended

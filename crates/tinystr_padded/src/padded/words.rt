@@ -60,7 +60,6 @@ pub fn len(bytes: &[u8]) -> usize
 
 /// Whether each word passes, the later ones without a first character.
 #[inline(always)]
-#[tactic(auto, using(crate::proofs::Words::ask_parts))]
 pub fn ask(bytes: &[u8], question: Question) -> bool
     requires { IsPadded bytes.now }
     ensures { result ≡ answer question (text_of bytes.now) }

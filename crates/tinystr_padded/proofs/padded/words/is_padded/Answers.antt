@@ -21,9 +21,11 @@ len-len-requires c = omega arith
 
 pub returns-then-len-gt0 : goal.returns-then-len-gt0
 returns-then-len-gt0 c =
-    let now = c.loop-first in
-    (λ e. cc, λ p. absurd (word_after_end c.args.bytes.now now.rest.now c.in-Some.first.now now.is_ended c.len-len.result now.invariant c.if-is_ended.true c.in-Some.ensures.cases.0
-    (c.len-len.ensures ∙ ap length c.in-Some-try_from_part.ensures.1) c.if-len-gt0.true p))
+    let now = c.loop-first in (
+      λ e. cc,
+      λ p. absurd (word_after_end c.args.bytes.now now.rest.now c.in-Some.first.now now.is_ended c.len-len.result now.invariant c.if-is_ended.true c.in-Some.ensures.cases.0
+          (c.len-len.ensures ∙ ap length c.in-Some-try_from_part.ensures.1) c.if-len-gt0.true p),
+    )
 
 pub loop-first-smaller : goal.loop-first-smaller
 loop-first-smaller c = search rules
