@@ -11,9 +11,7 @@ ghost use Rattle.subtags.specs.Parts.{language_of, script_of, region_of, join_pa
 
 use crate::error::LangIdError;
 use crate::lang_id::LangId;
-use crate::language::Language;
-use crate::region::Region;
-use crate::script::Script;
+use crate::part::{Kind, Part};
 use std::cmp::Ordering;
 
 /// To fold an input and then cut it at each dash is to cut it at each separator and then fold its parts.
@@ -61,56 +59,22 @@ pub fn identifier_order(id: &LangId, other: &LangId) -> (bool, Ordering, Option<
     )
 }
 
-/// The same of languages.
-pub fn language_order(
-    language: &Language,
-    other: &Language,
+/// The same of the parts of a kind: of languages, of scripts, of regions.
+pub fn part_order<K: Kind<N>, const N: usize>(
+    part: &Part<K, N>,
+    other: &Part<K, N>,
 ) -> (bool, Ordering, Option<Ordering>, bool)
-    ensures equal { IsTrue result.0 ↔ (language.now ≡ other.now) }
-    ensures order { result.1 ≡ slice_cmp nat_cmp language.now other.now }
-    ensures before { (result.1 ≡ Less) ↔ IsBefore language.now other.now }
+    ensures equal { IsTrue result.0 ↔ (part.now ≡ other.now) }
+    ensures order { result.1 ≡ slice_cmp nat_cmp part.now other.now }
+    ensures before { (result.1 ≡ Less) ↔ IsBefore part.now other.now }
     ensures partial { result.2 ≡ Some result.1 }
-    ensures less { IsTrue result.3 ↔ IsBefore language.now other.now }
+    ensures less { IsTrue result.3 ↔ IsBefore part.now other.now }
 {
     tinystr_words::laws::order_compared();
     (
-        language == other,
-        language.cmp(other),
-        language.partial_cmp(other),
-        language < other,
-    )
-}
-
-/// The same of scripts.
-pub fn script_order(script: &Script, other: &Script) -> (bool, Ordering, Option<Ordering>, bool)
-    ensures equal { IsTrue result.0 ↔ (script.now ≡ other.now) }
-    ensures order { result.1 ≡ slice_cmp nat_cmp script.now other.now }
-    ensures before { (result.1 ≡ Less) ↔ IsBefore script.now other.now }
-    ensures partial { result.2 ≡ Some result.1 }
-    ensures less { IsTrue result.3 ↔ IsBefore script.now other.now }
-{
-    tinystr_words::laws::order_compared();
-    (
-        script == other,
-        script.cmp(other),
-        script.partial_cmp(other),
-        script < other,
-    )
-}
-
-/// The same of regions.
-pub fn region_order(region: &Region, other: &Region) -> (bool, Ordering, Option<Ordering>, bool)
-    ensures equal { IsTrue result.0 ↔ (region.now ≡ other.now) }
-    ensures order { result.1 ≡ slice_cmp nat_cmp region.now other.now }
-    ensures before { (result.1 ≡ Less) ↔ IsBefore region.now other.now }
-    ensures partial { result.2 ≡ Some result.1 }
-    ensures less { IsTrue result.3 ↔ IsBefore region.now other.now }
-{
-    tinystr_words::laws::order_compared();
-    (
-        region == other,
-        region.cmp(other),
-        region.partial_cmp(other),
-        region < other,
+        part == other,
+        part.cmp(other),
+        part.partial_cmp(other),
+        part < other,
     )
 }
