@@ -5,9 +5,9 @@ use Rattle.std.proofs.lemmas.List.Elements.{All-nil, All-cons}
 use Rattle.std.proofs.lemmas.Bool.Decides.{nat_tests}
 use Rattle.std.proofs.lemmas.List.{length-map}
 use Rattle.tinystr_words.specs.Text.{IsText, IsTextByte, IsStrictText}
-use Rattle.tinystr_words.specs.Classes.{is_alphabetic, is_digit, is_alphanumeric}
+use Rattle.tinystr_words.specs.Classes.{is_alphabetic, is_digit, is_alphanumeric, ask}
 use Rattle.tinystr_words.specs.Case.{lower, raise, lowercase, titlecase, uppercase}
-use Rattle.subtags.specs.Grammar.{fold_byte, fold_text, is_language, is_script, is_region, canonical_part}
+use Rattle.subtags.specs.Grammar.{fold_byte, fold_text, is_language_length, is_language, is_script, is_region, canonical_part}
 use Rattle.subtags.specs.Parts.{IsCanonicalPart}
 
 -- where f after g is f at each element, it is so on a list
@@ -139,6 +139,31 @@ script_text p h = record { text = plain_text p (script_plain p h); fits = grind 
 -- a region is a text of at most 3 bytes
 pub region_text : (p : List ℕ) → is_region p ≡ true → IsStrictText p 3
 region_text p h = record { text = plain_text p (region_plain p h); fits = grind (arith, nat_tests) }
+
+-- no answer is both
+pub told_apart : {P : Type 0} → false ≡ true → P
+told_apart h = absurd (cc)
+
+-- where all bytes of a text are asked one question, the answer is that of each byte
+all_asked : (p : ℕ → Bool) (t : List ℕ) → true ≡ ask p p t → list_all p t ≡ true
+all_asked p [] h = refl
+all_asked p (b ∷ t) h = sym h
+
+-- letters, as many as a language has, are a language
+pub letters_language : (t : List ℕ) → is_language_length (length t) ≡ true → true ≡ ask is_alphabetic is_alphabetic t → is_language t ≡ true
+letters_language t len h = rw (all_asked is_alphabetic t h, len) refl
+
+-- four letters are a script
+pub letters_script : (t : List ℕ) → length t ≡ 4 → true ≡ ask is_alphabetic is_alphabetic t → is_script t ≡ true
+letters_script t len h = rw (all_asked is_alphabetic t h, len) refl
+
+-- two letters are a region
+pub letters_region : (t : List ℕ) → length t ≡ 2 → true ≡ ask is_alphabetic is_alphabetic t → is_region t ≡ true
+letters_region t len h = rw (all_asked is_alphabetic t h, len) refl
+
+-- and so are three digits
+pub digits_region : (t : List ℕ) → length t ≡ 3 → true ≡ ask is_digit is_digit t → is_region t ≡ true
+digits_region t len h = let digits = all_asked is_digit t h in grind (arith, nat_tests)
 
 -- to fold a language is to put it in lowercase
 pub lowercase-fold_text : (p : List ℕ) → is_language p ≡ true → fold_text p ≡ lowercase p

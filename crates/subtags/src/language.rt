@@ -26,7 +26,9 @@ impl Kind<8> for LanguageKind {
         if !matches!(code_units.len(), 2 | 3 | 5..=8) {
             return None;
         }
-        let text = TinyAsciiStr::try_from_utf8(code_units).ok()?;
+        let Ok(text) = TinyAsciiStr::try_from_utf8(code_units) else {
+            return None;
+        };
         if text.is_ascii_alphabetic() {
             Some(text.to_ascii_lowercase())
         } else {

@@ -23,7 +23,9 @@ impl Kind<3> for RegionKind {
 
     #[inline]
     fn read(code_units: &[u8]) -> Option<TinyAsciiStr<3>> {
-        let text = TinyAsciiStr::<3>::try_from_utf8(code_units).ok()?;
+        let Ok(text) = TinyAsciiStr::<3>::try_from_utf8(code_units) else {
+            return None;
+        };
         let has_form = match code_units.len() {
             2 => text.is_ascii_alphabetic(),
             3 => text.is_ascii_numeric(),

@@ -1,13 +1,13 @@
-use Rattle.std.proofs.Common.{arith}
-use Rattle.std.proofs.lemmas.Grind.{common_steps}
-use Rattle.subtags.proofs.FoldLemmas.{language_text, canonical-lowercase}
+use Rattle.std.proofs.Common.{◌≡◌, ◌∙◌, ap, length, true, arith}
+use Rattle.subtags.specs.Grammar.{is_language_length}
+use Rattle.subtags.proofs.FoldLemmas.{language_text, told_apart, letters_language, canonical-lowercase}
 use Rattle.subtags.proofs.language.LanguageKindKind8.read.Goals as goal
 
-pub returns-in_err-text-clause-text : goal.returns-in_err-text-clause-text
-returns-in_err-text-clause-text c =
-    let text = language_text c.args.code_units.now in
-    grind (arith, common_steps)
+pub returns-in_default-try_from_utf8-clause-text : goal.returns-in_default-try_from_utf8-clause-text
+returns-in_default-try_from_utf8-clause-text c = λ form. told_apart (c.in_default-try_from_utf8.ensures.accepted.1 (language_text c.args.code_units.now form))
 
 pub returns-then-is_ascii_alphabetic-clause-canonical : goal.returns-then-is_ascii_alphabetic-clause-canonical
 returns-then-is_ascii_alphabetic-clause-canonical c =
-    canonical-lowercase c.args.code_units.now _ (grind (arith, common_steps)) (grind (arith, common_steps))
+    let len : is_language_length (length c.args.code_units.now) ≡ true = grind arith in
+    let kept = ap (λ t. is_language_length (length t)) c.in-Ok.ensures.text ∙ len in
+    canonical-lowercase c.in-Ok.text _ (letters_language c.in-Ok.text kept c.if-is_ascii_alphabetic.ensures) c.to_ascii_lowercase.ensures
