@@ -11,7 +11,7 @@ use Rattle.tinystr_words.specs.Classes.{is_alphanumeric}
 use Rattle.tinystr_words.specs.Case.{titlecase, uppercase}
 use Rattle.subtags.specs.declared.error.LangIdError.TheVariants.{InvalidSubtag}
 use Rattle.subtags.specs.Grammar.{dash, is_separator, fold_byte, fold_text, parts, is_script, is_region}
-use Rattle.subtags.specs.FromFront.{behind, parts_behind, ends_at_four, leading_script, behind_script, last_region}
+use Rattle.subtags.specs.FromFront.{behind, past_script, parts_behind, ends_at_four, leading_script, behind_script, last_region}
 use Rattle.subtags.proofs.FoldLemmas.{all_from_test, folded_twice, is_script_alike, is_region_alike, script_plain, region_plain, titlecase-fold_text, uppercase-fold_text}
 
 -- to put a byte onto the first part and change all is to change all and then put the changed byte there
@@ -74,7 +74,7 @@ no_script_first p ps qs e h =
     (rw e (rw also), rw e (rw also))
 
 -- a script in front that can be a part is the first part
-pub script_in_front : (u : List ℕ) → ends_at_four u ≡ true → is_script (take 4 u) ≡ true → 4 ≤ length u → parts (fold_text u) ≡ fold_text (take 4 u) ∷ parts_behind (behind 4 u)
+script_in_front : (u : List ℕ) → ends_at_four u ≡ true → is_script (take 4 u) ≡ true → 4 ≤ length u → parts (fold_text u) ≡ fold_text (take 4 u) ∷ parts_behind (behind 4 u)
 script_in_front u ends h le =
     let plain = script_plain (take 4 u) h in
     elim (4 == length u) as (λ b. (4 == length u) ≡ b → parts (fold_text u) ≡ fold_text (take 4 u) ∷ parts_behind (cond b None (Some (drop 5 u)))) [
@@ -96,6 +96,15 @@ or_true a b h = grind arith
 -- a script has four bytes
 script_length : (p : List ℕ) → is_script p ≡ true → length p ≡ 4
 script_length p h = grind (arith, nat_tests)
+
+-- a script in front that can be a part is read in titlecase, and what stands behind it is left
+pub script_taken : (u : List ℕ) → ends_at_four u ≡ true → is_script (take 4 u) ≡ true
+    → (leading_script (parts (fold_text u)) ≡ Some (titlecase (take 4 u))) × (behind_script (parts (fold_text u)) ≡ parts_behind (past_script u))
+script_taken u ends h =
+    let four = script_length (take 4 u) h in
+    let long : 4 ≤ length u = omega (arith, length-take 4 u) in
+    let past : past_script u ≡ behind 4 u = grind (arith, nat_tests) in
+    rw past (script_first (take 4 u) _ _ (script_in_front u ends h long) h)
 
 -- where no script stands in front that can be a part, all bytes together are none
 no_script_whole : (u : List ℕ) → (ends_at_four u ≡ true → is_script (take 4 u) ≡ false) → is_script u ≡ false

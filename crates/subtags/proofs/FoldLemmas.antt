@@ -153,6 +153,10 @@ all_asked p (b ∷ t) h = sym h
 pub letters_language : (t : List ℕ) → is_language_length (length t) ≡ true → true ≡ ask is_alphabetic is_alphabetic t → is_language t ≡ true
 letters_language t len h = rw (all_asked is_alphabetic t h, len) refl
 
+-- a language has the length of one
+pub language_length : (p : List ℕ) → is_language p ≡ true → is_language_length (length p) ≡ true
+language_length p h = grind arith
+
 -- four letters are a script
 pub letters_script : (t : List ℕ) → length t ≡ 4 → true ≡ ask is_alphabetic is_alphabetic t → is_script t ≡ true
 letters_script t len h = rw (all_asked is_alphabetic t h, len) refl

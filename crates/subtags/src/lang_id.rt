@@ -57,7 +57,9 @@ impl LangId {
         ensures refusal { IfErr result (λ e. e ≡ refusal_of code_units.now) }
     {
         let (first, rest) = cut(code_units);
-        let language = Language::try_from_utf8(first).ok_or(LangIdError::InvalidLanguage)?;
+        let Some(language) = Language::try_from_utf8(first) else {
+            return Err(LangIdError::InvalidLanguage);
+        };
         let (script, rest) = take_script(rest);
         let region = last_region(rest)?;
         Ok(Self::from_parts(language, script, region))
@@ -108,7 +110,12 @@ impl LangId {
         ensures { result ≡ script_of self.now }
     {
         let (_, rest) = cut(self.text.as_utf8());
-        let script = rest?.first_chunk::<4>()?;
+        let Some(rest) = rest else {
+            return None;
+        };
+        let Some(script) = rest.first_chunk::<4>() else {
+            return None;
+        };
         let text = TinyAsciiStr::try_from_utf8(script).unwrap();
         Some(Script::from_canonical(text))
     }
@@ -119,7 +126,12 @@ impl LangId {
         ensures { result ≡ region_of self.now }
     {
         let (_, rest) = cut(self.text.as_utf8());
-        let region = past_script(rest?)?;
+        let Some(rest) = rest else {
+            return None;
+        };
+        let Some(region) = past_script(rest) else {
+            return None;
+        };
         let text = TinyAsciiStr::try_from_utf8(region).unwrap();
         Some(Region::from_canonical(text))
     }

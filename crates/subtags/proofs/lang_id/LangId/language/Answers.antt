@@ -1,15 +1,21 @@
-use Rattle.std.proofs.Common.{arith, lit<}
-use Rattle.std.proofs.lemmas.Grind.{common_steps}
+use Rattle.std.proofs.Common.{◌∙◌, sym, lit<}
+use Rattle.subtags.proofs.FoldLemmas.{language_length}
 use Rattle.subtags.proofs.PlaceLemmas.{language_in_place}
 use Rattle.subtags.proofs.lang_id.LangId.language.Goals as goal
 
+pub front-requires : goal.front-requires
+front-requires c =
+    let cut = rw c.as_utf8.ensures.text at c.cut.ensures in
+    language_length c.cut.result.0.now (language_in_place c.self.inside.text c.cut.result.0.now _ c.self.invariant cut.parts cut.front).1.form
+
 pub from_canonical-requires : goal.from_canonical-requires
 from_canonical-requires c =
-    let front = rw c.as_utf8.ensures.text at c.cut.ensures.front in
-    let place = language_in_place c.self.inside.text c.cut.result.0.now _ c.self.invariant (rw c.as_utf8.ensures.text at c.cut.ensures.parts) front in
-    (lit< tt, (lit< tt, rw (c.front.ensures, ← front) place.1))
+    let cut = rw c.as_utf8.ensures.text at c.cut.ensures in
+    let place = language_in_place c.self.inside.text c.cut.result.0.now _ c.self.invariant cut.parts cut.front in
+    (lit< tt, (lit< tt, rw (c.front.ensures, ← cut.front) place.1))
 
 pub returns : goal.returns
 returns c =
-    let place = language_in_place c.self.inside.text c.cut.result.0.now _ c.self.invariant (rw c.as_utf8.ensures.text at c.cut.ensures.parts) (rw c.as_utf8.ensures.text at c.cut.ensures.front) in
-    grind (arith, common_steps)
+    let cut = rw c.as_utf8.ensures.text at c.cut.ensures in
+    let place = language_in_place c.self.inside.text c.cut.result.0.now _ c.self.invariant cut.parts cut.front in
+    rw (← c.self.view_is) (c.from_canonical.ensures ∙ c.front.ensures ∙ sym cut.front ∙ place.0)
