@@ -9,7 +9,7 @@ ghost use Rattle.tinystr.specs.Records.{RefusesRecords, RefusesOneOf};
 use crate::ascii::TinyAsciiStr;
 use crate::error::ParseError;
 use crate::unvalidated::UnvalidatedTinyAsciiStr;
-use tinystr_padded::padded;
+use tinystr_words::padded;
 
 // How many records are asked together: enough that the compiler takes several at once, and few to search for a bad one.
 const BLOCK: usize = 64;

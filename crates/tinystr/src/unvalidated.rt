@@ -11,7 +11,7 @@ use crate::error::ParseError;
 use std::cmp::Ordering;
 use std::fmt;
 use std::marker::Model;
-use tinystr_padded::padded::resize;
+use tinystr_words::padded::resize;
 
 /// Any `N` bytes, which may or may not be a text and then NULs. Values are compared byte by byte.
 #[derive(Clone, Copy, PartialEq, Eq)]

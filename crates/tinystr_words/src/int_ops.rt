@@ -162,7 +162,7 @@ impl<T: Word<LEN>, const LEN: usize> Aligned<T, LEN> {
     }
 }
 
-// What stands from here on is there for `tinystr_padded` and for the strict readers of `tinystr`.
+// What stands from here on is there for `padded` and for the strict readers of `tinystr`.
 impl<T: Word<LEN>, const LEN: usize> Aligned<T, LEN> {
     /// Takes the text of at most `LEN` bytes, which have to be a text and then NULs.
     #[inline(always)]

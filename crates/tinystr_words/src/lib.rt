@@ -7,6 +7,8 @@ pub mod int_ops;
 #[doc(hidden)]
 pub mod kernel;
 pub mod laws;
+#[doc(hidden)]
+pub mod padded;
 mod question;
 mod unit;
 #[doc(hidden)]

@@ -5,7 +5,7 @@ ghost use Rattle.std.specs.Fmt.{decimal};
 ghost use Rattle.tinystr_words.specs.Decimal.{last};
 
 use crate::ascii::TinyAsciiStr;
-use tinystr_padded::padded;
+use tinystr_words::padded;
 
 impl<const N: usize> TinyAsciiStr<N> {
     /// The shortest decimal text of a number. Where it has more than `N` digits, its last `N` are the error.

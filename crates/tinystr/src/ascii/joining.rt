@@ -3,7 +3,7 @@
 ghost use Rattle.std.specs.Prelude.{◌≡◌, ◌++◌, ◌+◌, ◌≤◌, take};
 
 use crate::ascii::TinyAsciiStr;
-use tinystr_padded::padded;
+use tinystr_words::padded;
 
 impl<const N: usize> TinyAsciiStr<N> {
     /// The text at another capacity: its first `M` bytes where it is longer.

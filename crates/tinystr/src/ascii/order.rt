@@ -2,7 +2,7 @@
 
 use crate::ascii::TinyAsciiStr;
 use std::cmp::Ordering;
-use tinystr_padded::padded;
+use tinystr_words::padded;
 
 impl<const N: usize> PartialEq for TinyAsciiStr<N> {
     ghost use Rattle.std.proofs.Common.{rules};

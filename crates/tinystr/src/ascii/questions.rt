@@ -6,8 +6,7 @@ ghost use Rattle.tinystr_words.specs.Case.{lowercase, titlecase, uppercase};
 ghost use Rattle.tinystr_words.specs.Questions.{answer, in_case};
 
 use crate::ascii::TinyAsciiStr;
-use tinystr_padded::padded;
-use tinystr_words::{Case, Question};
+use tinystr_words::{Case, Question, padded};
 
 impl<const N: usize> TinyAsciiStr<N> {
     /// The answer to a question by name, as `is_ascii_titlecase` to `Titlecase`.

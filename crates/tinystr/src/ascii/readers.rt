@@ -7,8 +7,7 @@ ghost use Rattle.tinystr.specs.Error.{fault_of};
 
 use crate::ascii::{TinyAsciiStr, strict};
 use crate::error::ParseError;
-use tinystr_padded::padded;
-use tinystr_words::Unit;
+use tinystr_words::{Unit, padded};
 
 impl<const N: usize> TinyAsciiStr<N> {
     /// Reads a string of at most `N` bytes, each from 1 to 127.

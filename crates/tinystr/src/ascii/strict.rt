@@ -7,8 +7,8 @@ ghost use Rattle.tinystr.specs.Error.{fault_of};
 
 use crate::ascii::TinyAsciiStr;
 use crate::error::ParseError;
-use tinystr_padded::padded::{self, Width, cut, width_of};
 use tinystr_words::int_ops::{Aligned8, Aligned16};
+use tinystr_words::padded::{self, Width, cut, width_of};
 use tinystr_words::{Unit, are_characters};
 
 /// The text of the units, or why there is none. The value is made where its bytes are: an array in an `Option` or a

@@ -5,7 +5,7 @@ ghost use Rattle.tinystr_words.specs.Text.{pad, text_of, IsText, IsPaddedText};
 
 use crate::ascii::TinyAsciiStr;
 use std::convert::{AsSlice, AsStr};
-use tinystr_padded::padded;
+use tinystr_words::padded;
 
 impl<const N: usize> TinyAsciiStr<N> {
     /// The length of the text in bytes.

@@ -1,7 +1,7 @@
 use Rattle.std.proofs.Common.{◌≡◌, map}
 use Rattle.tinystr_words.specs.Reading.{lossy}
 use Rattle.tinystr_words.specs.Text.{text_of, IsPaddedText}
-use Rattle.tinystr_padded.proofs.Units.{made_lossy}
+use Rattle.tinystr_words.proofs.WholeUnits.{made_lossy}
 use Rattle.tinystr.proofs.ascii.TinyAsciiStr.read_lossy.Goals as goal
 
 made : (g : _) (c : goal.After-lossy g) → let t = lossy (map g.U.Unit.number c.args.units.now) c.args.replacement g.row.N in

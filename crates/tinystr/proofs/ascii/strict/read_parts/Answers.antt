@@ -1,7 +1,7 @@
 use Rattle.std.proofs.Common.{◌≡◌, ◌∙◌, length, map, rules, arith, refl}
 use Rattle.std.proofs.lemmas.Bool.{false≢true}
 use Rattle.std.proofs.lemmas.List.{length-map}
-use Rattle.tinystr_padded.proofs.Units.{read_text, full_text}
+use Rattle.tinystr_words.proofs.WholeUnits.{read_text, full_text}
 use Rattle.tinystr.proofs.ascii.strict.read_parts.Goals as goal
 
 pub returns-then-units : goal.returns-then-units

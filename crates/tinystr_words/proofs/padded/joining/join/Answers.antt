@@ -1,0 +1,39 @@
+use Rattle.std.proofs.Common.{ℕ, ◌≡◌, ◌++◌, ◌+◌, ◌-◌, ◌∙◌, ap, arith, length, rules, take}
+use Rattle.std.proofs.lemmas.List.{length-replicate, length-take}
+use Rattle.std.proofs.lemmas.List.Elements.{All-append}
+use Rattle.tinystr_words.specs.Text.{IsTextByte, pad, text_of}
+use Rattle.tinystr_words.proofs.Texts.{NULS, length-pad}
+use Rattle.tinystr_words.proofs.Copying.{copied_more, made_of}
+use Rattle.tinystr_words.proofs.JoiningLanes.{piece_of, stored_all}
+use Rattle.tinystr_words.proofs.padded.joining.join.Goals as goal
+
+pub loop-at-preserved : goal.loop-at-preserved
+loop-at-preserved g c =
+    let n = g.row.Q in
+    let t = text_of c.args.front.now ++ text_of c.args.back.now in
+    let now = c.loop-at in
+    let whole = pad (take n t) n in
+    let whole_long : length whole ≡ n = length-pad (take n t) n (omega (arith, length-take n t)) in
+    let count = now.at + c.min-count.result - now.at in
+    let same : c.min-count.result ≡ count = omega arith in
+    let piece = c.copy_from_slice.new.self in
+    let part = piece_of c.joined_from.result piece t n now.at count (omega (arith, c.min-count.ensures)) (omega (arith, c.min-count.ensures)) c.joined_from.ensures
+    (c.copy_from_slice.ensures.after ∙ ap (λ k. take k c.joined_from.result) same) in
+    record {
+      inside = omega (arith, c.min-count.ensures);
+      len = search rules;
+      stored = copied_more (NULS n) whole now.bytes piece now.at count (now.at + c.min-count.result) now.invariant.stored (omega arith)
+          (omega (arith, c.min-count.ensures, whole_long)) (omega (arith, c.min-count.ensures, length-replicate {A = ℕ} n 0)) part;
+    }
+
+pub returns-clause-padded : goal.returns-clause-padded
+returns-clause-padded g c =
+    let t = text_of c.args.front.now ++ text_of c.args.back.now in
+    let made = stored_all c.loop-at.bytes t g.row.Q c.loop-at.at (omega arith) c.loop-at.invariant.stored in
+    (made_of c.loop-at.bytes t g.row.Q made (All-append IsTextByte _ _ c.requires.front.text c.requires.back.text)).0
+
+pub returns-clause-text : goal.returns-clause-text
+returns-clause-text g c =
+    let t = text_of c.args.front.now ++ text_of c.args.back.now in
+    let made = stored_all c.loop-at.bytes t g.row.Q c.loop-at.at (omega arith) c.loop-at.invariant.stored in
+    (made_of c.loop-at.bytes t g.row.Q made (All-append IsTextByte _ _ c.requires.front.text c.requires.back.text)).1

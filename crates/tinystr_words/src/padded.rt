@@ -1,0 +1,179 @@
+//! Padded bytes of any length: a text and then NULs. `width_of` tells the narrowest words that take them.
+
+ghost use Rattle.std.specs.Prelude.{◌≡◌, ◌≤◌, ◌++◌, ◌↔◌, length, take, All, IsTrue, IsOk, IfOk, IfErr};
+ghost use Rattle.std.specs.Fmt.{decimal};
+ghost use Rattle.std.specs.Str.{bytes_eq};
+ghost use Rattle.tinystr_words.specs.Text.{IsPaddedText, text_of, pad};
+ghost use Rattle.tinystr_words.specs.Decimal.{last};
+ghost use Rattle.tinystr_words.specs.Questions.{answer, in_case};
+ghost use Rattle.tinystr_words.specs.Padded.{IsWidthOf};
+
+mod copying;
+mod joining;
+mod order;
+mod units;
+mod words;
+
+use crate::int_ops::{Aligned4, Aligned8, Aligned16, decimal_fits};
+use crate::{Case, Question};
+pub use copying::{cut, resize};
+pub use order::compare;
+pub use units::{lossy, low_bytes, read_all};
+
+/// The words that take padded bytes: the narrowest that holds all, since it is loaded and asked in the fewest steps.
+#[derive(Clone, Copy)]
+pub enum Width {
+    /// One of 32 bits.
+    Four,
+    /// One of 64 bits, the widest that a register holds.
+    Eight,
+    /// One of 128 bits, the widest integer.
+    Sixteen,
+    /// As many of 128 bits as there are.
+    Many,
+}
+
+/// The words that take so many bytes. The number is known when the program is built, and no test of it is left.
+#[inline(always)]
+pub fn width_of(len: usize) -> Width
+    ensures { IsWidthOf result len }
+{
+    if len <= 4 {
+        Width::Four
+    } else if len <= 8 {
+        Width::Eight
+    } else if len <= 16 {
+        Width::Sixteen
+    } else {
+        Width::Many
+    }
+}
+
+/// Whether the bytes are a text and then NULs.
+#[inline(always)]
+pub fn is_padded<const N: usize>(bytes: &[u8; N]) -> bool
+    ensures { IsTrue result ↔ IsPaddedText bytes.now N }
+{
+    match width_of(N) {
+        Width::Four => Aligned4::try_from_part(&bytes[..]).is_some(),
+        Width::Eight => Aligned8::try_from_part(&bytes[..]).is_some(),
+        Width::Sixteen => Aligned16::try_from_part(&bytes[..]).is_some(),
+        Width::Many => words::is_padded(&bytes[..]),
+    }
+}
+
+/// Whether all records are padded. None is left early, so that the compiler asks several at once.
+#[inline(always)]
+pub fn are_padded<const N: usize>(records: &[[u8; N]]) -> bool
+    ensures { IsTrue result ↔ All (λ bytes. IsPaddedText bytes N) records.now }
+{
+    let mut are_padded = true;
+    for bytes in records {
+        are_padded &= is_padded(bytes);
+    }
+    are_padded
+}
+
+/// The decimal text of a number as padded bytes, or its last `N` digits where it has more.
+#[inline(always)]
+pub fn decimal<const N: usize>(number: u32) -> Result<[u8; N], [u8; N]>
+    ensures ok { IsOk result ↔ (length (decimal number) ≤ N) }
+    ensures digits { IfOk result (λ bytes. IsPaddedText bytes N × (text_of bytes ≡ decimal number)) }
+    ensures last_digits { IfErr result (λ bytes. IsPaddedText bytes N × (text_of bytes ≡ last N (decimal number))) }
+{
+    if decimal_fits(number, N) {
+        Ok(cut(&Aligned16::from_decimal(number).to_bytes()))
+    } else {
+        Err(cut(&Aligned16::from_last_digits(number, N).to_bytes()))
+    }
+}
+
+/// The length of the text.
+#[inline(always)]
+pub fn len<const N: usize>(bytes: &[u8; N]) -> usize
+    requires { IsPaddedText bytes.now N }
+    ensures { result ≡ length (text_of bytes.now) }
+{
+    match width_of(N) {
+        Width::Four => Aligned4::from_ascii_bytes(bytes).len(),
+        Width::Eight => Aligned8::from_ascii_bytes(bytes).len(),
+        Width::Sixteen | Width::Many => words::len(bytes),
+    }
+}
+
+/// Whether two texts are one.
+#[inline(always)]
+pub fn equals<const N: usize>(left: &[u8; N], right: &[u8; N]) -> bool
+    requires left { IsPaddedText left.now N }
+    requires right { IsPaddedText right.now N }
+    ensures { result ≡ bytes_eq (text_of left.now) (text_of right.now) }
+{
+    match width_of(N) {
+        Width::Four => Aligned4::from_ascii_bytes(left).equals(&Aligned4::from_ascii_bytes(right)),
+        Width::Eight => Aligned8::from_ascii_bytes(left).equals(&Aligned8::from_ascii_bytes(right)),
+        Width::Sixteen if N == 16 => order::sixteen_equal(&left[..], &right[..]),
+        Width::Sixteen => Aligned16::from_ascii_bytes(left).equals(&Aligned16::from_ascii_bytes(
+            right,
+        )),
+        Width::Many => left == right,
+    }
+}
+
+/// The answer to a question about the text.
+#[inline(always)]
+pub fn ask<const N: usize>(bytes: &[u8; N], question: Question) -> bool
+    requires { IsPaddedText bytes.now N }
+    ensures { result ≡ answer question (text_of bytes.now) }
+{
+    match width_of(N) {
+        Width::Four => Aligned4::from_ascii_bytes(bytes).ask(question),
+        Width::Eight => Aligned8::from_ascii_bytes(bytes).ask(question),
+        Width::Sixteen | Width::Many => words::ask(bytes, question),
+    }
+}
+
+/// Changes the case of the text in place.
+#[inline(always)]
+pub fn change<const N: usize>(bytes: &mut [u8; N], case: Case)
+    requires { IsPaddedText bytes.old N }
+    ensures { bytes.new ≡ pad (in_case case (text_of bytes.old)) N }
+{
+    match width_of(N) {
+        Width::Four => {
+            let word = Aligned4::from_ascii_bytes(bytes).in_case(case);
+            bytes.copy_from_slice(&word[..N]);
+        }
+        Width::Eight => {
+            let word = Aligned8::from_ascii_bytes(bytes).in_case(case);
+            bytes.copy_from_slice(&word[..N]);
+        }
+        Width::Sixteen | Width::Many => words::change(bytes, case),
+    }
+}
+
+/// The first `Q` bytes of the two texts joined.
+#[inline(always)]
+pub fn join<const N: usize, const M: usize, const Q: usize>(
+    front: &[u8; N],
+    back: &[u8; M],
+) -> [u8; Q]
+    requires front { IsPaddedText front.now N }
+    requires back { IsPaddedText back.now M }
+    ensures padded { IsPaddedText result Q }
+    ensures text { text_of result ≡ take Q (text_of front.now ++ text_of back.now) }
+{
+    let first = &front[..N.min(Q)];
+    let second = &back[..M.min(Q)];
+    match width_of(Q) {
+        Width::Sixteen | Width::Many if first.len() <= 32 && second.len() <= 32 => {
+            joining::join(first, second)
+        }
+        // a first text that fills the result is copied as it is
+        _ if Q > 0 && Q <= N && front[Q - 1] != 0 => cut(front),
+        Width::Four | Width::Eight => {
+            let text = Aligned8::from_part(first).join(&Aligned8::from_part(second));
+            cut(&text.to_bytes())
+        }
+        Width::Sixteen | Width::Many => copying::join(*front, len(front), back),
+    }
+}

@@ -1,0 +1,138 @@
+//! Units read into bytes.
+
+ghost use Rattle.std.specs.Prelude.{◌≡◌, ◌+◌, ◌*◌, ◌%◌, ◌≤◌, map, length};
+ghost use Rattle.tinystr_words.specs.Text.{pad};
+ghost use Rattle.tinystr_words.specs.Reading.{lossy, lossy_byte};
+ghost use Rattle.tinystr_words.specs.ReadParts.{IsReadPart};
+
+use crate::Unit;
+
+// The byte of a character, or the replacement.
+#[inline(always)]
+fn byte_or<U: Unit>(unit: U, replacement: u8) -> u8
+    ensures { result ≡ lossy_byte replacement (U.number unit) }
+{
+    if unit.is_character() {
+        unit.low_byte()
+    } else {
+        replacement
+    }
+}
+
+// Reads `K` units into the bytes at the same places, with the replacement for each that is no character, and tells
+// whether there is one. It never leaves early, so that the compiler can take all units at once.
+#[inline(always)]
+fn read_part<U: Unit, const K: usize>(
+    bytes: &mut [u8],
+    units: &[U],
+    replacement: u8,
+    at: usize,
+) -> bool
+    requires inside { at + K ≤ length units.now }
+    requires room { length units.now ≤ length bytes.old }
+    ensures read { IsReadPart result bytes.old bytes.new (map U.number units.now) replacement at (at + K) }
+    ensures len { length bytes.new ≡ length bytes.old }
+{
+    let mut is_bad = false;
+    for i in at..at + K {
+        let unit = units[i];
+        is_bad |= !unit.is_character();
+        bytes[i] = byte_or(unit, replacement);
+    }
+    is_bad
+}
+
+// Two parts, which may overlap, are all units.
+#[inline(always)]
+fn read_pair<U: Unit, const K: usize>(bytes: &mut [u8], units: &[U], replacement: u8) -> bool
+    requires least { K ≤ length units.now }
+    requires most { length units.now ≤ 2 * K }
+    requires room { length units.now ≤ length bytes.old }
+    ensures read { IsReadPart result bytes.old bytes.new (map U.number units.now) replacement 0 (length units.now) }
+    ensures len { length bytes.new ≡ length bytes.old }
+{
+    let is_bad = read_part::<U, K>(bytes, units, replacement, 0);
+    is_bad | read_part::<U, K>(bytes, units, replacement, units.len() - K)
+}
+
+// Parts of 32 units, the last of which may overlap the one before it.
+#[inline(always)]
+fn read_many<U: Unit>(bytes: &mut [u8], units: &[U], replacement: u8) -> bool
+    requires least { 32 ≤ length units.now }
+    requires room { length units.now ≤ length bytes.old }
+    ensures read { IsReadPart result bytes.old bytes.new (map U.number units.now) replacement 0 (length units.now) }
+    ensures len { length bytes.new ≡ length bytes.old }
+{
+    let last = units.len() - 32;
+    let mut is_bad = false;
+    let mut at = 0;
+    while at < last {
+        is_bad |= read_part::<U, 32>(bytes, units, replacement, at);
+        at += 32;
+    }
+    is_bad | read_part::<U, 32>(bytes, units, replacement, last)
+}
+
+/// Reads all units, by parts as large as they and the bytes allow, with the replacement for each that is no character,
+/// and tells whether there is one.
+#[inline(always)]
+pub fn read_all<U: Unit>(bytes: &mut [u8], units: &[U], replacement: u8) -> bool
+    requires room { length units.now ≤ length bytes.old }
+    ensures read { IsReadPart result bytes.old bytes.new (map U.number units.now) replacement 0 (length units.now) }
+    ensures len { length bytes.new ≡ length bytes.old }
+{
+    // The room is known when the program is built: no code is left of what it has no place for.
+    let room = bytes.len();
+    let len = units.len();
+    if room >= 32 && len >= 32 {
+        read_many(bytes, units, replacement)
+    } else if room >= 16 && len >= 16 {
+        read_pair::<U, 16>(bytes, units, replacement)
+    } else if room >= 8 && len >= 8 {
+        read_pair::<U, 8>(bytes, units, replacement)
+    } else if room >= 4 && len >= 4 {
+        read_pair::<U, 4>(bytes, units, replacement)
+    } else if len >= 2 {
+        read_pair::<U, 2>(bytes, units, replacement)
+    } else {
+        len == 1 && read_pair::<U, 1>(bytes, units, replacement)
+    }
+}
+
+/// The low bytes of `N` units: of bytes one copy of a known length, which the compiler takes apart wherever a `Result`
+/// is cut, so that none of them goes through memory.
+#[inline(always)]
+pub fn low_bytes<U: Unit, const N: usize>(units: &[U]) -> [u8; N]
+    requires { length units.now ≡ N }
+    ensures { result ≡ map (λ unit. U.number unit % 256) units.now }
+{
+    let mut bytes = [0; N];
+    for i in 0..N {
+        bytes[i] = units[i].low_byte();
+    }
+    bytes
+}
+
+// `N` units in an array of their own, which the compiler keeps in registers.
+#[inline(always)]
+fn lossy_chunk<U: Unit, const N: usize>(units: &[U], replacement: u8) -> [u8; N]
+    requires { length units.now ≡ N }
+    ensures { result ≡ map (lossy_byte replacement) (map U.number units.now) }
+{
+    let mut bytes = [0; N];
+    read_part::<U, N>(&mut bytes[..], units, replacement, 0);
+    bytes
+}
+
+/// The first `N` units, with the replacement for each that is no character, and then NULs.
+#[inline(always)]
+pub fn lossy<U: Unit, const N: usize>(units: &[U], replacement: u8) -> [u8; N]
+    ensures { result ≡ pad (lossy (map U.number units.now) replacement N) N }
+{
+    if units.len() >= N {
+        return lossy_chunk(&units[..N], replacement);
+    }
+    let mut bytes = [0; N];
+    read_all(&mut bytes[..], units, replacement);
+    bytes
+}

@@ -1,0 +1,97 @@
+//! Padded bytes of any length, by words of sixteen.
+
+ghost use Rattle.std.specs.Prelude.{◌≡◌, ◌<◌, ◌↔◌, length, IsTrue, MatchOption};
+ghost use Rattle.tinystr_words.specs.Text.{IsPadded, text_of, pad};
+ghost use Rattle.tinystr_words.specs.Questions.{answer, in_case};
+ghost use Rattle.tinystr_words.specs.Padded.{IsFirstWord};
+
+use crate::int_ops::Aligned16;
+use crate::{Case, Question};
+
+// The first sixteen bytes as a word, and the bytes behind them.
+#[inline(always)]
+fn split_word(bytes: &[u8]) -> Option<(Aligned16, &[u8])>
+    requires { IsPadded bytes.now }
+    ensures { MatchOption result (length bytes.now < 16) (λ parts. IsFirstWord bytes.now parts.0 parts.1.now) }
+{
+    let (word, rest) = bytes.split_first_chunk::<16>()?;
+    Some((Aligned16::from_ascii_bytes(word), rest))
+}
+
+/// Whether the bytes are a text and then NULs: so is each word, and all behind the text's last word are NULs.
+#[inline(always)]
+pub fn is_padded(bytes: &[u8]) -> bool
+    ensures { IsTrue result ↔ IsPadded bytes.now }
+{
+    let mut rest = bytes;
+    let mut is_ended = false;
+    while let Some((first, after)) = rest.split_first_chunk::<16>() {
+        let Some(word) = Aligned16::try_from_part(first) else {
+            return false;
+        };
+        let len = word.len();
+        if is_ended && len > 0 {
+            return false;
+        }
+        is_ended = len < 16;
+        rest = after;
+    }
+    match Aligned16::try_from_part(rest) {
+        Some(word) => !is_ended || word.len() == 0,
+        None => false,
+    }
+}
+
+/// The length of the text in bytes: the sum over its words.
+#[inline(always)]
+#[tactic(auto, using(crate::proofs::PaddedWords::len_step))]
+pub fn len(bytes: &[u8]) -> usize
+    requires { IsPadded bytes.now }
+    ensures { result ≡ length (text_of bytes.now) }
+{
+    let mut rest = bytes;
+    let mut sum = 0;
+    while let Some((word, after)) = split_word(rest) {
+        sum += word.len();
+        rest = after;
+    }
+    sum + Aligned16::from_part(rest).len()
+}
+
+/// Whether each word passes, the later ones without a first character.
+#[inline(always)]
+pub fn ask(bytes: &[u8], question: Question) -> bool
+    requires { IsPadded bytes.now }
+    ensures { result ≡ answer question (text_of bytes.now) }
+{
+    let mut rest = bytes;
+    let mut asked = question;
+    while let Some((word, after)) = split_word(rest) {
+        if !word.ask(asked) {
+            return false;
+        }
+        rest = after;
+        asked = question.of_later_words();
+    }
+    Aligned16::from_part(rest).ask(asked)
+}
+
+/// Changes each word in place, the later ones without a first character. The NULs behind the text stay.
+#[inline(always)]
+pub fn change(bytes: &mut [u8], case: Case)
+    requires { IsPadded bytes.old }
+    ensures { bytes.new ≡ pad (in_case case (text_of bytes.old)) (length bytes.old) }
+{
+    let mut start = 0;
+    let mut applied = case;
+    while bytes.len() - start >= 16 {
+        let end = start + 16;
+        let word = Aligned16::from_part(&bytes[start..end]).in_case(applied);
+        bytes[start..end].copy_from_slice(&word);
+        start = end;
+        applied = case.of_later_words();
+    }
+    let count = bytes.len() - start;
+    let word = Aligned16::from_part(&bytes[start..]).in_case(applied);
+    bytes[start..].copy_from_slice(&word[..count]);
+}
