@@ -1,7 +1,10 @@
-use Rattle.std.proofs.Common.{◌≡◌, ◌+◌, ◌-◌, ◌/◌, sym, refl, arith, true≢false}
+use Rattle.std.proofs.Common.{◌≡◌, ◌+◌, ◌-◌, ◌/◌, sym, refl, arith, rules, true≢false}
 use Rattle.std.specs.declared.cmp.Ordering.TheVariants.{Less, Greater}
 use Rattle.uses.proofs.RisingTexts.{order, text_at, all_below, all_above, no_text, one_text}
 use Rattle.uses.proofs.packed.sorted.SortedTable.find.Goals as goal
+
+pub loop-low-init : goal.loop-low-init
+loop-low-init g c = search rules
 
 pub loop-low-preserved-in-Less : goal.loop-low-preserved-in-Less
 loop-low-preserved-in-Less g c =
