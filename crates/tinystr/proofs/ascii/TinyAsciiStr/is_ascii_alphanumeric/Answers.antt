@@ -1,5 +1,4 @@
-use Rattle.std.proofs.Common.{rules}
 use Rattle.tinystr.proofs.ascii.TinyAsciiStr.is_ascii_alphanumeric.Goals as goal
 
 pub returns : goal.returns
-returns g c = search rules
+returns g c = c.ask.ensures

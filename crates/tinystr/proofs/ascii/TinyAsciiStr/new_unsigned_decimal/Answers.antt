@@ -1,20 +1,7 @@
-use Rattle.std.proofs.Common.{rules}
 use Rattle.tinystr.proofs.ascii.TinyAsciiStr.new_unsigned_decimal.Goals as goal
 
-pub returns-in-Ok-clause-ok : goal.returns-in-Ok-clause-ok
-returns-in-Ok-clause-ok g c = search rules
+pub returns-in-Ok : goal.returns-in-Ok
+returns-in-Ok g c = record { ok = c.in-Ok.ensures.ok; digits = c.in-Ok.ensures.digits.1; last_digits = tt }
 
-pub returns-in-Ok-clause-digits : goal.returns-in-Ok-clause-digits
-returns-in-Ok-clause-digits g c = search rules
-
-pub returns-in-Ok-clause-last_digits : goal.returns-in-Ok-clause-last_digits
-returns-in-Ok-clause-last_digits g c = search rules
-
-pub returns-in-Err-clause-ok : goal.returns-in-Err-clause-ok
-returns-in-Err-clause-ok g c = search rules
-
-pub returns-in-Err-clause-digits : goal.returns-in-Err-clause-digits
-returns-in-Err-clause-digits g c = search rules
-
-pub returns-in-Err-clause-last_digits : goal.returns-in-Err-clause-last_digits
-returns-in-Err-clause-last_digits g c = search rules
+pub returns-in-Err : goal.returns-in-Err
+returns-in-Err g c = record { ok = c.in-Err.ensures.ok; digits = tt; last_digits = c.in-Err.ensures.last_digits.1 }

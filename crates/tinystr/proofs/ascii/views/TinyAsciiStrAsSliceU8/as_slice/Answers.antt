@@ -1,5 +1,4 @@
-use Rattle.std.proofs.Common.{rules}
 use Rattle.tinystr.proofs.ascii.views.TinyAsciiStrAsSliceU8.as_slice.Goals as goal
 
 pub returns : goal.returns
-returns g c = search rules
+returns g c = c.as_utf8.ensures.text
