@@ -1,5 +1,4 @@
-use Rattle.std.proofs.Common.{rules}
 use Rattle.subtags.proofs.lang_id.LangIdAsStr.as_str.Goals as goal
 
 pub returns : goal.returns
-returns c = search rules
+returns c = c.as_str.ensures.text

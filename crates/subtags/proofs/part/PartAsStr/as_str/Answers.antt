@@ -1,5 +1,4 @@
-use Rattle.std.proofs.Common.{rules}
 use Rattle.subtags.proofs.part.PartAsStr.as_str.Goals as goal
 
 pub returns : goal.returns
-returns g c = search rules
+returns g c = c.as_str.ensures.text
