@@ -1,0 +1,182 @@
+"""The crates of the repository, the functions of a source as rt fmt lays it out, and the wrong bodies that turn them."""
+
+import re
+from dataclasses import dataclass, field
+from pathlib import Path
+
+TOP = Path(__file__).resolve().parent.parent
+FUNCTION = re.compile(r"( *)(?:pub(?:\([a-z]+\))? )?(?:const )?fn (\w+)")
+CONSTANT = re.compile(r"( *)(?:pub(?:\([a-z]+\))? )?(?:const|static) ([A-Z]\w*)\b")
+BLOCK = re.compile(r"(?:pub )?(?:impl|trait)\b")
+ARM = re.compile(r" +(?:\| )?(?:Width|Question|Case|Command|TextCall|Self)::\w+.*=>")
+
+
+class Unreadable(Exception):
+    """What is wrong with an edit, in words for whoever wrote it."""
+
+
+@dataclass(frozen=True)
+class Item:
+    """A function with a body or a constant: its file, the head of its impl or trait, its name, and where its body stands."""
+
+    file: str
+    block: str
+    name: str
+    is_constant: bool
+    start: int
+    end: int
+
+    def key(self):
+        return self.file, self.block, self.name
+
+    def is_named_by(self, path):
+        """Whether the prover's path, as `padded::words::ask` or `unit::U8Unit::code`, is that of this function."""
+        *before, name = path.split("::")
+        if self.is_constant or name != self.name:
+            return False
+        if not self.block:
+            return before == re.sub(r"^src/|(^|/)(lib|main)\.rt$|\.rt$", "", self.file).split("/")
+        head = re.sub(r"^(?:pub )?(?:impl|trait)\b", "", self.block)
+        while (bare := re.sub(r"<[^<>]*>", "", head)) != head:
+            head = bare
+        trait, _, owner = re.sub(r"\bwhere\b.*|\{$|&(?:'\w+ )?|: .*", "", head).rpartition(" for ")
+        trait, owner = (re.split(r"::", it.strip())[-1].lower() for it in (trait, owner))
+        # a method's module is that of its type, wherever the impl stands
+        of = before[-1].lower() if before else ""
+        return of.startswith(owner + trait) if trait else of.partition("+")[0] == owner
+
+
+def items(file, text):
+    """The functions with a body, and the constants, of a source."""
+    found, block, at = [], "", 0
+    lines, starts = text.split("\n"), []
+    for line in lines:
+        starts.append(at)
+        at += len(line) + 1
+    for number, line in enumerate(lines):
+        if re.match(r"\S", line) and not line.startswith(("//", "#", ")", "{")):
+            block = line if BLOCK.match(line) else ""
+        function, constant = FUNCTION.match(line), CONSTANT.match(line)
+        if function and (body := body_of(lines, number, function[1])):
+            first, last = body
+            found.append(Item(file, block, function[2], False, starts[first], starts[last] + len(lines[last])))
+        elif constant:
+            last = next(it for it in range(number, len(lines)) if lines[it].endswith(";"))
+            found.append(Item(file, block, constant[2], True, starts[number], starts[last] + len(lines[last])))
+    return found
+
+
+def body_of(lines, number, indent):
+    """The lines of the braces that open and close the body of the function at a line, if it has one that isn't empty."""
+    for at in range(number, len(lines)):
+        line = lines[at]
+        # the head of a function without clauses ends with its brace; a clause stands deeper
+        is_head = at == number or line.startswith(indent + ")")
+        if line == indent + "{" or is_head and line.endswith(" {"):
+            return at, next(it for it in range(at + 1, len(lines)) if lines[it] == indent + "}")
+        if line == indent + "{}" or line == "}" or at > number and FUNCTION.match(line):
+            return None
+    return None
+
+
+@dataclass
+class Edit:
+    """A wrong body, or a control: its file, the function and the goal that have to refuse it, and what it changes."""
+
+    path: Path
+    text: str
+    function: str = ""
+    goal: str = ""
+    pairs: list = field(default_factory=list)
+    is_neutral: bool = False
+
+    @property
+    def name(self):
+        return self.path.stem
+
+    def target(self, texts):
+        """The function or constant that it turns: the one it names, or the only one in which its first old text stands."""
+        file, old, _ = self.pairs[0]
+        inside = [it for it in items(file, texts.get(file, "")) if old in texts[file][it.start : it.end]]
+        named = [it for it in inside if it.is_named_by(self.function)]
+        return named[0] if named else inside[0] if len(inside) == 1 else None
+
+    def apply(self, texts, target):
+        """Changes texts, by file: each old text stands once in the body of its target or, where it has none, in the file."""
+        for file, old, new in self.pairs:
+            text = texts.get(file, "")
+            start, end = 0, len(text)
+            if target:
+                # (other edits may have moved it)
+                item = next(it for it in items(target.file, texts[target.file]) if it.key() == target.key())
+                start, end = item.start, item.end
+            found = text[start:end].count(old)
+            if found != 1 or target and file != target.file:
+                where = target.name if target else file
+                raise Unreadable(f"{self.name}: an old text stands {found} times in {where}: {old}")
+            texts[file] = text[:start] + text[start:end].replace(old, new) + text[end:]
+
+
+def read_edit(path):
+    """Reads 'refused: FUNCTION GOAL' or 'neutral: FUNCTION', then 'file: FILE' and pairs of 'old: TEXT' and 'new: TEXT'."""
+    edit, file, old = Edit(path, path.read_text(encoding="utf-8")), "", None
+    for line in edit.text.splitlines():
+        word, _, rest = line.partition(":")
+        rest = rest.removeprefix(" ")
+        if word in ("refused", "neutral"):
+            edit.function, _, edit.goal = rest.partition(" ")
+            edit.is_neutral = word == "neutral"
+        elif word == "file":
+            file = rest.strip()
+        elif word == "old":
+            old = rest
+        elif word == "new" and file and old:
+            edit.pairs.append((file, old, rest))
+            old = None
+        else:
+            raise Unreadable(f"{edit.name}: a line that is no part of an edit: {line}")
+    if not edit.pairs or old is not None:
+        raise Unreadable(f"{edit.name}: no pair of an old and a new text, or half of one")
+    return edit
+
+
+def texts_of(crate):
+    """The texts of a crate that a check reads, by their paths in its folder."""
+    folder = TOP / "crates" / crate
+    files = [it for part in ("src", "specs", "proofs") for it in sorted((folder / part).rglob("*")) if it.is_file()]
+    return {str(it.relative_to(folder)): it.read_text(encoding="utf-8") for it in files}
+
+
+def libraries():
+    """The libraries of the repository that each crate uses, by its name, from the lowest crate up."""
+    found = {}
+    for line in (TOP / "crates.txt").read_text(encoding="utf-8").splitlines():
+        head, colon, uses = line.partition("#")[0].partition(":")
+        if colon:
+            found[head.split()[0]] = [it for it in uses.split() if it in found]
+    return found
+
+
+def below(crate):
+    """The libraries of the repository that a crate stands on, each after those that it uses."""
+    uses, found = libraries(), []
+    for it in uses[crate]:
+        found += [lower for lower in [*below(it), it] if lower not in found]
+    return found
+
+
+def arms(texts):
+    """The arms of each match on a width, a question or a case: file, line, where the arm stands, and its first line."""
+    found = []
+    for file, text in texts.items():
+        at = 0
+        lines = text.split("\n") if file.startswith("src/") else []
+        for number, line in enumerate(lines):
+            if ARM.match(line):
+                last = number
+                if line.endswith("{"):
+                    closing = re.match(" *", line)[0] + "}"
+                    last = next(it for it in range(number, len(lines)) if lines[it].rstrip(",") == closing)
+                found.append((file, number + 1, (at, at + len("\n".join(lines[number : last + 1]))), line.strip()))
+            at += len(line) + 1
+    return found
