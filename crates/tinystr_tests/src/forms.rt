@@ -13,7 +13,18 @@ fn is_printed(alloc: Global, value: &Value, compact: &str) -> bool {
     }
 }
 
-// Whether both types give the compact JSON text, and are read back from their values.
+// Whether both types are read from the compact JSON text.
+fn is_parsed<const N: usize>(alloc: Global, text: TinyAsciiStr<N>, compact: &str) -> bool {
+    match Value::from_str(alloc, compact) {
+        Ok(value) => {
+            TinyAsciiStr::from_json(&value) == Ok(text)
+                && UnvalidatedTinyAsciiStr::from_json(&value) == Ok(text.to_unvalidated())
+        }
+        Err(_) => false,
+    }
+}
+
+// Whether both types give the compact JSON text, and are read back from their values and from that text.
 fn comes_back<const N: usize>(alloc: Global, text: TinyAsciiStr<N>, compact: &str) -> bool {
     let bytes = text.to_unvalidated();
     match (text.to_json(alloc), bytes.to_json(alloc)) {
@@ -22,6 +33,7 @@ fn comes_back<const N: usize>(alloc: Global, text: TinyAsciiStr<N>, compact: &st
                 && is_printed(alloc, &same, compact)
                 && TinyAsciiStr::from_json(&value) == Ok(text)
                 && UnvalidatedTinyAsciiStr::from_json(&same) == Ok(bytes)
+                && is_parsed(alloc, text, compact)
         }
         _ => false,
     }
