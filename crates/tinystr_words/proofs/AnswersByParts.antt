@@ -11,7 +11,7 @@ use Rattle.tinystr_words.specs.Text.{IsTextByte, IsText, IsPaddedText, text_of, 
 use Rattle.tinystr_words.specs.Classes.{ask}
 use Rattle.tinystr_words.specs.Case.{lower, raise}
 use Rattle.tinystr_words.specs.declared.question.Question.{Question}
-use Rattle.tinystr_words.specs.declared.question.Question.TheVariants.{Alphabetic, Alphanumeric, Numeric, Lowercase, Titlecase, Uppercase, AlphabeticLowercase, AlphabeticTitlecase, AlphabeticUppercase}
+use Rattle.tinystr_words.specs.declared.question.Question.TheVariants.{Titlecase, AlphabeticTitlecase}
 use Rattle.tinystr_words.specs.declared.question.Case.{Case}
 use Rattle.tinystr_words.specs.declared.question.Case.TheVariants.{Lower, Title, Upper}
 use Rattle.tinystr_words.specs.Questions.{answer, first_class, later_class, later_question, in_case, later_case}
@@ -49,15 +49,9 @@ in_case-append Title q (d ∷ a) b x = ap (λ l. raise d ∷ l) (map-append lowe
 
 -- the later class of a question, asked of each byte, is its question for later words
 later-answer : (q : Question) (t : List ℕ) → ask (later_class q) (later_class q) t ≡ answer (later_question q) t
-later-answer Alphabetic t = refl
-later-answer Alphanumeric t = refl
-later-answer Numeric t = refl
-later-answer Lowercase t = refl
 later-answer Titlecase t = refl
-later-answer Uppercase t = refl
-later-answer AlphabeticLowercase t = refl
 later-answer AlphabeticTitlecase t = refl
-later-answer AlphabeticUppercase t = refl
+later-answer q t = refl
 
 -- an answer from those of the first q + 1 bytes and of the others
 pub answer-parts : (question : Question) (q : ℕ) (t : List ℕ) → answer question t ≡ (answer question (take (suc q) t) && answer (later_question question) (drop (suc q) t))
@@ -73,9 +67,8 @@ in_case-parts c q l =
 
 -- a case for later words is its own
 pub later_case-same : (c : Case) → later_case (later_case c) ≡ later_case c
-later_case-same Lower = refl
 later_case-same Title = refl
-later_case-same Upper = refl
+later_case-same c = refl
 
 -- ---- a text in another case
 
@@ -96,42 +89,31 @@ length-in_case Upper t = length-map t raise
 length-in_case Title [] = refl
 length-in_case Title (b ∷ t) = ap suc (length-map t lower)
 
--- a byte of a text, lowered, is a byte of a text
-IsTextByte-lower : (b : ℕ) → IsTextByte b → IsTextByte (lower b)
-IsTextByte-lower b h = grind (arith, nat_tests)
-
--- and so is one that is raised
-IsTextByte-raise : (b : ℕ) → IsTextByte b → IsTextByte (raise b)
-IsTextByte-raise b h = grind (arith, nat_tests)
-
 -- a change of each byte leaves a text, if it leaves each byte of a text one
 IsText-map : (f : ℕ → ℕ) → ((b : ℕ) → IsTextByte b → IsTextByte (f b)) → (t : List ℕ) → IsText t → IsText (map f t)
 IsText-map f h t x = All-map IsTextByte f t (All-weaker IsTextByte (λ b. IsTextByte (f b)) h t x)
 
 -- and leaves a text
 pub IsText-in_case : (c : Case) (t : List ℕ) → IsText t → IsText (in_case c t)
-IsText-in_case Lower t x = IsText-map lower IsTextByte-lower t x
-IsText-in_case Upper t x = IsText-map raise IsTextByte-raise t x
+IsText-in_case Lower t x = IsText-map lower (λ b h. grind (arith, nat_tests)) t x
+IsText-in_case Upper t x = IsText-map raise (λ b h. grind (arith, nat_tests)) t x
 IsText-in_case Title [] x = x
 IsText-in_case Title (b ∷ t) x =
-    All-cons IsTextByte (raise b) (map lower t) (IsTextByte-raise b (All-head IsTextByte b t x))
-    (IsText-map lower IsTextByte-lower t (All-tail IsTextByte b t x))
+    All-cons IsTextByte (raise b) (map lower t) (let h = All-head IsTextByte b t x in grind (arith, nat_tests))
+    (IsText-map lower (λ b h. grind (arith, nat_tests)) t (All-tail IsTextByte b t x))
 
--- a change that keeps NUL keeps NULs
-map-nuls : (f : ℕ → ℕ) → f 0 ≡ 0 → (k : ℕ) → map f (NULS k) ≡ NULS k
-map-nuls f e zero = refl
-map-nuls f e (suc k) = rw (e, map-nuls f e k) refl
-
--- such a change of a list and then NULs changes the list alone
+-- a change that keeps NUL, of a list and then NULs, changes the list alone
 map-padded : (f : ℕ → ℕ) → f 0 ≡ 0 → (t : List ℕ) (k : ℕ) → map f (t ++ NULS k) ≡ map f t ++ NULS k
-map-padded f e t k = map-append f t (NULS k) ∙ ap (λ l. map f t ++ l) (map-nuls f e k)
+map-padded f e [] zero = refl
+map-padded f e [] (suc k) = rw (e, map-padded f e [] k) refl
+map-padded f e (b ∷ t) k = ap (λ l. f b ∷ l) (map-padded f e t k)
 
 -- a case change of a list and then NULs changes the list alone
 in_case-nuls : (c : Case) (t : List ℕ) (k : ℕ) → in_case c (t ++ NULS k) ≡ in_case c t ++ NULS k
 in_case-nuls Lower t k = map-padded lower refl t k
 in_case-nuls Upper t k = map-padded raise refl t k
 in_case-nuls Title [] zero = refl
-in_case-nuls Title [] (suc k) = ap (λ l. 0 ∷ l) (map-nuls lower refl k)
+in_case-nuls Title [] (suc k) = ap (λ l. 0 ∷ l) (map-padded lower refl [] k)
 in_case-nuls Title (b ∷ t) k = ap (λ l. raise b ∷ l) (map-padded lower refl t k)
 
 -- a change leaves NUL alone, so it may be done on the array, NULs and all

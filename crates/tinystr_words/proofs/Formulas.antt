@@ -1,44 +1,42 @@
 -- Formulas over words: what each does to a lane alone, it does to that lane of the word.
-use Rattle.std.proofs.Common.{ℕ, zero, suc, ◌+◌, ◌-◌, ◌*◌, ◌/◌, ◌%◌, ◌^◌, ◌<◌, ◌≤◌, ◌≡◌, Bool, true, false, cond, ◌&&◌, ◌||◌, List, [], ◌∷◌, ◌++◌, length, refl, ap, ap₂, ◌∙◌, arith, bit_and, bit_or, nat_eq, nat_lt, replicate, lit<, subst, map}
+use Rattle.std.proofs.Common.{ℕ, zero, suc, ◌+◌, ◌-◌, ◌*◌, ◌/◌, ◌%◌, ◌^◌, ◌<◌, ◌≤◌, ◌≡◌, Bool, true, false, cond, ◌&&◌, List, [], ◌∷◌, ◌++◌, length, refl, sym, ap, ap₂, ◌∙◌, arith, nat_eq, nat_lt, replicate, lit<, map}
 use Rattle.std.proofs.lemmas.Bool.Decides.{nat_tests}
-use Rattle.std.proofs.lemmas.Nat.{or_lt, xor_lt, and_le_l}
-use Rattle.std.specs.Int.Bits.{bit_xor}
+use Rattle.std.specs.Cmp.{booleans_Decides}
+use Rattle.std.specs.Bool.{beq}
 use Rattle.std.specs.List.{list_all}
 use Rattle.std.proofs.lemmas.Bool.{ltb-true}
 use Rattle.std.proofs.lemmas.List.Elements.{All-head, All-tail}
 use Rattle.tinystr_words.specs.Text.{IsTextByte, IsText, pad}
 use Rattle.tinystr_words.specs.Classes.{ask}
 use Rattle.tinystr_words.specs.Case.{lower, raise}
-use Rattle.tinystr_words.specs.Words.{word, first_then}
+use Rattle.tinystr_words.specs.Words.{word, first_then, text_in, HoldsText}
 use Rattle.tinystr_words.specs.Questions.{in_case}
 use Rattle.tinystr_words.specs.declared.question.Case.{Case}
 use Rattle.tinystr_words.specs.declared.question.Case.TheVariants.{Lower, Title, Upper}
 use Rattle.tinystr_words.proofs.Texts.{NULS, length-pad}
 use Rattle.tinystr_words.proofs.AnswersByParts.{first_change, later_change, length-in_case}
-use Rattle.tinystr_words.proofs.Lanes.{both_true, everywhere, everywhere_is, Ascii, lanes, lanes_zip2, plus_step, and_step, or_step, xor_step, word_not, word_quarter, same_words, holds}
+use Rattle.std.proofs.Math.Dec.{eqb-suc-zero}
+use Rattle.std.proofs.Math.Bool.{and-true}
+use Rattle.std.proofs.lemmas.Simd.{Each1-replicate}
+use Rattle.std.proofs.lemmas.List.Folds.{list_all-append, list_all-map}
+use Rattle.tinystr_words.proofs.Lanes.{Bytewise, everywhere, true_from_everywhere, Ascii, Bytes, lanes, op-word_lanes, word_not, word_quarter, nat_eq-word_lanes}
 
--- a formula over a word, as `(w + u(0x50)) & H` is `both (plus itself (each 0x50)) (each 0x80)`
+-- a formula over a word, as `(w + u(0x50)) & H` is `join conjunction (join addition itself (splat 0x50)) (splat 0x80)`
 pub data Formula : Type 0 where
   itself : Formula
   lead : ℕ → ℕ → Formula
-  plus : Formula → Formula → Formula
-  both : Formula → Formula → Formula
-  either : Formula → Formula → Formula
-  one_alone : Formula → Formula → Formula
+  join : Bytewise → Formula → Formula → Formula
   flip : Formula → Formula
   quarter : Formula → Formula
 
-abbrev pub each : ℕ → Formula
-each c = lead c c
+abbrev pub splat : ℕ → Formula
+splat c = lead c c
 
 -- of one lane, where the flag says whether it is the first
 abbrev pub at : Formula → Bool → ℕ → ℕ
 at itself i b = b
 at (lead a c) i b = cond i a c
-at (plus f g) i b = at f i b + at g i b
-at (both f g) i b = bit_and (at f i b) (at g i b)
-at (either f g) i b = bit_or (at f i b) (at g i b)
-at (one_alone f g) i b = bit_xor (at f i b) (at g i b)
+at (join o f g) i b = o.op (at f i b) (at g i b)
 at (flip f) i b = 255 - at f i b
 at (quarter f) i b = at f i b / 4
 
@@ -46,10 +44,7 @@ at (quarter f) i b = at f i b / 4
 abbrev pub on : Formula → ℕ → ℕ → ℕ
 on itself n w = w
 on (lead a c) n w = word (first_then n a c)
-on (plus f g) n w = on f n w + on g n w
-on (both f g) n w = bit_and (on f n w) (on g n w)
-on (either f g) n w = bit_or (on f n w) (on g n w)
-on (one_alone f g) n w = bit_xor (on f n w) (on g n w)
+on (join o f g) n w = o.op (on f n w) (on g n w)
 on (flip f) n w = 256 ^ n - 1 - on f n w
 on (quarter f) n w = on f n w / 4
 
@@ -57,10 +52,7 @@ on (quarter f) n w = on f n w / 4
 abbrev pub is_safe : Formula → Bool → ℕ → Bool
 is_safe itself i b = true
 is_safe (lead a c) i b = nat_lt (cond i a c) 256
-is_safe (plus f g) i b = is_safe f i b && (is_safe g i b && nat_lt (at f i b + at g i b) 256)
-is_safe (both f g) i b = is_safe f i b && is_safe g i b
-is_safe (either f g) i b = is_safe f i b && is_safe g i b
-is_safe (one_alone f g) i b = is_safe f i b && is_safe g i b
+is_safe (join o f g) i b = is_safe f i b && (is_safe g i b && nat_lt (o.op (at f i b) (at g i b)) 256)
 is_safe (flip f) i b = is_safe f i b
 is_safe (quarter f) i b = is_safe f i b && nat_eq (at f i b % 4) 0
 
@@ -68,186 +60,134 @@ abbrev pub IsSafe : Formula → Type 0
 IsSafe f = (i : Bool) (b : ℕ) → b < 128 → is_safe f i b ≡ true
 
 -- numbers that the test finds equal are equal
-pub eqb_is : (x y : ℕ) → nat_eq x y ≡ true → x ≡ y
-eqb_is x y h = grind (arith, nat_tests)
+pub same_from_nat_eq : (x y : ℕ) → nat_eq x y ≡ true → x ≡ y
+same_from_nat_eq x y h = grind (arith, nat_tests)
 
--- a formula that is safe at an ASCII byte makes a byte of it
-pub safe_byte : (f : Formula) (i : Bool) (b : ℕ) → b < 128 → is_safe f i b ≡ true → at f i b < 256
-safe_byte itself i b l h = omega arith
-safe_byte (lead a c) i b l h = ltb-true _ _ h
-safe_byte (plus f g) i b l h = ltb-true _ _ (both_true (is_safe g i b) _ (both_true (is_safe f i b) _ h).1).1
-safe_byte (both f g) i b l h = let e = safe_byte f i b l (both_true (is_safe f i b) _ h).0 in omega (arith, and_le_l (at f i b) (at g i b))
-safe_byte (either f g) i b l h = or_lt 8 _ _ (safe_byte f i b l (both_true (is_safe f i b) _ h).0) (safe_byte g i b l (both_true (is_safe f i b) _ h).1)
-safe_byte (one_alone f g) i b l h = xor_lt 8 _ _ (safe_byte f i b l (both_true (is_safe f i b) _ h).0) (safe_byte g i b l (both_true (is_safe f i b) _ h).1)
-safe_byte (flip f) i b l h = omega arith
-safe_byte (quarter f) i b l h = let e = safe_byte f i b l (both_true (is_safe f i b) _ h).0 in omega arith
+-- the parts of a safe formula are safe
+IsSafe-join : (o : Bytewise) (f g : Formula) → IsSafe (join o f g) → IsSafe f × (IsSafe g × Bytes (at (join o f g)))
+IsSafe-join o f g s = (λ i b l. let h = s i b l in grind arith, (λ i b l. let h = s i b l in grind arith, λ i b l. let h = s i b l in grind (arith, nat_tests)))
+
+IsSafe-quarter : (f : Formula) → IsSafe (quarter f) → IsSafe f × ((i : Bool) (b : ℕ) → b < 128 → at f i b % 4 ≡ 0)
+IsSafe-quarter f s = (λ i b l. let h = s i b l in grind arith, λ i b l. let h = s i b l in grind (arith, nat_tests))
+
+-- a safe formula makes bytes of ASCII bytes
+pub Bytes-at : (f : Formula) → IsSafe f → Bytes (at f)
+Bytes-at itself s i b l = omega arith
+Bytes-at (lead a c) s i b l = ltb-true _ _ (s i b l)
+Bytes-at (join o f g) s i b l = (IsSafe-join o f g s).1.1 i b l
+Bytes-at (flip f) s i b l = omega arith
+Bytes-at (quarter f) s i b l = let e = Bytes-at f (IsSafe-quarter f s).0 i b l in omega arith
 
 -- a word with each lane left alone is the word
-word_itself : (i : Bool) (l : List ℕ) → word l ≡ word (lanes (λ i b. b) i l)
-word_itself i [] = refl
-word_itself i (b ∷ l) = ap (λ n. b + 256 * n) (word_itself false l)
+word-lanes_unchanged : (i : Bool) (l : List ℕ) → word l ≡ word (lanes (λ i b. b) i l)
+word-lanes_unchanged i [] = refl
+word-lanes_unchanged i (b ∷ l) = ap (λ n. b + 256 * n) (word-lanes_unchanged false l)
 
 -- copies of a byte are later lanes, each changed to that byte
-tail_each : (a c : ℕ) (l : List ℕ) → replicate (length l) c ≡ lanes (λ i _. cond i a c) false l
-tail_each a c [] = refl
-tail_each a c (b ∷ l) = ap (λ m. c ∷ m) (tail_each a c l)
+replicate_is_lanes : (a c : ℕ) (l : List ℕ) → replicate (length l) c ≡ lanes (λ i _. cond i a c) false l
+replicate_is_lanes a c [] = refl
+replicate_is_lanes a c (b ∷ l) = ap (λ m. c ∷ m) (replicate_is_lanes a c l)
 
 -- a byte and then copies of another are lanes, the first changed to the one and the later ones to the other
-lanes-first_then : (a c : ℕ) (l : List ℕ) → first_then (length l) a c ≡ lanes (λ i _. cond i a c) true l
-lanes-first_then a c [] = refl
-lanes-first_then a c (b ∷ l) = ap (λ m. a ∷ m) (tail_each a c l)
+first_then_is_lanes : (a c : ℕ) (l : List ℕ) → first_then (length l) a c ≡ lanes (λ i _. cond i a c) true l
+first_then_is_lanes a c [] = refl
+first_then_is_lanes a c (b ∷ l) = ap (λ m. a ∷ m) (replicate_is_lanes a c l)
 
 -- a safe formula over a word of ASCII bytes does to each lane what it does to a lane alone
 lanewise : (f : Formula) (l : List ℕ) → Ascii l → IsSafe f → on f (length l) (word l) ≡ word (lanes (at f) true l)
-lanewise itself l a s = word_itself true l
-lanewise (lead x c) l a s = ap word (lanes-first_then x c l)
-lanewise (plus f g) l a s =
-    let p = λ (i : Bool) (b : ℕ) (h : b < 128). (both_true (is_safe f i b) _ (s i b h)).0 in
-    let q = λ (i : Bool) (b : ℕ) (h : b < 128). (both_true (is_safe g i b) _ (both_true (is_safe f i b) _ (s i b h)).1).0 in
-    rw (lanewise f l a p, lanewise g l a q) (lanes_zip2 (λ m n. m + n) plus_step refl (at f) (at g) (λ i b h. safe_byte f i b h (p i b h)) (λ i b h. safe_byte g i b h (q i b h)) true l a)
-lanewise (both f g) l a s =
-    let p = λ (i : Bool) (b : ℕ) (h : b < 128). (both_true (is_safe f i b) _ (s i b h)).0 in
-    let q = λ (i : Bool) (b : ℕ) (h : b < 128). (both_true (is_safe f i b) _ (s i b h)).1 in
-    rw (lanewise f l a p, lanewise g l a q) (lanes_zip2 bit_and and_step refl (at f) (at g) (λ i b h. safe_byte f i b h (p i b h)) (λ i b h. safe_byte g i b h (q i b h)) true l a)
-lanewise (either f g) l a s =
-    let p = λ (i : Bool) (b : ℕ) (h : b < 128). (both_true (is_safe f i b) _ (s i b h)).0 in
-    let q = λ (i : Bool) (b : ℕ) (h : b < 128). (both_true (is_safe f i b) _ (s i b h)).1 in
-    rw (lanewise f l a p, lanewise g l a q) (lanes_zip2 bit_or or_step refl (at f) (at g) (λ i b h. safe_byte f i b h (p i b h)) (λ i b h. safe_byte g i b h (q i b h)) true l a)
-lanewise (one_alone f g) l a s =
-    let p = λ (i : Bool) (b : ℕ) (h : b < 128). (both_true (is_safe f i b) _ (s i b h)).0 in
-    let q = λ (i : Bool) (b : ℕ) (h : b < 128). (both_true (is_safe f i b) _ (s i b h)).1 in
-    rw (lanewise f l a p, lanewise g l a q) (lanes_zip2 bit_xor xor_step refl (at f) (at g) (λ i b h. safe_byte f i b h (p i b h)) (λ i b h. safe_byte g i b h (q i b h)) true l a)
-lanewise (flip f) l a s = rw (lanewise f l a s) (word_not (at f) (λ i b h. safe_byte f i b h (s i b h)) true l a)
+lanewise itself l a s = word-lanes_unchanged true l
+lanewise (lead x c) l a s = ap word (first_then_is_lanes x c l)
+lanewise (join o f g) l a s =
+    let p = IsSafe-join o f g s in
+    rw (lanewise f l a p.0, lanewise g l a p.1.0) (op-word_lanes o (at f) (at g) (Bytes-at f p.0) (Bytes-at g p.1.0) true l a)
+lanewise (flip f) l a s = rw (lanewise f l a s) (word_not (at f) (Bytes-at f s) true l a)
 lanewise (quarter f) l a s =
-    let p = λ (i : Bool) (b : ℕ) (h : b < 128). (both_true (is_safe f i b) _ (s i b h)).0 in
-    let q = λ (i : Bool) (b : ℕ) (h : b < 128). eqb_is (at f i b % 4) 0 (both_true (is_safe f i b) _ (s i b h)).1 in
-    let e = word_quarter (at f) q true l a in
-    rw (lanewise f l a p) (omega arith)
+    let p = IsSafe-quarter f s in
+    let e = word_quarter (at f) p.1 true l a in
+    rw (lanewise f l a p.0) (omega arith)
 
 -- ---- what is known of each ASCII byte is known of each lane of a padded text
 
--- NULs pass a test that lets NUL pass
-holds_nuls : (P Q : Bool → ℕ → Bool) → ((i : Bool) (b : ℕ) → b < 128 → P i b ≡ (nat_eq b 0 || Q i b)) → (i : Bool) (k : ℕ) → holds P i (NULS k) ≡ true
-holds_nuls P Q same i zero = refl
-holds_nuls P Q same i (suc k) = rw (same i 0 (lit< tt)) (holds_nuls P Q same false k)
+-- what is z at NUL, and at another byte what G makes of it, is on a text and then NULs that of the text, and then z
+lanes-padded : {A : Type 0} (F G : Bool → ℕ → A) (z : A) → ((i : Bool) (b : ℕ) → b < 128 → F i b ≡ cond (nat_eq b 0) z (G i b)) → (i : Bool) (t : List ℕ) (k : ℕ) → IsText t → lanes F i (t ++ NULS k) ≡ lanes G i t ++ replicate k z
+lanes-padded F G z same i [] zero x = refl
+lanes-padded F G z same i [] (suc k) x = ap₂ (λ x xs. x ∷ xs) (same i 0 (lit< tt)) (lanes-padded F G z same false [] k x)
+lanes-padded F G z same i (zero ∷ t) k x = let h = All-head (IsTextByte) zero t x in absurd (omega arith)
+lanes-padded F G z same i (suc b ∷ t) k x =
+    let h = All-head (IsTextByte) (suc b) t x in
+    ap₂ (λ x xs. x ∷ xs) (same i (suc b) h.1 ∙ ap (λ e. cond e z (G i (suc b))) (eqb-suc-zero b)) (lanes-padded F G z same false t k (All-tail (IsTextByte) (suc b) t x))
 
--- of a byte that is no NUL, a test that also lets NUL pass says what the test alone says
-pub not_zero : (b : ℕ) (r : Bool) → 1 ≤ b → (nat_eq b 0 || r) ≡ r
-not_zero b r h = grind (arith, nat_tests)
-
--- of a text and then NULs, a test that also lets NUL pass says what the test alone says of the text
-holds_pad : (P Q : Bool → ℕ → Bool) → ((i : Bool) (b : ℕ) → b < 128 → P i b ≡ (nat_eq b 0 || Q i b)) → (i : Bool) (t : List ℕ) (k : ℕ) → IsText t → holds P i (t ++ NULS k) ≡ holds Q i t
-holds_pad P Q same i [] k x = holds_nuls P Q same i k
-holds_pad P Q same i (b ∷ t) k x =
-    let h = All-head (IsTextByte) b t x in
-    ap₂ (λ m n. m && n) (same i b (omega arith) ∙ not_zero b (Q i b) h.0) (holds_pad P Q same false t k (All-tail (IsTextByte) b t x))
-
--- a change that keeps NUL keeps NULs
-lanes_nuls : (F G : Bool → ℕ → ℕ) → ((i : Bool) (b : ℕ) → b < 128 → F i b ≡ cond (nat_eq b 0) 0 (G i b)) → (i : Bool) (k : ℕ) → lanes F i (NULS k) ≡ NULS k
-lanes_nuls F G same i zero = refl
-lanes_nuls F G same i (suc k) = ap₂ (λ x xs. x ∷ xs) (same i 0 (lit< tt)) (lanes_nuls F G same false k)
-
--- a byte that is no NUL is changed as if the change didn't keep NUL
-not_zero_lane : (b r : ℕ) → 1 ≤ b → cond (nat_eq b 0) 0 r ≡ r
-not_zero_lane b r h = grind (arith, nat_tests)
-
--- a change that keeps NUL, of a text and then NULs, is the change of the text and then NULs
-lanes_pad : (F G : Bool → ℕ → ℕ) → ((i : Bool) (b : ℕ) → b < 128 → F i b ≡ cond (nat_eq b 0) 0 (G i b)) → (i : Bool) (t : List ℕ) (k : ℕ) → IsText t → lanes F i (t ++ NULS k) ≡ lanes G i t ++ NULS k
-lanes_pad F G same i [] k x = lanes_nuls F G same i k
-lanes_pad F G same i (b ∷ t) k x =
-    let h = All-head (IsTextByte) b t x in
-    ap₂ (λ x xs. x ∷ xs) (same i b (omega arith) ∙ not_zero_lane b (G i b) h.0) (lanes_pad F G same false t k (All-tail (IsTextByte) b t x))
-
--- NULs are ASCII bytes
-ascii_nuls : (k : ℕ) → Ascii (NULS k)
-ascii_nuls zero = tt
-ascii_nuls (suc k) = (lit< tt, ascii_nuls k)
-
--- so are a text and then NULs
-pub ascii_padded : (t : List ℕ) (k : ℕ) → IsText t → Ascii (t ++ NULS k)
-ascii_padded [] k x = ascii_nuls k
-ascii_padded (b ∷ t) k x = let h = All-head (IsTextByte) b t x in (omega arith, ascii_padded t k (All-tail (IsTextByte) b t x))
-
--- and so are the bytes of a padded text
-pub ascii_pad : (t : List ℕ) (n : ℕ) → IsText t → Ascii (pad t n)
-ascii_pad t n x = ascii_padded t (n - length t) x
+-- a text and then NULs are ASCII bytes
+pub Ascii-padded : (t : List ℕ) (k : ℕ) → IsText t → Ascii (t ++ NULS k)
+Ascii-padded [] k x = Each1-replicate (λ b. b < 128) k 0 (lit< tt)
+Ascii-padded (b ∷ t) k x = ((All-head (IsTextByte) b t x).1, Ascii-padded t k (All-tail (IsTextByte) b t x))
 
 -- ---- what a test or a change of words says of the text
 
-abbrev pub pick : {A : Type 0} → (ℕ → A) → (ℕ → A) → Bool → ℕ → A
-pick first others i b = cond i (first b) (others b)
-
--- later lanes pass a test of two classes exactly if each byte is in the later class
-ask_holds : (first others : ℕ → Bool) (t : List ℕ) → holds (pick first others) false t ≡ list_all others t
-ask_holds first others [] = refl
-ask_holds first others (b ∷ t) = ap (λ r. others b && r) (ask_holds first others t)
-
--- lanes pass a test of two classes exactly if the first byte is in the first and each later one in the other
-ask_is : (first others : ℕ → Bool) (t : List ℕ) → holds (pick first others) true t ≡ ask first others t
-ask_is first others [] = refl
-ask_is first others (b ∷ t) = ap (λ r. first b && r) (ask_holds first others t)
+abbrev pub first_or_others : {A : Type 0} → (ℕ → A) → (ℕ → A) → Bool → ℕ → A
+first_or_others first others i b = cond i (first b) (others b)
 
 -- later lanes are all changed as later bytes are
-change_lanes : (first others : ℕ → ℕ) (t : List ℕ) → lanes (pick first others) false t ≡ map others t
-change_lanes first others [] = refl
-change_lanes first others (b ∷ t) = ap (λ r. others b ∷ r) (change_lanes first others t)
+lanes-first_or_others : {A : Type 0} (first others : ℕ → A) (t : List ℕ) → lanes (first_or_others first others) false t ≡ map others t
+lanes-first_or_others first others [] = refl
+lanes-first_or_others first others (b ∷ t) = ap (λ r. others b ∷ r) (lanes-first_or_others first others t)
+
+list_all-replicate_true : (k : ℕ) → list_all (λ r. r) (replicate k true) ≡ true
+list_all-replicate_true zero = refl
+list_all-replicate_true (suc k) = list_all-replicate_true k
+
+-- lanes pass a test of two classes, and NULs any, exactly if the first byte is in the first and each later one in the other
+list_all-lanes : (first others : ℕ → Bool) (t : List ℕ) (k : ℕ) → list_all (λ r. r) (lanes (first_or_others first others) true t ++ replicate k true) ≡ ask first others t
+list_all-lanes first others [] k = list_all-replicate_true k
+list_all-lanes first others (b ∷ t) k =
+    ap (λ r. first b && r) (list_all-append (λ r. r) (lanes (first_or_others first others) false t) (replicate k true) ∙ rw (lanes-first_or_others first others t, list_all-map (λ r. r) others t, list_all-replicate_true k) (and-true (list_all others t)))
 
 -- the lanes of a text, each changed as a case does, are the text in that case
-change_is : (c : Case) (t : List ℕ) → lanes (pick (first_change c) (later_change c)) true t ≡ in_case c t
-change_is Lower [] = refl
-change_is Lower (b ∷ t) = ap (λ r. lower b ∷ r) (change_lanes lower lower t)
-change_is Title [] = refl
-change_is Title (b ∷ t) = ap (λ r. raise b ∷ r) (change_lanes raise lower t)
-change_is Upper [] = refl
-change_is Upper (b ∷ t) = ap (λ r. raise b ∷ r) (change_lanes raise raise t)
-
-abbrev pub same : Bool → Bool → Bool
-same true q = q
-same false q = cond q false true
-
--- answers that the test finds the same are equal
-same_is : (p q : Bool) → same p q ≡ true → p ≡ q
-same_is true true h = refl
-same_is true false h = cc
-same_is false true h = cc
-same_is false false h = refl
+lanes-in_case : (c : Case) (t : List ℕ) → lanes (first_or_others (first_change c) (later_change c)) true t ≡ in_case c t
+lanes-in_case Lower [] = refl
+lanes-in_case Lower (b ∷ t) = ap (λ r. lower b ∷ r) (lanes-first_or_others lower lower t)
+lanes-in_case Title [] = refl
+lanes-in_case Title (b ∷ t) = ap (λ r. raise b ∷ r) (lanes-first_or_others raise lower t)
+lanes-in_case Upper [] = refl
+lanes-in_case Upper (b ∷ t) = ap (λ r. raise b ∷ r) (lanes-first_or_others raise raise t)
 
 -- at each byte, first or later, f and g are equal exactly if the byte is NUL or in its class
 abbrev pub Asks : Formula → Formula → (ℕ → Bool) → (ℕ → Bool) → Type 0
-Asks f g first others = (i : Bool) (b : ℕ) → b < 128 → (is_safe f i b ≡ true) × ((is_safe g i b ≡ true) × (nat_eq (at f i b) (at g i b) ≡ (nat_eq b 0 || pick first others i b)))
+Asks f g first others = (i : Bool) (b : ℕ) → b < 128 → (is_safe f i b ≡ true) × ((is_safe g i b ≡ true) × (nat_eq (at f i b) (at g i b) ≡ cond (nat_eq b 0) true (first_or_others first others i b)))
 
 -- they are, if computing finds it at each byte
-pub asks_everywhere : (f g : Formula) (first others : ℕ → Bool) → everywhere (λ i b. is_safe f i b && (is_safe g i b && same (nat_eq (at f i b) (at g i b)) (nat_eq b 0 || pick first others i b))) ≡ true → Asks f g first others
-asks_everywhere f g first others h i b l =
-    let all = both_true (is_safe f i b) _ (everywhere_is _ h i b l) in
-    let rest = both_true (is_safe g i b) _ all.1 in
-    (all.0, (rest.0, same_is _ _ rest.1))
+pub Asks-from_everywhere : (f g : Formula) (first others : ℕ → Bool) → everywhere (λ i b. is_safe f i b && (is_safe g i b && beq (nat_eq (at f i b) (at g i b)) (cond (nat_eq b 0) true (first_or_others first others i b)))) ≡ true → Asks f g first others
+Asks-from_everywhere f g first others h i b l =
+    let e = true_from_everywhere _ h i b l in
+    (grind arith, (grind arith, (booleans_Decides _ _).0 (grind arith)))
 
 -- at each byte, f keeps NUL and changes another as the case does
 abbrev pub Changes : Formula → Case → Type 0
-Changes f c = everywhere (λ i b. is_safe f i b && nat_eq (at f i b) (cond (nat_eq b 0) 0 (pick (first_change c) (later_change c) i b))) ≡ true
+Changes f c = everywhere (λ i b. is_safe f i b && nat_eq (at f i b) (cond (nat_eq b 0) 0 (first_or_others (first_change c) (later_change c) i b))) ≡ true
 
--- a safe formula over the word of a padded text does to each lane what it does to a lane alone
-pub on_pad : (f : Formula) → IsSafe f → (n : ℕ) (t : List ℕ) → IsText t → length t ≤ n → on f n (word (pad t n)) ≡ word (lanes (at f) true (pad t n))
-on_pad f s n t x le =
-    subst (λ m. on f m (word (pad t n)) ≡ word (lanes (at f) true (pad t n))) (length-pad t n le) (lanewise f (pad t n) (ascii_pad t n x) s)
+-- a safe formula over a word that holds a text does to each lane what it does to a lane alone
+pub on-text_in : {n w : ℕ} → HoldsText n w → (f : Formula) → IsSafe f → on f n w ≡ word (lanes (at f) true (pad (text_in n w) n))
+on-text_in {n} {w} h f s =
+    let l = pad (text_in n w) n in
+    ap (on f n) h.padded ∙ ap (λ m. on f m (word l)) (sym (length-pad (text_in n w) n h.fits)) ∙ lanewise f l (Ascii-padded (text_in n w) (n - length (text_in n w)) h.text) s
 
--- two formulas that ask for classes are equal on the word of a padded text exactly if the text is in them
-pub question : (f g : Formula) (first others : ℕ → Bool) → Asks f g first others → (n : ℕ) (t : List ℕ) → IsText t → length t ≤ n → nat_eq (on f n (word (pad t n))) (on g n (word (pad t n))) ≡ ask first others t
-question f g first others h n t x le =
-    let p : IsSafe f = λ i b l. (h i b l).0 in
-    let r : IsSafe g = λ i b l. (h i b l).1.0 in
-    rw (on_pad f p n t x le, on_pad g r n t x le)
-    (same_words (at f) (at g) (λ i b l. safe_byte f i b l (p i b l)) (λ i b l. safe_byte g i b l (r i b l)) true (pad t n) (ascii_pad t n x)
-    ∙ holds_pad _ (pick first others) (λ i b l. (h i b l).1.1) true t (n - length t) x ∙ ask_is first others t)
+-- two formulas that ask for classes are equal on such a word exactly if its text is in them
+pub nat_eq-on : {n w : ℕ} → HoldsText n w → (f g : Formula) (first others : ℕ → Bool) → Asks f g first others → nat_eq (on f n w) (on g n w) ≡ ask first others (text_in n w)
+nat_eq-on {n} {w} h f g first others a =
+    let t = text_in n w in
+    let p : IsSafe f = λ i b l. (a i b l).0 in
+    let r : IsSafe g = λ i b l. (a i b l).1.0 in
+    rw (on-text_in h f p, on-text_in h g r)
+    (nat_eq-word_lanes (at f) (at g) (Bytes-at f p) (Bytes-at g r) true (pad t n) (Ascii-padded t (n - length t) h.text)
+    ∙ ap (list_all (λ r. r)) (lanes-padded _ (first_or_others first others) true (λ i b l. (a i b l).1.1) true t (n - length t) h.text) ∙ list_all-lanes first others t (n - length t))
 
 -- a formula that changes bytes as a case does is safe
-pub changes_safe : (f : Formula) (c : Case) → Changes f c → IsSafe f
-changes_safe f c h i b l = (both_true (is_safe f i b) _ (everywhere_is _ h i b l)).0
+pub IsSafe-changes : (f : Formula) (c : Case) → Changes f c → IsSafe f
+IsSafe-changes f c h i b l = let e = true_from_everywhere _ h i b l in grind arith
 
 -- the lanes of a padded text, each changed by f, are those of the changed text
 pub lanes-change : (f : Formula) (c : Case) → Changes f c → (n : ℕ) (t : List ℕ) → IsText t → length t ≤ n → lanes (at f) true (pad t n) ≡ pad (in_case c t) n
 lanes-change f c h n t x le =
-    let change = pick (first_change c) (later_change c) in
-    let agree : (i : Bool) (b : ℕ) → b < 128 → at f i b ≡ cond (nat_eq b 0) 0 (change i b) = λ i b l. eqb_is _ _ (both_true (is_safe f i b) _ (everywhere_is _ h i b l)).1 in
-    rw (length-in_case c t) (lanes_pad (at f) change agree true t (n - length t) x ∙ ap (λ l. l ++ NULS (n - length t)) (change_is c t))
+    let change = first_or_others (first_change c) (later_change c) in
+    let agree : (i : Bool) (b : ℕ) → b < 128 → at f i b ≡ cond (nat_eq b 0) 0 (change i b) = λ i b l. let e = true_from_everywhere _ h i b l in same_from_nat_eq _ _ (grind arith) in
+    rw (length-in_case c t) (lanes-padded (at f) change 0 agree true t (n - length t) x ∙ ap (λ l. l ++ NULS (n - length t)) (lanes-in_case c t))

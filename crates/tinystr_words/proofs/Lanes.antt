@@ -1,11 +1,12 @@
 -- Sums, masks and shifts of words, lane by lane.
-use Rattle.std.proofs.Common.{ℕ, zero, suc, ◌+◌, ◌-◌, ◌*◌, ◌/◌, ◌%◌, ◌^◌, ◌<◌, ◌≡◌, Bool, true, false, ◌&&◌, List, [], ◌∷◌, length, get_or, refl, sym, ap, ◌∙◌, arith, bit_and, bit_or, nat_eq, Fits, w8}
+use Rattle.std.proofs.Common.{ℕ, zero, suc, ◌+◌, ◌-◌, ◌*◌, ◌/◌, ◌%◌, ◌^◌, ◌<◌, ◌≡◌, Bool, true, false, ◌&&◌, List, [], ◌∷◌, length, get_or, refl, ap, ◌∙◌, arith, bit_and, bit_or, nat_eq, Fits, w8}
 use Rattle.std.proofs.Math.Nat.{pow-suc}
 use Rattle.std.proofs.Math.Facts.{Fits-lt-pow}
 use Rattle.std.proofs.lemmas.Bool.Decides.{Decides-below_and, nat_tests}
 use Rattle.std.proofs.lemmas.Nat.{and_block, or_block, xor_block}
 use Rattle.std.specs.Int.Bits.{bit_xor}
-use Rattle.std.specs.Simd.Lanes.{zip2, Each1}
+use Rattle.std.specs.List.{list_all}
+use Rattle.std.specs.Simd.Lanes.{Each1}
 use Rattle.std.proofs.lemmas.Simd.{Each1-weaker, Each1-from_get_or}
 use Rattle.tinystr_words.specs.Text.{IsText}
 use Rattle.tinystr_words.specs.Words.{word}
@@ -21,7 +22,7 @@ pub below_at : (p : ℕ → Bool) (n : ℕ) → below p n ≡ true → (b : ℕ)
 below_at p n h = (Decides-below_and p (λ b. p b ≡ true) (below p) (λ b. (λ e. e, λ e. e)) refl (λ m. refl) n).0 h
 
 -- each of two tests
-pub both_true : (p q : Bool) → (p && q) ≡ true → (p ≡ true) × (q ≡ true)
+both_true : (p q : Bool) → (p && q) ≡ true → (p ≡ true) × (q ≡ true)
 both_true true q h = (refl, h)
 both_true false q h = cc
 
@@ -30,10 +31,10 @@ unfoldable pub everywhere : (Bool → ℕ → Bool) → Bool
 everywhere p = below (λ b. p true b && p false b) 128
 
 -- a test that computing finds true everywhere is true of each ASCII byte
-pub everywhere_is : (p : Bool → ℕ → Bool) → everywhere p ≡ true → (i : Bool) (b : ℕ) → b < 128 → p i b ≡ true
+pub true_from_everywhere : (p : Bool → ℕ → Bool) → everywhere p ≡ true → (i : Bool) (b : ℕ) → b < 128 → p i b ≡ true
 unfolding everywhere
-everywhere_is p h true b l = (both_true (p true b) (p false b) (below_at (λ b. p true b && p false b) 128 h b l)).0
-everywhere_is p h false b l = (both_true (p true b) (p false b) (below_at (λ b. p true b && p false b) 128 h b l)).1
+true_from_everywhere p h true b l = (both_true (p true b) (p false b) (below_at (λ b. p true b && p false b) 128 h b l)).0
+true_from_everywhere p h false b l = (both_true (p true b) (p false b) (below_at (λ b. p true b && p false b) 128 h b l)).1
 
 -- ---- words of bytes
 
@@ -44,16 +45,16 @@ abbrev pub Ascii : List ℕ → Type 0
 Ascii l = Each1 (λ b. b < 128) l
 
 -- ASCII bytes are bytes
-pub IsBytes-ascii : (l : List ℕ) → Ascii l → IsBytes l
-IsBytes-ascii l = Each1-weaker (λ b. b < 128) (λ b. b < 256) (λ b h. omega arith) l
+pub IsBytes-from_Ascii : (l : List ℕ) → Ascii l → IsBytes l
+IsBytes-from_Ascii l = Each1-weaker (λ b. b < 128) (λ b. b < 256) (λ b h. omega arith) l
 
 -- and so are numbers of eight bits
-pub IsBytes-fit : (l : List ℕ) → ((i : ℕ) → Fits w8 (get_or l i 0)) → IsBytes l
-IsBytes-fit l f = Each1-from_get_or (λ b. b < 256) l 0 (λ i h. Fits-lt-pow (f i))
+pub IsBytes-from_Fits : (l : List ℕ) → ((i : ℕ) → Fits w8 (get_or l i 0)) → IsBytes l
+IsBytes-from_Fits l f = Each1-from_get_or (λ b. b < 256) l 0 (λ i h. Fits-lt-pow (f i))
 
 -- and those of a text
-pub IsBytes-text : (t : List ℕ) → IsText t → IsBytes t
-IsBytes-text t x = Each1-from_get_or (λ b. b < 256) t 0 (λ i h. omega (arith, (x i 0 h).1))
+pub IsBytes-from_IsText : (t : List ℕ) → IsText t → IsBytes t
+IsBytes-from_IsText t x = Each1-from_get_or (λ b. b < 256) t 0 (λ i h. omega (arith, (x i 0 h).1))
 
 -- a word of n bytes is below 256 ^ n
 pub word-lt : (l : List ℕ) → IsBytes l → word l < 256 ^ length l
@@ -61,47 +62,38 @@ word-lt [] a = omega arith
 word-lt (b ∷ l) a = let h : b < 256 = a.0 in omega (arith, pow-suc 256 (length l), word-lt l a.1)
 
 -- an operation on numbers that is done on each byte apart
-abbrev pub Bytewise : (ℕ → ℕ → ℕ) → Type 0
-Bytewise op = (a b r s : ℕ) → r < 256 → s < 256 → op (r + 256 * a) (s + 256 * b) ≡ op r s + 256 * op a b
+pub record Bytewise : Type 0 where
+  pub op : ℕ → ℕ → ℕ
+  pub zeros : op 0 0 ≡ 0
+  pub step : (a b r s : ℕ) → r < 256 → s < 256 → op (r + 256 * a) (s + 256 * b) ≡ op r s + 256 * op a b
 
--- an operation is such if it is done apart on a low byte and on what stands above it
-Bytewise-from_block : (op : ℕ → ℕ → ℕ) → ((a b r s : ℕ) → r < 256 → s < 256 → op (a * 256 + r) (b * 256 + s) ≡ op a b * 256 + op r s) → Bytewise op
-Bytewise-from_block op block a b r s p q =
+-- done on a low byte and on what stands above it, it is done on each byte
+pub step_from_block : (op : ℕ → ℕ → ℕ) → ((a b r s : ℕ) → r < 256 → s < 256 → op (a * 256 + r) (b * 256 + s) ≡ op a b * 256 + op r s)
+    → (a b r s : ℕ) → r < 256 → s < 256 → op (r + 256 * a) (s + 256 * b) ≡ op r s + 256 * op a b
+step_from_block op block a b r s p q =
     let x : r + 256 * a ≡ a * 256 + r = omega arith in
     let y : s + 256 * b ≡ b * 256 + s = omega arith in
     rw (x, y) (block a b r s p q ∙ omega arith)
 
--- such is "and"
-pub and_step : Bytewise bit_and
-and_step = Bytewise-from_block bit_and (and_block 8)
+pub and_step : (a b r s : ℕ) → r < 256 → s < 256 → bit_and (r + 256 * a) (s + 256 * b) ≡ bit_and r s + 256 * bit_and a b
+and_step = step_from_block bit_and (and_block 8)
 
--- and "or"
-pub or_step : Bytewise bit_or
-or_step = Bytewise-from_block bit_or (or_block 8)
+abbrev pub conjunction : Bytewise
+conjunction = record { op = bit_and; zeros = refl; step = and_step }
 
--- and the bits of one alone
-pub xor_step : Bytewise bit_xor
-xor_step = Bytewise-from_block bit_xor (xor_block 8)
+abbrev pub disjunction : Bytewise
+disjunction = record { op = bit_or; zeros = refl; step = step_from_block bit_or (or_block 8) }
+
+abbrev pub difference : Bytewise
+difference = record { op = bit_xor; zeros = refl; step = step_from_block bit_xor (xor_block 8) }
 
 -- and a sum, which may leave a lane that is no byte
-pub plus_step : Bytewise (λ m n. m + n)
-plus_step a b r s p q = omega arith
-
--- such an operation on two words is that on each two of their bytes
-word_zip2 : (op : ℕ → ℕ → ℕ) → Bytewise op → op 0 0 ≡ 0 → (l m : List ℕ) → length l ≡ length m → IsBytes l → IsBytes m → op (word l) (word m) ≡ word (zip2 op l m)
-word_zip2 op step zeros [] [] e p q = zeros
-word_zip2 op step zeros [] (d ∷ m) e p q = absurd (omega arith)
-word_zip2 op step zeros (b ∷ l) [] e p q = absurd (omega arith)
-word_zip2 op step zeros (b ∷ l) (d ∷ m) e p q =
-    step _ _ _ _ p.0 q.0 ∙ ap (λ n. op b d + 256 * n) (word_zip2 op step zeros l m (omega arith) p.1 q.1)
-
--- the sum of two words
-pub word_sum : (l m : List ℕ) → length l ≡ length m → IsBytes l → IsBytes m → word l + word m ≡ word (zip2 (λ m n. m + n) l m)
-word_sum = word_zip2 (λ m n. m + n) plus_step refl
+abbrev pub addition : Bytewise
+addition = record { op = λ m n. m + n; zeros = refl; step = λ a b r s p q. omega arith }
 
 -- ---- the lanes of a word, each changed by a function that may treat the first apart
 
-abbrev pub lanes : (Bool → ℕ → ℕ) → Bool → List ℕ → List ℕ
+abbrev pub lanes : {A : Type 0} → (Bool → ℕ → A) → Bool → List ℕ → List A
 lanes F i [] = []
 lanes F i (b ∷ l) = F i b ∷ lanes F false l
 
@@ -113,27 +105,22 @@ pub length-lanes : (F : Bool → ℕ → ℕ) (i : Bool) (l : List ℕ) → leng
 length-lanes F i [] = refl
 length-lanes F i (b ∷ l) = ap suc (length-lanes F false l)
 
--- each of them a byte
-pub IsBytes-lanes : (F : Bool → ℕ → ℕ) → Bytes F → (i : Bool) (l : List ℕ) → Ascii l → IsBytes (lanes F i l)
-IsBytes-lanes F p i [] a = tt
-IsBytes-lanes F p i (b ∷ l) a = (p i b a.0, IsBytes-lanes F p false l a.1)
-
--- two changes of a list, put together lane by lane, are one change
-zip2-lanes : (op : ℕ → ℕ → ℕ) (F G : Bool → ℕ → ℕ) (i : Bool) (l : List ℕ) → zip2 op (lanes F i l) (lanes G i l) ≡ lanes (λ i b. op (F i b) (G i b)) i l
-zip2-lanes op F G i [] = refl
-zip2-lanes op F G i (b ∷ l) = ap (λ m. op (F i b) (G i b) ∷ m) (zip2-lanes op F G false l)
+-- each of them below a bound
+pub Each1-lanes : (n : ℕ) (F : Bool → ℕ → ℕ) → ((i : Bool) (b : ℕ) → b < 128 → F i b < n) → (i : Bool) (l : List ℕ) → Ascii l → Each1 (λ b. b < n) (lanes F i l)
+Each1-lanes n F p i [] a = tt
+Each1-lanes n F p i (b ∷ l) a = (p i b a.0, Each1-lanes n F p false l a.1)
 
 -- such an operation on two changes of one word
-pub lanes_zip2 : (op : ℕ → ℕ → ℕ) → Bytewise op → op 0 0 ≡ 0 → (F G : Bool → ℕ → ℕ) → Bytes F → Bytes G → (i : Bool) (l : List ℕ) → Ascii l → op (word (lanes F i l)) (word (lanes G i l)) ≡ word (lanes (λ i b. op (F i b) (G i b)) i l)
-lanes_zip2 op step zeros F G p q i l a =
-    word_zip2 op step zeros (lanes F i l) (lanes G i l) (length-lanes F i l ∙ sym (length-lanes G i l)) (IsBytes-lanes F p i l a) (IsBytes-lanes G q i l a)
-    ∙ ap word (zip2-lanes op F G i l)
+pub op-word_lanes : (o : Bytewise) (F G : Bool → ℕ → ℕ) → Bytes F → Bytes G → (i : Bool) (l : List ℕ) → Ascii l → o.op (word (lanes F i l)) (word (lanes G i l)) ≡ word (lanes (λ i b. o.op (F i b) (G i b)) i l)
+op-word_lanes o F G p q i [] a = o.zeros
+op-word_lanes o F G p q i (b ∷ l) a =
+    o.step _ _ _ _ (p i b a.0) (q i b a.0) ∙ ap (λ n. o.op (F i b) (G i b) + 256 * n) (op-word_lanes o F G p q false l a.1)
 
 -- the complement of a word is that of each lane
 pub word_not : (F : Bool → ℕ → ℕ) → Bytes F → (i : Bool) (l : List ℕ) → Ascii l → 256 ^ length l - 1 - word (lanes F i l) ≡ word (lanes (λ i b. 255 - F i b) i l)
 word_not F p i [] a = refl
 word_not F p i (b ∷ l) a =
-    let s = rw (length-lanes F false l) at (word-lt (lanes F false l) (IsBytes-lanes F p false l a.1)) in
+    let s = rw (length-lanes F false l) at (word-lt (lanes F false l) (Each1-lanes 256 F p false l a.1)) in
     let k = p i b a.0 in omega (arith, pow-suc 256 (length l), word_not F p false l a.1)
 
 -- a quarter of a word whose lanes leave no bit behind is that of each lane
@@ -143,17 +130,11 @@ word_quarter F p i (b ∷ l) a = let h = word_quarter F p false l a.1 in let k =
 
 -- ---- tests on words
 
--- each lane passes the test, which may treat the first apart
-abbrev pub holds : (Bool → ℕ → Bool) → Bool → List ℕ → Bool
-holds P i [] = true
-holds P i (b ∷ l) = P i b && holds P false l
-
--- two numbers are equal exactly if their lowest bytes are and what stands above these is
-eq_step : (p q x y : ℕ) → p < 256 → q < 256 → nat_eq (p + 256 * x) (q + 256 * y) ≡ (nat_eq p q && nat_eq x y)
-eq_step p q x y l k = grind (arith, nat_tests)
-
 -- two words are equal exactly if each lane is
-pub same_words : (F G : Bool → ℕ → ℕ) → Bytes F → Bytes G → (i : Bool) (l : List ℕ) → Ascii l → nat_eq (word (lanes F i l)) (word (lanes G i l)) ≡ holds (λ i b. nat_eq (F i b) (G i b)) i l
-same_words F G p q i [] a = refl
-same_words F G p q i (b ∷ l) a =
-    eq_step _ _ _ _ (p i b a.0) (q i b a.0) ∙ ap (λ m. nat_eq (F i b) (G i b) && m) (same_words F G p q false l a.1)
+pub nat_eq-word_lanes : (F G : Bool → ℕ → ℕ) → Bytes F → Bytes G → (i : Bool) (l : List ℕ) → Ascii l → nat_eq (word (lanes F i l)) (word (lanes G i l)) ≡ list_all (λ r. r) (lanes (λ i b. nat_eq (F i b) (G i b)) i l)
+nat_eq-word_lanes F G p q i [] a = refl
+nat_eq-word_lanes F G p q i (b ∷ l) a =
+    let h = p i b a.0 in
+    let k = q i b a.0 in
+    let others = nat_eq-word_lanes F G p q false l a.1 in
+    grind (arith, nat_tests)

@@ -1,12 +1,13 @@
 -- std's `decimal` is the shortest decimal text.
-use Rattle.std.proofs.Common.{◌≡◌, ℕ, zero, suc, ◌+◌, ◌-◌, ◌*◌, ◌/◌, ◌%◌, ◌<◌, ◌≤◌, ◌^◌, List, [], ◌∷◌, ◌++◌, length, drop, get_or, sym, ap, ap₂, ◌∙◌, refl, arith, lit<, inl, inr}
-use Rattle.std.proofs.Math.Nat.{pow-suc, pow-le-pow_right, mod-lt}
-use Rattle.std.proofs.Math.Arith.{mod-mul}
-use Rattle.std.proofs.lemmas.List.{drop_all, drop-append-le, length-append}
+use Rattle.std.proofs.Common.{◌≡◌, ℕ, ◌+◌, ◌-◌, ◌*◌, ◌%◌, ◌<◌, ◌≤◌, ◌^◌, List, [], ◌∷◌, ◌++◌, length, take, drop, get_or, sym, ap, ◌∙◌, refl, arith, lit<, inl, inr}
+use Rattle.std.proofs.Math.Nat.{one-le-pow, mul_assoc, add-mul, pow-le-pow_right}
+use Rattle.std.proofs.lemmas.List.{length-drop, take-append-drop, length-append}
 use Rattle.std.proofs.lemmas.Bool.{cases_lt}
-use Rattle.std.proofs.lemmas.Fmt.{decimal_digit, decimal_step, decimal_nonempty, first_decimal, digits_decimal, digits_value-decimal, decimal-digits_value, length-decimal-le}
-use Rattle.std.proofs.lemmas.List.Elements.{All-nil, All-cons, All-head, All-tail}
-use Rattle.std.proofs.lemmas.Str.Parse.{IsNumeralModel, numerals_by_weight}
+use Rattle.std.proofs.lemmas.Fmt.{decimal_digit, decimal_nonempty, first_decimal, digits_decimal, digits_value-decimal, decimal-digits_value, length-decimal-le}
+use Rattle.std.proofs.lemmas.List.Elements.{All-drop, All-weaker, All-nil, All-cons, All-head, All-tail}
+use Rattle.std.proofs.lemmas.Str.Parse.{IsNumeralModel, numerals_by_weight, digits_value_short}
+use Rattle.std.proofs.lemmas.Nat.{pow-add, mod-mul-add}
+use Rattle.tinystr_words.specs.Text.{IsTextByte, IsText}
 use Rattle.std.specs.Fmt.{decimal}
 use Rattle.std.specs.Int.{IsInRange}
 use Rattle.std.specs.List.{All}
@@ -16,8 +17,8 @@ abbrev IsDigit : ℕ → Type 0
 IsDigit d = IsInRange 48 57 d
 
 -- digits and the number that they spell are a model of std's numerals
-model : IsNumeralModel (All IsDigit) number_of
-model = numerals_by_weight (All IsDigit)
+digits_model : IsNumeralModel (All IsDigit) number_of
+digits_model = numerals_by_weight (All IsDigit)
     (record { empty = All-nil IsDigit; parts = λ c cs p. (All-head IsDigit c cs p, All-tail IsDigit c cs p); more = λ c cs k p. All-cons IsDigit c cs k p })
     number_of (record { empty = refl; more = λ c cs k. refl })
 
@@ -33,15 +34,19 @@ no_leading_zero n fits zero_first =
 pub IsDecimalOf-decimal : (n : ℕ) → n < 2 ^ 64 → IsDecimalOf n (decimal n)
 IsDecimalOf-decimal n fits = record {
   some = decimal_nonempty n fits;
-  digits = digits_decimal model n fits;
-  value = digits_value-decimal model n fits;
+  digits = digits_decimal digits_model n fits;
+  value = digits_value-decimal digits_model n fits;
   shortest = no_leading_zero n fits;
 }
+
+-- its digits are a text
+pub IsText-decimal : (n : ℕ) → n < 2 ^ 64 → IsText (decimal n)
+IsText-decimal n fits = All-weaker IsDigit IsTextByte (λ d h. (omega arith, omega arith)) (decimal n) (digits_decimal digits_model n fits)
 
 -- and the only one
 pub IsDecimalOf-only : (n : ℕ) (ds : List ℕ) → n < 2 ^ 64 → IsDecimalOf n ds → ds ≡ decimal n
 IsDecimalOf-only n ds fits h =
-    sym (decimal-digits_value model ds h.digits h.some h.shortest (omega (arith, h.value))) ∙ ap decimal h.value
+    sym (decimal-digits_value digits_model ds h.digits h.some h.shortest (omega (arith, h.value))) ∙ ap decimal h.value
 
 -- a number of 32 bits has at most ten digits
 pub length-decimal-le_ten : (n : ℕ) → n ≤ 4294967295 → length (decimal n) ≤ 10
@@ -49,59 +54,34 @@ length-decimal-le_ten n fits = length-decimal-le 10 n (omega arith) (omega arith
 
 -- ---- the last digits of a number that has more
 
--- a power of ten is positive
-pow_10-pos : (k : ℕ) → 0 < 10 ^ k
-pow_10-pos zero = lit< tt
-pow_10-pos (suc k) = omega (arith, pow-suc 10 k, pow_10-pos k)
+-- the number that two parts spell
+number_of-append : (a b : List ℕ) → number_of (a ++ b) ≡ number_of a * 10 ^ length b + number_of b
+number_of-append [] b = omega arith
+number_of-append (d ∷ a) b =
+    rw (length-append a b, pow-add 10 (length a) (length b), number_of-append a b, add-mul ((d - 48) * 10 ^ length a) (number_of a) (10 ^ length b), mul_assoc (d - 48) (10 ^ length a) (10 ^ length b)) (omega arith)
 
--- m has a 1 and then the last digits of n, k and one more
-led_step : (k n m : ℕ) → n < 2 ^ 32 → 10 ^ suc k ≤ n → m ≡ 10 ^ suc k + n % 10 ^ suc k
-    → (decimal m ≡ decimal (10 ^ k + n / 10 % 10 ^ k) ++ (48 + n % 10) ∷ []) × (0 < length (decimal (10 ^ k + n / 10 % 10 ^ k)))
-led_step k n m fits high m_is =
-    let some : 0 < 10 ^ k = pow_10-pos k in
-    let power : 10 ^ suc k ≡ 10 ^ k * 10 = pow-suc 10 k in
-    let rest : n % 10 ^ suc k ≡ (n / 10 % 10 ^ k) * 10 + n % 10 = ap (λ d. n % d) power ∙ mod-mul n some (lit< tt) in
-    let small : n / 10 % 10 ^ k < 10 ^ k = mod-lt (n / 10) some in
-    let front : m / 10 ≡ 10 ^ k + n / 10 % 10 ^ k = omega arith in
-    let end : m % 10 ≡ n % 10 = omega arith in (
-      decimal_step m (omega arith) (omega arith) ∙ ap₂ (λ x d. decimal x ++ (48 + d) ∷ []) front end,
-      decimal_nonempty (10 ^ k + n / 10 % 10 ^ k) (omega arith),
-    )
+-- a number of at most k digits is below 10 ^ k
+pub decimal-lt : (k n : ℕ) → n < 2 ^ 64 → length (decimal n) ≤ k → n < 10 ^ k
+decimal-lt k n fits short = rw (digits_value-decimal digits_model n fits) at (digits_value_short digits_model (decimal n) k (digits_decimal digits_model n fits) short)
 
 -- they are those of a number that has a 1 in front of them, without the 1
-pub last_digits : (k n : ℕ) → n < 2 ^ 32 → (0 < k → 10 ^ k ≤ n)
-    → (k < length (decimal n)) × (drop 1 (decimal (10 ^ k + n % 10 ^ k)) ≡ last k (decimal n))
-last_digits zero n fits more =
-    let one : 10 ^ 0 + n % 10 ^ 0 ≡ 1 = omega arith in
-    (decimal_nonempty n (omega arith), rw (one, decimal_digit 1 (omega arith)) (sym (drop_all (length (decimal n) - 0) (decimal n) (omega arith))))
-last_digits (suc k) n fits more =
-    let high : 10 ^ suc k ≤ n = more (omega arith) in
-    let power : 10 ^ suc k ≡ 10 ^ k * 10 = pow-suc 10 k in
-    let some : 0 < 10 ^ k = pow_10-pos k in
-    let before = last_digits k (n / 10) (omega arith) (λ h. omega arith) in
-    let made = led_step k n (10 ^ suc k + n % 10 ^ suc k) fits high refl in
-    let whole : decimal n ≡ decimal (n / 10) ++ (48 + n % 10) ∷ [] = decimal_step n (omega arith) (omega arith) in
-    let long : length (decimal n) ≡ length (decimal (n / 10)) + 1 = ap length whole ∙ length-append (decimal (n / 10)) ((48 + n % 10) ∷ []) in
-    let inside : k < length (decimal (n / 10)) = before.0 in
-    let cut : length (decimal n) - suc k ≡ length (decimal (n / 10)) - k = omega arith in
-    let kept : last (suc k) (decimal n) ≡ last k (decimal (n / 10)) ++ (48 + n % 10) ∷ [] =
-    ap₂ (λ i (l : List ℕ). drop i l) cut whole ∙ drop-append-le (length (decimal (n / 10)) - k) (decimal (n / 10)) ((48 + n % 10) ∷ []) (omega arith) in (
-      omega arith,
-      ap (λ (l : List ℕ). drop 1 l) made.0 ∙ drop-append-le 1 (decimal (10 ^ k + n / 10 % 10 ^ k)) ((48 + n % 10) ∷ []) made.1
-          ∙ ap (λ (l : List ℕ). l ++ (48 + n % 10) ∷ []) before.1 ∙ sym kept,
-    )
-
--- a number of more than k digits is at least 10 ^ k
-pub ten_to_fewer : (k n : ℕ) → n < 2 ^ 32 → k < length (decimal n) → 0 < k → 10 ^ k ≤ n
-ten_to_fewer k n fits more some =
-    elim (cases_lt n (10 ^ k)) [
-      | inl below ↦ absurd (omega (arith, length-decimal-le k n some below (omega arith)))
-      | inr from ↦ from
-    ]
+pub decimal-last_digits : (k n : ℕ) → n < 2 ^ 32 → k < length (decimal n) → drop 1 (decimal (10 ^ k + n % 10 ^ k)) ≡ last k (decimal n)
+decimal-last_digits k n fits more =
+    let ds = last k (decimal n) in
+    let front = take (length (decimal n) - k) (decimal n) in
+    let digits : All IsDigit (49 ∷ ds) = All-cons IsDigit 49 ds (omega arith, omega arith) (All-drop IsDigit (length (decimal n) - k) (decimal n) (digits_decimal digits_model n (omega arith))) in
+    let long : length ds ≡ k = omega (arith, length-drop (length (decimal n) - k) (decimal n)) in
+    let ten = length-decimal-le_ten n (omega arith) in
+    let whole : n ≡ number_of front * 10 ^ k + number_of ds =
+    sym (digits_value-decimal digits_model n (omega arith)) ∙ ap number_of (sym (take-append-drop (length (decimal n) - k) (decimal n))) ∙ number_of-append front ds ∙ ap (λ m. number_of front * 10 ^ m + number_of ds) long in
+    let low : n % 10 ^ k ≡ number_of ds = ap (λ m. m % 10 ^ k) whole ∙ mod-mul-add (number_of front) (10 ^ k) (number_of ds) (digits_value_short digits_model ds k (All-tail IsDigit 49 ds digits) (omega arith)) in
+    let value : 10 ^ k + n % 10 ^ k ≡ number_of (49 ∷ ds) = rw (long, low) (omega arith) in
+    let small = digits_value_short digits_model (49 ∷ ds) 11 digits (omega arith) in
+    ap (λ m. drop 1 (decimal m)) value ∙ ap (drop 1) (decimal-digits_value digits_model (49 ∷ ds) digits (omega arith) (λ e. absurd (omega arith)) (omega arith))
 
 -- where a number of 32 bits has more than k digits, 10 ^ k is at most 10 ^ 9, and positive
-pub ten_to_nine : (k n : ℕ) → n < 2 ^ 32 → k < length (decimal n) → (10 ^ k ≤ 10 ^ 9) × (0 < 10 ^ k)
-ten_to_nine k n fits more =
+pub pow_10-bounds : (k n : ℕ) → n < 2 ^ 32 → k < length (decimal n) → (10 ^ k ≤ 10 ^ 9) × (0 < 10 ^ k)
+pow_10-bounds k n fits more =
     let ten : length (decimal n) ≤ 10 = length-decimal-le_ten n (omega arith) in
     let nine : k ≤ 9 = omega arith in
-    (pow-le-pow_right {n = 10} (lit< tt) nine, pow_10-pos k)
+    (pow-le-pow_right {n = 10} (lit< tt) nine, one-le-pow k 10 (lit< tt))

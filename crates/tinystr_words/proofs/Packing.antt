@@ -1,5 +1,5 @@
 -- Packed records, one by one.
-use Rattle.std.proofs.Common.{◌≡◌, ℕ, suc, zero, ◌<◌, ◌≤◌, ◌+◌, ◌*◌, ◌/◌, ◌%◌, ap, List, [], ◌∷◌, ◌++◌, length, take, drop, get_or, refl, ap₂, sym, ◌∙◌, arith}
+use Rattle.std.proofs.Common.{◌≡◌, ℕ, suc, zero, ◌<◌, ◌≤◌, ◌+◌, ◌*◌, ◌/◌, ◌%◌, ap, List, [], ◌∷◌, ◌++◌, length, take, drop, get_or, refl, ap₂, sym, ◌∙◌, arith, add-zero}
 use Rattle.std.specs.List.{All, flat_map}
 use Rattle.std.specs.Simd.{first_chunks}
 use Rattle.std.proofs.Math.Nat.{div-add-mod, mul-mod_left, suc-mul, zero-mul}
@@ -47,10 +47,6 @@ text_of-record n ts i h below =
 pub IsPacked-joined : (n : ℕ) (ts : List (List ℕ)) → AllStrict n ts → IsPacked (flat_map (padded n) ts) n
 IsPacked-joined n ts h = record { texts = ts; each = h; joined = refl }
 
--- the lesser product has the lesser factor
-below_times : (i k n : ℕ) → i * n < k * n → i < k
-below_times i k n h = grind arith
-
 -- a packed list is records, each a padded text
 pub IsPacked-length : (bytes : List ℕ) (n : ℕ) → IsPacked bytes n → length bytes % n ≡ 0
 IsPacked-length bytes n h = rw (h.joined, length-joined n h.texts h.each) (mul-mod_left (length h.texts) n)
@@ -59,7 +55,7 @@ IsPacked-length bytes n h = rw (h.joined, length-joined n h.texts h.each) (mul-m
 pub IsPacked-record : (bytes : List ℕ) (n i : ℕ) → IsPacked bytes n → i * n < length bytes → IsPaddedText (record_at n bytes i) n
 IsPacked-record bytes n i h inside =
     let long : length bytes ≡ length h.texts * n = rw h.joined (length-joined n h.texts h.each) in
-    let below = below_times i (length h.texts) n (omega arith) in
+    let below : i < length h.texts = grind arith in
     rw (h.joined, record_at-joined n h.texts i h.each below) (IsPaddedText-pad (get_or h.texts i []) n (All-get_or (λ t. IsStrictText t n) h.texts i [] below h.each))
 
 -- and the other way round
@@ -105,11 +101,10 @@ IsChecked-block records rest block more n i m h first behind count padded =
     }
 
 -- the next record
-next : (records rest : List (List ℕ)) (raw d : List ℕ) (n i j : ℕ) → IsChecked records n i (drop j rest) → j < length rest → raw ≡ get_or rest j raw → raw ≡ get_or records i d
-next records rest raw d n i j h inside is =
-    let first_left : j + 0 ≡ j = omega arith in
-    let first : i + 0 ≡ i = omega arith in
-    is ∙ get_or_default rest j raw d inside ∙ sym (rw first_left at (get_or-drop j rest 0 d)) ∙ ap (λ (l : List (List ℕ)). get_or l 0 d) h.left ∙ rw first at (get_or-drop i records 0 d)
+get_or-IsChecked : (records rest : List (List ℕ)) (raw d : List ℕ) (n i j : ℕ) → IsChecked records n i (drop j rest) → j < length rest → raw ≡ get_or rest j raw → raw ≡ get_or records i d
+get_or-IsChecked records rest raw d n i j h inside is =
+    let first : get_or rest j d ≡ get_or records i d = rw (get_or-drop, get_or-drop, add-zero, add-zero) at (ap (λ (l : List (List ℕ)). get_or l 0 d) h.left) in
+    is ∙ get_or_default rest j raw d inside ∙ first
 
 -- it is a padded text
 pub IsChecked-more : (records rest : List (List ℕ)) (raw : List ℕ) (n i j : ℕ) → IsChecked records n i (drop j rest) → j < length rest → raw ≡ get_or rest j raw
@@ -117,7 +112,7 @@ pub IsChecked-more : (records rest : List (List ℕ)) (raw : List ℕ) (n i j : 
 IsChecked-more records rest raw n i j h inside is padded = record {
   left = rw (← drop-drop 1 j rest, h.left) (drop-drop 1 i records);
   seen = omega (arith, h.seen, length-drop j rest, length-drop (j + 1) rest);
-  good = All-more (λ (r : List ℕ). IsPaddedText r n) records i raw (omega (arith, h.seen, length-drop j rest)) h.good (rw (← next records rest raw raw n i j h inside is) padded);
+  good = All-more (λ (r : List ℕ). IsPaddedText r n) records i raw (omega (arith, h.seen, length-drop j rest)) h.good (rw (← get_or-IsChecked records rest raw raw n i j h inside is) padded);
 }
 
 -- it is bad
@@ -125,14 +120,14 @@ pub IsFirstUnpadded-next : (records rest : List (List ℕ)) (raw : List ℕ) (n 
     → ¬ IsPaddedText raw n → IsFirstUnpadded records n i
 IsFirstUnpadded-next records rest raw n i j h inside is unpadded = record {
   inside = omega (arith, h.seen, length-drop j rest);
-  bad = λ padded. unpadded (rw (← next records rest raw [] n i j h inside is) at padded);
+  bad = λ padded. unpadded (rw (← get_or-IsChecked records rest raw [] n i j h inside is) at padded);
   before = h.good;
 }
 
 -- and has its own fault
 pub fault_in-next : (records rest : List (List ℕ)) (raw : List ℕ) (n i j : ℕ) → IsChecked records n i (drop j rest) → j < length rest → raw ≡ get_or rest j raw
     → fault_in n raw ≡ fault_in n (get_or records i [])
-fault_in-next records rest raw n i j h inside is = ap (λ (b : List ℕ). fault_in n b) (next records rest raw [] n i j h inside is)
+fault_in-next records rest raw n i j h inside is = ap (λ (b : List ℕ). fault_in n b) (get_or-IsChecked records rest raw [] n i j h inside is)
 
 -- no record is left
 pub AllPadded-checked : (records rest : List (List ℕ)) (n i : ℕ) → IsChecked records n i rest → length rest ≡ 0 → AllPadded n records
@@ -159,25 +154,25 @@ pub record AreRecords (records : List (List ℕ)) (bytes : List ℕ) (n : ℕ) :
   pub whole : length bytes % n ≡ 0
 
 -- each is a record of theirs
-pub record_in : (records : List (List ℕ)) (bytes : List ℕ) (n i : ℕ) (d : List ℕ) → AreRecords records bytes n → i < length records → get_or records i d ≡ record_at n bytes i
-record_in records bytes n i d h inside = rw h.are (get_or-first_chunks n (length bytes / n) bytes i d (omega (arith, h.count)))
+pub get_or-AreRecords : (records : List (List ℕ)) (bytes : List ℕ) (n i : ℕ) (d : List ℕ) → AreRecords records bytes n → i < length records → get_or records i d ≡ record_at n bytes i
+get_or-AreRecords records bytes n i d h inside = rw h.are (get_or-first_chunks n (length bytes / n) bytes i d (omega (arith, h.count)))
 
 -- they are packed where each is a padded text
 pub IsPacked-records : (records : List (List ℕ)) (bytes : List ℕ) (n : ℕ) → AreRecords records bytes n → AllPadded n records → IsPacked bytes n
 IsPacked-records records bytes n h padded =
-    IsPacked-from_records bytes n (length records) (rw h.count (omega (arith, h.whole, div-add-mod (length bytes) n))) (λ i below. rw (← record_in records bytes n i [] h below) (padded i [] below))
+    IsPacked-from_records bytes n (length records) (rw h.count (omega (arith, h.whole, div-add-mod (length bytes) n))) (λ i below. rw (← get_or-AreRecords records bytes n i [] h below) (padded i [] below))
 
 -- the first bad one of the list is the first bad one of the bytes
 pub IsFirstBad-records : (records : List (List ℕ)) (bytes : List ℕ) (n i : ℕ) → AreRecords records bytes n → 0 < n → IsFirstUnpadded records n i → IsFirstBad bytes n i
 IsFirstBad-records records bytes n i h some first = record {
   inside = grind (arith, h.count, first.inside, div-add-mod (length bytes) n);
-  bad = λ padded. first.bad (rw (record_in records bytes n i [] h first.inside) padded);
+  bad = λ padded. first.bad (rw (get_or-AreRecords records bytes n i [] h first.inside) padded);
   before = λ k below.
       let inside : k < length records = omega (arith, first.inside) in
-      rw (← record_in records bytes n k [] h inside, ← get_or-take i records k [] below) (first.before k [] (omega (arith, length-take i records, first.inside)));
+      rw (← get_or-AreRecords records bytes n k [] h inside, ← get_or-take i records k [] below) (first.before k [] (omega (arith, length-take i records, first.inside)));
 }
 
 -- and the other way round, packed bytes have padded texts alone
 pub AllPadded-packed : (records : List (List ℕ)) (bytes : List ℕ) (n : ℕ) → AreRecords records bytes n → 0 < n → IsPacked bytes n → AllPadded n records
 AllPadded-packed records bytes n h some packed i d below =
-    rw (record_in records bytes n i d h below) (IsPacked-record bytes n i packed (grind (arith, h.count, div-add-mod (length bytes) n)))
+    rw (get_or-AreRecords records bytes n i d h below) (IsPacked-record bytes n i packed (grind (arith, h.count, div-add-mod (length bytes) n)))

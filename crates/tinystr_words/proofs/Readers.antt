@@ -1,16 +1,18 @@
 -- One pass over a list of units: what is known after the first i of them, and the fault that the pass finds.
-use Rattle.std.proofs.Common.{◌≡◌, ℕ, zero, suc, ◌+◌, ◌-◌, ◌<◌, ◌≤◌, ◌==◌, Bool, true, false, ◌||◌, List, ◌++◌, length, get_or, take, drop, Option, Some, None, nat_lt, sym, ap, ◌∙◌, refl, arith, below_more, inl, inr}
+use Rattle.std.proofs.Common.{◌≡◌, ℕ, ◌+◌, ◌<◌, ◌≤◌, ◌==◌, Bool, true, false, ◌||◌, List, length, get_or, take, Some, None, if◌then◌else◌, nat_lt, sym, ◌∙◌, refl, arith, below_more, inl, inr, zero-add}
 use Rattle.std.proofs.lemmas.Bool.{cases_lt}
 use Rattle.std.proofs.lemmas.Bool.Decides.{nat_tests}
-use Rattle.std.proofs.lemmas.List.{get_or-take, get_or-drop, get_or_default, take-append-drop, length-drop, length-take-le}
-use Rattle.std.proofs.lemmas.List.Elements.{All-from_get_or}
-use Rattle.std.proofs.lemmas.List.Folds.{list_any_more, list_any_at, list_any_none}
-use Rattle.std.proofs.lemmas.List.Sums.{prefix_len_passes, prefix_len_stops}
-use Rattle.std.specs.List.{find, prefix_len, range_with_len}
-use Rattle.std.specs.Option.{option_map, unwrap_or}
-use Rattle.tinystr_words.proofs.Texts.{IsPaddedText-char, IsPaddedText-nul, nuls_from, length-text_of, length-text_of-le, is_not_nul}
+use Rattle.std.proofs.lemmas.List.{get_or-take, get_or_past, length-take-le, take-take}
+use Rattle.std.proofs.lemmas.List.Elements.{All-from_get_or, All-take, All-weaker}
+use Rattle.std.proofs.lemmas.List.Folds.{find_at, list_any_more, list_any_at, list_any_none}
+use Rattle.std.proofs.lemmas.List.Sums.{fails_before_first, passes_at_first, position_or_len_is, prefix_len_passes, prefix_len_stops}
+use Rattle.std.proofs.lemmas.List.FromFn.{get_or-range_with_len, length-range_with_len}
+use Rattle.std.proofs.lemmas.Option.{slice_get-get_or, slice_get_past}
+use Rattle.std.specs.List.{find, position_or_len, prefix_len, range_with_len}
+use Rattle.std.specs.Option.{MatchOption, option_map, unwrap_or}
+use Rattle.tinystr_words.proofs.Texts.{IsPaddedText-places, get_or-text_of, length-text_of, length-text_of-le, differs_from_nul, take-text_of}
 use Rattle.tinystr_words.specs.Text.{IsTextByte, IsPaddedText, text_of}
-use Rattle.tinystr_words.specs.Reading.{lossy_byte, Fault, is_after_nul, is_faulty, first_faulty, first_fault, fault_in}
+use Rattle.tinystr_words.specs.Reading.{is_after_nul, is_faulty, first_faulty, first_fault, fault_in}
 use Rattle.tinystr_words.specs.Reading.Fault.{too_long, contains_null, non_ascii}
 
 -- no position before i is faulty, and `seen` tells whether a NUL stands there
@@ -23,14 +25,14 @@ pub IsScanned-none : (units : List ℕ) → IsScanned units 0 false
 IsScanned-none units = record { clean = λ k h. absurd (omega arith); nul = refl }
 
 -- a NUL stands before the next position exactly if one stands before this one or at it
-after_nul_more : (units : List ℕ) (i : ℕ) → i < length units → is_after_nul units (i + 1) ≡ (is_after_nul units i || (get_or units i 0 == 0))
-after_nul_more units i inside = list_any_more (λ u. u == 0) units i 0 inside
+is_after_nul-more : (units : List ℕ) (i : ℕ) → i < length units → is_after_nul units (i + 1) ≡ (is_after_nul units i || (get_or units i 0 == 0))
+is_after_nul-more units i inside = list_any_more (λ u. u == 0) units i 0 inside
 
 -- the next unit is a NUL
 pub IsScanned-nul : (units : List ℕ) (i : ℕ) (seen : Bool) → IsScanned units i seen → i < length units → get_or units i 0 ≡ 0 → IsScanned units (i + 1) true
 IsScanned-nul units i seen h inside is_nul = record {
   clean = below_more _ _ h.clean (grind (arith, nat_tests));
-  nul = sym (after_nul_more units i inside ∙ grind (arith, nat_tests));
+  nul = sym (is_after_nul-more units i inside ∙ grind (arith, nat_tests));
 }
 
 -- the next unit is a character, and no NUL was seen
@@ -38,36 +40,38 @@ pub IsScanned-char : (units : List ℕ) (i : ℕ) → IsScanned units i false �
 IsScanned-char units i h inside some low =
     let unseen = h.nul in record {
       clean = below_more _ _ h.clean (grind (arith, nat_tests));
-      nul = sym (after_nul_more units i inside ∙ grind (arith, nat_tests));
+      nul = sym (is_after_nul-more units i inside ∙ grind (arith, nat_tests));
     }
 
 -- ---- the least position that passes a test
 
+-- the first of the positions below n that passes, or n where none does
+position_or_len-range : (p : ℕ → Bool) (n i : ℕ) → i ≤ n → ((k : ℕ) → k < i → p k ≡ false) → (i < n → p i ≡ true) → position_or_len p (range_with_len 0 n) ≡ i
+position_or_len-range p n i fits none passes =
+    position_or_len_is p (range_with_len 0 n) i 0 (rw length-range_with_len fits)
+    (λ k below. rw (get_or-range_with_len 0 n k 0 (omega arith), zero-add) (none k below))
+    (λ more. let inside : i < n = rw length-range_with_len at more in rw (get_or-range_with_len 0 n i 0 inside, zero-add) (passes inside))
+
 -- where no position passes, none is found
-pub find_none : (p : ℕ → Bool) (a n : ℕ) → ((k : ℕ) → a ≤ k → k < a + n → p k ≡ false) → find p (range_with_len a n) ≡ None
-find_none p a zero none = refl
-find_none p a (suc n) none = rw (none a (omega arith) (omega arith)) (find_none p (a + 1) n (λ k h l. none k (omega arith) (omega arith)))
+pub find-none : (p : ℕ → Bool) (n : ℕ) → ((k : ℕ) → k < n → p k ≡ false) → find p (range_with_len 0 n) ≡ None
+find-none p n none =
+    find_at p (range_with_len 0 n) ∙ rw (position_or_len-range p n n (omega arith) none (λ no. absurd (omega arith))) (slice_get_past (range_with_len 0 n) n (omega (arith, length-range_with_len 0 n)))
 
 -- the first position that passes is found
-pub find_first : (p : ℕ → Bool) (a n i : ℕ) → a ≤ i → i < a + n → p i ≡ true → ((k : ℕ) → a ≤ k → k < i → p k ≡ false) → find p (range_with_len a n) ≡ Some i
-find_first p a zero i from inside passes none = absurd (omega arith)
-find_first p a (suc n) i from inside passes none =
-    elim (cases_lt a i) [
-      | inl later ↦ rw (none a (omega arith) later) (find_first p (a + 1) n i (omega arith) (omega arith) passes (λ k h l. none k (omega arith) l))
-      | inr here ↦ (let same : a ≡ i = omega arith in rw (same, passes) refl)
-    ]
+pub find-first : (p : ℕ → Bool) (n i : ℕ) → i < n → p i ≡ true → ((k : ℕ) → k < i → p k ≡ false) → find p (range_with_len 0 n) ≡ Some i
+find-first p n i inside passes none =
+    find_at p (range_with_len 0 n) ∙ rw (position_or_len-range p n i (omega arith) none (λ more. passes))
+    (slice_get-get_or (range_with_len 0 n) i 0 (rw length-range_with_len inside) ∙ rw (get_or-range_with_len 0 n i 0 inside, zero-add) refl)
 
--- where none is found, no position passes
-find_none_from : (p : ℕ → Bool) (a n : ℕ) → find p (range_with_len a n) ≡ None → (k : ℕ) → a ≤ k → k < a + n → p k ≡ false
-find_none_from p a zero none k from inside = absurd (omega arith)
-find_none_from p a (suc n) none k from inside =
-    elim (p a) as (λ b. p a ≡ b → p k ≡ false) [
-      | true ↦ λ e. let found : Some a ≡ None = sym (rw e refl) ∙ none in cc
-      | false ↦ λ e. elim (cases_lt a k) [
-        | inl later ↦ find_none_from p (a + 1) n (rw e at none) k (omega arith) (omega arith)
-        | inr here ↦ (let same : k ≡ a = omega arith in rw same e)
-      ]
-    ] refl
+-- what is found passes, and where none is found, no position does
+pub find-is : (p : ℕ → Bool) (n : ℕ) → MatchOption (find p (range_with_len 0 n)) ((k : ℕ) → k < n → p k ≡ false) (λ i. p i ≡ true)
+find-is p n =
+    let xs = range_with_len 0 n in
+    elim (cases_lt (position_or_len p xs) (length xs)) [
+      | inl found ↦ rw (find_at p xs, slice_get-get_or xs (position_or_len p xs) 0 found) (passes_at_first p xs 0 found)
+      | inr past ↦ rw (find_at p xs, slice_get_past xs (position_or_len p xs) past)
+          (λ k inside. rw (get_or-range_with_len 0 n k 0 inside, zero-add) at (fails_before_first p xs k 0 (omega (arith, length-range_with_len 0 n))))
+    ]
 
 -- ---- the fault that the pass finds
 
@@ -76,7 +80,7 @@ pub first_fault-high : (units : List ℕ) (i : ℕ) (seen : Bool) → IsScanned 
 unfolding first_fault first_faulty
 first_fault-high units i seen h inside high =
     let above : nat_lt 127 (get_or units i 0) ≡ true = grind (arith, nat_tests) in
-    rw (find_first (is_faulty units) 0 (length units) i (omega arith) (omega arith) (rw above refl) (λ k from below. h.clean k below), above) refl
+    rw (find-first (is_faulty units) (length units) i inside (rw above refl) h.clean, above) refl
 
 -- the next unit is a character after a NUL, and that is the first fault
 pub first_fault-late : (units : List ℕ) (i : ℕ) → IsScanned units i true → i < length units → 0 < get_or units i 0 → get_or units i 0 < 128 → first_fault units ≡ Some contains_null
@@ -84,27 +88,25 @@ unfolding first_fault first_faulty
 first_fault-late units i h inside some low =
     let within : nat_lt 127 (get_or units i 0) ≡ false = grind (arith, nat_tests) in
     let character : nat_lt 0 (get_or units i 0) ≡ true = grind (arith, nat_tests) in
-    rw (find_first (is_faulty units) 0 (length units) i (omega arith) (omega arith) (rw (within, character, ← h.nul) refl) (λ k from below. h.clean k below), within) refl
+    rw (find-first (is_faulty units) (length units) i inside (rw (within, character, ← h.nul) refl) h.clean, within) refl
 
 -- where no position is faulty, there is no fault
 pub first_fault-clean : (units : List ℕ) → ((k : ℕ) → k < length units → is_faulty units k ≡ false) → first_fault units ≡ None
 unfolding first_fault first_faulty
-first_fault-clean units clean = rw (find_none (is_faulty units) 0 (length units) (λ k from below. clean k (omega arith))) refl
+first_fault-clean units clean = rw (find-none (is_faulty units) (length units) clean) refl
 
 -- a pass that comes to the end finds no fault
 pub first_fault-none : (units : List ℕ) (seen : Bool) → IsScanned units (length units) seen → first_fault units ≡ None
 first_fault-none units seen h = first_fault-clean units h.clean
 
--- what a function leaves as none was none before
-clean_from_none : (o : Option ℕ) (f : ℕ → Fault) → option_map f o ≡ None → o ≡ None
-clean_from_none None f e = refl
-clean_from_none (Some i) f e = cc
-
 -- where there is no fault, no position is faulty
-pub clean_from : (units : List ℕ) → first_fault units ≡ None → (k : ℕ) → k < length units → is_faulty units k ≡ false
+pub is_faulty-none : (units : List ℕ) → first_fault units ≡ None → (k : ℕ) → k < length units → is_faulty units k ≡ false
 unfolding first_fault first_faulty
-clean_from units none k inside =
-    find_none_from (is_faulty units) 0 (length units) (clean_from_none _ _ none) k (omega arith) (omega arith)
+is_faulty-none units none k inside =
+    elim (find (is_faulty units) (range_with_len 0 (length units))) as (λ o. MatchOption o ((k : ℕ) → k < length units → is_faulty units k ≡ false) (λ i. is_faulty units i ≡ true) → option_map (λ i. if nat_lt 127 (get_or units i 0) then non_ascii else contains_null) o ≡ None → is_faulty units k ≡ false) [
+      | None ↦ λ clean e. clean k inside
+      | Some i ↦ λ faulty e. cc
+    ] (find-is (is_faulty units) (length units)) none
 
 -- the fault of a list that is too long, and of one that is not
 pub fault_in-long : (n : ℕ) (units : List ℕ) → n < length units → fault_in n units ≡ too_long n (length units)
@@ -119,12 +121,12 @@ fault_in-fits n units fits = let within : nat_lt n (length units) ≡ false = gr
 -- ---- a padded text has no faulty position, and bytes with none are a padded text
 
 -- a unit that isn't faulty is below 128
-faulty_high : (units : List ℕ) (i : ℕ) → is_faulty units i ≡ false → get_or units i 0 < 128
-faulty_high units i clean = grind (arith, nat_tests)
+is_faulty-low : (units : List ℕ) (i : ℕ) → is_faulty units i ≡ false → get_or units i 0 < 128
+is_faulty-low units i clean = grind (arith, nat_tests)
 
 -- a unit that isn't faulty and stands after a NUL is a NUL
-faulty_late : (units : List ℕ) (i j : ℕ) → is_faulty units i ≡ false → j < i → i < length units → get_or units j 0 ≡ 0 → get_or units i 0 ≡ 0
-faulty_late units i j clean before inside nul =
+is_faulty-after_nul : (units : List ℕ) (i j : ℕ) → is_faulty units i ≡ false → j < i → i < length units → get_or units j 0 ≡ 0 → get_or units i 0 ≡ 0
+is_faulty-after_nul units i j clean before inside nul =
     let long = length-take-le i units (omega arith) in
     let there : (get_or (take i units) j 0 == 0) ≡ true = rw (get_or-take i units j 0 before, nul) refl in
     let after : is_after_nul units i ≡ true = list_any_at (λ u. u == 0) (take i units) j 0 (omega arith) there in
@@ -132,62 +134,39 @@ faulty_late units i j clean before inside nul =
 
 -- a padded text has no fault
 pub first_fault-padded : (bytes : List ℕ) (n : ℕ) → IsPaddedText bytes n → first_fault bytes ≡ None
-first_fault-padded bytes n h = first_fault-clean bytes (λ k inside. clean k)
-  where
-    clean : (k : ℕ) → is_faulty bytes k ≡ false
-    clean k =
-        elim (cases_lt k (length (text_of bytes))) [
-          | inl inside ↦
-              let low = IsPaddedText-char bytes n k h inside in
-              let long = length-take-le k bytes (omega (arith, length-text_of-le bytes)) in
-              let none : is_after_nul bytes k ≡ false = list_any_none (λ u. u == 0) (take k bytes)
-              (All-from_get_or (λ u. (u == 0) ≡ false) (take k bytes) 0 (λ j before.
-              let char = IsPaddedText-char bytes n j h (omega arith) in
-              rw (get_or-take k bytes j 0 (omega arith)) (grind (arith, nat_tests)))) in
-              grind (arith, nat_tests)
-          | inr outside ↦ (let nul = IsPaddedText-nul bytes n k h outside in grind (arith, nat_tests))
-        ]
+first_fault-padded bytes n p = first_fault-clean bytes (λ k inside.
+    let t = text_of bytes in
+    let same = get_or-text_of bytes n k p in
+    elim (cases_lt k (length t)) [
+      | inl within ↦ (let char = p.text k 0 within in
+          let front : take k t ≡ take k bytes = rw (← take-text_of bytes) (take-take k (length t) bytes (omega arith)) in
+          let none : is_after_nul bytes k ≡ false = rw front at (list_any_none (λ u. u == 0) (take k t) (All-take (λ u. (u == 0) ≡ false) k t (All-weaker IsTextByte (λ u. (u == 0) ≡ false) (λ u c. grind (arith, nat_tests)) t p.text))) in
+          grind (arith, nat_tests))
+      | inr past ↦ (let nul = get_or_past t k 0 past in grind (arith, nat_tests))
+    ])
 
 -- bytes without a fault are a padded text
 pub IsPaddedText-clean : (bytes : List ℕ) (n : ℕ) → length bytes ≡ n → first_fault bytes ≡ None → IsPaddedText bytes n
-IsPaddedText-clean bytes n e none = record {
-  text = λ k d h.
-      let l : k < p = omega (arith, length-text_of bytes) in
-      let inside : k < length bytes = omega (arith, length-text_of-le bytes) in
-      let char = prefix_len_passes is_not_nul bytes k 0 l in
-      rw (get_or-take p bytes k d l, get_or_default bytes k d 0 inside) (char_of k inside (grind (arith, nat_tests)));
-  fits = omega (arith, length-text_of-le bytes);
-  padded = sym (take-append-drop p bytes) ∙ ap (λ (z : List ℕ). take p bytes ++ z)
-      (nuls_from (drop p bytes) (n - length (text_of bytes)) (omega (arith, length-drop p bytes, length-text_of bytes)) nul_at);
-}
+IsPaddedText-clean bytes n e none = (IsPaddedText-places bytes (text_of bytes) n e (All-from_get_or IsTextByte (text_of bytes) 0 char) same).0
   where
     p : ℕ
-    p = prefix_len is_not_nul bytes
+    p = prefix_len differs_from_nul bytes
 
-    char_of : (k : ℕ) → k < length bytes → 0 < get_or bytes k 0 → IsTextByte (get_or bytes k 0)
-    char_of k inside some = (some, faulty_high bytes k (clean_from bytes none k inside))
+    char : (k : ℕ) → k < length (text_of bytes) → IsTextByte (get_or (text_of bytes) k 0)
+    char k inside =
+        let below : k < p = omega (arith, length-text_of bytes) in
+        let passes = prefix_len_passes differs_from_nul bytes k 0 below in
+        rw (get_or-take p bytes k 0 below) (grind (arith, nat_tests), is_faulty-low bytes k (is_faulty-none bytes none k (omega (arith, length-text_of-le bytes))))
 
-    nul_at : (k : ℕ) → k < length (drop p bytes) → get_or (drop p bytes) k 0 ≡ 0
-    nul_at k h =
-        let inside : p + k < length bytes = omega (arith, length-drop p bytes) in
-        let stops = prefix_len_stops is_not_nul bytes 0 (omega arith) in
-        let nul : get_or bytes p 0 ≡ 0 = grind (arith, nat_tests) in
-        rw get_or-drop
-        (elim (cases_lt 0 k) [
-          | inl later ↦ faulty_late bytes (p + k) p (clean_from bytes none (p + k) inside) (omega arith) inside nul
-          | inr first ↦ (let same : p + k ≡ p = omega arith in rw same nul)
-        ])
-
--- ---- a lossy reader
-
--- a lossy reader keeps a character
-pub lossy_byte-character : (u r : ℕ) → IsTextByte u → u ≡ lossy_byte r u
-lossy_byte-character u r char = grind (arith, nat_tests)
-
--- and replaces any other unit
-pub lossy_byte-other : (u r : ℕ) → (IsTextByte u → ⊥) → r ≡ lossy_byte r u
-lossy_byte-other u r other =
-    elim (cases_lt 0 u) [
-      | inl some ↦ elim (cases_lt u 128) [ inl low ↦ absurd (other (some, low)) | inr high ↦ grind (arith, nat_tests) ]
-      | inr none ↦ grind (arith, nat_tests)
-    ]
+    same : (k : ℕ) → k < n → get_or bytes k 0 ≡ get_or (text_of bytes) k 0
+    same k inside =
+        elim (cases_lt k p) [
+          | inl below ↦ sym (get_or-take p bytes k 0 below)
+          | inr past ↦ rw (get_or_past (text_of bytes) k 0 (omega (arith, length-text_of bytes))) (
+              let stops = prefix_len_stops differs_from_nul bytes 0 (omega arith) in
+              let nul : get_or bytes p 0 ≡ 0 = grind (arith, nat_tests) in
+              elim (cases_lt p k) [
+                | inl later ↦ is_faulty-after_nul bytes k p (is_faulty-none bytes none k (omega arith)) later (omega arith) nul
+                | inr first ↦ (let here : k ≡ p = omega arith in rw here nul)
+              ])
+        ]

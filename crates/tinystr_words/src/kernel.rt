@@ -38,6 +38,7 @@ pub const NOT_NUL: u8 = 0x7f;
 
 /// The high bit of each lane that isn't NUL.
 #[inline(always)]
+#[tactic(auto, using(crate::proofs::LowLanes::low_first_then))]
 pub fn present<T: Word<LEN>, const LEN: usize>(text: T) -> T
     requires { HasLowLanes (T.number text) }
     ensures { T.number result ≡
@@ -48,6 +49,7 @@ pub fn present<T: Word<LEN>, const LEN: usize>(text: T) -> T
 
 /// The high bit of each lane whose lower bits aren't all clear.
 #[inline(always)]
+#[tactic(auto, using(crate::proofs::LowLanes::low_and, crate::proofs::LowLanes::low_first_then))]
 pub fn marks<T: Word<LEN>, const LEN: usize>(bytes: T) -> T
     ensures { T.number result ≡ bit_and
         (bit_and (T.number bytes) (word (first_then LEN 0x7f 0x7f)) + word (first_then LEN NOT_NUL NOT_NUL))
@@ -69,6 +71,7 @@ pub fn faults<T: Word<LEN>, const LEN: usize>(bytes: T, marks: T) -> T
 
 /// The high bit of each lane whose byte is outside its range.
 #[inline(always)]
+#[tactic(auto, using(crate::proofs::LowLanes::low_first_then))]
 pub fn outside<T: Word<LEN>, const LEN: usize>(text: T, first: Range, others: Range) -> T
     requires { HasLowLanes (T.number text) }
     ensures { T.number result ≡ bit_or
@@ -95,6 +98,7 @@ pub fn case_bits<T: Word<LEN>, const LEN: usize>(text: T, first: Range, others: 
 
 /// The text with the case bit set in each lane: its letters in lowercase, and some of its other bytes changed.
 #[inline(always)]
+#[tactic(auto, using(crate::proofs::LowLanes::low_or, crate::proofs::LowLanes::low_first_then))]
 pub fn with_case_bits<T: Word<LEN>, const LEN: usize>(text: T) -> T
     requires { HoldsText LEN (T.number text) }
     ensures bits { T.number result ≡ bit_or (T.number text) (word (first_then LEN 0x20 0x20)) }

@@ -19,6 +19,7 @@ ghost use Rattle.tinystr_words.specs.Text.{IsStrictText, pad, IsText, IsPaddedTe
 ghost use Rattle.tinystr_words.specs.Words.{word, lane};
 
 /// Of two lists one comes before the other, or they are one list, and padded texts are in the order of the texts.
+#[tactic(auto, using(crate::proofs::Before::before_or_same, crate::proofs::Before::before_not_same, crate::proofs::Before::before_one_way))]
 pub fn order_total()
     ensures one { (t s : List ℕ) → (t ≡ s) ⊎ (IsBefore t s ⊎ IsBefore s t) }
     ensures alone { (t s : List ℕ) → (t ≡ s → ¬ IsBefore t s) × (IsBefore t s → ¬ IsBefore s t) }
@@ -27,12 +28,14 @@ pub fn order_total()
 {}
 
 /// The order is what std's comparison of lists answers.
+#[tactic(auto, using(crate::proofs::Before::cmp_is_before, crate::proofs::Before::cmp_is_same))]
 pub fn order_compared()
     ensures less { (t s : List ℕ) → (slice_cmp nat_cmp t s ≡ Less) ↔ IsBefore t s }
     ensures equal { (t s : List ℕ) → (slice_cmp nat_cmp t s ≡ Equal) ↔ (t ≡ s) }
 {}
 
 /// A case change of the front of a text is the front of the changed text.
+#[tactic(auto, using(crate::proofs::LawSets::changes_cut))]
 pub fn case_cut()
     ensures lower { (m : ℕ) (t : List ℕ) → lowercase (take m t) ≡ take m (lowercase t) }
     ensures title { (m : ℕ) (t : List ℕ) → titlecase (take m t) ≡ take m (titlecase t) }
@@ -48,6 +51,7 @@ pub fn case_twice()
 {}
 
 /// A case change leaves alone exactly the texts of its case.
+#[tactic(auto, using(crate::proofs::LawSets::texts_left_alone))]
 pub fn case_fixed()
     ensures lower { (t : List ℕ) → (lowercase t ≡ t) ↔ IsTrue (ask is_not_upper is_not_upper t) }
     ensures title { (t : List ℕ) → (titlecase t ≡ t) ↔ IsTrue (ask is_not_lower is_not_upper t) }
@@ -65,17 +69,20 @@ pub fn class_joined()
 {}
 
 /// Texts joined and cut in either order have one front.
+#[tactic(auto, using(crate::proofs::Cutting::take_join_cut))]
 pub fn join_cut()
     ensures { (a b c : List ℕ) (p q r : ℕ) → q ≤ p → q ≤ r →
         take q (take p (a ++ b) ++ c) ≡ take q (a ++ take r (b ++ c)) }
 {}
 
 /// Texts that fit are joined whole.
+#[tactic(auto, using(crate::proofs::LawSets::joins_that_fit))]
 pub fn join_fits()
     ensures { (a b : List ℕ) (q : ℕ) → length a + length b ≤ q → take q (a ++ b) ≡ a ++ b }
 {}
 
 /// A number of 32 bits has at most ten digits.
+#[tactic(auto, using(crate::proofs::LawSets::ten_digits))]
 pub fn digits_ten()
     ensures { (n : ℕ) → n ≤ 4294967295 → length (decimal n) ≤ 10 }
 {}
@@ -87,6 +94,7 @@ pub fn digits_shortest()
 {}
 
 /// Where no lane is above 0x7f, no lane of a sum carries into the next.
+#[tactic(auto, using(crate::proofs::WordLaws::lane_sum_is))]
 pub fn lane_sum()
     ensures { (a c : List ℕ) → length a ≡ length c → All (λ b. b ≤ 0x7f) a → All (λ b. b ≤ 0x7f) c →
         (word a + word c < 256 ^ length a)
@@ -94,6 +102,7 @@ pub fn lane_sum()
 {}
 
 /// The size of a word tells the length of the text that it holds.
+#[tactic(auto, using(crate::proofs::WordLaws::word_length_is))]
 pub fn word_length()
     ensures { (w : ℕ) (t : List ℕ) → IsText t → length t ≤ w →
         (word (pad t w) < 256 ^ length t) × ((k : ℕ) → word (pad t w) < 256 ^ k → length t ≤ k) }
@@ -121,6 +130,7 @@ pub fn word_join()
 {}
 
 /// A text has a padded form, and no other text has the same.
+#[tactic(auto, using(crate::proofs::LawSets::padded_forms))]
 pub fn pad_once()
     ensures padded { (t : List ℕ) (n : ℕ) → IsStrictText t n → IsPaddedText (pad t n) n }
     ensures once { (t s : List ℕ) (n : ℕ) → IsStrictText t n → IsStrictText s n →
@@ -144,12 +154,14 @@ pub fn niche_fault()
 {}
 
 /// Each record of packed records is a padded text.
+#[tactic(auto, using(crate::proofs::LawSets::records))]
 pub fn packed_records()
     ensures { (bytes : List ℕ) (n i : ℕ) → IsPacked bytes n → i * n < length bytes →
         IsPaddedText (record_at n bytes i) n }
 {}
 
 /// Texts that are padded and joined are packed records, as many as the texts, and each record holds its text.
+#[tactic(auto, using(crate::proofs::LawSets::packed_texts))]
 pub fn texts_packed()
     ensures packed { (n : ℕ) (ts : List (List ℕ)) → All (λ t. IsStrictText t n) ts →
         IsPacked (flat_map (λ t. pad t n) ts) n }

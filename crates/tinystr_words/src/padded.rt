@@ -134,6 +134,7 @@ pub fn ask<const N: usize>(bytes: &[u8; N], question: Question) -> bool
 
 /// Changes the case of the text in place.
 #[inline(always)]
+#[tactic(auto, using(crate::proofs::PaddedWords::in_case_take))]
 pub fn change<const N: usize>(bytes: &mut [u8; N], case: Case)
     requires { IsPaddedText bytes.old N }
     ensures { bytes.new ≡ pad (in_case case (text_of bytes.old)) N }
@@ -153,6 +154,7 @@ pub fn change<const N: usize>(bytes: &mut [u8; N], case: Case)
 
 /// The first `Q` bytes of the two texts joined.
 #[inline(always)]
+#[tactic(auto, using(crate::proofs::Cutting::fronts_joined))]
 pub fn join<const N: usize, const M: usize, const Q: usize>(
     front: &[u8; N],
     back: &[u8; M],

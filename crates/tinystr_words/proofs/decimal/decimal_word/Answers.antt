@@ -1,34 +1,26 @@
-use Rattle.std.proofs.Common.{◌+◌, ◌*◌, ◌<◌, ◌∙◌, sym, arith}
+use Rattle.std.proofs.Common.{◌<◌, ◌∙◌, sym, arith}
 use Rattle.std.specs.Fmt.{decimal}
-use Rattle.tinystr_words.proofs.Decimals.{word_before, before_two, before_one, before_last, room_next, room_fits, enough_next, enough_small}
+use Rattle.tinystr_words.proofs.Decimals.{word_is_onto, word_onto-two_digits, word_onto-one_digit, word_onto-last_two, room_more, enough_next, enough_small}
 use Rattle.tinystr_words.proofs.decimal.decimal_word.Goals as goal
 use Rattle.tinystr_words.proofs.decimal.decimal_word.Goals.{else-loop-i-test, then-loop-i-test+then-rest-lt100}
 
 pub overflow_mul-last : goal.overflow_mul-last
-overflow_mul-last c =
-    let next = room_next c.loop-i.last 0 c.loop-i.i c.loop-i.invariant.room (omega arith) in
-    let fits = room_fits (65536 * c.loop-i.last + 0) (c.loop-i.i + 1) (omega arith) next in
-    omega arith
+overflow_mul-last c = omega (arith, room_more c.loop-i.last 0 c.loop-i.i (omega arith) c.loop-i.invariant.room (omega arith))
 
 pub overflow_add-last : goal.overflow_add-last
-overflow_add-last c =
-    let next = room_next c.loop-i.last c.from.result c.loop-i.i c.loop-i.invariant.room (omega arith) in
-    let fits = room_fits (65536 * c.loop-i.last + c.from.result) (c.loop-i.i + 1) (omega arith) next in
-    omega arith
+overflow_add-last c = omega (arith, room_more c.loop-i.last c.from.result c.loop-i.i (omega arith) c.loop-i.invariant.room (omega arith))
 
 pub loop-i-preserved : goal.loop-i-preserved
-loop-i-preserved c =
-    let pair = c.from.ensures ∙ c.two_digits.ensures in
-    record {
-      room = room_next c.loop-i.last c.from.result c.loop-i.i c.loop-i.invariant.room (omega arith);
-      enough = enough_next c.loop-i.rest c.loop-i.i c.args.number c.loop-i.invariant.enough;
-      written = c.loop-i.invariant.written ∙ rw pair (before_two c.loop-i.rest c.loop-i.last (omega arith) (omega arith));
-    }
+loop-i-preserved c = record {
+  room = (room_more c.loop-i.last c.from.result c.loop-i.i (omega arith) c.loop-i.invariant.room (omega arith)).0;
+  enough = enough_next c.loop-i.rest c.loop-i.i c.args.number c.loop-i.invariant.enough;
+  written = c.loop-i.invariant.written ∙ rw (c.from.ensures, c.two_digits.ensures) (word_onto-two_digits c.loop-i.rest c.loop-i.last (omega arith) (omega arith));
+}
 
 pub returns-then-rest-lt10 : goal.returns-then-rest-lt10
 returns-then-rest-lt10 c =
     rw (c.from-then-rest-lt10.ensures, c.from-then-rest-lt10-2.ensures)
-    (sym (word_before (decimal c.args.number) ∙ c.loop-i.invariant.written ∙ before_one c.loop-i.rest c.loop-i.last c.if-rest-lt10.true))
+    (sym (word_is_onto (decimal c.args.number) ∙ c.loop-i.invariant.written ∙ word_onto-one_digit c.loop-i.rest c.loop-i.last c.if-rest-lt10.true))
 
 pub returns-else-rest-lt10 : goal.returns-else-rest-lt10
 returns-else-rest-lt10 c =
@@ -37,4 +29,4 @@ returns-else-rest-lt10 c =
       | then-loop-i-test+then-rest-lt100 w ↦ w.if-rest-lt100.true
     ] in
     rw (c.from-else-rest-lt10.ensures, c.from-else-rest-lt10-2.ensures, c.two_digits-else-rest-lt10.ensures)
-    (sym (word_before (decimal c.args.number) ∙ c.loop-i.invariant.written ∙ before_last c.loop-i.rest c.loop-i.last c.if-rest-lt10.false small))
+    (sym (word_is_onto (decimal c.args.number) ∙ c.loop-i.invariant.written ∙ word_onto-last_two c.loop-i.rest c.loop-i.last c.if-rest-lt10.false small))

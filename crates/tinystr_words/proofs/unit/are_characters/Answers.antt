@@ -1,6 +1,7 @@
 use Rattle.std.proofs.Common.{map, get_or, sym, ap, ◌∙◌, ◌≡◌, arith}
 use Rattle.std.proofs.lemmas.List.{get_or-map, length-map, take_all}
-use Rattle.tinystr_words.proofs.UnitsByParts.{text_more}
+use Rattle.tinystr_words.specs.Text.{IsTextByte}
+use Rattle.tinystr_words.proofs.UnitsByParts.{All-take-Decides}
 use Rattle.tinystr_words.proofs.unit.are_characters.Goals as goal
 
 pub loop-unit-preserved : goal.loop-unit-preserved
@@ -8,7 +9,7 @@ loop-unit-preserved g c =
     let number = g.U.Unit.number in
     let here : get_or (map number c.args.units.now) c.loop-unit.unit-index 0 ≡ number c.unit-item.result =
     get_or-map number c.args.units.now c.loop-unit.unit-index c.unit-item.result 0 c.loop-unit-test.true ∙ ap number (sym c.unit-item.is) in
-    text_more (map number c.args.units.now) c.loop-unit.unit-index c.loop-unit.are_characters c.is_character-are_characters.result
+    All-take-Decides IsTextByte (map number c.args.units.now) c.loop-unit.unit-index 0 c.loop-unit.are_characters c.is_character-are_characters.result
     (omega (arith, length-map c.args.units.now number)) c.loop-unit.invariant (rw here c.is_character-are_characters.ensures)
 
 pub returns : goal.returns

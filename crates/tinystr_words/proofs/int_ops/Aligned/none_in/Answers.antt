@@ -1,8 +1,6 @@
-use Rattle.tinystr_words.proofs.TextInWord.{ask-outside}
+use Rattle.tinystr_words.proofs.Formulas.{splat, nat_eq-on}
+use Rattle.tinystr_words.proofs.Kernels.{outside_with_nuls, Asks-outside}
 use Rattle.tinystr_words.proofs.int_ops.Aligned.none_in.Goals as goal
 
 pub returns : goal.returns
-returns g c =
-    let f = c.args.first in
-    let o = c.args.others in
-    rw (← c.self.view_is, c.every_lane_marked.ensures, c.outside.ensures) (ask-outside c.self.invariant (f.low, f.high) (o.low, o.high) f.no_carry o.no_carry)
+returns g c = rw (← c.self.view_is, c.every_lane_marked.ensures, c.outside.ensures) (nat_eq-on c.self.invariant (outside_with_nuls c.args.first c.args.others) (splat 0x80) _ _ (Asks-outside c.args.first c.args.others))

@@ -1,25 +1,25 @@
 use Rattle.std.proofs.Common.{◌∙◌, sym}
 use Rattle.std.proofs.lemmas.Bool.{false≢true}
-use Rattle.tinystr_words.proofs.WordFromParts.{low_of_bytes}
-use Rattle.tinystr_words.proofs.Lanes.{IsBytes-fit}
-use Rattle.tinystr_words.proofs.PaddedTest.{padded_test}
+use Rattle.tinystr_words.proofs.WordFromParts.{map-mod_bytes}
+use Rattle.tinystr_words.proofs.Lanes.{IsBytes-from_Fits}
+use Rattle.tinystr_words.proofs.PaddedTest.{is_padded_word-Decides}
 use Rattle.tinystr_words.proofs.TextInWord.{HoldsText-padded}
 use Rattle.tinystr_words.proofs.int_ops.Aligned.try_from_part.Goals as goal
 
 pub invariant_of-result : goal.invariant_of-result
 invariant_of-result g c =
-    let e = rw (c.faults.ensures, c.splat.ensures, c.marks.ensures, c.load-word.ensures, low_of_bytes c.args.part.now c.type_inv.part) at c.equals.ensures in
-    let p = (padded_test g.row.LEN c.args.part.now (IsBytes-fit c.args.part.now c.type_inv.part) c.requires.fits).0 (sym e ∙ c.if-equals.true) in
-    rw (c.load-word.ensures, low_of_bytes c.args.part.now c.type_inv.part) ((HoldsText-padded g.row.LEN c.args.part.now p c.requires.fits).0)
+    let e = rw (c.faults.ensures, c.splat.ensures, c.marks.ensures, c.load-word.ensures, map-mod_bytes c.args.part.now c.type_inv.part) at c.equals.ensures in
+    let p = (is_padded_word-Decides g.row.LEN c.args.part.now (IsBytes-from_Fits c.args.part.now c.type_inv.part) c.requires.fits).0 (sym e ∙ c.if-equals.true) in
+    rw c.load-word.ensures (HoldsText-padded g.row.LEN c.args.part.now c.type_inv.part p c.requires.fits).0
 
 pub returns-then-equals : goal.returns-then-equals
 returns-then-equals g c =
-    let e = rw (c.faults.ensures, c.splat.ensures, c.marks.ensures, c.load-word.ensures, low_of_bytes c.args.part.now c.type_inv.part) at c.equals.ensures in
-    let p = (padded_test g.row.LEN c.args.part.now (IsBytes-fit c.args.part.now c.type_inv.part) c.requires.fits).0 (sym e ∙ c.if-equals.true) in
-    (p, rw (c.load-word.ensures, low_of_bytes c.args.part.now c.type_inv.part) ((HoldsText-padded g.row.LEN c.args.part.now p c.requires.fits).1))
+    let e = rw (c.faults.ensures, c.splat.ensures, c.marks.ensures, c.load-word.ensures, map-mod_bytes c.args.part.now c.type_inv.part) at c.equals.ensures in
+    let p = (is_padded_word-Decides g.row.LEN c.args.part.now (IsBytes-from_Fits c.args.part.now c.type_inv.part) c.requires.fits).0 (sym e ∙ c.if-equals.true) in
+    (p, rw c.load-word.ensures (HoldsText-padded g.row.LEN c.args.part.now c.type_inv.part p c.requires.fits).1)
 
 pub returns-else-equals : goal.returns-else-equals
 returns-else-equals g c = λ p.
-    let e = rw (c.faults.ensures, c.splat.ensures, c.marks.ensures, c.load-word.ensures, low_of_bytes c.args.part.now c.type_inv.part) at c.equals.ensures in
-    let t = (padded_test g.row.LEN c.args.part.now (IsBytes-fit c.args.part.now c.type_inv.part) c.requires.fits).1 p in
+    let e = rw (c.faults.ensures, c.splat.ensures, c.marks.ensures, c.load-word.ensures, map-mod_bytes c.args.part.now c.type_inv.part) at c.equals.ensures in
+    let t = (is_padded_word-Decides g.row.LEN c.args.part.now (IsBytes-from_Fits c.args.part.now c.type_inv.part) c.requires.fits).1 p in
     absurd (false≢true (sym c.if-equals.false ∙ e ∙ t))

@@ -1,20 +1,14 @@
-use Rattle.std.proofs.Common.{◌+◌, ◌-◌, ◌∙◌, ◌≡◌, ◌++◌, ap, length, sym, take, arith, inl, inr, refl}
-use Rattle.std.proofs.Math.Seq.{take-append_seam}
+use Rattle.std.proofs.Common.{◌+◌, ◌-◌, ◌∙◌, length, sym, arith, inl, inr}
 use Rattle.std.proofs.lemmas.List.{take_all}
 use borrow.Rule.Slice.PartMut.{same_len_mid}
-use Rattle.tinystr_words.specs.Text.{text_of}
-use Rattle.tinystr_words.proofs.Texts.{length-text_of-le}
-use Rattle.tinystr_words.proofs.Copying.{appended}
+use Rattle.tinystr_words.proofs.Copying.{IsPadded-appended}
 use Rattle.tinystr_words.proofs.padded.copying.append.Goals as goal
-
-pub overflow_sub-room : goal.overflow_sub-room
-overflow_sub-room c = rw c.requires.at_end (length-text_of-le c.args.bytes.now)
 
 pub returns-then-padded-room : goal.returns-then-padded-room
 returns-then-padded-room c =
     let part = c.copy_from_slice in
     let count = c.args.len + length c.args.padded.now - c.args.len in
-    let made = appended c.args.bytes.now c.args.padded.now part.new.self c.args.len count c.requires.padded c.requires.at_end c.requires.padded_text
+    let made = IsPadded-appended c.args.bytes.now c.args.padded.now part.new.self c.args.len count c.requires.padded c.requires.at_end c.requires.padded_text
     (part.ensures.after ∙ sym (take_all _ c.args.padded.now (omega arith))) (omega arith) (omega arith) (inl (omega arith)) in
     record { len = same_len_mid c.args.len count c.args.bytes.now part.new.self part.ensures.len; padded = made.0; text = made.1 }
 
@@ -22,13 +16,6 @@ pub returns-then-room-gt0 : goal.returns-then-room-gt0
 returns-then-room-gt0 c =
     let part = c.copy_from_slice-then-room-gt0 in
     let count = length c.args.bytes.now - c.args.len in
-    let made = appended c.args.bytes.now c.args.padded.now part.new.self c.args.len count c.requires.padded c.requires.at_end c.requires.padded_text
+    let made = IsPadded-appended c.args.bytes.now c.args.padded.now part.new.self c.args.len count c.requires.padded c.requires.at_end c.requires.padded_text
     part.ensures.after (omega arith) (omega arith) (inr (omega arith)) in
     record { len = same_len_mid c.args.len count c.args.bytes.now part.new.self part.ensures.len; padded = made.0; text = made.1 }
-
-pub returns-else-room-gt0 : goal.returns-else-room-gt0
-returns-else-room-gt0 c =
-    let t = text_of c.args.bytes.now in
-    let s = text_of c.args.padded.now in
-    let full : length c.args.bytes.now ≡ length t = omega (arith, length-text_of-le c.args.bytes.now) in
-    record { len = refl; padded = c.requires.padded; text = sym (ap (λ n. take n (t ++ s)) full ∙ take-append_seam t s) }

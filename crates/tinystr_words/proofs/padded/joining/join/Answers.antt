@@ -1,10 +1,9 @@
 use Rattle.std.proofs.Common.{ℕ, ◌≡◌, ◌++◌, ◌+◌, ◌-◌, ◌∙◌, ap, arith, length, rules, take}
 use Rattle.std.proofs.lemmas.List.{length-replicate, length-take}
-use Rattle.std.proofs.lemmas.List.Elements.{All-append}
-use Rattle.tinystr_words.specs.Text.{IsTextByte, pad, text_of}
+use Rattle.tinystr_words.specs.Text.{pad, text_of}
 use Rattle.tinystr_words.proofs.Texts.{NULS, length-pad}
-use Rattle.tinystr_words.proofs.Copying.{copied_more, made_of}
-use Rattle.tinystr_words.proofs.JoiningLanes.{piece_of, stored_all}
+use Rattle.tinystr_words.proofs.Copying.{copied_more}
+use Rattle.tinystr_words.proofs.JoiningLanes.{take-sixteen_from, IsPaddedText-stored}
 use Rattle.tinystr_words.proofs.padded.joining.join.Goals as goal
 
 pub loop-at-preserved : goal.loop-at-preserved
@@ -17,7 +16,7 @@ loop-at-preserved g c =
     let count = now.at + c.min-count.result - now.at in
     let same : c.min-count.result ≡ count = omega arith in
     let piece = c.copy_from_slice.new.self in
-    let part = piece_of c.joined_from.result piece t n now.at count (omega (arith, c.min-count.ensures)) (omega (arith, c.min-count.ensures)) c.joined_from.ensures
+    let part = take-sixteen_from c.joined_from.result piece t n now.at count (omega (arith, c.min-count.ensures)) (omega (arith, c.min-count.ensures)) c.joined_from.ensures
     (c.copy_from_slice.ensures.after ∙ ap (λ k. take k c.joined_from.result) same) in
     record {
       inside = omega (arith, c.min-count.ensures);
@@ -26,14 +25,7 @@ loop-at-preserved g c =
           (omega (arith, c.min-count.ensures, whole_long)) (omega (arith, c.min-count.ensures, length-replicate {A = ℕ} n 0)) part;
     }
 
-pub returns-clause-padded : goal.returns-clause-padded
-returns-clause-padded g c =
-    let t = text_of c.args.front.now ++ text_of c.args.back.now in
-    let made = stored_all c.loop-at.bytes t g.row.Q c.loop-at.at (omega arith) c.loop-at.invariant.stored in
-    (made_of c.loop-at.bytes t g.row.Q made (All-append IsTextByte _ _ c.requires.front.text c.requires.back.text)).0
-
-pub returns-clause-text : goal.returns-clause-text
-returns-clause-text g c =
-    let t = text_of c.args.front.now ++ text_of c.args.back.now in
-    let made = stored_all c.loop-at.bytes t g.row.Q c.loop-at.at (omega arith) c.loop-at.invariant.stored in
-    (made_of c.loop-at.bytes t g.row.Q made (All-append IsTextByte _ _ c.requires.front.text c.requires.back.text)).1
+pub returns : goal.returns
+returns g c =
+    let made = IsPaddedText-stored c.loop-at.bytes _ _ g.row.Q c.loop-at.at (omega arith) c.requires.front.text c.requires.back.text c.loop-at.invariant.stored in
+    record { padded = made.0; text = made.1 }

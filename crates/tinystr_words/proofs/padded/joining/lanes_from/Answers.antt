@@ -1,7 +1,7 @@
 use Rattle.std.proofs.Common.{◌+◌, ◌-◌, ◌∙◌, ap, arith, rules}
 use Rattle.tinystr_words.specs.Text.{pad}
 use Rattle.tinystr_words.proofs.Texts.{IsPaddedText-drop, IsPaddedText-take}
-use Rattle.tinystr_words.proofs.JoiningLanes.{loaded}
+use Rattle.tinystr_words.proofs.JoiningLanes.{sixteen_from-loaded}
 use Rattle.tinystr_words.proofs.padded.joining.lanes_from.Goals as goal
 
 pub from_part-requires : goal.from_part-requires
@@ -9,5 +9,5 @@ from_part-requires c = (omega arith, (search rules, IsPaddedText-take _ _ _ (IsP
 
 pub returns : goal.returns
 returns c =
-    loaded c.args.bytes.now c.to_lanes.result c.min-start.result (c.min-start.result + c.min-count.result - c.min-start.result) c.args.at c.requires c.min-start.ensures
+    sixteen_from-loaded c.args.bytes.now c.to_lanes.result c.min-start.result (c.min-start.result + c.min-count.result - c.min-start.result) c.args.at c.requires c.min-start.ensures
     (omega (arith, c.min-count.ensures)) (c.to_lanes.ensures ∙ ap (λ t. pad t 16) c.from_part.ensures)

@@ -1,6 +1,6 @@
 use Rattle.std.proofs.Common.{◌≡◌, ◌<◌, arith, rules, length, get_or, map, sym, ap, ◌∙◌}
 use Rattle.std.proofs.lemmas.List.{get_or-map, length-map}
-use Rattle.tinystr_words.proofs.WholeUnits.{part_more}
+use Rattle.tinystr_words.proofs.WholeUnits.{IsReadPart-more}
 use Rattle.tinystr_words.proofs.padded.units.read_part.Goals as goal
 
 pub loop-i-preserved : goal.loop-i-preserved
@@ -11,7 +11,7 @@ loop-i-preserved g c =
     let here : get_or units c.loop-i.i 0 ≡ number c.index-units-i.result =
     get_or-map number c.args.units.now c.loop-i.i c.index-units-i.result 0 inside ∙ ap number (sym c.index-units-i.is) in
     record {
-      read = part_more c.args.bytes.now c.loop-i.bytes units c.args.replacement c.args.at c.loop-i.i c.byte_or.result c.loop-i.is_bad c.is_character.result
+      read = IsReadPart-more c.args.bytes.now c.loop-i.bytes units c.args.replacement c.args.at c.loop-i.i c.byte_or.result c.loop-i.is_bad c.is_character.result
           (omega (arith, length-map c.args.units.now number)) (omega (arith, length-map c.args.units.now number)) c.loop-i.invariant.read
           (rw here c.is_character.ensures) (rw here c.byte_or.ensures);
       len = search rules;

@@ -1,14 +1,9 @@
-use Rattle.std.proofs.Common.{◌∙◌, ◌<◌, arith, length, rules, sym}
-use Rattle.tinystr_words.proofs.PaddedWords.{passed, refused}
+use Rattle.std.proofs.Common.{◌∙◌, rules, sym}
+use Rattle.tinystr_words.proofs.PaddedWords.{answer-word_passes, answer-word_fails}
 use Rattle.tinystr_words.proofs.padded.words.ask.Goals as goal
 
 pub returns-then-not-ask : goal.returns-then-not-ask
-returns-then-not-ask c = refused _ _ _ c.loop-word.asked _ _ c.in-Some.ensures c.ask.ensures c.if-not-ask.true c.loop-word.invariant.left
-
-pub loop-word-smaller : goal.loop-word-smaller
-loop-word-smaller c =
-    let less : length c.in-Some.after.now < length c.loop-word.rest.now = omega (arith, c.in-Some.ensures.len) in
-    less
+returns-then-not-ask c = answer-word_fails _ _ _ c.loop-word.asked _ _ c.in-Some.ensures c.ask.ensures c.if-not-ask.true c.loop-word.invariant.left
 
 pub loop-word-preserved : goal.loop-word-preserved
 loop-word-preserved c =
@@ -17,6 +12,6 @@ loop-word-preserved c =
     record {
       padded = c.in-Some.ensures.padded;
       later = search rules;
-      left = passed now.rest.now c.in-Some.word c.in-Some.after.now now.asked later.result c.ask.result _ c.in-Some.ensures c.ask.ensures c.if-not-ask.false
+      left = answer-word_passes now.rest.now c.in-Some.word c.in-Some.after.now now.asked later.result c.ask.result _ c.in-Some.ensures c.ask.ensures c.if-not-ask.false
           (later.ensures ∙ sym now.invariant.later) now.invariant.left;
     }

@@ -1,15 +1,11 @@
-use Rattle.std.proofs.Common.{◌≡◌, ◌+◌, ◌-◌, ◌<◌, ◌≤◌, length, rules, arith, drop, refl, ◌∙◌, sym, ap}
-use Rattle.std.proofs.lemmas.List.{length-take}
-use borrow.Rule.Slice.PartMut.{put_mid, same_len_mid}
+use Rattle.std.proofs.Common.{◌≡◌, ◌+◌, ◌-◌, ◌≤◌, length, rules, arith, ◌∙◌, sym, ap}
+use borrow.Rule.Slice.PartMut.{same_len_mid}
 use Rattle.tinystr_words.specs.Questions.{in_case, later_case}
 use Rattle.tinystr_words.specs.Text.{pad}
 use Rattle.tinystr_words.proofs.Texts.{IsPaddedText-take}
 use Rattle.tinystr_words.proofs.AnswersByParts.{in_case-padded, later_case-same}
-use Rattle.tinystr_words.proofs.PaddedWords.{in_case_step, in_case_last, padded_step}
+use Rattle.tinystr_words.proofs.PaddedWords.{in_case-first_word, in_case-last_word, IsPadded-after_word}
 use Rattle.tinystr_words.proofs.padded.words.change.Goals as goal
-
-pub loop-bytes-init : goal.loop-bytes-init
-loop-bytes-init c = record { inside = omega arith; len = refl; padded = c.requires; later = refl; left = refl }
 
 pub from_part-requires : goal.from_part-requires
 from_part-requires c = (omega arith, (search rules, IsPaddedText-take _ _ _ c.loop-bytes.invariant.padded))
@@ -25,32 +21,14 @@ loop-bytes-preserved c =
     record {
       inside = omega (arith, kept);
       len = kept ∙ now.invariant.len;
-      padded = padded_step now.bytes c.copy_from_slice.new.self now.start _ fits size written now.invariant.padded;
+      padded = IsPadded-after_word now.bytes c.copy_from_slice.new.self now.start _ fits size written now.invariant.padded;
       later = ap (λ x. later_case x) later.ensures ∙ later_case-same c.args.case;
-      left = in_case_step _ now.bytes c.in_case-word.result c.copy_from_slice.new.self now.start _ now.applied later.result fits size now.invariant.padded
+      left = in_case-first_word _ now.bytes c.in_case-word.result c.copy_from_slice.new.self now.start _ now.applied later.result fits size now.invariant.padded
           (c.in_case-word.ensures ∙ ap (λ t. pad (in_case now.applied t) 16) c.from_part.ensures) c.copy_from_slice.ensures.after (later.ensures ∙ sym now.invariant.later) now.invariant.left;
     }
-
-pub loop-bytes-smaller : goal.loop-bytes-smaller
-loop-bytes-smaller c =
-    let now = c.loop-bytes in
-    let made = put_mid now.start (now.start + 16 - now.start) now.bytes c.copy_from_slice.new.self in
-    let kept : length made ≡ length now.bytes = same_len_mid now.start (now.start + 16 - now.start) now.bytes c.copy_from_slice.new.self c.copy_from_slice.ensures.len in
-    let less : length made - (now.start + 16) < length now.bytes - now.start = omega arith in
-    less
-
-pub from_part-requires-2 : goal.from_part-requires-2
-from_part-requires-2 c =
-    let now = c.loop-bytes in
-    (omega arith, (omega (arith, length-take (length now.bytes - now.start) (drop now.start now.bytes)), IsPaddedText-take _ _ _ now.invariant.padded))
-
-pub shape_of-bytes : goal.shape_of-bytes
-shape_of-bytes c =
-    let now = c.loop-bytes in
-    same_len_mid now.start (length now.bytes - now.start) now.bytes c.copy_from_slice-2.new.self c.copy_from_slice-2.ensures.len ∙ now.invariant.len
 
 pub returns : goal.returns
 returns c =
     let now = c.loop-bytes in
-    in_case_last _ now.bytes c.in_case-word-2.result c.copy_from_slice-2.new.self c.from_part-2.result now.start _ (length now.bytes - now.start) now.applied now.invariant.inside (omega arith) (omega arith) (omega arith) now.invariant.padded c.from_part-2.ensures c.in_case-word-2.ensures c.copy_from_slice-2.ensures.after now.invariant.left
+    in_case-last_word _ now.bytes c.in_case-word-2.result c.copy_from_slice-2.new.self c.from_part-2.result now.start _ (length now.bytes - now.start) now.applied now.invariant.inside (omega arith) (omega arith) (omega arith) now.invariant.padded c.from_part-2.ensures c.in_case-word-2.ensures c.copy_from_slice-2.ensures.after now.invariant.left
     ∙ in_case-padded c.args.case c.args.bytes.now _ c.requires

@@ -1,5 +1,6 @@
-use Rattle.tinystr_words.proofs.LowLanes.{and_halves}
+use Rattle.std.proofs.Common.{arith}
+use Rattle.std.proofs.lemmas.Nat.{and_mod, and_shr}
 use Rattle.tinystr_words.proofs.word.U128Word16.and.Goals as goal
 
 pub returns : goal.returns
-returns c = rw (c.whole.ensures, c.halves.ensures, c.halves-2.ensures) (and_halves c.args.self c.args.other)
+returns c = rw (c.whole.ensures, c.halves.ensures, c.halves-2.ensures) (omega (arith, and_mod c.args.self c.args.other 64, and_shr c.args.self c.args.other 64))

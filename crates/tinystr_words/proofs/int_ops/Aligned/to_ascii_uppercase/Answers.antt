@@ -1,5 +1,0 @@
-use Rattle.std.proofs.Common.{rules}
-use Rattle.tinystr_words.proofs.int_ops.Aligned.to_ascii_uppercase.Goals as goal
-
-pub returns : goal.returns
-returns g c = search rules
