@@ -64,6 +64,7 @@ impl<const N: usize> TinyAsciiStr<N> {
     }
 
     // The first units, with the replacement for each that is no character.
+    #[tactic(auto, using(tinystr_words::proofs::WholeUnits::lossy_is_padded))]
     #[inline(always)]
     fn read_lossy<U: Unit>(units: &[U], replacement: u8) -> Self
         requires { IsTextByte replacement }

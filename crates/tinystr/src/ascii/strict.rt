@@ -63,6 +63,7 @@ pub fn read_padded<const N: usize>(raw: [u8; N]) -> Result<TinyAsciiStr<N>, Pars
 }
 
 // The text of the units, read by parts, or why there is none.
+#[tactic(auto, using(crate::proofs::Scans::scan_steps))]
 #[inline(always)]
 fn read_parts<U: Unit, const N: usize>(units: &[U]) -> Result<TinyAsciiStr<N>, ParseError>
     ensures accepted { IsOk result ↔ IsStrictText (map U.number units.now) N }
@@ -86,6 +87,7 @@ fn read_parts<U: Unit, const N: usize>(units: &[U]) -> Result<TinyAsciiStr<N>, P
 }
 
 // The fault at the first position whose unit is above 127, or is a character after a NUL.
+#[tactic(auto, using(crate::proofs::Scans::scan_steps))]
 fn find_fault<U: Unit>(units: &[U]) -> Option<ParseError>
     ensures { option_map fault_of result ≡ first_fault (map U.number units.now) }
 {
@@ -105,6 +107,7 @@ fn find_fault<U: Unit>(units: &[U]) -> Option<ParseError>
 }
 
 // Why there is no text of at most `N` units.
+#[tactic(auto, using(crate::proofs::Scans::scan_steps))]
 #[inline(always)]
 fn fault<U: Unit, const N: usize>(units: &[U]) -> ParseError
     ensures { fault_of result ≡ fault_in N (map U.number units.now) }

@@ -25,14 +25,6 @@ returns-in-Err g c =
       fault = (first, c.in-Err.ensures.fault ∙ fault_in-next records rest c.raw-item.result g.row.N i j c.loop-raw.invariant c.loop-raw-test.true c.raw-item.is);
     }
 
-pub returns : goal.returns
-returns g c = record {
-  accepted = (λ yes. AllPadded-checked c.args.records.now _ g.row.N c.loop-raw.index c.loop-raw.invariant (omega (arith, length-drop c.loop-raw.raw-index c.split_at.result.1.now)), λ padded. refl);
-  fault = tt;
-}
-
-pub split_at-requires : goal.split_at-requires
-split_at-requires g c = c.skip_padded-index.ensures.inside
-
-pub overflow_add-index : goal.overflow_add-index
-overflow_add-index g c = omega (arith, length-drop c.loop-raw.raw-index c.split_at.result.1.now)
+pub returns-clause-accepted : goal.returns-clause-accepted
+returns-clause-accepted g c =
+    (λ yes. AllPadded-checked c.args.records.now _ g.row.N c.loop-raw.index c.loop-raw.invariant (omega (arith, length-drop c.loop-raw.raw-index c.split_at.result.1.now)), λ padded. refl)

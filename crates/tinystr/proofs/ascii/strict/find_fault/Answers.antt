@@ -1,20 +1,8 @@
-use Rattle.std.proofs.Common.{◌≡◌, ◌<◌, length, map, sym, ◌∙◌, ap, arith}
+use Rattle.std.proofs.Common.{◌<◌, length, map, sym, ◌∙◌, ap, arith}
 use Rattle.std.proofs.lemmas.List.{get_or-map, length-map}
-use Rattle.tinystr_words.proofs.Readers.{IsScanned-nul, IsScanned-char, first_fault-high, first_fault-late, first_fault-none}
+use Rattle.tinystr_words.proofs.Readers.{IsScanned-nul, IsScanned-char}
 use Rattle.tinystr.proofs.ascii.strict.find_fault.Goals as goal
 use Rattle.tinystr.proofs.ascii.strict.find_fault.Goals.{then-code-eq0, else-code-eq0+else-is_after_nul}
-
-pub returns-then-code-gt127 : goal.returns-then-code-gt127
-returns-then-code-gt127 g c =
-    let number = g.U.Unit.number in
-    let here = get_or-map number c.args.units.now c.loop-unit.unit-index c.unit-item.result 0 c.loop-unit-test.true ∙ ap number (sym c.unit-item.is) ∙ sym c.code-code.ensures in
-    sym (first_fault-high _ _ _ c.loop-unit.invariant (omega (arith, length-map c.args.units.now number)) (omega (arith, here)))
-
-pub returns-then-is_after_nul : goal.returns-then-is_after_nul
-returns-then-is_after_nul g c =
-    let number = g.U.Unit.number in
-    let here = get_or-map number c.args.units.now c.loop-unit.unit-index c.unit-item.result 0 c.loop-unit-test.true ∙ ap number (sym c.unit-item.is) ∙ sym c.code-code.ensures in
-    sym (first_fault-late _ _ (rw c.if-is_after_nul.true at c.loop-unit.invariant) (omega (arith, length-map c.args.units.now number)) (omega (arith, here)) (omega (arith, here)))
 
 pub loop-unit-preserved : goal.loop-unit-preserved
 loop-unit-preserved g c =
@@ -27,9 +15,3 @@ loop-unit-preserved g c =
           rw (w.is_after_nul-is, w.if-is_after_nul.false)
           (IsScanned-char _ _ (rw w.if-is_after_nul.false at c.loop-unit.invariant) inside (omega (arith, here)) (omega (arith, here)))
     ]
-
-pub returns : goal.returns
-returns g c =
-    let number = g.U.Unit.number in
-    let end : c.loop-unit.unit-index ≡ length (map number c.args.units.now) = omega (arith, length-map c.args.units.now number) in
-    sym (first_fault-none _ _ (rw end at c.loop-unit.invariant))
