@@ -4,4 +4,3 @@ pub mod CanonLemmas
 pub mod ReadLemmas
 pub mod JoinLemmas
 pub mod PlaceLemmas
-pub mod OrderLemmas

@@ -25,6 +25,7 @@ fn separator_at(units: &[u8]) -> Option<usize>
 
 /// The part before the first separator, and what stands behind that separator.
 #[inline]
+#[tactic(auto, using(crate::proofs::CutLemmas::cut_steps))]
 pub fn cut(units: &[u8]) -> (&[u8], Option<&[u8]>)
     ensures parts { parts (fold_text units.now)
         ≡ fold_text result.0.now ∷ parts_behind (option_copied result.1) }
@@ -78,6 +79,7 @@ pub fn take_script(rest: Option<&[u8]>) -> (Option<Script>, Option<&[u8]>)
 
 /// Reads what is left: a region, or nothing.
 #[inline]
+#[tactic(auto, using(crate::proofs::CutLemmas::last_region_of_region, crate::proofs::CutLemmas::last_region_of_no_region))]
 pub fn last_region(rest: Option<&[u8]>) -> Result<Option<Region>, LangIdError>
     ensures { result ≡ last_region (parts_behind (option_copied rest.entry)) }
 {

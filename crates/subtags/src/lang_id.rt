@@ -66,6 +66,7 @@ impl LangId {
     }
 
     /// The identifier of these parts, which gives them back.
+    #[tactic(auto, using(crate::proofs::JoinLemmas::parts_of_join_parts))]
     pub fn from_parts(language: Language, script: Option<Script>, region: Option<Region>) -> Self
         ensures text { result ≡ join_parts language script region }
         ensures language { language_of result ≡ language }
@@ -234,6 +235,7 @@ fn join_parts(
 }
 
 // The same of all three, which fit into one word unless the language has 8 letters.
+#[tactic(auto, using(crate::proofs::JoinLemmas::take_take_append))]
 #[inline]
 fn join_three(language: TinyAsciiStr<8>, script: Script, region: Region) -> TinyAsciiStr<17>
     ensures { result ≡ join_parts language (Some script) (Some region) }

@@ -22,6 +22,7 @@ impl Kind<8> for LanguageKind {
     ghost refusal = { InvalidLanguage };
 
     #[inline]
+    #[tactic(auto, using(crate::proofs::FoldLemmas::part_steps))]
     fn read(code_units: &[u8]) -> Option<TinyAsciiStr<8>> {
         if !matches!(code_units.len(), 2 | 3 | 5..=8) {
             return None;

@@ -22,6 +22,7 @@ impl Kind<3> for RegionKind {
     ghost refusal = { InvalidSubtag };
 
     #[inline]
+    #[tactic(auto, using(crate::proofs::FoldLemmas::part_steps))]
     fn read(code_units: &[u8]) -> Option<TinyAsciiStr<3>> {
         let Ok(text) = TinyAsciiStr::<3>::try_from_utf8(code_units) else {
             return None;

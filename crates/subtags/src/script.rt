@@ -22,6 +22,7 @@ impl Kind<4> for ScriptKind {
     ghost refusal = { InvalidSubtag };
 
     #[inline]
+    #[tactic(auto, using(crate::proofs::FoldLemmas::part_steps))]
     fn read(code_units: &[u8]) -> Option<TinyAsciiStr<4>> {
         if code_units.len() != 4 {
             return None;

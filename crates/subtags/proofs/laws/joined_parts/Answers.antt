@@ -1,4 +1,4 @@
-use Rattle.subtags.proofs.CanonLemmas.{join_parts-IsCanonical}
+use Rattle.subtags.proofs.ReadLemmas.{join_parts-IsCanonical}
 use Rattle.subtags.proofs.laws.joined_parts.Goals as goal
 
 pub returns : goal.returns

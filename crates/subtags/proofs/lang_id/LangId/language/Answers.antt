@@ -1,12 +1,12 @@
-use Rattle.std.proofs.Common.{◌∙◌, sym, lit<}
-use Rattle.subtags.proofs.FoldLemmas.{language_length}
+use Rattle.std.proofs.Common.{◌∙◌, sym, lit<, arith}
 use Rattle.subtags.proofs.PlaceLemmas.{language_in_place}
 use Rattle.subtags.proofs.lang_id.LangId.language.Goals as goal
 
 pub front-requires : goal.front-requires
 front-requires c =
     let cut = rw c.as_utf8.ensures.text at c.cut.ensures in
-    language_length c.cut.result.0.now (language_in_place c.self.inside.text c.cut.result.0.now _ c.self.invariant cut.parts cut.front).1.form
+    let form = (language_in_place c.self.inside.text c.cut.result.0.now _ c.self.invariant cut.parts cut.front).1.form in
+    grind arith
 
 pub from_canonical-requires : goal.from_canonical-requires
 from_canonical-requires c =

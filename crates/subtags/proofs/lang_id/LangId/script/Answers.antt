@@ -1,7 +1,6 @@
 use Rattle.std.proofs.Common.{◌∙◌, ap, sym, lit<}
 use Rattle.std.specs.Option.{option_copied}
-use Rattle.subtags.proofs.FoldLemmas.{script_text}
-use Rattle.subtags.proofs.PlaceLemmas.{tail_in_place, no_tail_in_place}
+use Rattle.subtags.proofs.PlaceLemmas.{HasTail-behind_language, no_tail_in_place}
 use Rattle.subtags.proofs.lang_id.LangId.script.Goals as goal
 
 pub returns-in_default : goal.returns-in_default
@@ -13,20 +12,20 @@ returns-in_default c =
 pub returns-in_default-first_chunk : goal.returns-in_default-first_chunk
 returns-in_default-first_chunk c =
     let cut = rw c.as_utf8.ensures.text at c.cut.ensures in
-    let tail = tail_in_place c.self.inside.text c.cut.result.0.now c.in-Some.rest.now _ c.self.invariant cut.parts cut.front (sym cut.behind ∙ ap option_copied c.in-Some.is) in
+    let tail = HasTail-behind_language c.self.inside.text c.cut.result.0.now c.in-Some.rest.now _ c.self.invariant cut.parts cut.front (sym cut.behind ∙ ap option_copied c.in-Some.is) in
     rw (← c.self.view_is) (sym (tail.no_script c.in_default-first_chunk.ensures.cases))
 
 pub unwrap-text-requires : goal.unwrap-text-requires
 unwrap-text-requires c =
     let cut = rw c.as_utf8.ensures.text at c.cut.ensures in
-    let tail = tail_in_place c.self.inside.text c.cut.result.0.now c.in-Some.rest.now _ c.self.invariant cut.parts cut.front (sym cut.behind ∙ ap option_copied c.in-Some.is) in
+    let tail = HasTail-behind_language c.self.inside.text c.cut.result.0.now c.in-Some.rest.now _ c.self.invariant cut.parts cut.front (sym cut.behind ∙ ap option_copied c.in-Some.is) in
     let chunk = c.in-Some-first_chunk.ensures.cases in
-    c.try_from_utf8.ensures.accepted.1 (rw chunk.same (script_text _ (tail.script chunk.enough).1.form))
+    c.try_from_utf8.ensures.accepted.1 (rw chunk.same (tail.script chunk.enough).2)
 
 pub from_canonical-requires : goal.from_canonical-requires
 from_canonical-requires c =
     let cut = rw c.as_utf8.ensures.text at c.cut.ensures in
-    let tail = tail_in_place c.self.inside.text c.cut.result.0.now c.in-Some.rest.now _ c.self.invariant cut.parts cut.front (sym cut.behind ∙ ap option_copied c.in-Some.is) in
+    let tail = HasTail-behind_language c.self.inside.text c.cut.result.0.now c.in-Some.rest.now _ c.self.invariant cut.parts cut.front (sym cut.behind ∙ ap option_copied c.in-Some.is) in
     let chunk = c.in-Some-first_chunk.ensures.cases in
     let text = rw c.unwrap-text.ensures at c.try_from_utf8.ensures.text in
     (lit< tt, (lit< tt, rw (text, chunk.same) (tail.script chunk.enough).1))
@@ -34,7 +33,7 @@ from_canonical-requires c =
 pub returns : goal.returns
 returns c =
     let cut = rw c.as_utf8.ensures.text at c.cut.ensures in
-    let tail = tail_in_place c.self.inside.text c.cut.result.0.now c.in-Some.rest.now _ c.self.invariant cut.parts cut.front (sym cut.behind ∙ ap option_copied c.in-Some.is) in
+    let tail = HasTail-behind_language c.self.inside.text c.cut.result.0.now c.in-Some.rest.now _ c.self.invariant cut.parts cut.front (sym cut.behind ∙ ap option_copied c.in-Some.is) in
     let chunk = c.in-Some-first_chunk.ensures.cases in
     let text = rw c.unwrap-text.ensures at c.try_from_utf8.ensures.text in
     rw (← c.self.view_is, c.from_canonical.ensures, text, chunk.same) (sym (tail.script chunk.enough).0)

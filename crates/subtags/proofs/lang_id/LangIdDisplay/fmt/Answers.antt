@@ -1,4 +1,0 @@
-use Rattle.subtags.proofs.lang_id.LangIdDisplay.fmt.Goals as goal
-
-pub returns : goal.returns
-returns g c = rw (← c.self.view_is) c.fmt.ensures
