@@ -21,8 +21,8 @@ abbrev pub AllStrict : ℕ → List (List ℕ) → Type 0
 AllStrict n ts = All (λ (t : List ℕ). IsStrictText t n) ts
 
 -- one more text
-pub packed_more : (n : ℕ) (ts : List (List ℕ)) (i : ℕ) (x bytes : List ℕ) → i < length ts → x ≡ get_or ts i x → bytes ≡ packed n (take i ts) → bytes ++ pad x n ≡ packed n (take (i + 1) ts)
-packed_more n ts i x bytes below is e =
+pub packed-take_more : (n : ℕ) (ts : List (List ℕ)) (i : ℕ) (x bytes : List ℕ) → i < length ts → x ≡ get_or ts i x → bytes ≡ packed n (take i ts) → bytes ++ pad x n ≡ packed n (take (i + 1) ts)
+packed-take_more n ts i x bytes below is e =
     rw (e, take_more ts i x below, ← is, flat_map-append (λ (t : List ℕ). pad t n) (take i ts) (x ∷ []), append-nil (pad x n)) refl
 
 -- one more text that fits
@@ -80,8 +80,8 @@ slice_get-past_texts n bytes i some h past =
     slice_get_past (texts_of n bytes) i (le_of_mul-le-mul_right {k = n} (omega (arith, length-texts_of n bytes some h)) some)
 
 -- texts with one packed form are the same texts
-pub packed_once : (n : ℕ) (ts ss : List (List ℕ)) → 0 < n → AllStrict n ts → AllStrict n ss → packed n ts ≡ packed n ss → ts ≡ ss
-packed_once n ts ss some h k e =
+pub packed_injective : (n : ℕ) (ts ss : List (List ℕ)) → 0 < n → AllStrict n ts → AllStrict n ss → packed n ts ≡ packed n ss → ts ≡ ss
+packed_injective n ts ss some h k e =
     sym (texts_of-packed n ts some h) ∙ ap (λ (l : List ℕ). texts_of n l) e ∙ texts_of-packed n ss some k
 
 pub ruleset table_steps = (texts_of-strict, count-texts_of, slice_get-past_texts)

@@ -32,29 +32,21 @@ IsSortedBy-rising ts up k d from inside =
 order-rising : (ts : List (List ℕ)) (key : List ℕ) (i j : ℕ) → IsRising ts → i ≤ j → j < length ts → ordering_index (order (text_at ts i) key) ≤ ordering_index (order (text_at ts j) key)
 order-rising ts key i j up le inside = searchable_from_sorted nat_list_cmp_total (λ (t : List ℕ). t) ts key (IsSortedBy-rising ts up) i j [] le inside
 
-least : (o : Ordering) → ordering_index o ≤ 0 → o ≡ Less
-least Less h = refl
-least Equal h = absurd (omega arith)
-least Greater h = absurd (omega arith)
-
-greatest : (o : Ordering) → 2 ≤ ordering_index o → o ≡ Greater
-greatest Less h = absurd (omega arith)
-greatest Equal h = absurd (omega arith)
-greatest Greater h = refl
-
 -- where one text is below the key, so are those before it
-pub all_below : (ts : List (List ℕ)) (key : List ℕ) (middle : ℕ) → IsRising ts → middle < length ts → order (text_at ts middle) key ≡ Less → (k : ℕ) → k < middle + 1 → order (text_at ts k) key ≡ Less
-all_below ts key middle up inside less k before =
-    least (order (text_at ts k) key) (rw less at (order-rising ts key k middle up (omega arith) inside))
+pub below_from_rising : (ts : List (List ℕ)) (key : List ℕ) (middle : ℕ) → IsRising ts → middle < length ts → order (text_at ts middle) key ≡ Less → (k : ℕ) → k < middle + 1 → order (text_at ts k) key ≡ Less
+below_from_rising ts key middle up inside less k before =
+    let no_more = rw less at (order-rising ts key k middle up (omega arith) inside) in
+    grind arith
 
 -- where one text is above the key, so are those behind it
-pub all_above : (ts : List (List ℕ)) (key : List ℕ) (middle : ℕ) → IsRising ts → order (text_at ts middle) key ≡ Greater → (k : ℕ) → middle ≤ k → k < length ts → order (text_at ts k) key ≡ Greater
-all_above ts key middle up greater k behind inside =
-    greatest (order (text_at ts k) key) (rw greater at (order-rising ts key middle k up behind inside))
+pub above_from_rising : (ts : List (List ℕ)) (key : List ℕ) (middle : ℕ) → IsRising ts → order (text_at ts middle) key ≡ Greater → (k : ℕ) → middle ≤ k → k < length ts → order (text_at ts k) key ≡ Greater
+above_from_rising ts key middle up greater k behind inside =
+    let no_less = rw greater at (order-rising ts key middle k up behind inside) in
+    grind arith
 
 -- a key that each text is below or above is none of them
-pub no_text : (ts : List (List ℕ)) (key : List ℕ) (place : ℕ) → ((k : ℕ) → k < place → order (text_at ts k) key ≡ Less) → ((k : ℕ) → place ≤ k → k < length ts → order (text_at ts k) key ≡ Greater) → ¬ Contains ts key
-no_text ts key place below above found =
+pub not_contained : (ts : List (List ℕ)) (key : List ℕ) (place : ℕ) → ((k : ℕ) → k < place → order (text_at ts k) key ≡ Less) → ((k : ℕ) → place ≤ k → k < length ts → order (text_at ts k) key ≡ Greater) → ¬ Contains ts key
+not_contained ts key place below above found =
     let is : text_at ts found.0 ≡ key = get_or_default ts found.0 [] key found.1 ∙ found.2 in
     let same : order (text_at ts found.0) key ≡ Equal = rw is (tied_itself nat_list_cmp_total key) in
     let before = below found.0 in
@@ -63,5 +55,5 @@ no_text ts key place below above found =
     grind arith
 
 -- a text that is the key
-pub one_text : (ts : List (List ℕ)) (key : List ℕ) (i : ℕ) → i < length ts → text_at ts i ≡ key → (slice_get ts i ≡ Some key) × Contains ts key
-one_text ts key i inside is = (slice_get-get_or ts i [] inside ∙ ap Some is, (i, inside, get_or_default ts i key [] inside ∙ is))
+pub found_at : (ts : List (List ℕ)) (key : List ℕ) (i : ℕ) → i < length ts → text_at ts i ≡ key → (slice_get ts i ≡ Some key) × Contains ts key
+found_at ts key i inside is = (slice_get-get_or ts i [] inside ∙ ap Some is, (i, inside, get_or_default ts i key [] inside ∙ is))

@@ -50,6 +50,7 @@ impl<'a, const N: usize> Table<'a, N> {
     }
 
     /// How many texts.
+    #[tactic(auto, using(crate::proofs::PackedTexts::table_steps))]
     pub fn len(&self) -> usize
         ensures { result ≡ length self.now }
     {

@@ -1,6 +1,5 @@
-use Rattle.tinystr_words.proofs.WordFromParts.{low_of_bytes}
 use Rattle.tinystr_words.proofs.TextInWord.{HoldsText-padded}
 use Rattle.vectors.proofs.tests.lanes.word_of.Goals as goal
 
 pub returns : goal.returns
-returns c = rw (c.load.ensures, low_of_bytes c.args.text.now c.type_inv.text) (HoldsText-padded 4 c.args.text.now c.requires.padded c.requires.fits).0.low
+returns c = rw c.load.ensures (HoldsText-padded 4 c.args.text.now c.type_inv.text c.requires.padded c.requires.fits).0.low

@@ -1,10 +1,7 @@
-use Rattle.std.proofs.Common.{◌≡◌, ◌+◌, ◌-◌, ◌/◌, sym, refl, arith, rules, true≢false}
+use Rattle.std.proofs.Common.{◌≡◌, ◌+◌, ◌-◌, ◌/◌, sym, refl, arith, true≢false}
 use Rattle.std.specs.declared.cmp.Ordering.TheVariants.{Less, Greater}
-use Rattle.uses.proofs.RisingTexts.{order, text_at, all_below, all_above, no_text, one_text}
+use Rattle.uses.proofs.RisingTexts.{order, text_at, below_from_rising, above_from_rising, not_contained, found_at}
 use Rattle.uses.proofs.packed.sorted.SortedTable.find.Goals as goal
-
-pub loop-low-init : goal.loop-low-init
-loop-low-init g c = search rules
 
 pub loop-low-preserved-in-Less : goal.loop-low-preserved-in-Less
 loop-low-preserved-in-Less g c =
@@ -13,7 +10,7 @@ loop-low-preserved-in-Less g c =
     record {
       ends = omega arith;
       inside = omega arith;
-      below = all_below c.self.inside.table c.args.key.now middle c.self.invariant (omega arith) less;
+      below = below_from_rising c.self.inside.table c.args.key.now middle c.self.invariant (omega arith) less;
       above = c.loop-low.invariant.above;
     }
 
@@ -25,16 +22,16 @@ loop-low-preserved g c =
       ends = omega arith;
       inside = omega arith;
       below = c.loop-low.invariant.below;
-      above = all_above c.self.inside.table c.args.key.now middle c.self.invariant greater;
+      above = above_from_rising c.self.inside.table c.args.key.now middle c.self.invariant greater;
     }
 
 pub returns-in-Equal : goal.returns-in-Equal
 returns-in-Equal g c =
     let middle = c.loop-low.low + (c.loop-low.high - c.loop-low.low) / 2 in
     let is : text_at c.self.inside.table middle ≡ c.args.key.now = (c.order_compared.ensures.equal (text_at c.self.inside.table middle) c.args.key.now).0 cc in
-    let here = one_text c.self.inside.table c.args.key.now middle (omega arith) is in
+    let here = found_at c.self.inside.table c.args.key.now middle (omega arith) is in
     rw (← c.self.view_is) (record { found = here.0; exact = (λ _. here.1, λ _. refl) })
 
 pub returns-clause-exact : goal.returns-clause-exact
 returns-clause-exact g c =
-    rw (← c.self.view_is) (λ e. absurd (true≢false (sym e)), λ found. absurd (no_text c.self.inside.table c.args.key.now c.loop-low.low c.loop-low.invariant.below (λ k behind. c.loop-low.invariant.above k (omega arith)) found))
+    rw (← c.self.view_is) (λ e. absurd (true≢false (sym e)), λ found. absurd (not_contained c.self.inside.table c.args.key.now c.loop-low.low c.loop-low.invariant.below (λ k behind. c.loop-low.invariant.above k (omega arith)) found))

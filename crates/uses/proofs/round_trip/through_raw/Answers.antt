@@ -1,5 +1,0 @@
-use Rattle.std.proofs.Common.{rules}
-use Rattle.uses.proofs.round_trip.through_raw.Goals as goal
-
-pub returns : goal.returns
-returns g c = search rules
