@@ -16,6 +16,7 @@ mod views;
 use crate::error::ParseError;
 use std::marker::Model;
 use std::str::FromStr;
+pub(crate) use strict::are_padded;
 
 /// A text of at most `N` bytes, each from 1 to 127, in `N` bytes: the text and then NULs. It never allocates.
 ///

@@ -6,10 +6,9 @@ ghost use Rattle.tinystr_words.specs.Text.{IsPaddedText};
 ghost use Rattle.tinystr_words.specs.Packed.{IsPacked};
 ghost use Rattle.tinystr.specs.Records.{RefusesRecords, RefusesOneOf};
 
-use crate::ascii::TinyAsciiStr;
+use crate::ascii::{TinyAsciiStr, are_padded};
 use crate::error::ParseError;
 use crate::unvalidated::UnvalidatedTinyAsciiStr;
-use tinystr_words::padded;
 
 // How many records are asked together: enough that the compiler takes several at once, and few to search for a bad one.
 const BLOCK: usize = 64;
@@ -76,7 +75,7 @@ impl<const N: usize> TinyAsciiStr<N> {
         let mut index = 0;
         while !rest.is_empty() {
             let (block, after) = rest.split_at(rest.len().min(BLOCK));
-            if !padded::are_padded(block) {
+            if !are_padded(block) {
                 break;
             }
             rest = after;

@@ -11,7 +11,6 @@ use crate::error::ParseError;
 use std::cmp::Ordering;
 use std::fmt;
 use std::marker::Model;
-use tinystr_words::padded::resize;
 
 /// Any `N` bytes, which may or may not be a text and then NULs. Values are compared byte by byte.
 #[derive(Clone, Copy, PartialEq, Eq)]
@@ -84,13 +83,12 @@ impl<const N: usize> UnvalidatedTinyAsciiStr<N> {
         ensures fault { IfErr result (λ e. e ≡ ParseError.TooLong N (length bytes.now)) }
     {
         let len = bytes.len();
-        if len <= N {
-            Ok(UnvalidatedTinyAsciiStr {
-                bytes: resize(bytes),
-            })
-        } else {
-            Err(ParseError::TooLong { max: N, len })
+        if len > N {
+            return Err(ParseError::TooLong { max: N, len });
         }
+        let mut padded = [0; N];
+        padded[..len].copy_from_slice(bytes);
+        Ok(UnvalidatedTinyAsciiStr { bytes: padded })
     }
 
     /// These bytes, whatever they are.

@@ -1,5 +1,5 @@
 -- The formulas of the questions and of each case change, and that they are right at each of the 128 bytes.
-use Rattle.std.proofs.Common.{lit≤, ℕ, ◌+◌, ◌-◌, ◌<◌, ◌≡◌, Bool, true, false, cond, bit_and, bit_or, nat_eq, nat_lt, refl, arith}
+use Rattle.std.proofs.Common.{lit≤, ℕ, ◌+◌, ◌-◌, ◌<◌, ◌≡◌, Bool, true, false, cond, bit_and, bit_or, nat_eq, nat_le, nat_lt, refl, ◌&&◌, ◌∙◌, arith}
 use Rattle.std.proofs.lemmas.Bool.Decides.{nat_tests}
 use Rattle.std.proofs.lemmas.Grind.{widths}
 use Rattle.std.proofs.lemmas.Nat.{le_or_l, le_or_r, or_lt, and_le_r}
@@ -58,6 +58,10 @@ and-high_bit z h = same_from_nat_eq _ _ (below_at is_high_bit_alone 256 refl z h
 abbrev outside_of : Range → ℕ → ℕ
 outside_of r b = bit_or (255 - (b + r.low)) (b + r.high)
 
+-- two sums tell whether a byte is in a range
+pub is_in-sums : (r : Range) (b : ℕ) → (nat_le 0x80 (b + r.low) && nat_lt (b + r.high) 0x80) ≡ is_in r b
+is_in-sums r b = let bounds = r.no_carry in grind (arith, nat_tests)
+
 -- the byte of a lane has no high bit exactly in its range
 nat_lt-outside_of : (r : Range) (b : ℕ) → b < 128 → nat_lt (outside_of r b) 0x80 ≡ is_in r b
 nat_lt-outside_of r b h =
@@ -65,7 +69,8 @@ nat_lt-outside_of r b h =
     let below = le_or_l (255 - (b + r.low)) (b + r.high) in
     let above = le_or_r (255 - (b + r.low)) (b + r.high) in
     let inside = or_lt 7 (255 - (b + r.low)) (b + r.high) in
-    grind (arith, nat_tests)
+    let unmarked : nat_lt (outside_of r b) 0x80 ≡ (nat_le 0x80 (b + r.low) && nat_lt (b + r.high) 0x80) = grind (arith, nat_tests) in
+    unmarked ∙ is_in-sums r b
 
 outside_of-lt : (r : Range) (b : ℕ) → b < 128 → outside_of r b < 256
 outside_of-lt r b h = let bounds = r.no_carry in or_lt 8 (255 - (b + r.low)) (b + r.high) (omega arith) (omega arith)

@@ -1,12 +1,12 @@
 -- Sums, masks and shifts of words, lane by lane.
-use Rattle.std.proofs.Common.{ℕ, zero, suc, ◌+◌, ◌-◌, ◌*◌, ◌/◌, ◌%◌, ◌^◌, ◌<◌, ◌≡◌, Bool, true, false, ◌&&◌, List, [], ◌∷◌, length, get_or, refl, ap, ◌∙◌, arith, bit_and, bit_or, nat_eq, Fits, w8}
+use Rattle.std.proofs.Common.{ℕ, zero, suc, ◌+◌, ◌-◌, ◌*◌, ◌/◌, ◌%◌, ◌^◌, ◌<◌, ◌≡◌, Bool, true, false, ◌&&◌, List, [], ◌∷◌, length, get_or, refl, sym, ap, ◌∙◌, arith, bit_and, bit_or, nat_eq, Fits, w8}
 use Rattle.std.proofs.Math.Nat.{pow-suc}
 use Rattle.std.proofs.Math.Facts.{Fits-lt-pow}
 use Rattle.std.proofs.lemmas.Bool.Decides.{Decides-below_and, nat_tests}
 use Rattle.std.proofs.lemmas.Nat.{and_block, or_block, xor_block}
 use Rattle.std.specs.Int.Bits.{bit_xor}
 use Rattle.std.specs.List.{list_all}
-use Rattle.std.specs.Simd.Lanes.{Each1}
+use Rattle.std.specs.Simd.Lanes.{Each1, zip2}
 use Rattle.std.proofs.lemmas.Simd.{Each1-weaker, Each1-from_get_or}
 use Rattle.tinystr_words.specs.Text.{IsText}
 use Rattle.tinystr_words.specs.Words.{word}
@@ -91,6 +91,13 @@ difference = record { op = bit_xor; zeros = refl; step = step_from_block bit_xor
 abbrev pub addition : Bytewise
 addition = record { op = λ m n. m + n; zeros = refl; step = λ a b r s p q. omega arith }
 
+-- it is done on two words as on each pair of their bytes: what is known of a byte is so of a lane
+pub op-word : (o : Bytewise) (l m : List ℕ) → length l ≡ length m → IsBytes l → IsBytes m → o.op (word l) (word m) ≡ word (zip2 o.op l m)
+op-word o [] [] e a c = o.zeros
+op-word o [] (d ∷ m) e a c = absurd (omega arith)
+op-word o (b ∷ l) [] e a c = absurd (omega arith)
+op-word o (b ∷ l) (d ∷ m) e a c = o.step _ _ _ _ a.0 c.0 ∙ ap (λ n. o.op b d + 256 * n) (op-word o l m (omega arith) a.1 c.1)
+
 -- ---- the lanes of a word, each changed by a function that may treat the first apart
 
 abbrev pub lanes : {A : Type 0} → (Bool → ℕ → A) → Bool → List ℕ → List A
@@ -110,11 +117,14 @@ pub Each1-lanes : (n : ℕ) (F : Bool → ℕ → ℕ) → ((i : Bool) (b : ℕ)
 Each1-lanes n F p i [] a = tt
 Each1-lanes n F p i (b ∷ l) a = (p i b a.0, Each1-lanes n F p false l a.1)
 
--- such an operation on two changes of one word
+-- on two changes of one word, lane by lane
+zip2-lanes : (f : ℕ → ℕ → ℕ) (F G : Bool → ℕ → ℕ) (i : Bool) (l : List ℕ) → zip2 f (lanes F i l) (lanes G i l) ≡ lanes (λ i b. f (F i b) (G i b)) i l
+zip2-lanes f F G i [] = refl
+zip2-lanes f F G i (b ∷ l) = ap (λ m. f (F i b) (G i b) ∷ m) (zip2-lanes f F G false l)
+
 pub op-word_lanes : (o : Bytewise) (F G : Bool → ℕ → ℕ) → Bytes F → Bytes G → (i : Bool) (l : List ℕ) → Ascii l → o.op (word (lanes F i l)) (word (lanes G i l)) ≡ word (lanes (λ i b. o.op (F i b) (G i b)) i l)
-op-word_lanes o F G p q i [] a = o.zeros
-op-word_lanes o F G p q i (b ∷ l) a =
-    o.step _ _ _ _ (p i b a.0) (q i b a.0) ∙ ap (λ n. o.op (F i b) (G i b) + 256 * n) (op-word_lanes o F G p q false l a.1)
+op-word_lanes o F G p q i l a =
+    op-word o (lanes F i l) (lanes G i l) (length-lanes F i l ∙ sym (length-lanes G i l)) (Each1-lanes 256 F p i l a) (Each1-lanes 256 G q i l a) ∙ ap word (zip2-lanes o.op F G i l)
 
 -- the complement of a word is that of each lane
 pub word_not : (F : Bool → ℕ → ℕ) → Bytes F → (i : Bool) (l : List ℕ) → Ascii l → 256 ^ length l - 1 - word (lanes F i l) ≡ word (lanes (λ i b. 255 - F i b) i l)

@@ -4,6 +4,7 @@ use Rattle.tinystr_words.proofs.Cutting.{lowercase-take, titlecase-take, upperca
 use Rattle.tinystr_words.proofs.Numerals.{length-decimal-le_ten}
 use Rattle.tinystr_words.proofs.Packing.{IsPacked-joined, IsPacked-record, length-joined, text_of-record}
 use Rattle.tinystr_words.proofs.Texts.{IsPaddedText-pad, pad_once}
+use Rattle.tinystr_words.proofs.TextsDecided.{is_text_byte-Decides, is_strict_text-Decides, is_padded_text-Decides}
 use Rattle.std.proofs.lemmas.List.{length-append, take_all}
 
 pub ruleset joins_that_fit = (length-append, take_all)
@@ -19,3 +20,5 @@ pub ruleset padded_forms = (IsPaddedText-pad, pad_once)
 pub ruleset packed_texts = (IsPacked-joined, length-joined, text_of-record)
 
 pub ruleset records = (IsPacked-record)
+
+pub ruleset tests = (is_text_byte-Decides, is_strict_text-Decides, is_padded_text-Decides)

@@ -1,5 +1,6 @@
 -- Words whose lanes are all below 0x80: what makes them, and the room that they leave.
 use Rattle.std.proofs.Common.{ℕ, zero, suc, ◌+◌, ◌*◌, ◌/◌, ◌%◌, ◌^◌, ◌<◌, ◌≤◌, ◌≡◌, List, [], ◌∷◌, replicate, ap, ◌∙◌, arith, bit_and, bit_or}
+use Rattle.std.proofs.Math.Nat.{pow-suc}
 use Rattle.std.proofs.lemmas.Nat.{and_shr, and_mod, and_le_r, or_shr, or_mod, or_lt}
 use Rattle.tinystr_words.specs.Words.{word, lane, first_then, HasLowLanes}
 use Rattle.std.proofs.lemmas.Simd.{Each1-replicate}
@@ -22,6 +23,15 @@ low_room zero w h = omega arith
 low_room (suc n) w h =
     let first = h 0 in
     omega (arith, mod-pow_256 n w, low_room n (w / 256) (λ i. rw (div-pow_256 w i) at (h (suc i))))
+
+-- two such lanes leave no carry, so nor do two such words
+pub low_sum : (n w v : ℕ) → HasLowLanes w → HasLowLanes v → w % 256 ^ n + v % 256 ^ n < 256 ^ n
+low_sum zero w v h k = omega arith
+low_sum (suc n) w v h k =
+    let first = h 0 in
+    let other = k 0 in
+    let rest = low_sum n (w / 256) (v / 256) (λ i. rw (div-pow_256 w i) at (h (suc i))) (λ i. rw (div-pow_256 v i) at (k (suc i))) in
+    omega (arith, mod-pow_256 n w, mod-pow_256 n v, pow-suc 256 n)
 
 -- one byte below 0x80 and then copies of another
 pub low_first_then : (n a c : ℕ) → a ≤ 0x7f → c ≤ 0x7f → HasLowLanes (word (first_then n a c))

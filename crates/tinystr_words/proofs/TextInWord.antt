@@ -1,14 +1,13 @@
 -- The text that a word holds: how it comes in and out, what a kernel answers of it, and what a case change makes of it.
-use Rattle.std.proofs.Common.{cond, ℕ, zero, suc, ◌+◌, ◌-◌, ◌*◌, ◌/◌, ◌%◌, ◌<◌, ◌≤◌, ◌≡◌, List, [], ◌∷◌, ◌++◌, length, get_or, Fits, w8, drop, map, replicate, refl, sym, ap, ◌∙◌, subst, arith, w8}
-use lib.Count.{ones}
+use Rattle.std.proofs.Common.{cond, eqb, ℕ, zero, suc, ◌+◌, ◌-◌, ◌*◌, ◌/◌, ◌%◌, ◌^◌, ◌<◌, ◌≤◌, ◌≡◌, List, [], ◌∷◌, ◌++◌, length, get_or, Fits, w8, drop, map, replicate, refl, sym, ap, ◌∙◌, subst, arith, w8}
 use lib.Lanes.{zip2, mask_l, top}
-use Rattle.std.specs.List.{count_by}
-use Rattle.std.proofs.lemmas.List.Sums.{sum_by-cons}
-use Rattle.std.proofs.lemmas.Simd.{bitmask_splat, ones-mask_l}
+use Rattle.std.proofs.Math.Nat.{pow-suc}
+use Rattle.std.proofs.lemmas.Nat.{pow_pos}
+use Rattle.std.proofs.lemmas.Simd.{bitmask_splat}
 use Rattle.std.proofs.lemmas.Bool.Decides.{nat_tests}
 use Rattle.std.proofs.lemmas.List.{length-drop}
 use Rattle.std.proofs.lemmas.List.Elements.{All-head, All-tail, All-drop}
-use Rattle.std.specs.Int.Count.{count_leading_zeros}
+use Rattle.std.specs.Int.Count.{count_leading_zeros, leading_unique}
 use Rattle.tinystr_words.specs.Text.{IsTextByte, IsText, IsPadded, pad, text_of}
 use Rattle.tinystr_words.specs.Words.{word, lanes_of, text_in, HoldsText}
 use Rattle.tinystr_words.proofs.AnswersByParts.{IsText-in_case, length-in_case}
@@ -20,7 +19,6 @@ use Rattle.tinystr_words.proofs.Formulas.{on, Ascii-padded, IsSafe-changes, on-t
 use Rattle.tinystr_words.proofs.WordAsNumber.{lanes_of-word_pad, word-nuls, leading_zeros-word, leading_zeros-more}
 use Rattle.tinystr_words.proofs.WordFromParts.{map-mod_bytes}
 use Rattle.tinystr_words.proofs.LowLanes.{low_word, low_room}
-use Rattle.tinystr_words.proofs.Vectors.{differs}
 use Rattle.tinystr_words.proofs.Kernels.{case_change, Changes-case_change}
 
 -- ---- a word from a padded text
@@ -59,23 +57,38 @@ length-text_in-by_top {w} h small =
 pub lanes-text_in : {n w : ℕ} → HoldsText n w → lanes_of n w ≡ pad (text_in n w) n
 lanes-text_in {n} {w} h = ap (λ m. lanes_of n m) h.padded ∙ lanes_of-word_pad n (text_in n w) h.text h.fits
 
--- of a text and then NULs its bytes are counted
-count_by-padded : (t : List ℕ) (k : ℕ) → IsText t → count_by (λ b. differs b 0) (t ++ NULS k) ≡ length t
-count_by-padded [] zero x = refl
-count_by-padded [] (suc k) x = count_by-padded [] k x
-count_by-padded (b ∷ t) k x =
+-- of a text and then NULs the NULs are marked: these marks and the bit at the text's length are the bit above all
+mask_nuls-padded : (t : List ℕ) (k n : ℕ) → IsText t → length t + k ≡ n → mask_l (map (λ b. eqb b 0) (t ++ NULS k)) + 2 ^ length t ≡ 2 ^ n
+mask_nuls-padded [] zero zero x e = refl
+mask_nuls-padded [] zero (suc n) x e = absurd (omega arith)
+mask_nuls-padded [] (suc k) zero x e = absurd (omega arith)
+mask_nuls-padded [] (suc k) (suc n) x e = omega (arith, pow-suc 2 n, mask_nuls-padded [] k n x (omega arith))
+mask_nuls-padded (b ∷ t) k zero x e = absurd (omega arith)
+mask_nuls-padded (b ∷ t) k (suc n) x e =
     let byte = All-head IsTextByte b t x in
-    let rest = count_by-padded t k (All-tail IsTextByte b t x) in
-    grind (arith, nat_tests, sum_by-cons (λ b. cond (differs b 0) 1 0) b (t ++ NULS k))
+    let rest = mask_nuls-padded t k n (All-tail IsTextByte b t x) (omega arith) in
+    grind (arith, nat_tests, pow-suc 2 (length t), pow-suc 2 n)
 
--- and by the number of lanes that aren't NUL
-pub length-text_in-by_count : {w : ℕ} → HoldsText 16 w → (lanes : List ℕ) → lanes ≡ lanes_of 16 w
-    → ones (mask_l (map (top 7) (zip2 (λ a b. cond (differs a b) 255 0) lanes (replicate 16 0))) % 18446744073709551616) ≡ length (text_in 16 w)
-length-text_in-by_count {w} h lanes is =
+-- the marks of the NULs in the lanes
+abbrev pub nuls : List ℕ → ℕ
+nuls lanes = mask_l (map (top 7) (zip2 (λ a b. cond (eqb a b) 255 0) lanes (replicate 16 0))) % 18446744073709551616
+
+-- they leave the bit at the text's length
+pub nuls-text_in : {w : ℕ} → HoldsText 16 w → (lanes : List ℕ) → lanes ≡ lanes_of 16 w → nuls lanes + 2 ^ length (text_in 16 w) ≡ 65536
+nuls-text_in {w} h lanes is =
     let t = text_in 16 w in
     let long : length lanes ≡ 16 = ap (λ (l : List ℕ). length l) is in
-    ap ones (bitmask_splat w8 differs lanes 16 0 long (omega arith)) ∙ ones-mask_l (λ b. differs b 0) lanes
-    ∙ ap (λ (l : List ℕ). count_by (λ b. differs b 0) l) (is ∙ lanes-text_in h) ∙ count_by-padded t (16 - length t) h.text
+    let fits = h.fits in
+    ap (λ m. m + 2 ^ length t) (bitmask_splat w8 eqb lanes 16 0 long (omega arith) ∙ ap (λ (l : List ℕ). mask_l (map (λ b. eqb b 0) l)) (is ∙ lanes-text_in h))
+    ∙ mask_nuls-padded t (16 - length t) 16 h.text (omega arith)
+
+-- and the zeros above it tell the length
+pub leading_zeros-nuls : {w : ℕ} → HoldsText 16 w → (lanes : List ℕ) → lanes ≡ lanes_of 16 w → 63 - length (text_in 16 w) ≡ count_leading_zeros 64 (65536 - nuls lanes)
+leading_zeros-nuls {w} h lanes is =
+    let k = length (text_in 16 w) in
+    let fits = h.fits in
+    let left : 65536 - nuls lanes ≡ 2 ^ k = omega (arith, nuls-text_in h lanes is) in
+    rw left (leading_unique 64 (2 ^ k) (63 - k) (suc k) (omega arith) (omega (arith, pow-suc 2 k, pow_pos k)) (omega (arith, pow-suc 2 k)))
 
 -- the word of a text, divided by 256, is that of the text without its first byte
 word-div : (t : List ℕ) → IsText t → word t / 256 ≡ word (drop 1 t)

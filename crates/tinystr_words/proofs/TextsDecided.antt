@@ -7,11 +7,14 @@ use Rattle.std.proofs.lemmas.Bool.Decides.{Decides-and, Decides-by_and, Decides-
 use Rattle.std.proofs.lemmas.Slice.Eq.{bytes_eq-Decides}
 use Rattle.tinystr_words.specs.Text.{IsText, IsTextByte, IsStrictText, IsPaddedText, text_of, pad, is_text_byte, is_strict_text, is_padded_text}
 
+-- of a byte of a text
+pub is_text_byte-Decides : (b : ℕ) → Decides (is_text_byte b) (IsTextByte b)
+is_text_byte-Decides b = Decides-and (nat_lt 0 b) (nat_lt b 128) (Decides-ltb 0 b) (Decides-ltb b 128)
+
 -- the test of all bytes is true exactly of a text
 is_text-Decides : (t : List ℕ) → Decides (list_all is_text_byte t) (IsText t)
 is_text-Decides t =
-    Decides-by_and is_text_byte IsTextByte (list_all is_text_byte)
-    (λ b. Decides-and (nat_lt 0 b) (nat_lt b 128) (Decides-ltb 0 b) (Decides-ltb b 128)) refl (λ _ _. refl) t
+    Decides-by_and is_text_byte IsTextByte (list_all is_text_byte) is_text_byte-Decides refl (λ _ _. refl) t
 
 -- the test of the length is true exactly of one that fits
 fits-Decides : (t : List ℕ) (n : ℕ) → Decides (nat_le (length t) n) (length t ≤ n)

@@ -15,7 +15,7 @@ ghost use Rattle.tinystr_words.specs.Order.{IsBefore};
 ghost use Rattle.tinystr_words.specs.Packed.{IsPacked, record_at};
 ghost use Rattle.tinystr_words.specs.Reading.{fault_in};
 ghost use Rattle.tinystr_words.specs.Reading.Fault.{non_ascii};
-ghost use Rattle.tinystr_words.specs.Text.{IsStrictText, pad, IsText, IsPaddedText, text_of};
+ghost use Rattle.tinystr_words.specs.Text.{IsStrictText, pad, IsText, IsTextByte, IsPaddedText, text_of, is_text_byte, is_strict_text, is_padded_text};
 ghost use Rattle.tinystr_words.specs.Words.{word, lane};
 
 /// Of two lists one comes before the other, or they are one list, and padded texts are in the order of the texts.
@@ -135,6 +135,14 @@ pub fn pad_once()
     ensures padded { (t : List ℕ) (n : ℕ) → IsStrictText t n → IsPaddedText (pad t n) n }
     ensures once { (t s : List ℕ) (n : ℕ) → IsStrictText t n → IsStrictText s n →
         pad t n ≡ pad s n → t ≡ s }
+{}
+
+/// The tests that compute are true of exactly what the definitions say.
+#[tactic(auto, using(crate::proofs::LawSets::tests))]
+pub fn tests_decide()
+    ensures byte { (b : ℕ) → IsTrue (is_text_byte b) ↔ IsTextByte b }
+    ensures strict { (t : List ℕ) (n : ℕ) → IsTrue (is_strict_text t n) ↔ IsStrictText t n }
+    ensures padded { (bytes : List ℕ) (n : ℕ) → IsTrue (is_padded_text bytes n) ↔ IsPaddedText bytes n }
 {}
 
 /// A padded form reads back, whatever stands behind it.

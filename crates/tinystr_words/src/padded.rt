@@ -1,6 +1,6 @@
 //! Padded bytes of any length: a text and then NULs. `width_of` tells the narrowest words that take them.
 
-ghost use Rattle.std.specs.Prelude.{◌≡◌, ◌≤◌, ◌++◌, ◌↔◌, length, take, All, IsTrue, IsOk, IfOk, IfErr};
+ghost use Rattle.std.specs.Prelude.{◌≡◌, ◌≤◌, ◌++◌, ◌↔◌, length, take, IsTrue, IsOk, IfOk, IfErr};
 ghost use Rattle.std.specs.Fmt.{decimal};
 ghost use Rattle.std.specs.Str.{bytes_eq};
 ghost use Rattle.tinystr_words.specs.Text.{IsPaddedText, text_of, pad};
@@ -60,18 +60,6 @@ pub fn is_padded<const N: usize>(bytes: &[u8; N]) -> bool
         Width::Sixteen => Aligned16::try_from_part(&bytes[..]).is_some(),
         Width::Many => words::is_padded(&bytes[..]),
     }
-}
-
-/// Whether all records are padded. None is left early, so that the compiler asks several at once.
-#[inline(always)]
-pub fn are_padded<const N: usize>(records: &[[u8; N]]) -> bool
-    ensures { IsTrue result ↔ All (λ bytes. IsPaddedText bytes N) records.now }
-{
-    let mut are_padded = true;
-    for bytes in records {
-        are_padded &= is_padded(bytes);
-    }
-    are_padded
 }
 
 /// The decimal text of a number as padded bytes, or its last `N` digits where it has more.

@@ -328,11 +328,11 @@ impl Word<16> for u128 {
         joined(low, high >> (8 * (16 - len)))
     }
 
-    // All lanes but the NULs.
+    // A bit for each NUL. Taken from the bit above all lanes, these leave the bit at the text's length.
     #[inline(always)]
     fn text_len(self) -> usize {
-        let nuls = u8x16::splat(0);
-        lanes(self).simd_ne(nuls).to_bitmask().count_ones() as usize
+        let nuls = lanes(self).simd_eq(u8x16::splat(0)).to_bitmask();
+        63 - u64::leading_zeros((1 << 16) - nuls) as usize
     }
 
     #[inline(always)]

@@ -1,6 +1,6 @@
 //! The strict readers' way from units to a value, or to the first fault.
 
-ghost use Rattle.std.specs.Prelude.{◌≡◌, ◌↔◌, map, IsOk, IfOk, IfErr, option_map};
+ghost use Rattle.std.specs.Prelude.{◌≡◌, ◌↔◌, map, All, IsTrue, IsOk, IfOk, IfErr, option_map};
 ghost use Rattle.tinystr_words.specs.Text.{text_of, IsStrictText, IsPaddedText};
 ghost use Rattle.tinystr_words.specs.Reading.{first_fault, fault_in};
 ghost use Rattle.tinystr.specs.Error.{fault_of};
@@ -60,6 +60,18 @@ pub fn read_padded<const N: usize>(raw: [u8; N]) -> Result<TinyAsciiStr<N>, Pars
         }
     }
     Err(fault::<u8, N>(&raw[..]))
+}
+
+/// Whether all records are padded texts. None is left early, so that the compiler asks several at once.
+#[inline(always)]
+pub fn are_padded<const N: usize>(records: &[[u8; N]]) -> bool
+    ensures { IsTrue result ↔ All (λ bytes. IsPaddedText bytes N) records.now }
+{
+    let mut are_padded = true;
+    for bytes in records {
+        are_padded &= padded::is_padded(bytes);
+    }
+    are_padded
 }
 
 // The text of the units, read by parts, or why there is none.

@@ -1,5 +1,12 @@
-use Rattle.tinystr_words.proofs.TextInWord.{length-text_in-by_count}
+use Rattle.std.proofs.Common.{arith}
+use Rattle.tinystr_words.proofs.TextInWord.{nuls-text_in, leading_zeros-nuls}
 use Rattle.tinystr_words.proofs.word.U128Word16.text_len.Goals as goal
 
+pub overflow_sub-result : goal.overflow_sub-result
+overflow_sub-result c = omega (arith, nuls-text_in c.requires c.lanes.result c.lanes.ensures)
+
+pub overflow_sub-result-2 : goal.overflow_sub-result-2
+overflow_sub-result-2 c = omega (arith, leading_zeros-nuls c.requires c.lanes.result c.lanes.ensures)
+
 pub returns : goal.returns
-returns c = length-text_in-by_count c.requires c.lanes.result c.lanes.ensures
+returns c = omega (arith, leading_zeros-nuls c.requires c.lanes.result c.lanes.ensures, c.requires.fits)
