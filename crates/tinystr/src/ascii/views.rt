@@ -22,7 +22,7 @@ impl<const N: usize> TinyAsciiStr<N> {
     pub fn is_empty(&self) -> bool
         ensures { IsTrue result ↔ (self.now ≡ []) }
     {
-        self.len() == 0
+        N == 0 || self.bytes[0] == 0
     }
 
     /// The bytes of the text, in the value itself, without the NULs behind it.
