@@ -5,4 +5,6 @@
 #[cfg(test)]
 mod forms;
 #[cfg(test)]
+mod keys;
+#[cfg(test)]
 mod run;

@@ -1,9 +1,10 @@
 //! Values, compared and cloned.
 
-use std::cmp::Ordering;
+use std::cmp::Ordering::{self, Equal, Greater, Less};
 use std::collections::HashSet;
 use std::str::FromStr;
 use std::test::Fail;
+use subtags::laws::{identifier_order, part_order, read_back};
 use subtags::{LangId, LangIdError, Language, Region, Script};
 
 #[test]
@@ -39,6 +40,20 @@ fn compare_as<T: Ord>(a: &T, b: &T, order: Ordering) -> bool {
         && (a < b) == (order == Ordering::Less)
         && (a > b) == (order == Ordering::Greater)
         && (a == b) == (order == Ordering::Equal)
+}
+
+#[test]
+fn laws_answer_as_their_calls(rt: HostRuntime) -> Result<(), Fail> {
+    let (less, more): (LangId, LangId) = ("en".parse()?, "en-US".parse()?);
+    assert!(rt; read_back(&more) == Ok(more));
+    assert!(rt; identifier_order(&less, &more) == (false, Less, Some(Less), true));
+    assert!(rt; identifier_order(&more, &less) == (false, Greater, Some(Greater), false));
+    assert!(rt; identifier_order(&more, &more) == (true, Equal, Some(Equal), false));
+    let (less, more): (Region, Region) = ("DE".parse()?, "US".parse()?);
+    assert!(rt; part_order(&less, &more) == (false, Less, Some(Less), true));
+    assert!(rt; part_order(&more, &less) == (false, Greater, Some(Greater), false));
+    assert!(rt; part_order(&more, &more) == (true, Equal, Some(Equal), false));
+    Ok(())
 }
 
 #[test]

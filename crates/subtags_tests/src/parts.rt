@@ -13,7 +13,8 @@ fn each_part_has_its_form(rt: HostRuntime) {
     for row in "hANT=Hant Han1=".split_whitespace() {
         assert!(rt; is_script_or_none(row), "{row}");
     }
-    for row in "us=US 419=419 036=036 258=258 797=797 41= u1= u12= 1234=".split_whitespace() {
+    for row in "us=US 419=419 036=036 258=258 797=797 u= 41= u1= u12= 4a9= 1234=".split_whitespace()
+    {
         assert!(rt; is_region_or_none(row), "{row}");
     }
 }
@@ -56,7 +57,10 @@ fn is_not_parsed<T: FromStr<Err = LangIdError> + Drop>(text: &str, error: LangId
 
 #[test]
 fn an_identifier_gives_its_parts(rt: HostRuntime) {
-    let rows = "en/en// es-419/es//419 EN_latn/en/Latn/ abcdefgh_hANT_tw/abcdefgh/Hant/TW";
+    let rows = "en/en// es-419/es//419 EN_latn/en/Latn/ abcdefgh_hANT_tw/abcdefgh/Hant/TW \
+                abc/abc// abcde/abcde// abcdef/abcdef// abcdefg/abcdefg// abcdefgh/abcdefgh// \
+                abc-US/abc//US abcde-US/abcde//US abcdef-US/abcdef//US abcdefg-US/abcdefg//US abcdefgh-US/abcdefgh//US \
+                abc-Latn/abc/Latn/ abcde-Latn/abcde/Latn/ abcdef-Latn/abcdef/Latn/ abcdefg-Latn/abcdefg/Latn/ abcdefgh-Latn/abcdefgh/Latn/";
     for row in rows.split_whitespace() {
         assert!(rt; has_its_parts(row), "{row}");
     }
@@ -90,7 +94,8 @@ fn is_region(id: LangId, text: &str) -> bool {
 #[test]
 fn parts_make_an_identifier(rt: HostRuntime) {
     let rows =
-        "en/en// en-Latn/EN/latn/ es-419/es//419 zh-Hant-TW/zh/Hant/TW abcdefgh-Latn-US/abcdefgh/LATN/us";
+        "en/en// en-Latn/EN/latn/ es-419/es//419 zh-Hant-TW/zh/Hant/TW abcdefgh-Latn-US/abcdefgh/LATN/us \
+         abcdefgh-US/abcdefgh//us abcdefgh-Latn/abcdefgh/LATN/";
     for row in rows.split_whitespace() {
         assert!(rt; is_made_of_its_parts(row), "{row}");
     }

@@ -6,7 +6,8 @@ use subtags::{LangId, LangIdError};
 fn accepted_inputs_give_their_canonical_text(rt: HostRuntime) {
     let rows = "en=en EN_latn-us=en-Latn-US es-419=es-419 ZH-hANT_TW=zh-Hant-TW abcde=abcde \
                 en_us=en-US abcdef=abcdef abcdefg=abcdefg abcdefgh=abcdefgh \
-                abcdefgh-Latn-419=abcdefgh-Latn-419 abcde-Latn=abcde-Latn";
+                abcdefgh-Latn-419=abcdefgh-Latn-419 abcde-Latn=abcde-Latn \
+                abcdefgh-US=abcdefgh-US abcdefgh-Latn=abcdefgh-Latn";
     for row in rows.split_whitespace() {
         assert!(rt; is_read_as_its_text(row), "{row}");
     }
@@ -34,10 +35,35 @@ fn a_first_part_that_is_no_language_is_named(rt: HostRuntime) {
 #[test]
 fn what_stands_behind_a_language_is_a_script_a_region_or_both(rt: HostRuntime) {
     let inputs =
-        "en-|en--US|en-US-Latn|en-US-x|en-1234|en-u1|en-Lat1|en-Latn-Latn|en-Latn-US-|en-4/9|en-41:";
+        "en-|en--US|en-US-Latn|en-US-x|en-1234|en-u1|en-u|en-4a9|en-Lat1|en-LatnxUS|en-Latn-Latn|en-Latn-US-|en-4/9|en-41:";
     for input in inputs.split('|') {
         assert!(rt; is_refused(input, LangIdError::InvalidSubtag), "{input}");
     }
+}
+
+#[test]
+fn a_dash_and_an_underscore_separate_and_no_other_byte(rt: HostRuntime) {
+    for byte in 0..=u8::MAX {
+        assert!(rt; is_cut_rightly(byte), "{byte}");
+    }
+}
+
+/// Whether the byte between a language and a region, and between a script and a region, separates as it should. A letter
+/// behind the language makes a language of five.
+fn is_cut_rightly(byte: u8) -> bool {
+    let separates = byte == b'-' || byte == b'_';
+    let behind_language = LangId::try_from_utf8(&[b'e', b'n', byte, b'U', b'S']);
+    let behind_script = [b'e', b'n', b'-', b'L', b'a', b't', b'n', byte, b'U', b'S'];
+    let is_cut = match LangId::try_from_utf8(&behind_script) {
+        Ok(id) => separates && id.as_str() == "en-Latn-US",
+        Err(error) => !separates && error == LangIdError::InvalidSubtag,
+    };
+    is_cut
+        && match behind_language {
+            Ok(id) if separates => id.as_str() == "en-US",
+            Ok(id) => byte.is_ascii_alphabetic() && id.as_str().len() == 5,
+            Err(error) => !byte.is_ascii_alphabetic() && error == LangIdError::InvalidLanguage,
+        }
 }
 
 fn is_refused(input: &str, error: LangIdError) -> bool {

@@ -58,6 +58,9 @@ const LESS: &str = "ABCDEFGHIJKLMNOPQRSTUVWXYZ67890";
 
 const FORTY: &str = "abcdefghijklmnopqrstuvwxyz012345!#$%&*+-";
 
+const HUNDRED: &str =
+    "abcdefghijklmnopqrstuvwxyz012345!#$%&*+-ABCDEFGHIJKLMNOPQRSTUVWXYZ67890(),./:;<=>?@[]^_`{|}~ zyxwvut";
+
 // Whether a value is the one text and then the other.
 fn is_joined<const N: usize>(value: TinyAsciiStr<N>, front: &str, back: &str) -> bool {
     value.as_str().strip_prefix(front) == Some(back)
@@ -80,8 +83,47 @@ fn long_texts_are_joined_and_cut(rt: HostRuntime) -> Result<(), Fail> {
     assert!(rt; is_joined(full.resize::<40>().concat::<32, 64>(less), FULL, LESS));
     assert!(rt; is_joined(forty.concat::<32, 72>(full), FORTY, FULL));
     assert!(rt; is_joined(forty.concat::<32, 40>(less), FORTY, ""));
+    assert!(rt; is_joined(forty.concat::<32, 71>(less), FORTY, LESS));
     assert!(rt; is_joined(less.concat::<40, 71>(forty), LESS, FORTY));
     assert!(rt; is_joined(less.concat::<40, 63>(forty), LESS, FULL));
+    Ok(())
+}
+
+#[test]
+fn texts_of_a_hundred_bytes_are_joined_and_cut(rt: HostRuntime) -> Result<(), Fail> {
+    let hundred = TinyAsciiStr::<100>::try_from_str(HUNDRED)?;
+    let less = TinyAsciiStr::<32>::try_from_str(LESS)?;
+    assert!(rt; is_text(hundred.resize::<120>(), HUNDRED));
+    assert!(rt; is_text(hundred.resize::<120>().resize::<100>(), HUNDRED));
+    assert!(rt; is_joined(hundred.concat::<100, 200>(hundred), HUNDRED, HUNDRED));
+    assert!(rt; is_joined(hundred.concat::<32, 131>(less), HUNDRED, LESS));
+    assert!(rt; is_joined(less.concat::<100, 131>(hundred), LESS, HUNDRED));
+    let ninety_nine = hundred.resize::<99>();
+    assert!(rt; HUNDRED.strip_prefix(ninety_nine.as_str()) == Some("t"));
+    Ok(())
+}
+
+#[test]
+fn texts_at_the_edges_of_words_are_joined(rt: HostRuntime) -> Result<(), Fail> {
+    let seven = TinyStr8::try_from_str("abcdefg")?;
+    let one = TinyAsciiStr::<1>::try_from_str("h")?;
+    assert!(rt; is_text(seven.concat::<1, 8>(one), "abcdefgh"));
+    let more = TinyAsciiStr::<33>::try_from_str("abcdefghijklmnopqrstuvwxyz0123456")?;
+    let full = TinyStr16::try_from_str("MacintoshOSX2019")?;
+    assert!(rt;
+        is_joined(
+            more.concat::<16, 49>(full),
+            more.as_str(),
+            "MacintoshOSX2019"
+        )
+    );
+    assert!(rt;
+        is_joined(
+            full.concat::<33, 49>(more),
+            "MacintoshOSX2019",
+            more.as_str()
+        )
+    );
     Ok(())
 }
 

@@ -35,7 +35,7 @@ fn texts_are_ordered_byte_by_byte(rt: HostRuntime) {
 
 // Whether a text that fills the capacity of the value given stands before the one that is greater at any one position.
 fn is_less_at_each_position<const N: usize>(_like: TinyAsciiStr<N>) -> bool {
-    let less = TinyAsciiStr::<N>::from_utf8_lossy(&[b'a'; 40], b'?');
+    let less = TinyAsciiStr::<N>::from_utf8_lossy(&[b'a'; 100], b'?');
     for at in 0..N {
         let mut bytes = less.to_bytes();
         bytes[at] = b'b';
@@ -62,6 +62,7 @@ fn texts_are_told_apart_at_each_position(rt: HostRuntime) {
     assert!(rt; is_less_at_each_position(TinyAsciiStr::<12>::default()));
     assert!(rt; is_less_at_each_position(TinyAsciiStr::<16>::default()));
     assert!(rt; is_less_at_each_position(TinyAsciiStr::<40>::default()));
+    assert!(rt; is_less_at_each_position(TinyAsciiStr::<100>::default()));
 }
 
 #[test]

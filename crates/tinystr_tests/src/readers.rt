@@ -155,10 +155,10 @@ fn are_found(bytes: &[u8], units: &[u16], fault: ParseError, text: &[u8]) -> boo
         && (bytes.len() > 8 || is_shown(bytes, units, text, short))
 }
 
-// Forty letters with another byte at that position.
-fn letters_but(byte: u8, at: usize) -> [u8; 40] {
-    let mut bytes = [b'a'; 40];
-    if at < 40 {
+// A hundred letters with another byte at that position.
+fn letters_but(byte: u8, at: usize) -> [u8; 100] {
+    let mut bytes = [b'a'; 100];
+    if at < 100 {
         bytes[at] = byte;
     }
     bytes
@@ -182,6 +182,79 @@ fn a_bad_byte_is_found_at_each_position_of_each_length(rt: HostRuntime) {
     }
 }
 
+// Whether a bad byte there, in so many of a hundred letters, is refused and replaced.
+fn is_found_in_a_hundred(at: usize, len: usize) -> bool {
+    let hundred = TinyAsciiStr::<100>::default();
+    let bytes = letters_but(0x80, at);
+    let text = letters_but(127, at);
+    let units = bytes.map(u16::from);
+    len <= 100
+        && is_refused(&bytes[..len], &units[..len], NonAscii, hundred)
+        && is_shown(&bytes[..len], &units[..len], &text[..len], hundred)
+}
+
+#[test]
+fn a_bad_byte_is_found_at_each_position_of_a_hundred(rt: HostRuntime) {
+    for at in 0..99 {
+        assert!(rt;
+            is_found_in_a_hundred(at, 100) && is_found_in_a_hundred(at, 99),
+            "{at}"
+        );
+    }
+    let letters = letters_but(b'Z', 99);
+    assert!(rt;
+        TinyAsciiStr::<100>::try_from_utf8(&letters) == TinyAsciiStr::try_from_raw(letters)
+    );
+}
+
+// Whether a unit whose lower bits are those of a letter is refused and replaced there, in so many letters.
+fn is_found_wide(at: usize, len: usize) -> bool {
+    let mut units = [0x61; 40];
+    if at >= 40 || len > 40 {
+        return false;
+    }
+    units[at] = 0x0161;
+    TinyAsciiStr::<40>::try_from_utf16(&units[..len]) == Err(NonAscii)
+        && TinyAsciiStr::<40>::from_utf16_lossy(&units[..len], 127).as_utf8()
+            == &letters_but(127, at)[..len]
+}
+
+#[test]
+fn a_wide_unit_is_found_at_each_position_of_each_length(rt: HostRuntime) {
+    for len in 17..41 {
+        for at in 0..len {
+            assert!(rt; is_found_wide(at, len), "{at} of {len}");
+        }
+    }
+}
+
+// Whether a bad byte at each position of each length is replaced at the capacity of the value given.
+fn are_shown<const N: usize>(like: TinyAsciiStr<N>) -> bool {
+    for len in 1..N.min(100) + 1 {
+        for at in 0..len {
+            let bytes = letters_but(0x80, at);
+            let units = bytes.map(u16::from);
+            if !is_shown(
+                &bytes[..len],
+                &units[..len],
+                &letters_but(127, at)[..len],
+                like,
+            ) {
+                return false;
+            }
+        }
+    }
+    true
+}
+
+#[test]
+fn lossy_readers_replace_at_each_position_of_each_length(rt: HostRuntime) {
+    assert!(rt; are_shown(TinyAsciiStr::<6>::default()));
+    assert!(rt; are_shown(TinyAsciiStr::<7>::default()));
+    assert!(rt; are_shown(TinyAsciiStr::<12>::default()));
+    assert!(rt; are_shown(TinyAsciiStr::<15>::default()));
+}
+
 fn is_no_byte_form<const N: usize>(bytes: [u8; N], refusal: BytesReadError) -> bool {
     match TinyAsciiStr::<N>::read_bytes(&bytes) {
         Ok(_) => false,
@@ -189,17 +262,22 @@ fn is_no_byte_form<const N: usize>(bytes: [u8; N], refusal: BytesReadError) -> b
     }
 }
 
-// Whether the raw reader and that of the byte form refuse a byte above 127 at each position, and a letter after NULs.
+// Whether the raw reader and that of the byte form refuse a byte above 127 at each position, and a letter after NULs,
+// with and without a letter in front of these.
 fn are_refused_at_each_position<const N: usize>(_like: TinyAsciiStr<N>) -> bool {
     for at in 1..N {
         let mut high = [b'a'; N];
         high[at] = 0x80;
         let mut late = [0; N];
         late[at] = b'a';
+        let mut apart = late;
+        apart[0] = b'b';
         if TinyAsciiStr::try_from_raw(high) != Err(NonAscii)
             || TinyAsciiStr::try_from_raw(late) != Err(ContainsNull)
             || !is_no_byte_form(high, BytesReadError::NonAscii)
             || !is_no_byte_form(late, BytesReadError::Null)
+            || at > 1 && TinyAsciiStr::try_from_raw(apart) != Err(ContainsNull)
+            || at > 1 && !is_no_byte_form(apart, BytesReadError::Null)
         {
             return false;
         }
@@ -239,6 +317,7 @@ fn a_literal_is_read_at_its_capacity(rt: HostRuntime) {
     assert!(rt; is_read(tinystr!(8, "foobar"), Ok("foobar")));
     assert!(rt; is_read(tinystr!(12, "foobarbaz"), Ok("foobarbaz")));
     assert!(rt; is_read(tinystr!(2, "abc"), Err(TooLong { max: 2, len: 3 })));
+    assert!(rt; is_read(tinystr!(4, "a\0"), Err(ContainsNull)));
 }
 
 #[test]

@@ -165,6 +165,24 @@ fn the_first_of_two_bad_records_of_a_block_is_named(rt: HostRuntime) {
     assert_eq!(rt; answers, expected);
 }
 
+#[test]
+fn the_first_of_two_bad_records_of_two_blocks_is_named(rt: HostRuntime) {
+    let mut bytes = [b'a'; 390];
+    bytes[3] = 0x80;
+    bytes[387] = 0x80;
+    assert!(rt; TinyAsciiStr::<3>::validate_bytes(&bytes) == bad(1, ParseError::NonAscii));
+}
+
+#[test]
+fn a_long_length_that_is_no_multiple_is_told_whole(rt: HostRuntime) {
+    let bytes = [b'a'; 65537];
+    for len in [301, 65537] {
+        let refused = Err(UleError::Length { len });
+        assert!(rt; TinyAsciiStr::<2>::validate_bytes(&bytes[..len]) == refused);
+        assert!(rt; UnvalidatedTinyAsciiStr::<2>::validate_bytes(&bytes[..len]) == refused);
+    }
+}
+
 // Whether the pattern at the capacity of the value given is bytes 255, and is refused.
 fn is_no_value<const N: usize>(_like: TinyAsciiStr<N>) -> bool {
     let niche = TinyAsciiStr::<N>::niche_bit_pattern();

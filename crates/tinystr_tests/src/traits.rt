@@ -21,7 +21,7 @@ fn shows<T: AsStr + AsSlice<u8>>(value: &T, text: &str) -> bool {
 #[test]
 fn texts_are_taken_and_shown(rt: HostRuntime) {
     assert!(rt; is_taken::<TinyAsciiStr<0>>(""));
-    for text in "|e|en|EN|U.S|abcd|\u{1} \u{7f}".split('|') {
+    for text in "|e|en|EN|U.S|abcd|\u{1} \u{7f}| a|a ".split('|') {
         let is_right = is_taken::<TinyAsciiStr<4>>(text)
             && is_taken::<TinyAsciiStr<8>>(text)
             && is_taken::<TinyAsciiStr<12>>(text)

@@ -46,10 +46,21 @@ fn bytes_are_read_up_to_the_capacity(rt: HostRuntime) {
 }
 
 #[test]
+fn values_are_made_by_traits(rt: HostRuntime) -> Result<(), Fail> {
+    let nuls = <Unvalidated<3> as Default>::default();
+    assert!(rt; nuls == Unvalidated::from_utf8_unchecked([0; 3]));
+    let text = TinyAsciiStr::<3>::try_from_utf8(b"Ab")?;
+    assert!(rt; Unvalidated::from(text) == Unvalidated::from_utf8_unchecked(*b"Ab\0"));
+    Ok(())
+}
+
+#[test]
 fn no_bytes_are_the_empty_text(rt: HostRuntime) -> Result<(), Fail> {
     let none = Unvalidated::<0>::default();
     assert!(rt; none.try_into_tinystr() == Ok(TinyAsciiStr::default()));
     assert_eq!(rt; format!(in rt.alloc(); "{none:?}")?.as_str(), "\"\"");
+    let nuls = Unvalidated::<4>::default();
+    assert_eq!(rt; format!(in rt.alloc(); "{nuls:?}")?.as_str(), "\"\"");
     Ok(())
 }
 

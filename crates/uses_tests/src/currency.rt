@@ -11,9 +11,10 @@ fn decimal_places_are_looked_up_by_code(rt: HostRuntime) {
         assert!(rt; is_set(&mut table, row), "{row}");
     }
     assert!(rt; table.len() == 3);
-    for row in "EUR=2 JPY=0 KWD=3 eur= EURO=".split_whitespace() {
+    for row in "EUR=2 JPY=0 KWD=3 eur= EURO= =".split_whitespace() {
         assert!(rt; has_its_places(&table, row), "{row}");
     }
+    assert!(rt; is_set(&mut table, "EUR=3") && has_its_places(&table, "EUR=3") && table.len() == 3);
 }
 
 fn is_set(table: &mut Places, row: &str) -> bool {

@@ -14,6 +14,8 @@ fn a_locale_is_one_in_any_spelling(rt: HostRuntime) -> Result<(), Fail> {
     for tag in "zh-Hant-TW ZH_hant_tw".split_whitespace() {
         assert!(rt; has_page(&pages, tag, Some(12)), "{tag}");
     }
+    pages.insert(LangId::try_from_utf8(b"en")?, 0)?;
+    assert!(rt; page_of(&pages, b"EN") == Some(0));
     for tag in "zh-TW zh--TW".split_whitespace() {
         assert!(rt; has_page(&pages, tag, None), "{tag}");
     }

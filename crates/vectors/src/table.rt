@@ -60,10 +60,13 @@ abcdefghijklmnopq|yynynnynn|abcdefghijklmnopq|Abcdefghijklmnopq|ABCDEFGHIJKLMNOP
 /// Rows of texts, some of them longer, that fill a word, end it or begin the next one.
 pub const EDGES: &str = "\
 Abcdefghijklmnopq|yynnynnyn|abcdefghijklmnopq|Abcdefghijklmnopq|ABCDEFGHIJKLMNOPQ
+Abcdefghijklmnop1|nynnynnnn|abcdefghijklmnop1|Abcdefghijklmnop1|ABCDEFGHIJKLMNOP1
 AAAAAAAAAAAAAAAA|yynnnynny|aaaaaaaaaaaaaaaa|Aaaaaaaaaaaaaaaa|AAAAAAAAAAAAAAAA
 aaaaaaaaaaaaaaaaaaaaaaaaaaaaaaaaZ|yynnnnnnn|aaaaaaaaaaaaaaaaaaaaaaaaaaaaaaaaz|Aaaaaaaaaaaaaaaaaaaaaaaaaaaaaaaaz|AAAAAAAAAAAAAAAAAAAAAAAAAAAAAAAAZ
 Aaaaaaaaaaaaaaaaaaaaaaaaaaaaaaaaa|yynnynnyn|aaaaaaaaaaaaaaaaaaaaaaaaaaaaaaaaa|Aaaaaaaaaaaaaaaaaaaaaaaaaaaaaaaaa|AAAAAAAAAAAAAAAAAAAAAAAAAAAAAAAAA
 \x7f\x7f\x7f\x7f\x7f\x7f\x7f\x7f\x7f\x7f\x7f\x7f\x7f\x7f\x7f\x7f|nnnyyynnn|\x7f\x7f\x7f\x7f\x7f\x7f\x7f\x7f\x7f\x7f\x7f\x7f\x7f\x7f\x7f\x7f|\x7f\x7f\x7f\x7f\x7f\x7f\x7f\x7f\x7f\x7f\x7f\x7f\x7f\x7f\x7f\x7f|\x7f\x7f\x7f\x7f\x7f\x7f\x7f\x7f\x7f\x7f\x7f\x7f\x7f\x7f\x7f\x7f
+aaaaaaaaaaaaaaaaaaaaaaaaaaaaaaaaaaaaaaaaaaaaaaaaaaaaaaaaaaaaaaaaaaaaaaaaaaaaaaaaaaaaaaaaaaaaaaaaaaaZ|yynnnnnnn|aaaaaaaaaaaaaaaaaaaaaaaaaaaaaaaaaaaaaaaaaaaaaaaaaaaaaaaaaaaaaaaaaaaaaaaaaaaaaaaaaaaaaaaaaaaaaaaaaaaz|Aaaaaaaaaaaaaaaaaaaaaaaaaaaaaaaaaaaaaaaaaaaaaaaaaaaaaaaaaaaaaaaaaaaaaaaaaaaaaaaaaaaaaaaaaaaaaaaaaaaz|AAAAAAAAAAAAAAAAAAAAAAAAAAAAAAAAAAAAAAAAAAAAAAAAAAAAAAAAAAAAAAAAAAAAAAAAAAAAAAAAAAAAAAAAAAAAAAAAAAAZ
+Aaaaaaaaaaaaaaaaaaaaaaaaaaaaaaaaaaaaaaaaaaaaaaaaaaaaaaaaaaaaaaaaaaaaaaaaaaaaaaaaaaaaaaaaaaaaaaaaaaaa|yynnynnyn|aaaaaaaaaaaaaaaaaaaaaaaaaaaaaaaaaaaaaaaaaaaaaaaaaaaaaaaaaaaaaaaaaaaaaaaaaaaaaaaaaaaaaaaaaaaaaaaaaaaa|Aaaaaaaaaaaaaaaaaaaaaaaaaaaaaaaaaaaaaaaaaaaaaaaaaaaaaaaaaaaaaaaaaaaaaaaaaaaaaaaaaaaaaaaaaaaaaaaaaaaa|AAAAAAAAAAAAAAAAAAAAAAAAAAAAAAAAAAAAAAAAAAAAAAAAAAAAAAAAAAAAAAAAAAAAAAAAAAAAAAAAAAAAAAAAAAAAAAAAAAAA
 \x7f\x7f\x7f\x7f|nnnyyynnn|\x7f\x7f\x7f\x7f|\x7f\x7f\x7f\x7f|\x7f\x7f\x7f\x7f
 ";
 

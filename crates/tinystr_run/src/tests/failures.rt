@@ -198,3 +198,18 @@ fn a_failed_write_or_flush_leaves_a_beginning(rt: HostRuntime) {
         }
     }
 }
+
+#[test]
+fn a_run_that_writes_nothing_flushes(rt: HostRuntime) {
+    let mut writer = FailingWriter {
+        taken: Vec::new(rt.alloc()),
+        failing_write: NEVER,
+        fault: Fault::TakesNothing,
+        flush_error: Some(ErrorKind::Other),
+        writes: 0,
+        flushes: 0,
+    };
+    let outcome = run(rt.alloc(), &mut &b""[..], &mut writer);
+    assert!(rt; matches!(outcome, Err(RunError::Write)));
+    assert!(rt; writer.writes == 0 && writer.flushes == 1);
+}

@@ -93,10 +93,18 @@ fn a_line_is_cut_at_its_first_two_spaces(rt: HostRuntime) -> Result<(), Fail> {
 4  len a\tbad command
 4 text  a\t a
 4 len abc\r\t4
+4 len\r\tbad command
 4 len a \t2
 8 upper New York\tNEW YORK
 ";
     check_rows(&rt, rt.alloc(), rows)?;
+    Ok(())
+}
+
+#[test]
+fn a_tab_separates_nothing(rt: HostRuntime) -> Result<(), Fail> {
+    let replies = output(rt.alloc(), b"4\tlen\ta\n4 len\ta\n4 text \ta\n")?;
+    assert!(rt; replies.as_slice() == b"bad line\nbad command\n\ta\n".as_slice());
     Ok(())
 }
 
@@ -139,6 +147,7 @@ fn a_capacity_is_spelled_in_one_way(rt: HostRuntime) -> Result<(), Fail> {
 12 len a\tbad capacity
 15 len a\tbad capacity
 18 len a\tbad capacity
+24 len a\tbad capacity
 31 len a\tbad capacity
 33 len a\tbad capacity
 64 len a\tbad capacity
@@ -278,6 +287,22 @@ fn packed_records_are_counted_or_the_first_bad_one_is_named(rt: HostRuntime) -> 
     Ok(())
 }
 
+// So many bytes, as records of two.
+fn records_of_two(alloc: Global, count: usize) -> Result<Vec<u8>, AllocError> {
+    let mut line = b"2 records ".to_vec(alloc)?;
+    line.extend_from_slice(&b"a".repeat(alloc, count)?)?;
+    Ok(line)
+}
+
+#[test]
+fn a_long_length_that_is_no_multiple_is_told_whole(rt: HostRuntime) -> Result<(), Fail> {
+    let replies = output(rt.alloc(), &records_of_two(rt.alloc(), 301)?)?;
+    assert!(rt; replies.as_slice() == b"bad length 301\n".as_slice());
+    let replies = output(rt.alloc(), &records_of_two(rt.alloc(), 65_537)?)?;
+    assert!(rt; replies.as_slice() == b"bad length 65537\n".as_slice());
+    Ok(())
+}
+
 #[test]
 fn a_language_identifier_gets_its_canonical_text_at_any_capacity(
     rt: HostRuntime,
@@ -288,6 +313,7 @@ fn a_language_identifier_gets_its_canonical_text_at_any_capacity(
 7 locale en\tbad capacity
 4 locale\tinvalid language
 4 locale en US\tinvalid language
+4 locale en \tinvalid language
 4 locale en\x80\tinvalid language
 4 locale en-US\0\tinvalid subtag
 17 locale en--US\tinvalid subtag

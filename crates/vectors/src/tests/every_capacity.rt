@@ -16,7 +16,7 @@ fn has_forms<const N: usize>(text: TinyAsciiStr<N>, vector: &Vector) -> bool {
 
 // The text, read again from units of 16 bits.
 fn read_wide<const N: usize>(text: TinyAsciiStr<N>) -> Result<TinyAsciiStr<N>, ParseError> {
-    let front = text.resize::<33>();
+    let front = text.resize::<100>();
     let units = front.to_bytes().map(u16::from);
     TinyAsciiStr::try_from_utf16(&units[..front.len()])
 }
@@ -26,7 +26,8 @@ fn is_right<const N: usize>(vector: &Vector, _like: TinyAsciiStr<N>) -> bool {
     match TinyAsciiStr::<N>::try_from_str(vector.text) {
         Ok(text) => {
             has_forms(text, vector)
-                && has_forms(text.resize::<40>(), vector)
+                && (text.len() > 40 || has_forms(text.resize::<40>(), vector))
+                && has_forms(text.resize::<100>(), vector)
                 && read_wide(text).is_ok_and(|wide| has_forms(wide, vector))
         }
         Err(_) => false,
@@ -72,7 +73,7 @@ fn texts_answer_alike_at_every_capacity(rt: HostRuntime) -> Result<(), Fail> {
 fn texts_at_the_edges_of_words_answer_alike(rt: HostRuntime) -> Result<(), Fail> {
     let vectors = vectors(rt.alloc(), EDGES)?;
     let vectors = vectors.as_slice();
-    assert_eq!(rt; vectors.len(), 6);
+    assert_eq!(rt; vectors.len(), 9);
     for wrong in [
         first_wrong(vectors, TinyAsciiStr::<4>::default()),
         first_wrong(vectors, TinyAsciiStr::<16>::default()),
@@ -80,6 +81,7 @@ fn texts_at_the_edges_of_words_answer_alike(rt: HostRuntime) -> Result<(), Fail>
         first_wrong(vectors, TinyAsciiStr::<32>::default()),
         first_wrong(vectors, TinyAsciiStr::<33>::default()),
         first_wrong(vectors, TinyAsciiStr::<40>::default()),
+        first_wrong(vectors, TinyAsciiStr::<100>::default()),
     ] {
         assert_eq!(rt; wrong, None);
     }

@@ -5,6 +5,7 @@ use std::alloc::{AllocError, Global};
 use std::cmp::Ordering;
 use std::collections::HashSet;
 use std::test::Fail;
+use tinystr::laws::{niche_refused, text_order, unvalidated_back};
 use tinystr::{ParseError, TinyAsciiStr, UnvalidatedTinyAsciiStr};
 
 // Each text with one byte more fits.
@@ -126,6 +127,17 @@ fn the_order_is_total_and_that_of_the_padded_bytes(rt: HostRuntime) -> Result<()
     let texts = texts(rt.alloc())?;
     assert_eq!(rt; texts.len(), COUNT);
     assert_eq!(rt; first_out_of_order(&texts), None);
+    Ok(())
+}
+
+#[test]
+fn laws_answer_as_their_calls(rt: HostRuntime) -> Result<(), Fail> {
+    let [less, more] = [Text::try_from_str("ab")?, Text::try_from_str("b")?];
+    assert!(rt; text_order(&less, &more) == (false, Ordering::Less));
+    assert!(rt; text_order(&more, &less) == (false, Ordering::Greater));
+    assert!(rt; text_order(&more, &more) == (true, Ordering::Equal));
+    assert!(rt; unvalidated_back(more) == Ok(more));
+    assert!(rt; niche_refused::<3>() == Err(ParseError::NonAscii));
     Ok(())
 }
 

@@ -77,9 +77,12 @@ fn is_read_so(row: &[u8]) -> Option<bool> {
 
 #[test]
 fn lists_are_read_as_by_the_original(rt: HostRuntime) {
+    let mut rows = 0usize;
     for row in LISTS.split(is_line_feed) {
         assert!(rt; is_read_so(row) == Some(true), "{row:?}");
+        rows = rows.saturating_add(1);
     }
+    assert!(rt; rows == 16);
 }
 
 fn is_decimal(number: u32, expected: Result<&str, &str>) -> bool {
@@ -115,7 +118,10 @@ fn are_joined_and_ordered_so(row: &str) -> Option<bool> {
 
 #[test]
 fn pairs_are_joined_and_ordered_as_by_the_original(rt: HostRuntime) {
+    let mut rows = 0usize;
     for row in PAIRS.lines() {
         assert!(rt; are_joined_and_ordered_so(row) == Some(true), "{row}");
+        rows = rows.saturating_add(1);
     }
+    assert!(rt; rows == 8);
 }
