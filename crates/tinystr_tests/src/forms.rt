@@ -94,6 +94,9 @@ fn full_texts_come_back_from_json(rt: HostRuntime) {
     assert!(rt; letters_come_back(alloc, TinyAsciiStr::<33>::default(), compact));
     let compact = r#""abcdefghijklmnopqrstuvwxyzABCDEFGHIJKLMNOPQRSTUVWXYZabcdefghijkl""#;
     assert!(rt; letters_come_back(alloc, TinyAsciiStr::<64>::default(), compact));
+    let compact =
+        r#""abcdefghijklmnopqrstuvwxyzABCDEFGHIJKLMNOPQRSTUVWXYZabcdefghijklmnopqrstuvwxyzABCDEFGHIJKLMNOPQRSTUV""#;
+    assert!(rt; letters_come_back(alloc, TinyAsciiStr::<100>::default(), compact));
 }
 
 #[test]

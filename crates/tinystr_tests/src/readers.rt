@@ -3,7 +3,7 @@
 use std::test::Fail;
 use tinystr::ParseError::{self, ContainsNull, NonAscii, TooLong};
 use tinystr::forms::BytesReadError;
-use tinystr::{TinyAsciiStr, TinyStr4, TinyStr8, tinystr};
+use tinystr::{TinyAsciiStr, TinyStr4, TinyStr8, TinyStr16, tinystr};
 
 // Whether the reader took exactly this text, or refused for this fault.
 fn is_read<const N: usize>(
@@ -217,11 +217,13 @@ fn is_found_wide(at: usize, len: usize) -> bool {
     TinyAsciiStr::<40>::try_from_utf16(&units[..len]) == Err(NonAscii)
         && TinyAsciiStr::<40>::from_utf16_lossy(&units[..len], 127).as_utf8()
             == &letters_but(127, at)[..len]
+        && (len > 16 || TinyStr16::try_from_utf16(&units[..len]) == Err(NonAscii))
+        && (len > 8 || TinyStr8::try_from_utf16(&units[..len]) == Err(NonAscii))
 }
 
 #[test]
 fn a_wide_unit_is_found_at_each_position_of_each_length(rt: HostRuntime) {
-    for len in 17..41 {
+    for len in 1..41 {
         for at in 0..len {
             assert!(rt; is_found_wide(at, len), "{at} of {len}");
         }
@@ -291,6 +293,7 @@ fn padded_bytes_are_refused_for_a_bad_byte_at_each_position(rt: HostRuntime) {
     assert!(rt; are_refused_at_each_position(TinyAsciiStr::<12>::default()));
     assert!(rt; are_refused_at_each_position(TinyAsciiStr::<17>::default()));
     assert!(rt; are_refused_at_each_position(TinyAsciiStr::<40>::default()));
+    assert!(rt; are_refused_at_each_position(TinyAsciiStr::<100>::default()));
 }
 
 #[test]

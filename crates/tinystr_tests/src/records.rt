@@ -62,6 +62,10 @@ fn records_past_the_two_hundred_and_fifty_fifth_are_counted(rt: HostRuntime) {
     let mut bytes = [b'a'; 300];
     bytes[299] = 0x80;
     assert!(rt; TinyAsciiStr::<1>::validate_bytes(&bytes) == bad(299, ParseError::NonAscii));
+    let mut bytes = [b'a'; 70_000];
+    bytes[69_999] = 0;
+    bytes[69_998] = 0x80;
+    assert!(rt; TinyAsciiStr::<1>::validate_bytes(&bytes) == bad(69_998, ParseError::NonAscii));
 }
 
 // What is found of 130 records of three letters, two blocks of 64 and two more, with one other byte.

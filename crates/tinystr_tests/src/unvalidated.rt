@@ -39,6 +39,11 @@ fn bytes_are_read_up_to_the_capacity(rt: HostRuntime) {
     assert!(rt; Unvalidated::<3>::try_from_utf8(b"abc") == Ok(abc));
     let long = ParseError::TooLong { max: 3, len: 4 };
     assert!(rt; Unvalidated::<3>::try_from_utf8(b"abcd") == Err(long));
+    let bytes = [b'a'; 65_537];
+    for len in [301, 65_537] {
+        let long = ParseError::TooLong { max: 3, len };
+        assert!(rt; Unvalidated::<3>::try_from_utf8(&bytes[..len]) == Err(long));
+    }
     let none = Unvalidated::from_utf8_unchecked([]);
     assert!(rt; Unvalidated::<0>::try_from_utf8(b"") == Ok(none));
     let long = ParseError::TooLong { max: 0, len: 1 };

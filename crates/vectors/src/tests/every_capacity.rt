@@ -73,7 +73,7 @@ fn texts_answer_alike_at_every_capacity(rt: HostRuntime) -> Result<(), Fail> {
 fn texts_at_the_edges_of_words_answer_alike(rt: HostRuntime) -> Result<(), Fail> {
     let vectors = vectors(rt.alloc(), EDGES)?;
     let vectors = vectors.as_slice();
-    assert_eq!(rt; vectors.len(), 9);
+    assert_eq!(rt; vectors.len(), 10);
     for wrong in [
         first_wrong(vectors, TinyAsciiStr::<4>::default()),
         first_wrong(vectors, TinyAsciiStr::<16>::default()),
