@@ -12,7 +12,7 @@ fn keys_are_asked_by_text(rt: HostRuntime) {
     assert!(rt; is_key(&mut keys, "en", true));
     assert!(rt; is_key(&mut keys, "en", false));
     assert!(rt; keys.len() == 1 && has_key(&keys, "en"));
-    for text in "EN|ninechars||en\0|\u{e9}".split('|') {
+    for text in "EN|abcdefgh|ninechars||en\0|\u{e9}".split('|') {
         assert!(rt; !has_key(&keys, text), "{text}");
     }
 }

@@ -20,6 +20,7 @@ fn a_locale_is_one_in_any_spelling(rt: HostRuntime) -> Result<(), Fail> {
         assert!(rt; has_page(&pages, tag, None), "{tag}");
     }
     assert!(rt; !is_same_locale(b"zh--TW", b"zh--TW"));
+    assert!(rt; !is_same_locale(b"en-US", b"en-GB") && !is_same_locale(b"zh-Hans", b"zh-Hant"));
     Ok(())
 }
 
@@ -56,7 +57,8 @@ fn has_id<T: AsStr>(tag: &T, text: &str) -> bool {
 
 #[test]
 fn an_identifier_moves_to_another_region(rt: HostRuntime) {
-    let rows = "zh-Hant-TW/HK/zh-Hant-HK en/GB/en-GB sr_latn/rs/sr-Latn-RS es-ES/419/es-419";
+    let rows =
+        "zh-Hant-TW/HK/zh-Hant-HK en/GB/en-GB sr_latn/rs/sr-Latn-RS es-ES/419/es-419 en/001/en-001";
     for row in rows.split_whitespace() {
         assert!(rt; moves_to_its_region(row), "{row}");
     }

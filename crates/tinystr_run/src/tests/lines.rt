@@ -287,19 +287,24 @@ fn packed_records_are_counted_or_the_first_bad_one_is_named(rt: HostRuntime) -> 
     Ok(())
 }
 
-// So many bytes, as records of two.
-fn records_of_two(alloc: Global, count: usize) -> Result<Vec<u8>, AllocError> {
-    let mut line = b"2 records ".to_vec(alloc)?;
+// So many letters behind the beginning of a line.
+fn with_letters(alloc: Global, line: &[u8], count: usize) -> Result<Vec<u8>, AllocError> {
+    let mut line = line.to_vec(alloc)?;
     line.extend_from_slice(&b"a".repeat(alloc, count)?)?;
     Ok(line)
 }
 
 #[test]
-fn a_long_length_that_is_no_multiple_is_told_whole(rt: HostRuntime) -> Result<(), Fail> {
-    let replies = output(rt.alloc(), &records_of_two(rt.alloc(), 301)?)?;
-    assert!(rt; replies.as_slice() == b"bad length 301\n".as_slice());
-    let replies = output(rt.alloc(), &records_of_two(rt.alloc(), 65_537)?)?;
-    assert!(rt; replies.as_slice() == b"bad length 65537\n".as_slice());
+fn many_records_are_counted_whole(rt: HostRuntime) -> Result<(), Fail> {
+    for (line, count, reply) in [
+        (&b"2 records "[..], 301, &b"bad length 301\n"[..]),
+        (b"2 records ", 65_537, b"bad length 65537\n"),
+        (b"1 records ", 300, b"ok 300\n"),
+        (b"1 records ", 70_000, b"ok 70000\n"),
+    ] {
+        let replies = output(rt.alloc(), &with_letters(rt.alloc(), line, count)?)?;
+        assert!(rt; replies.as_slice() == reply, "{count}");
+    }
     Ok(())
 }
 
