@@ -84,6 +84,10 @@ fn long_texts_are_joined_and_cut(rt: HostRuntime) -> Result<(), Fail> {
     assert!(rt; is_joined(forty.concat::<32, 72>(full), FORTY, FULL));
     assert!(rt; is_joined(forty.concat::<32, 40>(less), FORTY, ""));
     assert!(rt; is_joined(forty.concat::<32, 71>(less), FORTY, LESS));
+    assert!(rt; is_joined(full.resize::<40>().concat::<32, 40>(less), FULL, "ABCDEFGH"));
+    let most = forty.resize::<39>().resize::<40>();
+    assert!(rt; is_joined(most.concat::<32, 72>(less), most.as_str(), LESS));
+    assert!(rt; is_joined(most.concat::<32, 40>(less), most.as_str(), "A"));
     assert!(rt; is_joined(less.concat::<40, 71>(forty), LESS, FORTY));
     assert!(rt; is_joined(less.concat::<40, 63>(forty), LESS, FULL));
     Ok(())
