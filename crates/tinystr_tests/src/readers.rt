@@ -109,6 +109,23 @@ fn sixteen_bit_units_are_compared_before_they_are_narrowed(rt: HostRuntime) {
     }
 }
 
+// Whether the letters are too many for the capacity of the value given, and the fault tells both numbers.
+fn are_too_many<const N: usize>(letters: &[u8], _like: TinyAsciiStr<N>) -> bool {
+    let len = letters.len();
+    TinyAsciiStr::<N>::try_from_utf8(letters) == Err(TooLong { max: N, len })
+}
+
+#[test]
+fn large_numbers_of_units_are_told_whole(rt: HostRuntime) {
+    let letters = [b'a'; 65_537];
+    for len in [301, 65_537] {
+        let letters = &letters[..len];
+        let is_right = are_too_many(letters, TinyAsciiStr::<4>::default())
+            && are_too_many(letters, TinyAsciiStr::<300>::default());
+        assert!(rt; is_right, "{len}");
+    }
+}
+
 // The bits of a unit that no character has.
 const HIGHER_BITS: [u16; 9] = [
     0x80, 0x100, 0x200, 0x400, 0x800, 0x1000, 0x2000, 0x4000, 0x8000,
@@ -118,7 +135,8 @@ const HIGHER_BITS: [u16; 9] = [
 fn a_sixteen_bit_unit_with_any_higher_bit_is_no_character(rt: HostRuntime) {
     for bit in HIGHER_BITS {
         let is_refused = is_read(TinyStr4::try_from_utf16(&[bit]), Err(NonAscii))
-            && is_read(TinyStr4::try_from_utf16(&[bit | 0x61]), Err(NonAscii));
+            && is_read(TinyStr4::try_from_utf16(&[bit | 0x61]), Err(NonAscii))
+            && is_found_wide(bit | 0x61, 20, 33);
         assert!(rt; is_refused, "{bit}");
     }
 }
@@ -207,13 +225,13 @@ fn a_bad_byte_is_found_at_each_position_of_a_hundred(rt: HostRuntime) {
     );
 }
 
-// Whether a unit whose lower bits are those of a letter is refused and replaced there, in so many letters.
-fn is_found_wide(at: usize, len: usize) -> bool {
+// Whether a unit above 127 is refused and replaced there, in so many letters.
+fn is_found_wide(unit: u16, at: usize, len: usize) -> bool {
     let mut units = [0x61; 40];
     if at >= 40 || len > 40 {
         return false;
     }
-    units[at] = 0x0161;
+    units[at] = unit;
     TinyAsciiStr::<40>::try_from_utf16(&units[..len]) == Err(NonAscii)
         && TinyAsciiStr::<40>::from_utf16_lossy(&units[..len], 127).as_utf8()
             == &letters_but(127, at)[..len]
@@ -225,7 +243,7 @@ fn is_found_wide(at: usize, len: usize) -> bool {
 fn a_wide_unit_is_found_at_each_position_of_each_length(rt: HostRuntime) {
     for len in 1..41 {
         for at in 0..len {
-            assert!(rt; is_found_wide(at, len), "{at} of {len}");
+            assert!(rt; is_found_wide(0x0161, at, len), "{at} of {len}");
         }
     }
 }
