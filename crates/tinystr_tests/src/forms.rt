@@ -187,6 +187,25 @@ fn bytes_are_refused_for_their_first_fault(rt: HostRuntime) {
     }
 }
 
+// Whether both types refuse fewer bytes than the capacity of the value given, and tell it.
+fn are_fewer<const N: usize>(input: &[u8], _like: TinyAsciiStr<N>) -> bool {
+    let length = BytesReadError::Length { expected: N };
+    match (
+        TinyAsciiStr::<N>::read_bytes(input),
+        UnvalidatedTinyAsciiStr::<N>::read_bytes(input),
+    ) {
+        (Err(fault), Err(same)) => fault == length && same == length,
+        _ => false,
+    }
+}
+
+#[test]
+fn the_capacity_is_told_where_bytes_are_too_few(rt: HostRuntime) {
+    assert!(rt; are_fewer(b"", TinyAsciiStr::<1>::default()));
+    assert!(rt; are_fewer(b"abc", TinyAsciiStr::<17>::default()));
+    assert!(rt; are_fewer(b"abc", TinyAsciiStr::<300>::default()));
+}
+
 // Whether the text's byte form is this one, and is read back.
 fn is_byte_form<const N: usize>(text: TinyAsciiStr<N>, form: [u8; N]) -> bool {
     text.to_bytes() == form && is_read_in_front(&form, text, b"")
@@ -230,6 +249,7 @@ fn are_too_few(input: &[u8]) -> bool {
 #[test]
 fn any_bytes_are_read_unless_too_few(rt: HostRuntime) {
     assert!(rt; are_read_unless_too_few(b"\0\x80\0\0X", *b"\0\x80\0\0", b"X"));
+    assert!(rt; are_read_unless_too_few(b"\0\x80XY", *b"\0\x80", b"XY"));
     assert!(rt; are_too_few(b"abc") && are_too_few(b"\0\x80a") && are_too_few(b"\0\0\0"));
     let text = UnvalidatedTinyAsciiStr::from_utf8_unchecked(*b"ab\0");
     assert!(rt; matches!(text.to_bytes(), Ok(bytes) if bytes == *b"ab\0"));

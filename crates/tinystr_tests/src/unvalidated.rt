@@ -13,6 +13,11 @@ fn bytes_that_are_no_text_are_kept_and_printed_as_a_list(rt: HostRuntime) -> Res
     let refused = Err(ParseError::ContainsNull);
     assert!(rt; bytes == same && bytes.try_into_tinystr() == refused);
     assert_eq!(rt; format!(in rt.alloc(); "{bytes:?}")?.as_str(), "[0, 65, 0]");
+    let bytes = Unvalidated::from_utf8_unchecked([0, 0x41, 0, 0xFF, 9]);
+    assert_eq!(rt;
+        format!(in rt.alloc(); "{bytes:?}")?.as_str(),
+        "[0, 65, 0, 255, 9]"
+    );
     Ok(())
 }
 
@@ -44,6 +49,10 @@ fn bytes_are_read_up_to_the_capacity(rt: HostRuntime) {
         let long = ParseError::TooLong { max: 3, len };
         assert!(rt; Unvalidated::<3>::try_from_utf8(&bytes[..len]) == Err(long));
     }
+    let mut padded = [0; 40];
+    padded[..33].copy_from_slice(&[0xFF; 33]);
+    let most = Unvalidated::from_utf8_unchecked(padded);
+    assert!(rt; Unvalidated::<40>::try_from_utf8(&[0xFF; 33]) == Ok(most));
     let none = Unvalidated::from_utf8_unchecked([]);
     assert!(rt; Unvalidated::<0>::try_from_utf8(b"") == Ok(none));
     let long = ParseError::TooLong { max: 0, len: 1 };
@@ -96,6 +105,11 @@ fn any_bytes_are_ordered_byte_by_byte(rt: HostRuntime) {
     assert!(rt; first < second && second < third);
     assert!(rt; first.cmp(&second) == Ordering::Less && third.cmp(&second) == Ordering::Greater);
     assert!(rt; second.cmp(&second) == Ordering::Equal && second == second && second != third);
+    let mut bytes = [0xFF; 100];
+    let greater = Unvalidated::from_utf8_unchecked(bytes);
+    bytes[99] = 0;
+    let less = Unvalidated::from_utf8_unchecked(bytes);
+    assert!(rt; less < greater && greater.cmp(&less) == Ordering::Greater && less != greater);
 }
 
 #[test]
