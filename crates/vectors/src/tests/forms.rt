@@ -28,7 +28,9 @@ fn comes_back(text: Text, alloc: Global) -> Result<bool, AllocError> {
 
 #[test]
 fn texts_come_back_from_each_form(rt: HostRuntime) -> Result<(), Fail> {
-    for vector in vectors(rt.alloc(), TEXTS)? {
+    let vectors = vectors(rt.alloc(), TEXTS)?;
+    assert_eq!(rt; vectors.len(), 33);
+    for vector in vectors {
         let text = Text::try_from_str(vector.text)?;
         assert!(rt; comes_back(text, rt.alloc())?, "{text}");
     }

@@ -151,6 +151,7 @@ fn is_found_again(set: &HashSet<Text>, text: Text) -> bool {
 #[test]
 fn equal_texts_hash_alike(rt: HostRuntime) -> Result<(), Fail> {
     let texts = texts(rt.alloc())?;
+    assert_eq!(rt; texts.len(), COUNT);
     let mut set = HashSet::new(rt.alloc());
     for (i, text) in texts.iter().enumerate() {
         let is_new = !texts[..i].contains(text);
@@ -209,7 +210,9 @@ fn keeps_laws_at_each_capacity(text: Text) -> bool {
 
 #[test]
 fn case_changes_keep_their_laws_and_commute_with_cutting(rt: HostRuntime) -> Result<(), Fail> {
-    for text in texts(rt.alloc())? {
+    let texts = texts(rt.alloc())?;
+    assert_eq!(rt; texts.len(), COUNT);
+    for text in texts {
         assert!(rt; keeps_laws_at_each_capacity(text), "{text:?}");
     }
     Ok(())
@@ -241,7 +244,10 @@ fn joins_alike_between(outer: &[Text], b: Text) -> bool {
 fn three_texts_join_and_cut_alike_in_either_order(rt: HostRuntime) -> Result<(), Fail> {
     let outer = table_texts(rt.alloc())?;
     let outer = outer.as_slice();
-    for text in texts(rt.alloc())? {
+    assert_eq!(rt; outer.len(), 33);
+    let texts = texts(rt.alloc())?;
+    assert_eq!(rt; texts.len(), COUNT);
+    for text in texts {
         assert!(rt; joins_alike_between(outer, text), "{text:?}");
     }
     Ok(())
@@ -296,7 +302,9 @@ fn comes_back_at_each_capacity(text: Text) -> bool {
 
 #[test]
 fn padded_forms_come_back_whatever_stands_behind_them(rt: HostRuntime) -> Result<(), Fail> {
-    for text in texts(rt.alloc())? {
+    let texts = texts(rt.alloc())?;
+    assert_eq!(rt; texts.len(), COUNT);
+    for text in texts {
         assert!(rt; comes_back_at_each_capacity(text), "{text:?}");
     }
     Ok(())
