@@ -1,8 +1,10 @@
 -- The formulas of the questions and of each case change, and that they are right at each of the 128 bytes.
-use Rattle.std.proofs.Common.{lit≤, ℕ, ◌+◌, ◌-◌, ◌<◌, ◌≡◌, Bool, true, false, cond, bit_and, bit_or, nat_eq, nat_le, nat_lt, refl, ◌&&◌, ◌∙◌, arith}
+use Rattle.std.proofs.Common.{lit<, lit≤, ℕ, ◌+◌, ◌-◌, ◌*◌, ◌%◌, ◌<◌, ◌≡◌, Bool, true, false, not, cond, bit_and, bit_or, nat_eq, nat_le, nat_lt, refl, ap, ap₂, ◌&&◌, ◌∙◌, arith}
 use Rattle.std.proofs.lemmas.Bool.Decides.{nat_tests}
 use Rattle.std.proofs.lemmas.Grind.{widths}
-use Rattle.std.proofs.lemmas.Nat.{le_or_l, le_or_r, or_lt, and_le_r}
+use Rattle.std.proofs.lemmas.Nat.{le_or_l, le_or_r, or_lt, and_le_r, xor_lt, xor_block}
+use Rattle.std.specs.Int.Bits.{bit_xor}
+use Rattle.std.specs.Bool.{beq}
 use Rattle.tinystr_words.specs.Classes.{is_alphabetic, is_alphanumeric, is_in, is_not_in}
 use Rattle.tinystr_words.specs.declared.question.Case.{Case}
 use Rattle.tinystr_words.specs.declared.question.Case.TheVariants.{Lower, Title, Upper}
@@ -12,13 +14,13 @@ use Rattle.tinystr_words.proofs.Formulas.{Formula, itself, splat, lead, join, fl
 
 -- the code's ranges
 abbrev pub UPPER : Range
-UPPER = record { low = 0x3f; high = 0x25; no_carry = (lit≤ tt, lit≤ tt) }
+UPPER = record { low = 0x3f; high = 0x25; no_carry = (lit≤ tt, lit≤ tt); not_empty = lit< tt }
 
 abbrev pub LOWER : Range
-LOWER = record { low = 0x1f; high = 0x05; no_carry = (lit≤ tt, lit≤ tt) }
+LOWER = record { low = 0x1f; high = 0x05; no_carry = (lit≤ tt, lit≤ tt); not_empty = lit< tt }
 
 abbrev pub DIGIT : Range
-DIGIT = record { low = 0x50; high = 0x46; no_carry = (lit≤ tt, lit≤ tt) }
+DIGIT = record { low = 0x50; high = 0x46; no_carry = (lit≤ tt, lit≤ tt); not_empty = lit< tt }
 
 abbrev pub outside : Formula → Range → Range → Formula
 outside w first others = join disjunction (flip (join addition w (lead first.low others.low))) (join addition w (lead first.high others.high))
@@ -36,9 +38,9 @@ with_case_bits = join disjunction itself (splat 0x20)
 abbrev pub outside_but_nuls : Range → Range → Formula
 outside_but_nuls first others = join conjunction (outside itself first others) present
 
--- and with them
-abbrev pub outside_with_nuls : Range → Range → Formula
-outside_with_nuls first others = join conjunction (outside itself first others) (splat 0x80)
+-- the marks of the bytes inside their ranges, where no NUL is
+abbrev pub inside : Range → Range → Formula
+inside first others = join conjunction (join difference (join addition itself (lead first.low others.low)) (join addition itself (lead first.high others.high))) (splat 0x80)
 
 abbrev pub not_letters : Formula
 not_letters = join conjunction (outside with_case_bits LOWER LOWER) present
@@ -84,24 +86,58 @@ nat_eq-outside_but_nuls r b h =
     let m = nat_lt-outside_of r b h in
     grind (arith, nat_tests)
 
--- a mark is left exactly outside of the range
-nat_eq-outside : (r : Range) (b : ℕ) → b < 128 → nat_eq (bit_and (outside_of r b) 0x80) 0x80 ≡ cond (nat_eq b 0) true (is_not_in r b)
-nat_eq-outside r b h =
-    rw (and-high_bit (outside_of r b) (outside_of-lt r b h), nat_lt-outside_of r b h) (let bounds = r.no_carry in grind (arith, nat_tests))
+abbrev inside_of : Range → ℕ → ℕ
+inside_of r b = bit_xor (b + r.low) (b + r.high)
+
+-- two bits tell whether the sum of the one that stands for both and a number below is below them
+nat_lt-bits : (p q : Bool) (m : ℕ) → m < 128 → nat_lt (bit_xor (cond p 0 1) (cond q 0 1) * 128 + m) 0x80 ≡ beq p q
+nat_lt-bits true true m h = grind (arith, nat_tests)
+nat_lt-bits true false m h = grind (arith, nat_tests)
+nat_lt-bits false true m h = grind (arith, nat_tests)
+nat_lt-bits false false m h = grind (arith, nat_tests)
+
+high_and_low : (x : ℕ) → x < 256 → x ≡ cond (nat_lt x 0x80) 0 1 * 128 + x % 128
+high_and_low x h = grind (arith, nat_tests)
+
+-- of two bytes, the difference has no high bit exactly if both or neither have it
+nat_lt-xor : (x y : ℕ) → x < 256 → y < 256 → nat_lt (bit_xor x y) 0x80 ≡ beq (nat_lt x 0x80) (nat_lt y 0x80)
+nat_lt-xor x y h k =
+    let p = nat_lt x 0x80 in
+    let q = nat_lt y 0x80 in
+    let r : x % 128 < 128 = omega arith in
+    let s : y % 128 < 128 = omega arith in
+    ap₂ (λ m n. nat_lt (bit_xor m n) 0x80) (high_and_low x h) (high_and_low y k)
+    ∙ ap (λ m. nat_lt m 0x80) (xor_block 7 (cond p 0 1) (cond q 0 1) (x % 128) (y % 128) r s)
+    ∙ nat_lt-bits p q (bit_xor (x % 128) (y % 128)) (xor_lt 7 (x % 128) (y % 128) r s)
+
+-- the byte of a lane has no high bit exactly outside of its range
+nat_lt-inside_of : (r : Range) (b : ℕ) → b < 128 → nat_lt (inside_of r b) 0x80 ≡ is_not_in r b
+nat_lt-inside_of r b h =
+    let bounds = r.no_carry in
+    let apart = r.not_empty in
+    nat_lt-xor (b + r.low) (b + r.high) (omega arith) (omega arith) ∙ grind (arith, nat_tests) ∙ ap not (is_in-sums r b)
+
+inside_of-lt : (r : Range) (b : ℕ) → b < 128 → inside_of r b < 256
+inside_of-lt r b h = let bounds = r.no_carry in xor_lt 8 (b + r.low) (b + r.high) (omega arith) (omega arith)
+
+-- no mark is left exactly outside of the range
+nat_eq-inside : (r : Range) (b : ℕ) → b < 128 → nat_eq (bit_and (inside_of r b) 0x80) 0 ≡ cond (nat_eq b 0) true (is_not_in r b)
+nat_eq-inside r b h =
+    rw (and-high_bit (inside_of r b) (inside_of-lt r b h), nat_lt-inside_of r b h) (let bounds = r.no_carry in grind (arith, nat_tests))
 
 -- the formulas of these marks are safe
-is_safe-outside : (r : Range) (b : ℕ) → b < 128 → (is_safe (outside_but_nuls r r) true b ≡ true) × (is_safe (outside_with_nuls r r) true b ≡ true)
-is_safe-outside r b h = let bounds = r.no_carry in (grind (arith, nat_tests, widths), grind (arith, nat_tests, widths))
+is_safe-marks : (r : Range) (b : ℕ) → b < 128 → (is_safe (outside_but_nuls r r) true b ≡ true) × (is_safe (inside r r) true b ≡ true)
+is_safe-marks r b h = let bounds = r.no_carry in (grind (arith, nat_tests, widths), grind (arith, nat_tests, widths))
 
 -- these ask each byte to be in its range
 pub Asks-outside_but_nuls : (first others : Range) → Asks (outside_but_nuls first others) (splat 0) (is_in first) (is_in others)
-Asks-outside_but_nuls first others true b h = ((is_safe-outside first b h).0, (refl, nat_eq-outside_but_nuls first b h))
-Asks-outside_but_nuls first others false b h = ((is_safe-outside others b h).0, (refl, nat_eq-outside_but_nuls others b h))
+Asks-outside_but_nuls first others true b h = ((is_safe-marks first b h).0, (refl, nat_eq-outside_but_nuls first b h))
+Asks-outside_but_nuls first others false b h = ((is_safe-marks others b h).0, (refl, nat_eq-outside_but_nuls others b h))
 
 -- and these to be outside it
-pub Asks-outside : (first others : Range) → Asks (outside_with_nuls first others) (splat 0x80) (is_not_in first) (is_not_in others)
-Asks-outside first others true b h = ((is_safe-outside first b h).1, (refl, nat_eq-outside first b h))
-Asks-outside first others false b h = ((is_safe-outside others b h).1, (refl, nat_eq-outside others b h))
+pub Asks-inside : (first others : Range) → Asks (inside first others) (splat 0) (is_not_in first) (is_not_in others)
+Asks-inside first others true b h = ((is_safe-marks first b h).1, (refl, nat_eq-inside first b h))
+Asks-inside first others false b h = ((is_safe-marks others b h).1, (refl, nat_eq-inside others b h))
 
 -- these ask for letters, as computing finds at each byte
 pub Asks-not_letters : Asks not_letters (splat 0) is_alphabetic is_alphabetic

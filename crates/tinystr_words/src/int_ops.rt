@@ -11,8 +11,8 @@ ghost use Rattle.tinystr_words.specs.Questions.{answer, in_case};
 
 use crate::decimal::decimal_word;
 use crate::kernel::{
-    DIGIT, LOWER, Range, UPPER, case_bits, every_lane_marked, faults, marks, no_character_marked,
-    outside, with_case_bits,
+    DIGIT, LOWER, Range, UPPER, case_bits, faults, inside, marks, no_character_marked,
+    no_lane_marked, outside, with_case_bits,
 };
 use crate::question::{Case, Question};
 use crate::unit::{Unit, is_text};
@@ -257,7 +257,7 @@ impl<T: Word<LEN>, const LEN: usize> Aligned<T, LEN> {
     fn none_in(&self, first: Range, others: Range) -> bool
         ensures { result ≡ ask (is_not_in first) (is_not_in others) self.now }
     {
-        every_lane_marked(outside(self.word, first, others))
+        no_lane_marked(inside(self.word, first, others))
     }
 
     // Whether each byte is a letter.

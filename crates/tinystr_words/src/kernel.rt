@@ -1,6 +1,7 @@
 //! The kernels: a word of lanes is asked and changed by a few sums over the whole word.
 
-ghost use Rattle.std.specs.Prelude.{◌≡◌, ◌+◌, ◌-◌, ◌/◌, ◌^◌, ◌≤◌, ◌==◌, bit_and, bit_or};
+ghost use Rattle.std.specs.Prelude.{◌≡◌, ◌+◌, ◌-◌, ◌/◌, ◌^◌, ◌<◌, ◌≤◌, ◌==◌, bit_and, bit_or};
+ghost use Rattle.std.specs.Int.Bits.{bit_xor};
 ghost use Rattle.tinystr_words.specs.Words.{word, first_then, HasLowLanes, HoldsText};
 
 use crate::word::Word;
@@ -13,6 +14,7 @@ pub struct Range {
     /// Sets the high bit past the range's last byte: 0x7f less that byte.
     pub high: u8,
     ghost no_carry: { (low ≤ 0x7f) × (high ≤ 0x7f) },
+    ghost not_empty: { high < low },
 }
 
 /// `A` to `Z`.
@@ -83,6 +85,21 @@ pub fn outside<T: Word<LEN>, const LEN: usize>(text: T, first: Range, others: Ra
     below.or(above)
 }
 
+/// The high bit of each lane whose byte is in its range: past a range both sums have it. It takes a step less than
+/// `outside`.
+#[inline(always)]
+#[tactic(auto, using(crate::proofs::LowLanes::low_first_then))]
+pub fn inside<T: Word<LEN>, const LEN: usize>(text: T, first: Range, others: Range) -> T
+    requires { HasLowLanes (T.number text) }
+    ensures { T.number result ≡ bit_xor
+        (T.number text + word (first_then LEN first.low others.low))
+        (T.number text + word (first_then LEN first.high others.high)) }
+{
+    let not_below = text.plus(T::first_then(first.low, others.low));
+    let above = text.plus(T::first_then(first.high, others.high));
+    not_below.xor(above)
+}
+
 /// The case bit, 0x20, of each lane whose byte is in its range.
 #[inline(always)]
 pub fn case_bits<T: Word<LEN>, const LEN: usize>(text: T, first: Range, others: Range) -> T
@@ -118,11 +135,11 @@ pub fn no_character_marked<T: Word<LEN>, const LEN: usize>(marks: T, text: T) ->
     marks.and(present(text)).equals(T::splat(0))
 }
 
-/// Whether every lane is marked.
+/// Whether no lane is marked.
 #[inline(always)]
-pub fn every_lane_marked<T: Word<LEN>, const LEN: usize>(marks: T) -> bool
+pub fn no_lane_marked<T: Word<LEN>, const LEN: usize>(marks: T) -> bool
     ensures { result ≡
-        (bit_and (T.number marks) (word (first_then LEN 0x80 0x80)) == word (first_then LEN 0x80 0x80)) }
+        (bit_and (T.number marks) (word (first_then LEN 0x80 0x80)) == word (first_then LEN 0 0)) }
 {
-    marks.and(T::splat(0x80)).equals(T::splat(0x80))
+    marks.and(T::splat(0x80)).equals(T::splat(0))
 }
