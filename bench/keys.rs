@@ -1,6 +1,6 @@
 //! Times maps, a sort and other calls by keys of two to eight letters, as the program of keys.txt does with the same
-//! keys, and prints one table. The argument is a file with what that program printed. A `String` stands for a JSON
-//! value.
+//! keys, and prints one table, with the ratio of its first column to each. The argument is a file with what that program
+//! printed. A `String` stands for a JSON value.
 
 use std::collections::{BTreeMap, HashMap};
 use std::fmt::{Display, Write};
@@ -32,6 +32,39 @@ impl Key for TinyAsciiStr<8> {
 impl Key for String {
     fn of(letters: &str) -> Self {
         letters.to_string()
+    }
+
+    fn letters(&self) -> &str {
+        self
+    }
+}
+
+/// The letters stay where they were read, for ever.
+impl Key for &'static str {
+    fn of(letters: &str) -> Self {
+        Box::leak(letters.into())
+    }
+
+    fn letters(&self) -> &str {
+        self
+    }
+}
+
+#[cfg(has_arrayvec)]
+impl Key for arrayvec::ArrayString<8> {
+    fn of(letters: &str) -> Self {
+        Self::from(letters).unwrap()
+    }
+
+    fn letters(&self) -> &str {
+        self
+    }
+}
+
+#[cfg(has_kstring)]
+impl Key for kstring::KString {
+    fn of(letters: &str) -> Self {
+        Self::from_ref(letters)
     }
 
     fn letters(&self) -> &str {
@@ -118,13 +151,15 @@ impl Row {
         self.sum = sum;
     }
 
-    /// The bytes of a key, or the nanoseconds of one call.
-    fn cell(&self) -> String {
+    /// The bytes of a key, or the nanoseconds of one call and how many times as long the first takes.
+    fn cell(&self, first: &Row) -> String {
+        let keeps_letters_elsewhere = ["`String`", "`&str`"].iter().any(|name| self.key.ends_with(name));
+        let calls = if self.call == "sort" { VALUES } else { KEYS };
         match self.call.as_str() {
-            "bytes a key" if self.key.ends_with("`String`") => format!("{} + letters", self.nanos),
+            "bytes a key" if keeps_letters_elsewhere => format!("{} + letters", self.nanos),
             "bytes a key" => self.nanos.to_string(),
-            "sort" => format!("{:.0}", self.nanos as f64 / VALUES as f64),
-            _ => format!("{:.0}", self.nanos as f64 / KEYS as f64),
+            _ if self.key == first.key => format!("{:.0}", self.nanos as f64 / calls as f64),
+            _ => format!("{:.0} ({:.2})", self.nanos as f64 / calls as f64, first.nanos as f64 / self.nanos as f64),
         }
     }
 }
@@ -241,7 +276,7 @@ fn print_table(rows: &[Row]) {
             eprintln!("{}: the answers differ", first.call);
             std::process::exit(1);
         }
-        let cells: Vec<String> = of_call.iter().map(|row| row.cell()).collect();
+        let cells: Vec<String> = of_call.iter().map(|row| row.cell(first)).collect();
         println!("| {} | {} |", first.call, cells.join(" | "));
     }
 }
@@ -250,6 +285,11 @@ fn main() {
     let printed = std::fs::read_to_string(std::env::args().nth(1).unwrap()).unwrap();
     let mut rows: Vec<Row> = printed.lines().map(|line| Row::read(line).unwrap()).collect();
     rows.extend(time_key::<TinyAsciiStr<8>>("Rust `TinyAsciiStr<8>`"));
+    #[cfg(has_arrayvec)]
+    rows.extend(time_key::<arrayvec::ArrayString<8>>("Rust `ArrayString<8>`"));
+    #[cfg(has_kstring)]
+    rows.extend(time_key::<kstring::KString>("Rust `KString`"));
     rows.extend(time_key::<String>("Rust `String`"));
+    rows.extend(time_key::<&'static str>("Rust `&str`"));
     print_table(&rows);
 }

@@ -22,5 +22,6 @@ over_slices!(decimal is tinystr_exports_decimal(capacity, rounds; numbers: u32; 
 over_slices!(resize is tinystr_exports_resize(capacity, to, rounds; texts: u8; resized: u8));
 over_slices!(concat is tinystr_exports_concat(capacity, to, rounds; first: u8, second: u8; joined: u8));
 over_slices!(print is tinystr_exports_print(capacity, form, rounds; values: u8; printed: u8, ends: u64));
+over_slices!(display is tinystr_exports_display(capacity, rounds; texts: u8; printed: u8));
 over_slices!(records is tinystr_exports_records(capacity; bytes: u8; found: u32));
 over_slices!(lang_ids is tinystr_exports_lang_ids(rounds; units: u8, starts: u32; texts: u8, faults: u8));

@@ -3,6 +3,7 @@
 ghost use Rattle.std.specs.Prelude.{◌≤◌};
 
 use crate::batch::{COUNT, read_texts, write_numbers, write_texts};
+use crate::hashing::hash_of;
 use std::cmp::Ordering;
 use tinystr::TinyAsciiStr;
 
@@ -28,6 +29,8 @@ const ALPHABETIC_TITLECASE: usize = 9;
 
 const ALPHABETIC_UPPERCASE: usize = 10;
 
+const LAST_OF_STR: usize = 11;
+
 /// Answers question number `question` for each text; false where there is no such question.
 pub fn ask_batch<const N: usize>(
     question: usize,
@@ -49,6 +52,7 @@ pub fn ask_batch<const N: usize>(
         ALPHABETIC_LOWERCASE => ask_each::<N, ALPHABETIC_LOWERCASE>(rounds, texts, answers),
         ALPHABETIC_TITLECASE => ask_each::<N, ALPHABETIC_TITLECASE>(rounds, texts, answers),
         ALPHABETIC_UPPERCASE => ask_each::<N, ALPHABETIC_UPPERCASE>(rounds, texts, answers),
+        LAST_OF_STR => ask_each::<N, LAST_OF_STR>(rounds, texts, answers),
         _ => return false,
     }
     true
@@ -81,7 +85,8 @@ fn ask<const N: usize, const QUESTION: usize>(text: &TinyAsciiStr<N>) -> u8 {
         UPPERCASE => u8::from(text.is_ascii_uppercase()),
         ALPHABETIC_LOWERCASE => u8::from(text.is_ascii_alphabetic_lowercase()),
         ALPHABETIC_TITLECASE => u8::from(text.is_ascii_alphabetic_titlecase()),
-        _ => u8::from(text.is_ascii_alphabetic_uppercase()),
+        ALPHABETIC_UPPERCASE => u8::from(text.is_ascii_alphabetic_uppercase()),
+        _ => text.as_str().as_bytes().last().copied().unwrap_or(0),
     }
 }
 
@@ -91,7 +96,9 @@ const TITLE: usize = 1;
 
 const UPPER: usize = 2;
 
-/// Changes each text to case number `case`; false where there is no such case.
+const COPY: usize = 3;
+
+/// Changes each text to case number `case`, or copies it; false where there is no such case.
 pub fn change_batch<const N: usize>(
     case: usize,
     rounds: usize,
@@ -104,6 +111,7 @@ pub fn change_batch<const N: usize>(
         LOWER => change_each::<N, LOWER>(rounds, texts, changed),
         TITLE => change_each::<N, TITLE>(rounds, texts, changed),
         UPPER => change_each::<N, UPPER>(rounds, texts, changed),
+        COPY => change_each::<N, COPY>(rounds, texts, changed),
         _ => return false,
     }
     true
@@ -127,13 +135,16 @@ fn change<const N: usize, const CASE: usize>(text: TinyAsciiStr<N>) -> TinyAscii
     match CASE {
         LOWER => text.to_ascii_lowercase(),
         TITLE => text.to_ascii_titlecase(),
-        _ => text.to_ascii_uppercase(),
+        UPPER => text.to_ascii_uppercase(),
+        _ => text,
     }
 }
 
 const ORDER: usize = 0;
 
 const EQUALITY: usize = 1;
+
+const EQUALITY_OF_HASHES: usize = 2;
 
 /// Compares each pair; false where there is no comparison of that number.
 pub fn compare_batch<const N: usize>(
@@ -148,6 +159,7 @@ pub fn compare_batch<const N: usize>(
     match relation {
         ORDER => compare_each::<N, ORDER>(rounds, left, right, answers),
         EQUALITY => compare_each::<N, EQUALITY>(rounds, left, right, answers),
+        EQUALITY_OF_HASHES => compare_each::<N, EQUALITY_OF_HASHES>(rounds, left, right, answers),
         _ => return false,
     }
     true
@@ -184,6 +196,7 @@ fn compare<const N: usize, const RELATION: usize>(
             Ordering::Equal => 1,
             Ordering::Greater => 2,
         },
-        _ => u8::from(left == right),
+        EQUALITY => u8::from(left == right),
+        _ => u8::from(hash_of(left) == hash_of(right)),
     }
 }

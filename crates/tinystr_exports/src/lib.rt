@@ -8,6 +8,7 @@ mod batch;
 mod calls;
 mod capacities;
 mod cuts;
+mod hashing;
 mod lang_ids;
 mod printing;
 mod readers;
@@ -16,11 +17,11 @@ mod records;
 use calls::{ask_batch, change_batch, compare_batch};
 use cuts::{concat_batch, resize_batch};
 use lang_ids::lang_id_batch;
-use printing::print_batch;
+use printing::{display_batch, print_batch};
 use readers::{decimal_batch, front_batch, read8_batch, read16_batch};
 use records::records_found;
 
-/// A question or the length of each text, as a number.
+/// A question, the length or the last byte of each text, as a number.
 #[unsafe(no_mangle)]
 pub extern "C" fn tinystr_exports_ask(
     capacity: usize,
@@ -32,7 +33,7 @@ pub extern "C" fn tinystr_exports_ask(
     crate::at_capacity!(capacity, ask_batch, question, rounds, texts, answers)
 }
 
-/// Each text in another case.
+/// Each text in another case, or a copy of it.
 #[unsafe(no_mangle)]
 pub extern "C" fn tinystr_exports_change(
     capacity: usize,
@@ -44,7 +45,7 @@ pub extern "C" fn tinystr_exports_change(
     crate::at_capacity!(capacity, change_batch, case, rounds, texts, changed)
 }
 
-/// The order or the equality of each pair of texts, as a number.
+/// The order or the equality of each pair of texts, or the equality of their hashes, as a number.
 #[unsafe(no_mangle)]
 pub extern "C" fn tinystr_exports_compare(
     capacity: usize,
@@ -171,6 +172,17 @@ pub extern "C" fn tinystr_exports_print(
     ends: &mut [u64],
 ) -> bool {
     crate::at_capacity!(capacity, print_batch, form, rounds, values, printed, ends)
+}
+
+/// Each text as it is printed, one after another.
+#[unsafe(no_mangle)]
+pub extern "C" fn tinystr_exports_display(
+    capacity: usize,
+    rounds: usize,
+    texts: &[u8],
+    printed: &mut [u8],
+) -> bool {
+    crate::at_few_capacities!(capacity, display_batch, rounds, texts, printed)
 }
 
 /// What is found of packed records: whether they are packed, or else the first bad one and its fault, as a number.

@@ -2,6 +2,7 @@
 
 ghost use Rattle.std.specs.Prelude.{◌≤◌};
 
+use crate::batch::read_texts;
 use std::io::{self, Cursor, Write};
 use tinystr::{TinyAsciiStr, UnvalidatedTinyAsciiStr};
 
@@ -70,4 +71,20 @@ fn print<const N: usize, const FORM: usize>(
         DEBUG => write!(out, "{text:?}"),
         _ => write!(out, "{bytes:?}"),
     }
+}
+
+/// Prints the texts one after another, as long as there is room.
+pub fn display_batch<const N: usize>(rounds: usize, texts: &[u8], printed: &mut [u8]) -> bool
+    requires { N ≤ 128 }
+{
+    let texts = read_texts::<N>(texts);
+    for _ in 0..rounds {
+        let mut out = Cursor::new(&mut *printed);
+        for text in &texts {
+            if write!(out, "{text}").is_err() {
+                break;
+            }
+        }
+    }
+    true
 }

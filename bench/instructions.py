@@ -1,0 +1,34 @@
+#!/usr/bin/env python3
+"""Reads what callgrind counted of a driver, and prints a line for each crate's call: its place in the tables, and the
+instructions a value, without what the call costs with no round.
+"""
+
+import sys
+
+NAMED = "desc: Trigger: Client Request: "
+
+
+def counts(lines):
+    """The name and the instructions of each count that the program named."""
+    name = None
+    for line in lines:
+        if line.startswith(NAMED):
+            name = line[len(NAMED) :].rstrip("\n")
+        elif line.startswith("desc: Trigger: "):
+            name = None
+        elif line.startswith(("summary: ", "totals: ")) and name:
+            yield name, int(line.split()[1])
+            name = None
+
+
+def main():
+    idle = 0
+    for name, count in counts(sys.stdin):
+        place, values, rounds = name.rsplit("|", 2)
+        if rounds == "0":
+            idle = count
+        else:
+            print(f"{place}|{(count - idle) / (int(values) * int(rounds)):.2f}")
+
+
+main()

@@ -1,0 +1,11 @@
+//! The calls that are timed beside the library's. They are a crate of their own, so that their code can be moved as the
+//! library's is.
+
+pub mod by_hand;
+#[cfg(has_locale)]
+pub mod locale;
+#[cfg(has_older)]
+pub mod older;
+#[path = "../diff/original.rs"]
+pub mod original;
+pub mod values;
