@@ -7,8 +7,8 @@ HERE = "here"
 
 
 class Figures:
-    """Of each cell, which is a table, a call and a column, each crate's time of each run, the least of the places of its
-    code, and each crate's instructions, where they were counted.
+    """Of each cell, which is a table, a call and a column, and of each crate: the time of each run, the least of the
+    places of its code, and the instructions, where they were counted.
     """
 
     def __init__(self):

@@ -1,5 +1,5 @@
 #!/usr/bin/env python3
-"""Prints tables of the figures of a driver, and writes them as CSV, for bench/measure: report.py HEAD TIMES [OPTION..]"""
+"""report.py HEAD TIMES [OPTION..]: prints tables of the figures of a driver for bench/measure, and writes them as CSV."""
 
 import argparse
 import csv
