@@ -82,11 +82,11 @@ def print_all_ratios(figures, options):
 
 
 def type_cell(cell, whose, figures):
-    """Bytes, or nanoseconds with the ratio of this crate's time to them."""
+    """Bytes, or nanoseconds and the ratio of this crate's time to them."""
     if cell[1].startswith("bytes"):
         return f"{figures.time(cell, whose):.0f}"
     time = f"{figures.time(cell, whose):.2f}"
-    return time if whose == HERE else f"{time} ({said(figures.ratios(cell, whose))})"
+    return time if whose == HERE else f"{time}, {said(figures.ratios(cell, whose))}"
 
 
 def print_types(figures):
@@ -94,7 +94,7 @@ def print_types(figures):
     for table in figures.tables():
         cells = figures.cells(table)
         types = list(dict.fromkeys(whose for cell in cells for whose in figures.times[cell]))
-        lines = [["nanoseconds a call", *(TYPES.get(it, it) for it in types)]]
+        lines = [["nanoseconds, ratio", *(TYPES.get(it, it) for it in types)]]
         for cell in cells:
             lines.append([cell[1], *(type_cell(cell, it, figures) for it in types)])
             counts = figures.instructions.get(cell)
