@@ -1,6 +1,6 @@
 -- Units that were read as a whole, and their array.
 use Rattle.std.proofs.Common.{Bool, IsTrue, List, ap, arith, false, get_or, inl, inr, length, map, not, set, sym, take, true, ℕ, ◌+◌, ◌<◌, ◌||◌, ◌%◌, ◌↔◌, ◌∙◌, ◌≡◌, ◌≤◌}
-use Rattle.std.proofs.lemmas.List.{get_or-map, get_or_past, length-map, take-map}
+use Rattle.std.proofs.lemmas.List.{get_or-map, get_or_past, length-map, length-take, take-map, take_all}
 use Rattle.std.proofs.lemmas.List.Elements.{All-from_get_or, All-map, All-weaker}
 use Rattle.std.proofs.lemmas.Bool.{cases_lt}
 use Rattle.std.specs.Prelude.{MatchBool}
@@ -82,3 +82,18 @@ lossy_is_padded bytes units r n h made =
     let short : take n (map (lossy_byte r) units) ≡ lossy units r n = take-map (lossy_byte r) n units in
     let text : IsText (map (lossy_byte r) units) = All-map IsTextByte (lossy_byte r) units (λ i d inside. IsTextByte-lossy_byte r (get_or units i d) h) in
     rw short at (IsPaddedText-pad_take bytes (map (lossy_byte r) units) n (rw short made) text)
+
+-- the first n units, as the code cuts them
+pub lossy-front : {X : Type 0} (number : X → ℕ) (units : List X) (r n : ℕ) → map (lossy_byte r) (map number (take n units)) ≡ lossy (map number units) r n
+lossy-front number units r n = ap (λ (l : List ℕ). map (lossy_byte r) l) (sym (take-map number n units))
+
+-- which are all that there are
+pub lossy-all : {X : Type 0} (number : X → ℕ) (units : List X) (r n : ℕ) → length units ≤ n → map (lossy_byte r) (map number units) ≡ lossy (map number units) r n
+lossy-all number units r n fits = ap (λ (l : List ℕ). map (lossy_byte r) l) (sym (take_all n (map number units) (omega (arith, length-map units number))))
+
+-- or fill the capacity
+pub lossy-full : {X : Type 0} (number : X → ℕ) (units : List X) (r n : ℕ) → n ≤ length units → map (lossy_byte r) (map number (take n units)) ≡ pad (lossy (map number units) r n) n
+lossy-full number units r n full =
+    let made = lossy (map number units) r n in
+    let len : length made ≡ n = length-map (take n (map number units)) (lossy_byte r) ∙ length-take n (map number units) ∙ omega (arith, length-map units number) in
+    lossy-front number units r n ∙ sym (pad-full made n (omega arith))

@@ -11,6 +11,7 @@ ghost use Rattle.tinystr_words.specs.Padded.{IsWidthOf};
 mod copying;
 mod joining;
 mod order;
+mod replacing;
 mod units;
 mod words;
 

@@ -1,6 +1,6 @@
 //! Units that readers take, and whether they are characters.
 
-ghost use Rattle.std.specs.Prelude.{◌≡◌, ◌*◌, ◌%◌, ◌≤◌, ◌↔◌, ℕ, length, map, IsTrue};
+ghost use Rattle.std.specs.Prelude.{◌≡◌, ◌*◌, ◌%◌, ◌≤◌, ◌↔◌, ℕ, length, map, IsTrue, IfSome};
 ghost use Rattle.tinystr_words.specs.Text.{IsText, IsTextByte};
 ghost use Rattle.tinystr_words.specs.Words.{word};
 
@@ -22,14 +22,18 @@ pub trait Unit: Copy {
     fn low_byte(self) -> u8
         ensures { result ≡ number self % 256 };
 
+    /// The units as bytes, if that is their type.
+    fn as_bytes(units: &[Self]) -> Option<&[u8]>
+        ensures { IfSome result (λ bytes. bytes.now ≡ map number units.now) };
+
     /// The word of the lowest eight bits of each of four units, the first lowest. There have to be four.
     fn word_of_four(units: &[Self]) -> u32
         requires { length units.now ≡ 4 }
         ensures { result ≡ word (map (λ unit. number unit % 256) units.now) };
 }
 
-// How many units from 1 on are characters.
-const CHARACTERS: u8 = 0x7f;
+/// How many units from 1 on are characters.
+pub const CHARACTERS: u8 = 0x7f;
 
 impl Unit for u8 {
     ghost number = { λ unit. unit };
@@ -47,6 +51,11 @@ impl Unit for u8 {
     #[inline(always)]
     fn low_byte(self) -> u8 {
         self
+    }
+
+    #[inline(always)]
+    fn as_bytes(units: &[u8]) -> Option<&[u8]> {
+        Some(units)
     }
 
     #[inline(always)]
@@ -71,6 +80,11 @@ impl Unit for u16 {
     #[inline(always)]
     fn low_byte(self) -> u8 {
         (self % 256) as u8
+    }
+
+    #[inline(always)]
+    fn as_bytes(_: &[u16]) -> Option<&[u8]> {
+        None
     }
 
     // Every other byte of a vector: as an array on its way to the word, the compiler would take each byte by itself.

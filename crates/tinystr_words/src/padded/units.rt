@@ -5,6 +5,7 @@ ghost use Rattle.tinystr_words.specs.Text.{pad};
 ghost use Rattle.tinystr_words.specs.Reading.{lossy, lossy_byte};
 ghost use Rattle.tinystr_words.specs.ReadParts.{IsReadPart};
 
+use super::replacing::lossy_word;
 use crate::Unit;
 
 // The byte of a character, or the replacement.
@@ -130,7 +131,16 @@ pub fn lossy<U: Unit, const N: usize>(units: &[U], replacement: u8) -> [u8; N]
     ensures { result ≡ pad (lossy (map U.number units.now) replacement N) N }
 {
     if units.len() >= N {
-        return lossy_chunk(&units[..N], replacement);
+        // past 8 bytes the loop of a known length is faster
+        let front = &units[..N];
+        return match U::as_bytes(front) {
+            Some(bytes) if N <= 8 => lossy_word(bytes, replacement),
+            _ => lossy_chunk(front, replacement),
+        };
+    }
+    match U::as_bytes(units) {
+        Some(bytes) if bytes.len() <= 16 => return lossy_word(bytes, replacement),
+        _ => {}
     }
     let mut bytes = [0; N];
     read_all(&mut bytes[..], units, replacement);
