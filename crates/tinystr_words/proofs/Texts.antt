@@ -7,9 +7,8 @@ use Rattle.std.proofs.lemmas.List.Sums.{prefix_len_is, prefix_len-le-length}
 use Rattle.std.proofs.lemmas.List.Folds.{length-prefix_len}
 use Rattle.std.proofs.lemmas.List.Elements.{All-weaker, All-take, All-drop}
 use Rattle.std.proofs.lemmas.Str.Ascii.{IsAscii-from_all}
-use Rattle.std.proofs.lemmas.Str.{IsUtf8-from_ascii}
 use Rattle.std.specs.List.{prefix_len}
-use Rattle.std.specs.Str.{IsUtf8}
+use Rattle.std.specs.Str.{IsAscii}
 use Rattle.tinystr_words.specs.Text.{IsTextByte, IsText, IsStrictText, pad, text_of, IsPaddedText, IsPadded}
 
 -- the test that `text_of` makes of each byte
@@ -94,9 +93,11 @@ pub ruleset padded_texts = (length-text_of-at, take-text_of, length-text_of-le)
 pub get_or-text_of : (bytes : List ℕ) (n k : ℕ) → IsPaddedText bytes n → get_or bytes k 0 ≡ get_or (text_of bytes) k 0
 get_or-text_of bytes n k p = ap (λ (l : List ℕ). get_or l k 0) p.padded ∙ get_or-pad (text_of bytes) n k
 
--- a text is UTF-8
-pub IsUtf8-text : (t : List ℕ) → IsText t → IsUtf8 t
-IsUtf8-text t h = IsUtf8-from_ascii t (IsAscii-from_all t (All-weaker IsTextByte (λ b. b < 128) (λ b c. c.1) t h))
+-- padded bytes are ASCII
+pub IsAscii-padded : (bytes : List ℕ) (n : ℕ) → IsPaddedText bytes n → IsAscii bytes
+IsAscii-padded bytes n p = λ i.
+    let text = IsAscii-from_all (text_of bytes) (All-weaker IsTextByte (λ b. b < 128) (λ b c. c.1) (text_of bytes) p.text) in
+    rw (get_or-text_of bytes n i p) (text i)
 
 -- ---- the parts of lists that are joined, and of padded texts
 
