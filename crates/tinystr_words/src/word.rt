@@ -188,15 +188,16 @@ impl Word<8> for u64 {
         u64::to_le_bytes(self)
     }
 
+    // Four units are two parts too, as `is_text` tests them: so their length is asked once where both are done.
     #[inline(always)]
     fn load<U: Unit>(src: &[U]) -> u64 {
         let len = src.len();
-        if len <= 4 {
+        if len < 4 {
             return u64::from(<u32 as Word<4>>::load(src));
         }
         let low = <u32 as Word<4>>::load(&src[..4]);
         let high = <u32 as Word<4>>::load(&src[len - 4..]);
-        u64::from(low) + (u64::from(high >> (8 * (8 - len))) << 32)
+        u64::from(low) + ((u64::from(high) >> (8 * (8 - len))) << 32)
     }
 
     // One more bit, below all, keeps the processor's count from a test for 0. There is room, since no byte is above 0x7f.
