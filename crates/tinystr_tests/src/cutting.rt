@@ -145,6 +145,64 @@ fn is_decimal<const N: usize>(
     }
 }
 
+// A number, and its decimal text at 5, 6, 7 and 8, whole or cut.
+const DECIMALS: [(u32, [Result<&str, &str>; 4]); 14] = [
+    (0, [Ok("0"), Ok("0"), Ok("0"), Ok("0")]),
+    (9, [Ok("9"), Ok("9"), Ok("9"), Ok("9")]),
+    (10, [Ok("10"), Ok("10"), Ok("10"), Ok("10")]),
+    (99, [Ok("99"), Ok("99"), Ok("99"), Ok("99")]),
+    (100, [Ok("100"), Ok("100"), Ok("100"), Ok("100")]),
+    (9999, [Ok("9999"), Ok("9999"), Ok("9999"), Ok("9999")]),
+    (10000, [Ok("10000"), Ok("10000"), Ok("10000"), Ok("10000")]),
+    (99999, [Ok("99999"), Ok("99999"), Ok("99999"), Ok("99999")]),
+    (
+        100000,
+        [Err("00000"), Ok("100000"), Ok("100000"), Ok("100000")],
+    ),
+    (
+        1234567,
+        [Err("34567"), Err("234567"), Ok("1234567"), Ok("1234567")],
+    ),
+    (
+        99999999,
+        [Err("99999"), Err("999999"), Err("9999999"), Ok("99999999")],
+    ),
+    (
+        100000000,
+        [Err("00000"), Err("000000"), Err("0000000"), Err("00000000")],
+    ),
+    (
+        1020304050,
+        [Err("04050"), Err("304050"), Err("0304050"), Err("20304050")],
+    ),
+    (
+        4294967295,
+        [Err("67295"), Err("967295"), Err("4967295"), Err("94967295")],
+    ),
+];
+
+#[test]
+fn decimal_texts_of_a_word_of_eight_are_whole_or_cut(rt: HostRuntime) {
+    for (number, [five, six, seven, eight]) in DECIMALS {
+        assert!(rt;
+            is_decimal(number, five, Decimal::<5>::default()),
+            "{number} at 5"
+        );
+        assert!(rt;
+            is_decimal(number, six, Decimal::<6>::default()),
+            "{number} at 6"
+        );
+        assert!(rt;
+            is_decimal(number, seven, Decimal::<7>::default()),
+            "{number} at 7"
+        );
+        assert!(rt;
+            is_decimal(number, eight, Decimal::<8>::default()),
+            "{number} at 8"
+        );
+    }
+}
+
 #[test]
 fn a_decimal_text_is_written_whole(rt: HostRuntime) {
     assert!(rt; is_decimal(0, Ok("0"), Decimal::<1>::default()));

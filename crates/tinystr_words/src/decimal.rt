@@ -1,6 +1,6 @@
 //! The decimal digits of a number, in a word.
 
-ghost use Rattle.std.specs.Prelude.{◌≡◌, ◌+◌, ◌*◌, ◌/◌, ◌%◌, ◌<◌};
+ghost use Rattle.std.specs.Prelude.{◌≡◌, ◌+◌, ◌*◌, ◌/◌, ◌%◌, ◌^◌, ◌<◌};
 ghost use Rattle.std.specs.Fmt.{decimal};
 ghost use Rattle.tinystr_words.specs.Words.{word};
 
@@ -33,4 +33,34 @@ pub fn decimal_word(number: u32) -> u128
     } else {
         65536 * u128::from(last) + u128::from(two_digits(rest))
     }
+}
+
+// Four digits as two numbers below 100 in lanes of 16 bits, the first digits lowest.
+#[inline(always)]
+fn two_pairs(number: u32) -> u32
+    requires { number < 10 ^ 4 }
+    ensures { result ≡ number / 100 + 65536 * (number % 100) }
+{
+    number / 100 + 65536 * (number % 100)
+}
+
+// Eight digits as four such numbers.
+#[inline(always)]
+fn four_pairs(number: u32) -> u64
+    requires { number < 10 ^ 8 }
+    ensures { result ≡ number / 10 ^ 6 + 65536 * (number / 10 ^ 4 % 100 + 65536 * (number / 100 % 100 + 65536 * (number % 100))) }
+{
+    u64::from(two_pairs(number / 10000)) + (u64::from(two_pairs(number % 10000)) << 32)
+}
+
+/// Eight digits, zeros in front among them, the first in the lowest lane; to each 0x30 is to be added. The tens of all
+/// pairs are made at once: below 100 a tenth is 103 parts of 1024, and no product leaves its lane.
+#[inline(always)]
+pub fn eight_digits(number: u32) -> u64
+    requires { number < 10 ^ 8 }
+    ensures { result + 0x3030303030303030 ≡ word (decimal (10 ^ 8 + number)) / 256 }
+{
+    let pairs = four_pairs(number);
+    let tens = ((pairs * 103) >> 10) & 0x000f_000f_000f_000f;
+    tens + 256 * (pairs - 10 * tens)
 }

@@ -9,7 +9,7 @@ ghost use Rattle.tinystr_words.specs.Case.{lowercase, titlecase, uppercase};
 ghost use Rattle.tinystr_words.specs.Decimal.{last};
 ghost use Rattle.tinystr_words.specs.Questions.{answer, in_case};
 
-use crate::decimal::decimal_word;
+use crate::decimal::{decimal_word, eight_digits};
 use crate::kernel::{
     DIGIT, LOWER, Range, UPPER, case_bits, faults, inside, marks, no_character_marked,
     no_lane_marked, outside, with_case_bits,
@@ -316,6 +316,25 @@ impl Aligned<u64, 8> {
         }
         Aligned {
             word: front + (back << (8 * len)),
+        }
+    }
+
+    /// The decimal text of a number, or its last digits where it has more than so many. Eight digits are made, and those
+    /// in front are shifted out: a loop that ends with the number took longer.
+    #[inline(always)]
+    pub fn from_number(number: u32, most: usize) -> Self
+        requires { (0 < most) × (most ≤ 8) }
+        ensures { result ≡ last most (decimal number) }
+    {
+        let digits = eight_digits(number % 100_000_000);
+        let others = if decimal_fits(number, most) {
+            // of eight zeros the last is kept
+            (digits | 1 << 56).trailing_zeros() as usize / 8
+        } else {
+            8 - most
+        };
+        Aligned {
+            word: (digits + 0x3030_3030_3030_3030) >> (8 * others),
         }
     }
 }

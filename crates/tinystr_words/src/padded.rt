@@ -70,10 +70,14 @@ pub fn decimal<const N: usize>(number: u32) -> Result<[u8; N], [u8; N]>
     ensures digits { IfOk result (λ bytes. IsPaddedText bytes N × (text_of bytes ≡ decimal number)) }
     ensures last_digits { IfErr result (λ bytes. IsPaddedText bytes N × (text_of bytes ≡ last N (decimal number))) }
 {
-    if decimal_fits(number, N) {
-        Ok(cut(&Aligned16::from_decimal(number).to_bytes()))
-    } else {
-        Err(cut(&Aligned16::from_last_digits(number, N).to_bytes()))
+    let fits = decimal_fits(number, N);
+    match width_of(N) {
+        Width::Eight => {
+            let digits = cut(&Aligned8::from_number(number, N).to_bytes());
+            if fits { Ok(digits) } else { Err(digits) }
+        }
+        _ if fits => Ok(cut(&Aligned16::from_decimal(number).to_bytes())),
+        _ => Err(cut(&Aligned16::from_last_digits(number, N).to_bytes())),
     }
 }
 
