@@ -319,8 +319,8 @@ impl Aligned<u64, 8> {
         }
     }
 
-    /// The decimal text of a number, or its last digits where it has more than so many. Eight digits are made, and those
-    /// in front are shifted out: a loop that ends with the number took longer.
+    /// The decimal text of a number, or its last digits where it has more than so many. Eight digits are made, and
+    /// those in front are shifted out: a loop that ends with the number took longer.
     #[inline(always)]
     pub fn from_number(number: u32, most: usize) -> Self
         requires { (0 < most) × (most ≤ 8) }
