@@ -27,9 +27,10 @@ def aligned(lines):
 
 
 def said(ratios):
-    """The median of the runs, and the least and the most where there are several."""
-    middle = f"{median(ratios):.2f}"
-    return middle if len(ratios) == 1 else f"{middle} ({min(ratios):.2f}-{max(ratios):.2f})"
+    """The median of the runs, and the least and the most where they are more than a tenth of it apart."""
+    middle = median(ratios)
+    least, most = min(ratios), max(ratios)
+    return f"{middle:.2f}" if most - least <= middle / 10 else f"{middle:.2f} ({least:.2f}-{most:.2f})"
 
 
 def geometric(ratios):
