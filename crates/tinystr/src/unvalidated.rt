@@ -83,12 +83,13 @@ impl<const N: usize> UnvalidatedTinyAsciiStr<N> {
         ensures fault { IfErr result (λ e. e ≡ ParseError.TooLong N (length bytes.now)) }
     {
         let len = bytes.len();
-        if len > N {
-            return Err(ParseError::TooLong { max: N, len });
+        if len <= N {
+            let mut padded = [0; N];
+            padded[..len].copy_from_slice(bytes);
+            Ok(UnvalidatedTinyAsciiStr { bytes: padded })
+        } else {
+            Err(ParseError::TooLong { len, max: N })
         }
-        let mut padded = [0; N];
-        padded[..len].copy_from_slice(bytes);
-        Ok(UnvalidatedTinyAsciiStr { bytes: padded })
     }
 
     /// These bytes, whatever they are.
