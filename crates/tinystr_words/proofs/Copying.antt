@@ -1,6 +1,6 @@
 -- Bytes copied in pieces onto others, and a padded text put after another.
-use Rattle.std.proofs.Common.{List, [], arith, drop, length, min, refl, rules, take, ℕ, ◌++◌, ◌+◌, ◌-◌, ◌<◌, ◌∙◌, ◌≡◌, ◌≤◌, ◌⊎◌}
-use Rattle.std.proofs.lemmas.List.{length-append, places, same_lists, take_all}
+use Rattle.std.proofs.Common.{List, [], ap, arith, drop, length, map, min, refl, rules, sym, take, ℕ, ◌++◌, ◌+◌, ◌-◌, ◌<◌, ◌∙◌, ◌≡◌, ◌≤◌, ◌⊎◌}
+use Rattle.std.proofs.lemmas.List.{drop-drop, drop-map, drop-take, length-append, places, same_lists, take-map, take-take, take_all}
 use Rattle.std.proofs.lemmas.List.Elements.{All-append, All-nil}
 use Rattle.std.proofs.Math.Seq.{take-nil}
 use borrow.Rule.Slice.PartMut.{put_mid}
@@ -73,3 +73,18 @@ pub IsPadded-nuls : (n : ℕ) → IsPadded (NULS n) × (text_of (NULS n) ≡ [])
 IsPadded-nuls n =
     let made = IsPaddedText-places (NULS n) [] (length (NULS n)) refl (All-nil IsTextByte) (λ k below. get_or-nuls n k) in
     (made.0, made.1 ∙ take-nil (length (NULS n)))
+
+-- so many of the eight from a place on
+pub piece-of_eight : {X : Type 0} (f : X → ℕ) (xs : List X) (eight piece : List ℕ) (at all skip k from count : ℕ) → all ≡ 8 → eight ≡ map f (take all (drop at xs))
+    → piece ≡ take k (drop skip eight) → skip + k ≤ 8 → at + skip ≡ from → k ≡ count → piece ≡ take count (drop from (map f xs))
+piece-of_eight f xs eight piece at all skip k from count is_all made is fits there same =
+    let src = map f xs in
+    let whole : eight ≡ take 8 (drop at src) = rw is_all at made ∙ sym (take-map f 8 (drop at xs)) ∙ ap (take 8) (sym (drop-map f at xs)) in
+    let behind : drop skip (take 8 (drop at src)) ≡ take (8 - skip) (drop skip (drop at src)) =
+    (rw (let all : skip + (8 - skip) ≡ 8 = omega arith in all) at (drop-take skip (8 - skip) (drop at src))) in
+    is ∙ ap (λ l. take k (drop skip l)) whole ∙ ap (take k) behind ∙ take-take k (8 - skip) (drop skip (drop at src)) (omega arith)
+    ∙ ap (take k) (drop-drop skip at src) ∙ rw (there, same) refl
+
+-- all of a list copied onto one as long
+pub copied_whole : (old src bytes : List ℕ) (n : ℕ) → n ≡ length src → length old ≡ n → bytes ≡ take n src ++ drop n old → bytes ≡ src
+copied_whole old src bytes n all room e = rw e (same_lists _ _ (search (rules, places)) (λ k d h. grind (arith, places)))

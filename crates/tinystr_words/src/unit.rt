@@ -4,6 +4,7 @@ ghost use Rattle.std.specs.Prelude.{◌≡◌, ◌*◌, ◌%◌, ◌≤◌, ◌�
 ghost use Rattle.tinystr_words.specs.Text.{IsText, IsTextByte};
 ghost use Rattle.tinystr_words.specs.Words.{word};
 
+use crate::word::Word;
 use std::simd::prelude::*;
 
 /// A unit that a reader takes: a byte, or a 16-bit number.
@@ -30,6 +31,11 @@ pub trait Unit: Copy {
     fn word_of_four(units: &[Self]) -> u32
         requires { length units.now ≡ 4 }
         ensures { result ≡ word (map (λ unit. number unit % 256) units.now) };
+
+    /// The lowest eight bits of each of eight units. There have to be eight.
+    fn eight_low_bytes(units: &[Self]) -> [u8; 8]
+        requires { length units.now ≡ 8 }
+        ensures { result ≡ map (λ unit. number unit % 256) units.now };
 }
 
 /// How many units from 1 on are characters.
@@ -62,6 +68,13 @@ impl Unit for u8 {
     fn word_of_four(units: &[u8]) -> u32 {
         u32::from_le_bytes(*units.first_chunk::<4>().unwrap())
     }
+
+    #[inline(always)]
+    fn eight_low_bytes(units: &[u8]) -> [u8; 8] {
+        let mut bytes = [0; 8];
+        bytes.copy_from_slice(units);
+        bytes
+    }
 }
 
 impl Unit for u16 {
@@ -92,6 +105,14 @@ impl Unit for u16 {
     fn word_of_four(units: &[u16]) -> u32 {
         let bytes = u16x4::from_slice(units).to_le_bytes();
         u32x1::from_le_bytes(bytes.swizzle([0, 2, 4, 6])).to_array()[0]
+    }
+
+    // By way of a number: bytes of a vector would be put into the array one by one.
+    #[inline(always)]
+    fn eight_low_bytes(units: &[u16]) -> [u8; 8] {
+        let bytes = u16x8::from_slice(units).to_le_bytes();
+        let word = u64x1::from_le_bytes(bytes.swizzle([0, 2, 4, 6, 8, 10, 12, 14])).to_array()[0];
+        Word::to_bytes_in_registers(word)
     }
 }
 
