@@ -30,7 +30,7 @@ next_sixteen xs ys s = rw (← drop-drop 16 s xs, ← drop-drop 16 s ys) (bytes_
 -- sixteen bytes, and the last sixteen
 pub last_sixteen : (xs ys : List ℕ) (s : ℕ) → length xs ≡ length ys → s + 16 ≤ length xs → length xs - s ≤ 32
     → (bytes_eq (take 16 (drop s xs)) (take 16 (drop s ys))
-        && bytes_eq (take 16 (drop (length xs - 16) xs)) (take 16 (drop (length xs - 16) ys)))
+    && bytes_eq (take 16 (drop (length xs - 16) xs)) (take 16 (drop (length xs - 16) ys)))
     ≡ bytes_eq (drop s xs) (drop s ys)
 last_sixteen xs ys s same fits near =
     let k = length xs - 16 - s in
