@@ -93,11 +93,13 @@ pub ruleset padded_texts = (length-text_of-at, take-text_of, length-text_of-le)
 pub get_or-text_of : (bytes : List ℕ) (n k : ℕ) → IsPaddedText bytes n → get_or bytes k 0 ≡ get_or (text_of bytes) k 0
 get_or-text_of bytes n k p = ap (λ (l : List ℕ). get_or l k 0) p.padded ∙ get_or-pad (text_of bytes) n k
 
+-- a text is ASCII
+pub IsAscii-text : (t : List ℕ) → IsText t → IsAscii t
+IsAscii-text t h = IsAscii-from_all t (All-weaker IsTextByte (λ b. b < 128) (λ b c. c.1) t h)
+
 -- padded bytes are ASCII
 pub IsAscii-padded : (bytes : List ℕ) (n : ℕ) → IsPaddedText bytes n → IsAscii bytes
-IsAscii-padded bytes n p = λ i.
-    let text = IsAscii-from_all (text_of bytes) (All-weaker IsTextByte (λ b. b < 128) (λ b c. c.1) (text_of bytes) p.text) in
-    rw (get_or-text_of bytes n i p) (text i)
+IsAscii-padded bytes n p = λ i. rw (get_or-text_of bytes n i p) (IsAscii-text (text_of bytes) p.text i)
 
 -- ---- the parts of lists that are joined, and of padded texts
 

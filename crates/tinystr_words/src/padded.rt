@@ -9,6 +9,7 @@ ghost use Rattle.tinystr_words.specs.Questions.{answer, in_case};
 ghost use Rattle.tinystr_words.specs.Padded.{IsWidthOf};
 
 mod copying;
+mod equality;
 mod joining;
 mod order;
 mod replacing;
@@ -104,11 +105,10 @@ pub fn equals<const N: usize>(left: &[u8; N], right: &[u8; N]) -> bool
     match width_of(N) {
         Width::Four => Aligned4::from_ascii_bytes(left).equals(&Aligned4::from_ascii_bytes(right)),
         Width::Eight => Aligned8::from_ascii_bytes(left).equals(&Aligned8::from_ascii_bytes(right)),
-        Width::Sixteen if N == 16 => order::sixteen_equal(&left[..], &right[..]),
-        Width::Sixteen => Aligned16::from_ascii_bytes(left).equals(&Aligned16::from_ascii_bytes(
-            right,
-        )),
-        Width::Many => left == right,
+        Width::Sixteen if N < 16 => Aligned16::from_ascii_bytes(left).equals(
+            &Aligned16::from_ascii_bytes(right),
+        ),
+        Width::Sixteen | Width::Many => equality::equal(&left[..], &right[..]),
     }
 }
 

@@ -38,15 +38,20 @@ impl<const N: usize> TinyAsciiStr<N> {
     }
 
     /// The text as a string, in the value itself.
-    // All bytes are tested: the kit tests eight at once, and fewer than eight one by one.
+    // The kit tests eight bytes at once, and fewer than eight one by one: so below eight the text alone is tested, and
+    // from eight on all bytes, whose number is known.
     #[inline]
     pub fn as_str(&self) -> &str
         ensures text { result.now ≡ self.now }
         ensures ascii { IsText result.now }
         ensures fits { length result.now ≤ N }
     {
-        let all = std::str::from_utf8(&self.bytes[..]).unwrap();
-        &all[..self.len()]
+        if N < 8 {
+            std::str::from_utf8(self.as_utf8()).unwrap()
+        } else {
+            let all = std::str::from_utf8(&self.bytes[..]).unwrap();
+            &all[..self.len()]
+        }
     }
 
     /// All `N` bytes, in the value itself: the text and then NULs.

@@ -1,14 +1,12 @@
-//! The order of bytes, eight at a time, and whether sixteen are the same.
+//! The order of bytes, eight at a time.
 
 ghost use Rattle.std.specs.Prelude.{◌≡◌, ◌<◌, length};
 ghost use Rattle.std.specs.Cmp.Lexicographic.{slice_cmp};
 ghost use Rattle.std.specs.Ordering.{nat_cmp};
 ghost use Rattle.std.specs.Int.{from_be_bytes, w64};
-ghost use Rattle.std.specs.Str.{bytes_eq};
 ghost use Rattle.tinystr_words.specs.Text.{pad};
 
 use std::cmp::Ordering;
-use std::simd::prelude::*;
 
 /// The order of two lists of bytes that are equally long.
 #[inline(always)]
@@ -49,14 +47,4 @@ fn pad_to_eight(bytes: &[u8]) -> [u8; 8]
     let mut word = [0; 8];
     word[..bytes.len()].copy_from_slice(bytes);
     word
-}
-
-/// Whether two lists of sixteen bytes are the same: one vector, where a word of 128 bits would be compared by halves.
-#[inline(always)]
-pub fn sixteen_equal(left: &[u8], right: &[u8]) -> bool
-    requires left { length left.now ≡ 16 }
-    requires right { length right.now ≡ 16 }
-    ensures { result ≡ bytes_eq left.now right.now }
-{
-    u8x16::from_slice(left) == u8x16::from_slice(right)
 }
