@@ -11,7 +11,7 @@ ghost use Rattle.tinystr_words.specs.Reading.{strict_of};
 use std::alloc::{AllocError, Global};
 use std::collections::BTreeSet;
 use subtags::LangId;
-use tinystr::TinyAsciiStr;
+use tinystr::TinyStr8;
 
 /// The identifiers of tags in any spelling, in order and each once; what is no tag is left out. Only memory can stop it.
 pub fn ids_of(alloc: Global, tags: &[&str]) -> Result<BTreeSet<LangId>, AllocError>
@@ -19,17 +19,17 @@ pub fn ids_of(alloc: Global, tags: &[&str]) -> Result<BTreeSet<LangId>, AllocErr
         (filter_map (λ tag. canonical_of tag.now) tags.now)) }
 {
     tags.iter()
-        .filter_map(|tag| LangId::try_from_utf8(tag.as_bytes()).ok())
+        .filter_map(|tag| tag.parse().ok())
         .collect(alloc)
 }
 
 /// The keys of at most eight characters, in order and each once; what is no key is left out. Only memory can stop it.
-pub fn keys_of(alloc: Global, texts: &[&str]) -> Result<BTreeSet<TinyAsciiStr<8>>, AllocError>
+pub fn keys_of(alloc: Global, texts: &[&str]) -> Result<BTreeSet<TinyStr8>, AllocError>
     ensures { IfOk result (IsFromIterResult (slice_cmp nat_cmp)
         (filter_map (λ text. strict_of 8 text.now) texts.now)) }
 {
     texts
         .iter()
-        .filter_map(|text| TinyAsciiStr::try_from_str(text).ok())
+        .filter_map(|text| text.parse().ok())
         .collect(alloc)
 }
