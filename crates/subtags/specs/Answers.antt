@@ -1,8 +1,9 @@
 -- What the readers answer, and the texts of their error.
 use Rattle.std.specs.Prelude.{◌≡◌, ℕ, List, codes, Result, IsOk, IfOk, IfErr, ◌↔◌, if◌then◌else◌}
+use Rattle.std.specs.Result.{result_ok}
 use Rattle.subtags.specs.declared.error.LangIdError.{LangIdError}
 use Rattle.subtags.specs.declared.error.LangIdError.TheVariants.{InvalidLanguage, InvalidSubtag}
-use Rattle.subtags.specs.Grammar.{fold_text, parts, is_language, IsLangId, canonical_text}
+use Rattle.subtags.specs.Grammar.{fold_text, parts, is_language, IsLangId, canonical_text, canonical_of}
 use Rattle.subtags.specs.Parts.{first}
 
 -- why an input is refused: for its first part, or for what stands behind it
@@ -14,6 +15,7 @@ pub record IsLangIdRead (u : List ℕ) (r : Result (List ℕ) LangIdError) : Typ
   pub accepted : IsOk r ↔ IsLangId u
   pub text : IfOk r (λ t. t ≡ canonical_text u)
   pub refusal : IfErr r (λ e. e ≡ refusal_of u)
+  pub value : result_ok r ≡ canonical_of u
 
 abbrev pub message_of : LangIdError → List ℕ
 message_of InvalidLanguage = codes "invalid language"

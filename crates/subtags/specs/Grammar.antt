@@ -1,5 +1,5 @@
 -- Language identifiers, the fold that tells them apart, and their canonical texts.
-use Rattle.std.specs.Prelude.{◌≡◌, ℕ, ◌==◌, Bool, true, false, ◌&&◌, ◌||◌, if◌then◌else◌, IsTrue, List, [], ◌∷◌, length, map}
+use Rattle.std.specs.Prelude.{◌≡◌, ℕ, ◌==◌, Bool, true, false, ◌&&◌, ◌||◌, if◌then◌else◌, IsTrue, List, [], ◌∷◌, length, map, Option, Some, None}
 use Rattle.std.specs.Int.{is_in_range}
 use Rattle.std.specs.List.{list_all, slice_split, join_with_byte}
 use Rattle.tinystr_words.specs.Classes.{is_alphabetic, is_digit}
@@ -70,6 +70,10 @@ canonical_parts (l ∷ ps) = l ∷ map canonical_part ps
 
 abbrev pub canonical_text : List ℕ → List ℕ
 canonical_text u = join_with_byte dash (canonical_parts (parts (fold_text u)))
+
+-- the canonical text, where the input is a language identifier
+abbrev pub canonical_of : List ℕ → Option (List ℕ)
+canonical_of u = if is_lang_id (parts (fold_text u)) then Some (canonical_text u) else None
 
 -- a text that is accepted, and is its own canonical text
 pub record IsCanonical (t : List ℕ) : Type 0 where

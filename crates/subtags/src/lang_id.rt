@@ -2,8 +2,9 @@
 
 ghost use Rattle.std.specs.Prelude.{◌≡◌, ◌+◌, ◌≤◌, ◌∷◌, take, Some, IsTrue, IsOk, IfOk, IfErr, IfSome, ◌↔◌};
 ghost use Rattle.std.specs.Fmt.{debug_str, styled_text};
+ghost use Rattle.std.specs.Result.{result_ok};
 ghost use Rattle.tinystr_words.specs.Case.{lowercase, titlecase, uppercase};
-ghost use Rattle.subtags.specs.Grammar.{dash, fold_text, is_language, is_language_length, is_script, is_region, IsLangId, IsCanonical, canonical_text};
+ghost use Rattle.subtags.specs.Grammar.{dash, fold_text, is_language, is_language_length, is_script, is_region, IsLangId, IsCanonical, canonical_text, canonical_of};
 ghost use Rattle.subtags.specs.Parts.{IsCanonicalPart, language_of, script_of, region_of, join_parts};
 ghost use Rattle.subtags.specs.Answers.{refusal_of, IsLangIdRead};
 
@@ -55,6 +56,7 @@ impl LangId {
         ensures text { IfOk result (λ id. id ≡ canonical_text code_units.now) }
         ensures fold { IfOk result (λ id. fold_text id ≡ fold_text code_units.now) }
         ensures refusal { IfErr result (λ e. e ≡ refusal_of code_units.now) }
+        ensures value { result_ok result ≡ canonical_of code_units.now }
     {
         let (first, rest) = cut(code_units);
         let Some(language) = Language::try_from_utf8(first) else {

@@ -1,11 +1,15 @@
--- The tests of strict and of padded texts are true exactly of these.
-use Rattle.std.proofs.Common.{ℕ, ◌≤◌, nat_lt, nat_le, List, length, refl, arith}
-use Rattle.std.specs.Bool.{Decides}
+-- The tests of strict and of padded texts are true exactly of these, and what a strict reader gives is `strict_of`.
+use Rattle.std.proofs.Common.{◌≡◌, ◌↔◌, ℕ, ◌≤◌, nat_lt, nat_le, true, false, List, length, refl, arith}
+use Rattle.std.specs.Bool.{Decides, one_answer}
 use Rattle.std.specs.List.{list_all}
+use Rattle.std.specs.Result.{IsOk, IfOk, result_ok}
+use Rattle.std.specs.declared.result.Result.{Result}
+use Rattle.std.specs.declared.result.Result.TheVariants.{Ok, Err}
 use Rattle.std.specs.Str.{bytes_eq}
 use Rattle.std.proofs.lemmas.Bool.Decides.{Decides-and, Decides-by_and, Decides-like, Decides-ltb, nat_tests}
 use Rattle.std.proofs.lemmas.Slice.Eq.{bytes_eq-Decides}
 use Rattle.tinystr_words.specs.Text.{IsText, IsTextByte, IsStrictText, IsPaddedText, text_of, pad, is_text_byte, is_strict_text, is_padded_text}
+use Rattle.tinystr_words.specs.Reading.{strict_of}
 
 -- of a byte of a text
 pub is_text_byte-Decides : (b : ℕ) → Decides (is_text_byte b) (IsTextByte b)
@@ -33,3 +37,12 @@ is_padded_text-Decides bytes n =
     (λ h. record { text = h.0.text; fits = h.0.fits; padded = h.1 }) (λ h. (record { text = h.text; fits = h.fits }, h.padded))
     (Decides-and (is_strict_text (text_of bytes) n) (bytes_eq bytes (pad (text_of bytes) n))
     (is_strict_text-Decides (text_of bytes) n) (bytes_eq-Decides bytes (pad (text_of bytes) n)))
+
+-- a reader that takes exactly the strict texts, each as it is, gives `strict_of`
+pub result_ok-strict_of : {E : Type 0} (r : Result (List ℕ) E) (units : List ℕ) (n : ℕ) → (IsOk r ↔ IsStrictText units n) → IfOk r (λ t. t ≡ units) → result_ok r ≡ strict_of n units
+result_ok-strict_of (Ok t) units n accepted text =
+    let strict : is_strict_text units n ≡ true = one_answer (is_strict_text units n) true (is_strict_text-Decides units n) accepted in
+    rw (text, strict) refl
+result_ok-strict_of (Err e) units n accepted text =
+    let refused : is_strict_text units n ≡ false = one_answer (is_strict_text units n) false (is_strict_text-Decides units n) accepted in
+    rw refused refl

@@ -1,8 +1,12 @@
--- The fault of a list of units that a reader refuses, and what a lossy reader makes of a list. A unit is a byte, or a
--- 16-bit number.
-use Rattle.std.specs.Prelude.{ℕ, ◌==◌, Bool, ◌&&◌, ◌||◌, nat_lt, List, length, map, take, slice_index, Option, option_map, unwrap_or, if◌then◌else◌}
+-- What readers make of a list of units: a strict one its text or its fault, a lossy one always a text. A unit is a byte,
+-- or a 16-bit number.
+use Rattle.std.specs.Prelude.{ℕ, ◌==◌, Bool, ◌&&◌, ◌||◌, nat_lt, List, length, map, take, slice_index, Option, Some, None, option_map, unwrap_or, if◌then◌else◌}
 use Rattle.std.specs.List.{find, list_any, range_with_len}
-use Rattle.tinystr_words.specs.Text.{is_text_byte}
+use Rattle.tinystr_words.specs.Text.{is_text_byte, is_strict_text}
+
+-- the units, where they are a text of at most n bytes
+abbrev pub strict_of : ℕ → List ℕ → Option (List ℕ)
+strict_of n units = if is_strict_text units n then Some units else None
 
 -- whether a NUL stands before position i
 abbrev pub is_after_nul : List ℕ → ℕ → Bool

@@ -10,3 +10,4 @@ pub mod packed;
 pub mod preconditions;
 pub mod round_trip;
 pub mod script_code;
+pub mod tags;

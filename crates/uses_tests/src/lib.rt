@@ -20,3 +20,5 @@ mod preconditions;
 mod round_trip;
 #[cfg(test)]
 mod script_code;
+#[cfg(test)]
+mod tags;

@@ -1,8 +1,9 @@
 //! The readers: strict, of padded bytes, lossy, and of bytes that are known to be padded.
 
 ghost use Rattle.std.specs.Prelude.{◌≡◌, map, IsOk, IfOk, IfErr, ◌↔◌};
+ghost use Rattle.std.specs.Result.{result_ok};
 ghost use Rattle.tinystr_words.specs.Text.{text_of, IsTextByte, IsStrictText, IsPaddedText};
-ghost use Rattle.tinystr_words.specs.Reading.{fault_in, lossy};
+ghost use Rattle.tinystr_words.specs.Reading.{fault_in, lossy, strict_of};
 ghost use Rattle.tinystr.specs.Error.{fault_of};
 
 use crate::ascii::{TinyAsciiStr, strict};
@@ -20,6 +21,7 @@ impl<const N: usize> TinyAsciiStr<N> {
         ensures accepted { IsOk result ↔ IsStrictText s.now N }
         ensures text { IfOk result (λ t. t ≡ s.now) }
         ensures fault { IfErr result (λ e. fault_of e ≡ fault_in N s.now) }
+        ensures value { result_ok result ≡ strict_of N s.now }
     {
         Self::try_from_utf8(s.as_bytes())
     }
@@ -30,6 +32,7 @@ impl<const N: usize> TinyAsciiStr<N> {
         ensures accepted { IsOk result ↔ IsStrictText code_units.now N }
         ensures text { IfOk result (λ t. t ≡ code_units.now) }
         ensures fault { IfErr result (λ e. fault_of e ≡ fault_in N code_units.now) }
+        ensures value { result_ok result ≡ strict_of N code_units.now }
     {
         strict::read::<u8, N>(code_units)
     }
@@ -41,6 +44,7 @@ impl<const N: usize> TinyAsciiStr<N> {
         ensures accepted { IsOk result ↔ IsStrictText code_units.now N }
         ensures text { IfOk result (λ t. t ≡ code_units.now) }
         ensures fault { IfErr result (λ e. fault_of e ≡ fault_in N code_units.now) }
+        ensures value { result_ok result ≡ strict_of N code_units.now }
     {
         strict::read::<u16, N>(code_units)
     }

@@ -1,4 +1,4 @@
-use Rattle.std.proofs.Common.{◌≡◌, ◌∙◌, ap, sym, rules, arith}
+use Rattle.std.proofs.Common.{◌≡◌, ◌∙◌, ap, sym, refl, rules, arith}
 use Rattle.std.proofs.lemmas.Grind.{common_steps}
 use Rattle.std.proofs.lemmas.Bool.{false_from_ne_true}
 use Rattle.subtags.specs.Grammar.{canonical_text, fold_text}
@@ -9,13 +9,13 @@ use Rattle.subtags.proofs.lang_id.LangId.try_from_utf8.Goals as goal
 pub returns-in_default : goal.returns-in_default
 returns-in_default c =
     let refused = refused_without_language c.args.code_units.now c.cut.result.0.now _ c.cut.ensures.parts (false_from_ne_true _ c.in_default.ensures) in
-    record { accepted = grind arith; text = tt; fold = tt; refusal = sym refused.1 }
+    record { accepted = grind arith; text = tt; fold = tt; refusal = sym refused.1; value = rw (refused.0) refl }
 
 pub returns-in_err-region : goal.returns-in_err-region
 returns-in_err-region c =
     let err = rw (c.last_region.ensures, c.take_script-script.ensures.rest) at c.in_err-region.was in
     let refused = refused_without_tail c.args.code_units.now c.cut.result.0.now _ c.in_err-region.field-0.0 c.cut.ensures.parts c.in-Some.ensures.0 err in
-    record { accepted = grind (arith, common_steps); text = search rules; fold = search rules; refusal = grind (arith, common_steps) }
+    record { accepted = grind (arith, common_steps); text = search rules; fold = search rules; refusal = grind (arith, common_steps); value = rw (refused.0) (search rules) }
 
 pub returns : goal.returns
 returns c =
@@ -23,4 +23,4 @@ returns c =
     let ok = rw (c.last_region.ensures, c.take_script-script.ensures.rest) at c.in_ok-region.was in
     let read = accepted_from_read u c.cut.result.0.now _ c.in_ok-region.region c.cut.ensures.parts c.in-Some.ensures.0 ok in
     let text : c.from_parts.result ≡ canonical_text u = rw (c.from_parts.ensures.text, c.in-Some.ensures.1, c.take_script-script.ensures.script) read.1 in
-    record { accepted = (λ _. read.0, λ _. search rules); text = text; fold = ap fold_text text ∙ fold_text-canonical_text u; refusal = search rules }
+    record { accepted = (λ _. read.0, λ _. search rules); text = text; fold = ap fold_text text ∙ fold_text-canonical_text u; refusal = search rules; value = rw (text, read.0) refl }
