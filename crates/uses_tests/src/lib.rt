@@ -3,6 +3,8 @@
 #![tactic(auto)]
 
 #[cfg(test)]
+mod columns;
+#[cfg(test)]
 mod currency;
 #[cfg(test)]
 mod joining;
@@ -20,3 +22,5 @@ mod preconditions;
 mod round_trip;
 #[cfg(test)]
 mod script_code;
+#[cfg(test)]
+mod through_str;
