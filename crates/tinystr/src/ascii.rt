@@ -114,3 +114,14 @@ impl<'a, const N: usize> TryFrom<&'a str> for TinyAsciiStr<N> {
         Self::from_str(s)
     }
 }
+
+impl<'a, const N: usize> TryFrom<&'a [u8]> for TinyAsciiStr<N> {
+    type Error = ParseError;
+
+    ghost try_from_gives = { λ s r. IsStrictRead fault_of s.now N r };
+
+    #[inline]
+    fn try_from(code_units: &'a [u8]) -> Result<Self, ParseError> {
+        Self::try_from_utf8(code_units)
+    }
+}

@@ -20,6 +20,43 @@ fn a_text_is_cut_to_another_capacity(rt: HostRuntime) -> Result<(), Fail> {
     Ok(())
 }
 
+// Whether the text, held at N, is found whole at M where it fits there, and is none where it doesn't.
+fn is_tried<const N: usize, const M: usize>(text: &str, fits: bool) -> bool {
+    match TinyAsciiStr::<N>::try_from_str(text) {
+        Ok(value) => match value.try_resize::<M>() {
+            Some(resized) => fits && is_text(resized, text),
+            None => !fits,
+        },
+        Err(_) => false,
+    }
+}
+
+#[test]
+fn a_text_is_whole_at_another_capacity_or_none(rt: HostRuntime) {
+    assert!(rt; is_tried::<40, 0>("", true) && is_tried::<40, 0>("a", false));
+    assert!(rt; is_tried::<40, 1>("a", true) && is_tried::<40, 1>("ab", false));
+    assert!(rt; is_tried::<40, 4>("Latn", true) && is_tried::<40, 4>("posix", false));
+    assert!(rt; is_tried::<40, 8>("New York", true) && is_tried::<40, 8>("New York!", false));
+    assert!(rt; is_tried::<40, 9>("New York!", true) && is_tried::<40, 9>("abcdefghij", false));
+    assert!(rt; is_tried::<40, 16>("MacintoshOSX2019", true));
+    assert!(rt; is_tried::<40, 16>("MacintoshOSX2019x", false));
+    assert!(rt; is_tried::<40, 17>("MacintoshOSX2019x", true));
+    assert!(rt; is_tried::<40, 32>(FULL, true) && is_tried::<40, 31>(FULL, false));
+    assert!(rt; is_tried::<40, 32>("abcdefghijklmnopqrstuvwxyz012345!", false));
+    assert!(rt; is_tried::<40, 33>("abcdefghijklmnopqrstuvwxyz012345!", true));
+    assert!(rt; is_tried::<40, 40>(FORTY, true) && is_tried::<40, 39>(FORTY, false));
+    assert!(rt; is_tried::<100, 100>(HUNDRED, true) && is_tried::<100, 99>(HUNDRED, false));
+}
+
+#[test]
+fn a_text_is_whole_at_a_greater_capacity(rt: HostRuntime) {
+    assert!(rt; is_tried::<0, 0>("", true) && is_tried::<0, 4>("", true));
+    assert!(rt; is_tried::<8, 0>("", true) && is_tried::<8, 33>("", true));
+    assert!(rt; is_tried::<4, 8>("Latn", true) && is_tried::<8, 4>("Latn", true));
+    assert!(rt; is_tried::<8, 9>("New York", true) && is_tried::<16, 8>("New York", true));
+    assert!(rt; is_tried::<32, 64>(FULL, true) && is_tried::<100, 120>(HUNDRED, true));
+}
+
 #[test]
 fn two_texts_are_joined_and_cut(rt: HostRuntime) -> Result<(), Fail> {
     let front = TinyAsciiStr::<6>::try_from_str("abc")?;
@@ -91,6 +128,57 @@ fn long_texts_are_joined_and_cut(rt: HostRuntime) -> Result<(), Fail> {
     assert!(rt; is_joined(less.concat::<40, 71>(forty), LESS, FORTY));
     assert!(rt; is_joined(less.concat::<40, 63>(forty), LESS, FULL));
     Ok(())
+}
+
+// Whether the two texts, held at N and M, are tried joined at Q as expected.
+fn are_tried<const N: usize, const M: usize, const Q: usize>(
+    front: &str,
+    back: &str,
+    expected: Option<&str>,
+) -> bool {
+    let front = TinyAsciiStr::<N>::try_from_str(front);
+    let back = TinyAsciiStr::<M>::try_from_str(back);
+    match (front, back) {
+        (Ok(front), Ok(back)) => match (front.try_concat::<M, Q>(back), expected) {
+            (Some(joined), Some(expected)) => is_text(joined, expected),
+            (None, None) => true,
+            _ => false,
+        },
+        _ => false,
+    }
+}
+
+#[test]
+fn two_texts_are_joined_whole_or_none(rt: HostRuntime) {
+    assert!(rt; are_tried::<3, 4, 7>("en", "-GB", Some("en-GB")));
+    assert!(rt; are_tried::<3, 4, 5>("en", "-GB", Some("en-GB")));
+    assert!(rt; are_tried::<3, 4, 4>("en", "-GB", None));
+    assert!(rt; are_tried::<3, 4, 3>("eng", "", Some("eng")));
+    assert!(rt; are_tried::<3, 4, 2>("eng", "", None));
+    assert!(rt; are_tried::<3, 4, 4>("", "abcd", Some("abcd")));
+    assert!(rt; are_tried::<3, 4, 3>("", "abcd", None));
+    assert!(rt; are_tried::<0, 0, 0>("", "", Some("")));
+    assert!(rt; are_tried::<8, 8, 0>("", "", Some("")));
+    assert!(rt; are_tried::<8, 8, 0>("", "a", None) && are_tried::<8, 8, 0>("a", "", None));
+    assert!(rt; are_tried::<4, 4, 8>("New ", "York", Some("New York")));
+    assert!(rt; are_tried::<5, 4, 8>("New  ", "York", None));
+    assert!(rt; are_tried::<16, 1, 17>("MacintoshOSX2019", "x", Some("MacintoshOSX2019x")));
+    assert!(rt; are_tried::<16, 1, 16>("MacintoshOSX2019", "x", None));
+    assert!(rt; are_tried::<16, 1, 16>("MacintoshOSX201", "9", Some("MacintoshOSX2019")));
+}
+
+#[test]
+fn long_texts_are_joined_whole_or_none(rt: HostRuntime) {
+    let (front, back) = ("abcdefghijklmnopqrst", "uvwxyz012345");
+    assert!(rt; are_tried::<40, 40, 32>(front, back, Some(FULL)));
+    assert!(rt; are_tried::<40, 40, 31>(front, back, None));
+    assert!(rt; are_tried::<20, 12, 32>(front, back, Some(FULL)));
+    assert!(rt; are_tried::<20, 12, 31>(front, back, None));
+    assert!(rt; are_tried::<32, 8, 40>(FULL, "!#$%&*+-", Some(FORTY)));
+    assert!(rt; are_tried::<32, 8, 39>(FULL, "!#$%&*+-", None));
+    assert!(rt; are_tried::<100, 100, 120>(HUNDRED, "", Some(HUNDRED)));
+    assert!(rt; are_tried::<100, 100, 100>("", HUNDRED, Some(HUNDRED)));
+    assert!(rt; are_tried::<100, 100, 100>("a", HUNDRED, None));
 }
 
 #[test]

@@ -32,6 +32,38 @@ fn texts_are_taken_and_shown(rt: HostRuntime) {
     assert!(rt; is_taken::<TinyAsciiStr<17>>("abcdefgh-Hant-419"));
 }
 
+// Whether the bytes are tried as a value that shows them.
+fn are_bytes_taken<'a, T: TryFrom<&'a [u8], Error = ParseError> + AsSlice<u8> + Drop>(
+    bytes: &'a [u8],
+) -> bool {
+    match T::try_from(bytes) {
+        Ok(value) => value.as_slice() == bytes,
+        Err(_) => false,
+    }
+}
+
+#[test]
+fn bytes_are_taken_and_shown(rt: HostRuntime) {
+    assert!(rt; are_bytes_taken::<TinyAsciiStr<0>>(b""));
+    for bytes in [
+        &b""[..],
+        &b"e"[..],
+        &b"U.S"[..],
+        &b"abcd"[..],
+        &b"\x01 \x7f"[..],
+        &b" a"[..],
+    ] {
+        let is_right = are_bytes_taken::<TinyAsciiStr<4>>(bytes)
+            && are_bytes_taken::<TinyAsciiStr<8>>(bytes)
+            && are_bytes_taken::<TinyAsciiStr<12>>(bytes)
+            && are_bytes_taken::<TinyAsciiStr<40>>(bytes);
+        assert!(rt; is_right, "{bytes:?}");
+    }
+    assert!(rt; are_bytes_taken::<TinyAsciiStr<8>>(b"New York"));
+    assert!(rt; are_bytes_taken::<TinyAsciiStr<16>>(b"MacintoshOSX2019"));
+    assert!(rt; are_bytes_taken::<TinyAsciiStr<33>>(b"abcdefghijklmnopqrstuvwxyz012345!"));
+}
+
 fn is_refused<'a, T: TryFrom<&'a str, Error = ParseError> + Drop>(
     text: &'a str,
     fault: ParseError,
@@ -50,5 +82,31 @@ fn texts_are_refused_for_their_first_fault(rt: HostRuntime) {
     assert!(rt; is_refused::<TinyAsciiStr<12>>("caf\u{e9}", NonAscii));
     assert!(rt;
         is_refused::<TinyAsciiStr<17>>("abcdefgh-Hant-419\0", TooLong { max: 17, len: 18 })
+    );
+}
+
+fn are_bytes_refused<'a, T: TryFrom<&'a [u8], Error = ParseError> + Drop>(
+    bytes: &'a [u8],
+    fault: ParseError,
+) -> bool {
+    T::try_from(bytes).err() == Some(fault)
+}
+
+#[test]
+fn bytes_are_refused_for_their_first_fault(rt: HostRuntime) {
+    assert!(rt; are_bytes_refused::<TinyAsciiStr<0>>(b"a", TooLong { max: 0, len: 1 }));
+    assert!(rt; are_bytes_refused::<TinyAsciiStr<4>>(b"en\0", ContainsNull));
+    assert!(rt; are_bytes_refused::<TinyAsciiStr<4>>(b"\0\x80", NonAscii));
+    assert!(rt;
+        are_bytes_refused::<TinyAsciiStr<4>>(b"\xff\xff\xff\xff\xff", TooLong { max: 4, len: 5 })
+    );
+    assert!(rt; are_bytes_refused::<TinyAsciiStr<8>>(b"New\0York", ContainsNull));
+    assert!(rt; are_bytes_refused::<TinyAsciiStr<8>>(b"New York!", TooLong { max: 8, len: 9 }));
+    assert!(rt; are_bytes_refused::<TinyAsciiStr<12>>(b"caf\xe9", NonAscii));
+    assert!(rt;
+        are_bytes_refused::<TinyAsciiStr<16>>(b"MacintoshOSX2019x", TooLong { max: 16, len: 17 })
+    );
+    assert!(rt;
+        are_bytes_refused::<TinyAsciiStr<33>>(b"abcdefghijklmnopqrstuvwxyz01234\x80", NonAscii)
     );
 }

@@ -1,15 +1,17 @@
 //! Facts of the definitions alone. Each function computes nothing, and its contract is its law.
 
-ghost use Rattle.std.specs.Prelude.{IsTrue, ◌≡◌, ◌<◌, ◌≤◌, ◌^◌, ◌↔◌, ◌⊎◌, ℕ, List, ◌++◌, length, take, ◌+◌, ◌-◌, ◌*◌, Bool, [], ◌&&◌, All, slice_index, slice_index_or, map, replicate, None};
+ghost use Rattle.std.specs.Prelude.{IsTrue, ◌≡◌, ◌<◌, ◌≤◌, ◌^◌, ◌/◌, ◌↔◌, ◌⊎◌, ℕ, List, ◌++◌, length, take, ◌+◌, ◌-◌, ◌*◌, Bool, [], ◌&&◌, All, slice_index, slice_index_or, map, replicate, None};
 ghost use Rattle.std.specs.Cmp.Lexicographic.{slice_cmp};
-ghost use Rattle.std.specs.Fmt.{decimal};
+ghost use Rattle.std.specs.Char.{is_ascii_alphabetic, is_ascii_alphanumeric, is_ascii_digit, is_ascii_lowercase, is_ascii_uppercase, to_ascii_lowercase, to_ascii_uppercase};
+ghost use Rattle.std.specs.Fmt.{char_count, decimal, padded, spec_fill, styled_text, take_chars};
 ghost use Rattle.std.specs.Int.{IsInRange};
-ghost use Rattle.std.specs.List.{flat_map};
+ghost use Rattle.std.specs.List.{flat_map, list_all};
 ghost use Rattle.std.specs.Ordering.{nat_cmp};
+ghost use Rattle.std.specs.Str.{str_to_ascii_lowercase, str_to_ascii_uppercase};
 ghost use Rattle.std.specs.declared.cmp.Ordering.TheVariants.{Less, Equal};
 ghost use Rattle.tinystr_words.specs.ByteForm.{byte_fault};
-ghost use Rattle.tinystr_words.specs.Case.{lowercase, titlecase, uppercase};
-ghost use Rattle.tinystr_words.specs.Classes.{ask, is_alphabetic, is_lower, is_upper, is_not_lower, is_not_upper};
+ghost use Rattle.tinystr_words.specs.Case.{lower, raise, lowercase, titlecase, uppercase};
+ghost use Rattle.tinystr_words.specs.Classes.{ask, is_alphabetic, is_alphanumeric, is_digit, is_lower, is_upper, is_not_lower, is_not_upper};
 ghost use Rattle.tinystr_words.specs.Decimal.{IsDecimalOf};
 ghost use Rattle.tinystr_words.specs.Order.{IsBefore};
 ghost use Rattle.tinystr_words.specs.Packed.{IsPacked, record_at};
@@ -177,4 +179,45 @@ pub fn texts_packed()
         length (flat_map (λ t. pad t n) ts) ≡ length ts * n }
     ensures text { (n : ℕ) (ts : List (List ℕ)) (i : ℕ) → All (λ t. IsStrictText t n) ts → i < length ts →
         text_of (record_at n (flat_map (λ t. pad t n) ts) i) ≡ slice_index_or ts i [] }
+{}
+
+/// The classes and the case changes are those of std's calls on a `u8`, a `char` and a `str`, and a question of one class
+/// asks each byte.
+#[tactic(auto, using(crate::proofs::LawSets::words_of_std))]
+pub fn std_words()
+    ensures upper { (b : ℕ) → is_upper b ≡ is_ascii_uppercase b }
+    ensures lower { (b : ℕ) → is_lower b ≡ is_ascii_lowercase b }
+    ensures digit { (b : ℕ) → is_digit b ≡ is_ascii_digit b }
+    ensures letter { (b : ℕ) → is_alphabetic b ≡ is_ascii_alphabetic b }
+    ensures letter_or_digit { (b : ℕ) → is_alphanumeric b ≡ is_ascii_alphanumeric b }
+    ensures lowered { (b : ℕ) → lower b ≡ to_ascii_lowercase b }
+    ensures raised { (b : ℕ) → raise b ≡ to_ascii_uppercase b }
+    ensures lowercase { (t : List ℕ) → lowercase t ≡ str_to_ascii_lowercase t }
+    ensures uppercase { (t : List ℕ) → uppercase t ≡ str_to_ascii_uppercase t }
+    ensures each { (p : ℕ → Bool) (t : List ℕ) → ask p p t ≡ list_all p t }
+{}
+
+/// A text has a character a byte. Under a style that doesn't cut it, and whose fill is a character of ASCII, it is filled
+/// up to the width: behind it where no side is named and under `<`, by halves under `^`, the lesser in front, and in
+/// front of it under `>`. For these `align` is 0, 1, 2 and 3.
+pub fn print_width()
+    ensures chars { (t : List ℕ) → IsText t → char_count t ≡ length t }
+    ensures cut { (n : ℕ) (t : List ℕ) → IsText t → take_chars n t ≡ take n t }
+    ensures styled { (s : _) (t : List ℕ) → IsText t → length t ≤ 2 ^ 64 - 1 → styled_text s t ≡ padded s t }
+    ensures no_side { (s : _) (t : List ℕ) →
+        IsText t → spec_fill s < 128 → s.align ≡ 0 → length t ≤ s.precision →
+        padded s t ≡ t ++ replicate (s.width - length t) s.fill }
+    ensures left { (s : _) (t : List ℕ) →
+        IsText t → spec_fill s < 128 → s.align ≡ 1 → length t ≤ s.precision →
+        padded s t ≡ t ++ replicate (s.width - length t) s.fill }
+    ensures center { (s : _) (t : List ℕ) →
+        IsText t → spec_fill s < 128 → s.align ≡ 2 → length t ≤ s.precision →
+        let short = s.width - length t in
+        padded s t ≡ replicate (short / 2) s.fill ++ (t ++ replicate (short - short / 2) s.fill) }
+    ensures right { (s : _) (t : List ℕ) →
+        IsText t → spec_fill s < 128 → s.align ≡ 3 → length t ≤ s.precision →
+        padded s t ≡ replicate (s.width - length t) s.fill ++ t }
+    ensures width { (s : _) (t : List ℕ) →
+        IsText t → spec_fill s < 128 → length t ≤ s.precision → length t ≤ s.width →
+        length (padded s t) ≡ s.width }
 {}

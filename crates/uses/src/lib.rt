@@ -1,6 +1,7 @@
 //! Short callers of the libraries, each proved from their contracts.
 #![tactic(auto)]
 
+pub mod columns;
 pub mod currency;
 pub mod joining;
 pub mod json;
@@ -11,3 +12,4 @@ pub mod preconditions;
 pub mod round_trip;
 pub mod script_code;
 pub mod tags;
+pub mod through_str;

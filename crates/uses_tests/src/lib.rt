@@ -3,6 +3,8 @@
 #![tactic(auto)]
 
 #[cfg(test)]
+mod columns;
+#[cfg(test)]
 mod currency;
 #[cfg(test)]
 mod joining;
@@ -22,3 +24,5 @@ mod round_trip;
 mod script_code;
 #[cfg(test)]
 mod tags;
+#[cfg(test)]
+mod through_str;

@@ -1,6 +1,6 @@
 //! Texts at other capacities, and joined.
 
-ghost use Rattle.std.specs.Prelude.{◌≡◌, ◌++◌, ◌+◌, ◌≤◌, take};
+ghost use Rattle.std.specs.Prelude.{◌≡◌, ◌++◌, ◌+◌, ◌≤◌, SomeIff, length, take};
 
 use crate::ascii::TinyAsciiStr;
 use tinystr_words::padded;
@@ -14,6 +14,23 @@ impl<const N: usize> TinyAsciiStr<N> {
         TinyAsciiStr {
             bytes: padded::resize(&self.bytes),
         }
+    }
+
+    /// The text at another capacity, or `None` where it is longer.
+    ///
+    /// ```rust
+    /// let language = tinystr!(8, "en")?;
+    /// assert!(rt; language.try_resize() == Some(tinystr!(2, "en")?));
+    /// assert!(rt; language.try_resize::<1>().is_none());
+    /// ```
+    #[inline]
+    pub fn try_resize<const M: usize>(self) -> Option<TinyAsciiStr<M>>
+        ensures { SomeIff result (length self.entry ≤ M) self.entry }
+    {
+        if self.len() > M {
+            return None;
+        }
+        Some(self.resize())
     }
 
     /// The two texts joined, cut where they are longer than `Q` bytes together. At a `Q` of at least `N + M` nothing is
@@ -33,5 +50,26 @@ impl<const N: usize> TinyAsciiStr<N> {
         TinyAsciiStr {
             bytes: padded::join(&self.bytes, &other.bytes),
         }
+    }
+
+    /// The two texts joined, or `None` where they are longer than `Q` bytes together.
+    ///
+    /// ```rust
+    /// let language = tinystr!(3, "en")?;
+    /// let region = tinystr!(4, "-GB")?;
+    /// assert!(rt; language.try_concat(region) == Some(tinystr!(5, "en-GB")?));
+    /// assert!(rt; language.try_concat::<4, 4>(region).is_none());
+    /// ```
+    #[inline]
+    pub fn try_concat<const M: usize, const Q: usize>(
+        self,
+        other: TinyAsciiStr<M>,
+    ) -> Option<TinyAsciiStr<Q>>
+        ensures { SomeIff result (length self.entry + length other.entry ≤ Q) (self.entry ++ other.entry) }
+    {
+        if self.len() + other.len() > Q {
+            return None;
+        }
+        Some(self.concat(other))
     }
 }

@@ -340,3 +340,101 @@ fn decimal_texts_have_at_most_ten_digits(rt: HostRuntime) {
         assert!(rt; has_digits(number, digits), "{number}");
     }
 }
+
+// Each question of one class, and each case change, by std's calls on the text's bytes and on its string.
+fn is_as_std_says<const N: usize>(
+    alloc: Global,
+    text: TinyAsciiStr<N>,
+) -> Result<bool, AllocError> {
+    let bytes = text.as_utf8();
+    let is_asked_alike = text.is_ascii_alphabetic() == bytes.iter().all(|b| b.is_ascii_alphabetic())
+        && text.is_ascii_alphanumeric() == bytes.iter().all(|b| b.is_ascii_alphanumeric())
+        && text.is_ascii_numeric() == bytes.iter().all(|b| b.is_ascii_digit())
+        && text.is_ascii_lowercase() == bytes.iter().all(|b| !b.is_ascii_uppercase())
+        && text.is_ascii_uppercase() == bytes.iter().all(|b| !b.is_ascii_lowercase())
+        && text.is_ascii_alphabetic_lowercase() == bytes.iter().all(|b| b.is_ascii_lowercase())
+        && text.is_ascii_alphabetic_uppercase() == bytes.iter().all(|b| b.is_ascii_uppercase());
+    let lower = text.as_str().to_ascii_lowercase(alloc)?;
+    let upper = text.as_str().to_ascii_uppercase(alloc)?;
+    Ok(
+        is_asked_alike
+            && text.to_ascii_lowercase().as_str() == lower.as_str()
+            && text.to_ascii_uppercase().as_str() == upper.as_str(),
+    )
+}
+
+#[test]
+fn classes_and_case_changes_are_those_of_std(rt: HostRuntime) -> Result<(), Fail> {
+    let texts = texts(rt.alloc())?;
+    assert_eq!(rt; texts.len(), COUNT);
+    for text in texts {
+        assert!(rt; is_as_std_says(rt.alloc(), text)?, "{text:?}");
+        assert!(rt;
+            is_as_std_says(rt.alloc(), text.resize::<4>())?,
+            "{text:?} at 4"
+        );
+        assert!(rt;
+            is_as_std_says(rt.alloc(), text.resize::<33>())?,
+            "{text:?} at 33"
+        );
+    }
+    Ok(())
+}
+
+// A text between so many of a fill in front of it and so many behind it.
+fn filled(
+    alloc: Global,
+    fill: char,
+    front: usize,
+    text: &str,
+    behind: usize,
+) -> Result<String, AllocError> {
+    let mut line = String::new(alloc);
+    for _ in 0..front {
+        line.push(fill)?;
+    }
+    line.push_str(text)?;
+    for _ in 0..behind {
+        line.push(fill)?;
+    }
+    Ok(line)
+}
+
+// Whether the text is printed filled up to ten characters, on each side, and is cut to a precision before.
+fn is_filled_up<const N: usize>(alloc: Global, text: TinyAsciiStr<N>) -> Result<bool, AllocError> {
+    let short = 10usize.saturating_sub(text.len());
+    let half = short / 2;
+    let three = text.resize::<3>();
+    let short_of_three = 10usize.saturating_sub(three.len());
+    let text_str = text.as_str();
+    let unnamed = format!(in alloc; "{text:10}")?;
+    let left = format!(in alloc; "{text:.<10}")?;
+    let center = format!(in alloc; "{text:*^10}")?;
+    let right = format!(in alloc; "{text:>10}")?;
+    let cut = format!(in alloc; "{text:>10.3}")?;
+    Ok(
+        unnamed == filled(alloc, ' ', 0, text_str, short)?
+            && left == filled(alloc, '.', 0, text_str, short)?
+            && center == filled(alloc, '*', half, text_str, short.saturating_sub(half))?
+            && right == filled(alloc, ' ', short, text_str, 0)?
+            && cut == filled(alloc, ' ', short_of_three, three.as_str(), 0)?,
+    )
+}
+
+#[test]
+fn texts_are_filled_up_to_a_width(rt: HostRuntime) -> Result<(), Fail> {
+    let texts = texts(rt.alloc())?;
+    assert_eq!(rt; texts.len(), COUNT);
+    for text in texts {
+        assert!(rt; is_filled_up(rt.alloc(), text)?, "{text:?}");
+        assert!(rt;
+            is_filled_up(rt.alloc(), text.resize::<4>())?,
+            "{text:?} at 4"
+        );
+        assert!(rt;
+            is_filled_up(rt.alloc(), text.resize::<33>())?,
+            "{text:?} at 33"
+        );
+    }
+    Ok(())
+}
