@@ -1,5 +1,5 @@
--- What readers make of a list of units: a strict one its text or its fault, a lossy one always a text. A unit is a byte,
--- or a 16-bit number.
+-- What readers make of a list of units: a strict one its text or its fault, a lossy one always a text. A unit is a
+-- byte, or a 16-bit number.
 use Rattle.std.specs.Prelude.{ℕ, ◌==◌, Bool, ◌&&◌, ◌||◌, nat_lt, List, length, map, take, slice_index, Option, Some, None, option_map, unwrap_or, if◌then◌else◌}
 use Rattle.std.specs.List.{find, list_any, range_with_len}
 use Rattle.tinystr_words.specs.Text.{is_text_byte, is_strict_text}
