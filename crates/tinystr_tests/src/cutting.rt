@@ -1,5 +1,7 @@
 //! Cutting, joining and decimal texts.
 
+ghost use Rattle.std.specs.Prelude.{◌<◌, ◌^◌};
+
 use std::test::Fail;
 use tinystr::{TinyAsciiStr, TinyStr8, TinyStr16};
 
@@ -21,7 +23,10 @@ fn a_text_is_cut_to_another_capacity(rt: HostRuntime) -> Result<(), Fail> {
 }
 
 // Whether the text, held at N, is found whole at M where it fits there, and is none where it doesn't.
-fn is_tried<const N: usize, const M: usize>(text: &str, fits: bool) -> bool {
+fn is_tried<const N: usize, const M: usize>(text: &str, fits: bool) -> bool
+    requires held { N < 2 ^ 63 }
+    requires asked { M < 2 ^ 63 }
+{
     match TinyAsciiStr::<N>::try_from_str(text) {
         Ok(value) => match value.try_resize::<M>() {
             Some(resized) => fits && is_text(resized, text),
@@ -135,7 +140,11 @@ fn are_tried<const N: usize, const M: usize, const Q: usize>(
     front: &str,
     back: &str,
     expected: Option<&str>,
-) -> bool {
+) -> bool
+    requires front { N < 2 ^ 63 }
+    requires back { M < 2 ^ 63 }
+    requires joined { Q < 2 ^ 63 }
+{
     let front = TinyAsciiStr::<N>::try_from_str(front);
     let back = TinyAsciiStr::<M>::try_from_str(back);
     match (front, back) {

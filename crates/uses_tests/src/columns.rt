@@ -1,5 +1,7 @@
 //! Texts in columns: each cell has its width, or more where its text is longer.
 
+ghost use Rattle.std.specs.Prelude.{◌<◌, ◌^◌};
+
 use std::alloc::{AllocError, Global};
 use std::test::Fail;
 use tinystr::TinyAsciiStr;
@@ -11,7 +13,9 @@ fn is_right<const N: usize>(
     text: &str,
     width: usize,
     expected: &str,
-) -> Result<bool, AllocError> {
+) -> Result<bool, AllocError>
+    requires { N < 2 ^ 63 }
+{
     match TinyAsciiStr::<N>::try_from_str(text) {
         Ok(text) => Ok(right_cell(&text, width, alloc)?.as_str() == expected),
         Err(_) => Ok(false),
