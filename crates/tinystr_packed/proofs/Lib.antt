@@ -1,0 +1,2 @@
+pub mod PackedTexts
+pub mod RisingTexts
