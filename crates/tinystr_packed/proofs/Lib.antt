@@ -1,2 +1,4 @@
+pub mod PackedMaps
 pub mod PackedTexts
 pub mod RisingTexts
+pub mod SortedPacks

@@ -2,10 +2,14 @@
 //! checked once, and then read in place.
 #![tactic(auto)]
 
+mod map;
 mod packing;
 mod sorted;
+mod sorting;
 mod table;
 
+pub use map::{Entries, MapError, PackedMap};
 pub use packing::{pack, unpack};
 pub use sorted::{NotRising, SortedTable};
+pub use sorting::pack_sorted;
 pub use table::{Table, Texts};
