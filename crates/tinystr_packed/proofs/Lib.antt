@@ -1,3 +1,4 @@
+pub mod MapBytes
 pub mod PackedMaps
 pub mod PackedTexts
 pub mod RisingTexts

@@ -8,7 +8,7 @@ mod sorted;
 mod sorting;
 mod table;
 
-pub use map::{Entries, MapError, PackedMap};
+pub use map::{Entries, MapError, PackedMap, pack_map};
 pub use packing::{pack, unpack};
 pub use sorted::{NotRising, SortedTable};
 pub use sorting::pack_sorted;

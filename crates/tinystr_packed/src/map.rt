@@ -9,6 +9,8 @@ ghost use Rattle.tinystr_packed.specs.Rising.{IsRising};
 
 use crate::sorted::{NotRising, SortedTable};
 use crate::table::{Table, Texts};
+use std::alloc::{AllocError, Global};
+use std::collections::BTreeMap;
 use std::marker::Model;
 use tinystr::TinyAsciiStr;
 use tinystr::ule::UleError;
@@ -105,7 +107,6 @@ impl<'a, const N: usize, const M: usize> PackedMap<'a, N, M> {
     }
 
     /// Whether it is a key.
-    #[tactic(auto, using(crate::proofs::PackedMaps::map_steps))]
     pub fn contains_key(&self, key: &TinyAsciiStr<N>) -> bool
         ensures { result ≡ is_some (get self.now key.now) }
     {
@@ -139,6 +140,27 @@ impl<'a, const N: usize, const M: usize> PackedMap<'a, N, M> {
             values: self.values,
         }
     }
+}
+
+/// The bytes of the keys and the bytes of the values of a map, each packed: what `PackedMap::new` takes. Only memory can
+/// stop it.
+pub fn pack_map<const N: usize, const M: usize>(
+    alloc: Global,
+    map: &BTreeMap<TinyAsciiStr<N>, [u8; M]>,
+) -> Result<(Vec<u8>, Vec<u8>), AllocError>
+    ensures { IfOk result (λ made. ArePacked map.now.entries made.0.items made.1.items N M) }
+{
+    // Its contract says that the keys rise.
+    let _ = map.len();
+    let mut keys = Vec::new(alloc);
+    let mut values = Vec::new(alloc);
+    for (key, value) in map {
+        // Its contract says that the text fits.
+        let _ = key.as_utf8();
+        keys.extend_from_slice(key.all_bytes())?;
+        values.extend_from_slice(value)?;
+    }
+    Ok((keys, values))
 }
 
 /// The keys of a map with their values, in order. A clause sees those that are left.

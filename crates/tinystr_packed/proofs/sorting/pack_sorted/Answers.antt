@@ -11,4 +11,4 @@ returns g c =
     let moved : IsPermutation c.args.texts.now c.sort_unstable.new.self.items = rw (← filled) c.sort_unstable.ensures.permutation in
     let is = dedup_is bytes_eq c.sort_unstable.new.self.items c.dedup.new.self.items c.dedup.ensures.filtered in
     ArePackedInOrder-packed (λ (made : Vec ℕ Global). made.items) c.pack.result c.args.texts.now c.sort_unstable.new.self.items c.dedup.new.self.items g.row.N moved c.sort_unstable.ensures.sorted is
-        (rw c.as_slice.ensures.value at c.pack.ensures.each) (rw c.as_slice.ensures.value at c.pack.ensures.bytes)
+    (rw c.as_slice.ensures.value at c.pack.ensures.each) (rw c.as_slice.ensures.value at c.pack.ensures.bytes)

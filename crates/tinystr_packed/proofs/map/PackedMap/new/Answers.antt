@@ -1,8 +1,6 @@
-use Rattle.std.proofs.Common.{◌≡◌, ◌≢◌, ◌*◌, ◌/◌, [], length, refl, sym, ◌∙◌, arith, All, true≢false}
+use Rattle.std.proofs.Common.{◌≡◌, ◌≢◌, ◌*◌, ◌/◌, [], length, refl, sym, arith, true≢false}
 use Rattle.std.proofs.Math.Nat.{div-add-mod, mul-mod_left, mul-div_cancel}
 use Rattle.std.specs.List.{zip}
-use Rattle.tinystr_words.specs.Text.{IsStrictText}
-use Rattle.tinystr_packed.specs.Map.{ArePacked}
 use Rattle.tinystr_packed.specs.Rising.{IsRising}
 use Rattle.tinystr_packed.proofs.PackedTexts.{AllStrict, packed}
 use Rattle.tinystr_packed.proofs.PackedMaps.{ArePacked-new, unsorted-no_entries, unmatched-no_entries}
@@ -11,9 +9,10 @@ use Rattle.tinystr_packed.proofs.map.PackedMap.new.Goals as goal
 
 pub returns-in-Err-new-clause-accepted : goal.returns-in-Err-new-clause-accepted
 returns-in-Err-new-clause-accepted g c =
-    let falls : ¬ IsRising c.in-Ok.table = λ up. true≢false (sym (c.in-Err-new.ensures.rising.1 up)) in
-    (λ e. absurd (true≢false (sym e)),
-     λ found. absurd (unsorted-no_entries c.in-Ok.table c.args.keys.now c.args.values.now g.row.N g.row.M c.requires.keys c.in-Ok.ensures.texts c.in-Ok.ensures.bytes falls found))
+    let falls : ¬ IsRising c.in-Ok.table = λ up. true≢false (sym (c.in-Err-new.ensures.rising.1 up)) in (
+      λ e. absurd (true≢false (sym e)),
+      λ found. absurd (unsorted-no_entries c.in-Ok.table c.args.keys.now c.args.values.now g.row.N g.row.M c.requires.keys c.in-Ok.ensures.texts c.in-Ok.ensures.bytes falls found),
+    )
 
 pub returns-in-Err-new-clause-fault : goal.returns-in-Err-new-clause-fault
 returns-in-Err-new-clause-fault g c =
@@ -23,22 +22,23 @@ pub returns-then-len-ne0-clause-fault : goal.returns-then-len-ne0-clause-fault
 returns-then-len-ne0-clause-fault g c =
     let count : c.len-count.result ≡ length c.in-Ok.table = rw (c.len-count.ensures, c.table.ensures, c.in-Ok-new.ensures.texts) in
     let other : length c.args.values.now ≢ c.len-count.result * g.row.M =
-        elim c.then-len-ne0.branch [
-          | then-len-ne0-via-then-len-ne0 w ↦ λ e. w.if-len-ne0.true (rw e (mul-mod_left c.len-count.result g.row.M))
-          | then-len-ne0-via-else-len-ne0+then-len-count w ↦ λ e. w.if-len-count.true (rw e (mul-div_cancel c.len-count.result c.requires.values))
-        ] in
+    elim c.then-len-ne0.branch [
+      | then-len-ne0-via-then-len-ne0 w ↦ λ e. w.if-len-ne0.true (rw e (mul-mod_left c.len-count.result g.row.M))
+      | then-len-ne0-via-else-len-ne0+then-len-count w ↦ λ e. w.if-len-count.true (rw e (mul-div_cancel c.len-count.result c.requires.values))
+    ] in
     (record { texts = c.in-Ok.table; each = c.in-Ok.ensures.texts; joined = c.in-Ok.ensures.bytes }, c.in-Ok-new.ensures.rising.0 refl, count, refl, other)
 
 pub returns-then-len-ne0-clause-accepted : goal.returns-then-len-ne0-clause-accepted
 returns-then-len-ne0-clause-accepted g c =
     let count : c.len-count.result ≡ length c.in-Ok.table = rw (c.len-count.ensures, c.table.ensures, c.in-Ok-new.ensures.texts) in
     let other : length c.args.values.now ≢ length c.in-Ok.table * g.row.M =
-        rw (← count) (elim c.then-len-ne0.branch [
-          | then-len-ne0-via-then-len-ne0 w ↦ λ e. w.if-len-ne0.true (rw e (mul-mod_left c.len-count.result g.row.M))
-          | then-len-ne0-via-else-len-ne0+then-len-count w ↦ λ e. w.if-len-count.true (rw e (mul-div_cancel c.len-count.result c.requires.values))
-        ]) in
-    (λ e. absurd (true≢false (sym e)),
-     λ found. absurd (unmatched-no_entries c.in-Ok.table c.args.keys.now c.args.values.now g.row.N g.row.M c.requires.keys c.in-Ok.ensures.texts c.in-Ok.ensures.bytes other found))
+    rw (← count) (elim c.then-len-ne0.branch [
+      | then-len-ne0-via-then-len-ne0 w ↦ λ e. w.if-len-ne0.true (rw e (mul-mod_left c.len-count.result g.row.M))
+      | then-len-ne0-via-else-len-ne0+then-len-count w ↦ λ e. w.if-len-count.true (rw e (mul-div_cancel c.len-count.result c.requires.values))
+    ]) in (
+      λ e. absurd (true≢false (sym e)),
+      λ found. absurd (unmatched-no_entries c.in-Ok.table c.args.keys.now c.args.values.now g.row.N g.row.M c.requires.keys c.in-Ok.ensures.texts c.in-Ok.ensures.bytes other found),
+    )
 
 pub returns-then-is_empty-clause-accepted : goal.returns-then-is_empty-clause-accepted
 returns-then-is_empty-clause-accepted g c =
