@@ -1,2 +1,3 @@
 pub mod PackedTexts
+pub mod RecordOrder
 pub mod RisingTexts

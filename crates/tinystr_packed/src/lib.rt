@@ -3,6 +3,7 @@
 #![tactic(auto)]
 
 mod packing;
+mod record;
 mod sorted;
 mod table;
 
