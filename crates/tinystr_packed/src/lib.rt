@@ -4,6 +4,7 @@
 
 mod map;
 mod packing;
+mod record;
 mod sorted;
 mod sorting;
 mod table;

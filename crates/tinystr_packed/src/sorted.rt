@@ -1,10 +1,15 @@
 //! Tables whose texts rise, and the search in them.
 
-ghost use Rattle.std.specs.Prelude.{◌≡◌, ◌↔◌, IsOk, IfOk, IfErr};
-ghost use Rattle.tinystr_packed.specs.Rising.{IsRising, IsFirstFall};
+ghost use Rattle.std.specs.Prelude.{◌≡◌, ◌↔◌, IsOk, IsTrue, IfOk, IfErr, Some, Contains, filter, nat_eq, slice_get};
+ghost use Rattle.std.specs.Cmp.Lexicographic.{slice_cmp};
+ghost use Rattle.std.specs.List.{starts_with};
+ghost use Rattle.std.specs.Ordering.{nat_cmp, is_lt};
+ghost use Rattle.tinystr_packed.specs.Rising.{IsRising, IsFirstFall, IsPlaceFor, IsFirstNotBelow};
 
+use crate::record::is_below;
 use crate::table::Table;
 use std::marker::Model;
+use tinystr::TinyAsciiStr;
 
 /// A table whose texts rise, each above the one before it. A clause sees the texts.
 #[derive(Drop)]
@@ -47,5 +52,38 @@ impl<'a, const N: usize> SortedTable<'a, N> {
         ensures { result.now ≡ self.now }
     {
         &self.table
+    }
+
+    /// The index of a text, or where it is to be inserted: all texts before that place are below it, and all from there
+    /// on are above.
+    pub fn binary_search(&self, key: &TinyAsciiStr<N>) -> Result<usize, usize>
+        ensures found { IfOk result (λ index. slice_get self.now index ≡ Some key.now) }
+        ensures place { IfErr result (λ place. IsPlaceFor key.now self.now place) }
+        ensures exact { IsOk result ↔ Contains self.now key.now }
+    {
+        let place = self.first_not_below(key);
+        match self.table.get(place) {
+            Some(text) if text == *key => Ok(place),
+            _ => Err(place),
+        }
+    }
+
+    /// Whether a text is one of them.
+    pub fn contains(&self, key: &TinyAsciiStr<N>) -> bool
+        ensures { IsTrue result ↔ Contains self.now key.now }
+    {
+        self.binary_search(key).is_ok()
+    }
+
+    // The index of the first text that isn't below a key, or the number of texts.
+    fn first_not_below(&self, key: &TinyAsciiStr<N>) -> usize
+        ensures { IsFirstNotBelow key.now self.now result }
+    {
+        let key = key.all_bytes();
+        self.table.records().partition_point(
+            |raw| -> bool
+                ensures { result ≡ is_lt (slice_cmp nat_cmp raw.now key.entry.now) }
+            { is_below(&raw[..], &key[..]) },
+        )
     }
 }

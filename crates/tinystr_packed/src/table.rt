@@ -1,19 +1,18 @@
 //! Tables of packed records, and the iterator over their texts.
 
-ghost use Rattle.std.specs.Prelude.{◌≡◌, ◌<◌, ◌≤◌, ◌↔◌, ◌^◌, ◌-◌, [], length, take, drop, All, IsOk, IsNone, IfSome, IsTrue, IfOk, IfErr, slice_get, slice_index_or};
+ghost use Rattle.std.specs.Prelude.{◌≡◌, ◌<◌, ◌≤◌, ◌↔◌, ◌^◌, ◌-◌, [], length, map, take, drop, All, IsOk, IsNone, IfSome, IsTrue, IfOk, IfErr, slice_get, slice_index_or};
 ghost use Rattle.std.specs.Iterator.{YieldsFirst, YieldsLast, item_count};
 ghost use Rattle.std.specs.List.{flat_map};
 ghost use Rattle.tinystr_words.specs.Packed.{IsPacked};
-ghost use Rattle.tinystr_words.specs.Text.{IsStrictText, pad};
+ghost use Rattle.tinystr_words.specs.Text.{IsStrictText, IsPaddedText, pad, text_of};
 ghost use Rattle.tinystr.specs.Records.{RefusesRecords};
 ghost use Rattle.tinystr_packed.specs.Rising.{IsRising, IsFirstFall};
 
-use std::cmp::Ordering;
+use crate::record::is_below;
 use std::marker::Model;
 use std::ops::Range;
 use tinystr::TinyAsciiStr;
 use tinystr::ule::UleError;
-use tinystr_words::padded;
 
 /// Packed records of `N` bytes. A clause sees their texts.
 #[derive(Drop)]
@@ -113,22 +112,6 @@ impl<'a, const N: usize> Table<'a, N> {
         }
     }
 
-    // The index of the first text that isn't above the one before it.
-    pub(crate) fn first_fall(&self) -> Option<usize>
-        ensures rising { IsNone result ↔ IsRising self.now }
-        ensures first { IfSome result (λ index. IsFirstFall self.now index) }
-    {
-        let (first, rest) = self.records.split_first()?;
-        let mut before = first;
-        for (index, raw) in rest.iter().enumerate() {
-            match padded::compare(&before[..], &raw[..]) {
-                Ordering::Less => before = raw,
-                Ordering::Equal | Ordering::Greater => return Some(index + 1),
-            }
-        }
-        None
-    }
-
     /// The texts in order.
     pub fn iter(&self) -> Texts<'a, N>
         ensures texts { result ≡ self.now }
@@ -137,6 +120,31 @@ impl<'a, const N: usize> Table<'a, N> {
         Texts {
             records: self.records,
         }
+    }
+
+    // The index of the first text that isn't above the one before it.
+    pub(crate) fn first_fall(&self) -> Option<usize>
+        ensures rising { IsNone result ↔ IsRising self.now }
+        ensures first { IfSome result (λ index. IsFirstFall self.now index) }
+    {
+        let (first, rest) = self.records.split_first()?;
+        let mut before = first;
+        for (index, raw) in rest.iter().enumerate() {
+            if !is_below(&before[..], &raw[..]) {
+                return Some(index + 1);
+            }
+            before = raw;
+        }
+        None
+    }
+
+    // The records themselves.
+    #[inline(always)]
+    pub(crate) fn records(&self) -> &'a [[u8; N]]
+        ensures texts { map text_of result.now ≡ self.now }
+        ensures padded { All (λ raw. IsPaddedText raw N) result.now }
+    {
+        self.records
     }
 }
 
