@@ -2,4 +2,12 @@
 #![tactic(auto)]
 
 #[cfg(test)]
+mod maps;
+#[cfg(test)]
+mod packing;
+#[cfg(test)]
+mod searching;
+#[cfg(test)]
+mod slices;
+#[cfg(test)]
 mod tables;
