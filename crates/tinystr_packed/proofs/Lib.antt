@@ -1,3 +1,4 @@
 pub mod PackedTexts
+pub mod Prefixes
 pub mod RecordOrder
 pub mod RisingTexts
