@@ -63,7 +63,9 @@ fn want_of_memory_for_a_map(rt: HostRuntime) -> Result<(), Fail> {
     let is_filled = map.insert(key, [1]).is_ok();
     match pack_map(rt.alloc(), &map) {
         Ok((keys, values)) if is_filled => {
-            assert!(rt; keys.as_slice() == b"b\0".as_slice() && values.as_slice() == [1].as_slice());
+            assert!(rt;
+                keys.as_slice() == b"b\0".as_slice() && values.as_slice() == [1].as_slice()
+            );
             println!(rt; "pack_map given")?;
         }
         _ => println!(rt; "pack_map refused")?,

@@ -6,6 +6,8 @@ mod maps;
 #[cfg(test)]
 mod packing;
 #[cfg(test)]
+mod prefixes;
+#[cfg(test)]
 mod searching;
 #[cfg(test)]
 mod slices;
