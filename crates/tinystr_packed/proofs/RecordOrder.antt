@@ -1,5 +1,5 @@
 -- Records of at most eight bytes are in the order of the numbers that they spell.
-use Rattle.std.proofs.Common.{◌≡◌, ℕ, ◌+◌, ◌-◌, ◌%◌, ◌<◌, ◌≤◌, List, [], ◌∷◌, length, map, take, drop, get_or, refl, sym, ap, ◌∙◌, arith, Bool, true, false, cond, nat_lt, nat_eq, Fits, w8, inl, inr, rules}
+use Rattle.std.proofs.Common.{◌≡◌, ℕ, ◌-◌, ◌%◌, ◌≤◌, List, [], ◌∷◌, length, map, get_or, refl, sym, ap, ◌∙◌, arith, Bool, true, false, cond, nat_lt, nat_eq, Fits, w8, inl, inr}
 use Rattle.std.specs.Cmp.Lexicographic.{slice_cmp}
 use Rattle.std.specs.Int.{from_be_bytes, from_le_bytes, to_le_bytes, swap_bytes, w64}
 use Rattle.std.specs.Ordering.{nat_cmp, is_lt, ordering_then}

@@ -82,7 +82,7 @@ IsSortedBy-rising ts up k d from inside =
     ap is_lt (nat_list_cmp_total.antisymm (get_or ts (k + 1) d) (get_or ts k d)) ∙ rw less refl
 
 -- so their order beside a key doesn't fall
-order-rising : (ts : List (List ℕ)) (key : List ℕ) (i j : ℕ) → IsRising ts → i ≤ j → j < length ts → ordering_index (order (text_at ts i) key) ≤ ordering_index (order (text_at ts j) key)
+pub order-rising : (ts : List (List ℕ)) (key : List ℕ) (i j : ℕ) → IsRising ts → i ≤ j → j < length ts → ordering_index (order (text_at ts i) key) ≤ ordering_index (order (text_at ts j) key)
 order-rising ts key i j up le inside = searchable_from_sorted nat_list_cmp_total (λ (t : List ℕ). t) ts key (IsSortedBy-rising ts up) i j [] le inside
 
 -- where one text is below the key, so are those before it

@@ -9,6 +9,7 @@ ghost use Rattle.tinystr_packed.specs.Rising.{IsRising, IsFirstFall, IsPlaceFor,
 use crate::record::is_below;
 use crate::table::Table;
 use std::marker::Model;
+use thiserror::Error;
 use tinystr::TinyAsciiStr;
 
 /// A table whose texts rise, each above the one before it. A clause sees the texts.
@@ -29,7 +30,8 @@ impl<'a, const N: usize> Model for SortedTable<'a, N> {
 }
 
 /// The text at `index` is the first that isn't above the one before it.
-#[derive(Clone, Copy, Debug, PartialEq, Eq)]
+#[derive(Clone, Copy, Debug, PartialEq, Eq, Error)]
+#[error("record {index} isn't above the one before it")]
 pub struct NotRising {
     pub index: usize,
 }
@@ -62,10 +64,10 @@ impl<'a, const N: usize> SortedTable<'a, N> {
         ensures exact { IsOk result ↔ Contains self.now key.now }
     {
         let place = self.first_not_below(key);
-        match self.table.get(place) {
-            Some(text) if text == *key => Ok(place),
-            _ => Err(place),
-        }
+        let Some(text) = self.table.get(place) else {
+            return Err(place);
+        };
+        if text == *key { Ok(place) } else { Err(place) }
     }
 
     /// Whether a text is one of them.
@@ -73,6 +75,23 @@ impl<'a, const N: usize> SortedTable<'a, N> {
         ensures { IsTrue result ↔ Contains self.now key.now }
     {
         self.binary_search(key).is_ok()
+    }
+
+    /// The texts that begin with a text, as a table of them alone.
+    pub fn with_prefix(&self, beginning: &TinyAsciiStr<N>) -> SortedTable<'a, N>
+        ensures { result ≡ filter (λ t. starts_with nat_eq t beginning.now) self.now }
+    {
+        let start = self.first_not_below(beginning);
+        let (_, rest) = self.table.records().split_at(start);
+        let beginning = beginning.as_utf8();
+        let len = rest.partition_point(
+            |raw| -> bool
+                ensures { result ≡ starts_with nat_eq raw.now beginning.entry.now }
+            { raw[..].starts_with(beginning) },
+        );
+        SortedTable {
+            table: self.table.slice(start..start + len),
+        }
     }
 
     // The index of the first text that isn't below a key, or the number of texts.

@@ -1,12 +1,12 @@
 //! Short callers of the libraries, each proved from their contracts.
 #![tactic(auto)]
 
+pub mod countries;
 pub mod currency;
 pub mod joining;
 pub mod json;
 pub mod keys;
 pub mod locale;
-pub mod packed;
 pub mod preconditions;
 pub mod round_trip;
 pub mod script_code;

@@ -3,6 +3,8 @@
 #![tactic(auto)]
 
 #[cfg(test)]
+mod countries;
+#[cfg(test)]
 mod currency;
 #[cfg(test)]
 mod joining;
@@ -12,8 +14,6 @@ mod json;
 mod keys;
 #[cfg(test)]
 mod locale;
-#[cfg(test)]
-mod packed;
 #[cfg(test)]
 mod preconditions;
 #[cfg(test)]
