@@ -1,15 +1,17 @@
 -- The bytes of a map's entries, packed one after another.
-use Rattle.std.proofs.Common.{◌≡◌, ℕ, ◌+◌, List, [], ◌∷◌, ◌++◌, length, refl, sym, ap, ◌∙◌, arith, All, append_assoc}
+use Rattle.std.proofs.Common.{◌≡◌, ℕ, ◌+◌, ◌<◌, List, [], ◌∷◌, ◌++◌, length, take, drop, refl, sym, ap, ◌∙◌, arith, All, append_assoc}
 use Rattle.std.specs.Cmp.Lexicographic.{slice_cmp}
 use Rattle.std.specs.List.{flat_map}
 use Rattle.std.specs.List.Sorted.{IsStrictlySortedBy}
 use Rattle.std.specs.Map.{keys_of, values_of}
 use Rattle.std.specs.Ordering.{nat_cmp}
 use Rattle.std.proofs.lemmas.Grind.{flat_map-append}
-use Rattle.std.proofs.lemmas.List.{append-nil}
-use Rattle.std.proofs.lemmas.List.Elements.{All-append, All-cons, All-nil}
+use Rattle.std.proofs.lemmas.List.{append-nil, take_at, drop_at}
+use Rattle.std.proofs.lemmas.List.Elements.{All-append, All-cons, All-nil, All-head, All-tail}
+use Rattle.std.proofs.lemmas.Map.Entries.{length-keys_of, length-values_of}
 use Rattle.std.proofs.lemmas.Map.Keys.{Less-from_sorted}
 use Rattle.tinystr_words.specs.Text.{IsStrictText, pad}
+use Rattle.tinystr_packed.proofs.PackedTexts.{packed_injective}
 use Rattle.tinystr_packed.specs.Map.{ArePacked}
 use Rattle.tinystr_packed.specs.Rising.{IsRising}
 
@@ -74,3 +76,40 @@ ArePacked-all entries rest keys values n m h none up =
 -- the keys of a map rise
 pub IsRising-keys : (ks : List (List ℕ)) → IsStrictlySortedBy (slice_cmp nat_cmp) ks → IsRising ks
 IsRising-keys ks sorted = λ k inside. Less-from_sorted (slice_cmp nat_cmp) ks k (k + 1) [] sorted (omega arith) inside
+
+-- lists of m bytes are told by what they join to
+same_values : (vs ws : List (List ℕ)) (m : ℕ) → All (λ (v : List ℕ). length v ≡ m) vs → All (λ (v : List ℕ). length v ≡ m) ws → length vs ≡ length ws
+    → flat_map (λ (v : List ℕ). v) vs ≡ flat_map (λ (v : List ℕ). v) ws → vs ≡ ws
+same_values [] [] m h k same e = refl
+same_values [] (w ∷ ws) m h k same e = absurd (omega arith)
+same_values (v ∷ vs) [] m h k same e = absurd (omega arith)
+same_values (v ∷ vs) (w ∷ ws) m h k same e =
+    let P = λ (v : List ℕ). length v ≡ m in
+    let long = All-head P v vs h in
+    let other_long = All-head P w ws k in
+    let first : v ≡ w = sym (take_at v (flat_map (λ (v : List ℕ). v) vs) m long) ∙ ap (λ (l : List ℕ). take m l) e ∙ take_at w (flat_map (λ (v : List ℕ). v) ws) m other_long in
+    let others : flat_map (λ (v : List ℕ). v) vs ≡ flat_map (λ (v : List ℕ). v) ws =
+    sym (drop_at v (flat_map (λ (v : List ℕ). v) vs) m long) ∙ ap (λ (l : List ℕ). drop m l) e ∙ drop_at w (flat_map (λ (v : List ℕ). v) ws) m other_long in
+    let rest = same_values vs ws m (All-tail P v vs h) (All-tail P w ws k) (omega arith) others in
+    rw (first, rest) refl
+
+-- entries are told by their keys and values
+same_entries : (es fs : Entries) → keys_of es ≡ keys_of fs → values_of es ≡ values_of fs → es ≡ fs
+same_entries [] [] h k = refl
+same_entries [] (f ∷ fs) h k = cc
+same_entries (e ∷ es) [] h k = cc
+same_entries (e ∷ es) (f ∷ fs) h k =
+    let first : e.0 ≡ f.0 = cc in
+    let second : e.1 ≡ f.1 = cc in
+    let keys : keys_of es ≡ keys_of fs = cc in
+    let values : values_of es ≡ values_of fs = cc in
+    let rest = same_entries es fs keys values in
+    ap (λ (k : List ℕ). (k, e.1) ∷ es) first ∙ ap (λ (v : List ℕ). (f.0, v) ∷ es) second ∙ ap (λ (l : Entries). f ∷ l) rest
+
+-- the bytes are those of one map
+pub packed_once : (es fs : Entries) (keys values : List ℕ) (n m : ℕ) → 0 < n → ArePacked es keys values n m → ArePacked fs keys values n m → es ≡ fs
+packed_once es fs keys values n m some h k =
+    let ks = packed_injective n (keys_of es) (keys_of fs) some h.strict k.strict (sym h.joined_keys ∙ k.joined_keys) in
+    let same : length (values_of es) ≡ length (values_of fs) =
+    length-values_of es ∙ sym (length-keys_of es) ∙ ap (λ (l : List (List ℕ)). length l) ks ∙ length-keys_of fs ∙ sym (length-values_of fs) in
+    same_entries es fs ks (same_values (values_of es) (values_of fs) m h.long k.long same (sym h.joined_values ∙ k.joined_values))

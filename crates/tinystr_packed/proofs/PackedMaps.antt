@@ -1,16 +1,15 @@
 -- Maps whose keys and values are packed.
-use Rattle.std.proofs.Common.{◌≡◌, ◌≢◌, ℕ, suc, zero, false, ◌<◌, ◌≤◌, ◌+◌, ◌*◌, ◌/◌, true, List, [], ◌∷◌, ◌++◌, length, take, drop, get_or, refl, sym, ap, ◌∙◌, arith, All, IsSome, IsTrue, Bool, ◌↔◌, is_some, Bor}
-use Rattle.std.specs.BTreeMap.{is_at}
+use Rattle.std.proofs.Common.{◌≡◌, ◌≢◌, ℕ, suc, zero, false, ◌<◌, ◌*◌, true, List, [], ◌∷◌, length, take, drop, get_or, refl, sym, ap, ◌∙◌, arith, All, IsSome, IsTrue, Bool, ◌↔◌, is_some, Bor}
 use Rattle.std.specs.Cmp.Lexicographic.{slice_cmp}
 use Rattle.std.specs.List.{Contains, flat_map, slice_get, zip}
-use Rattle.std.specs.Map.{lookup, keys_of, values_of}
+use Rattle.std.specs.Map.{keys_of, values_of}
 use Rattle.std.specs.Option.{option_map, option_copied}
 use Rattle.std.specs.Slice.{IsItemAt}
 use Rattle.std.specs.Ordering.{nat_cmp, eq_by_cmp}
 use Rattle.std.specs.Simd.{first_chunks}
 use Rattle.std.specs.declared.option.Option.{Option}
 use Rattle.std.specs.declared.option.Option.TheVariants.{Some, None}
-use Rattle.std.proofs.Math.Nat.{suc-mul, zero-mul, mul-div_cancel}
+use Rattle.std.proofs.Math.Nat.{suc-mul, zero-mul}
 use Rattle.std.proofs.lemmas.Cmp.{nat_list_cmp_total, eq_by_cmp_equiv}
 use Rattle.std.proofs.lemmas.List.{get_or-map, length-append, length-drop, length-take, take-append-drop}
 use Rattle.std.proofs.lemmas.List.Elements.{All-cons, All-nil, All-head, All-tail}
