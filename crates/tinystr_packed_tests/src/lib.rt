@@ -2,4 +2,6 @@
 #![tactic(auto)]
 
 #[cfg(test)]
+mod maps;
+#[cfg(test)]
 mod tables;
