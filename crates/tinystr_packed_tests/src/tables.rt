@@ -116,7 +116,14 @@ fn sorted_tables_are_searched(rt: HostRuntime) {
     for (index, text) in "|Cyrl|ab|abc|b".split('|').enumerate() {
         assert!(rt; is_searched(file, text, Ok(index)), "{text}");
     }
-    for (text, place) in [("A", 1), ("D", 2), ("a", 2), ("abb", 3), ("abca", 4), ("bb", 5)] {
+    for (text, place) in [
+        ("A", 1),
+        ("D", 2),
+        ("a", 2),
+        ("abb", 3),
+        ("abca", 4),
+        ("bb", 5),
+    ] {
         assert!(rt; is_searched(file, text, Err(place)), "{text}");
         assert!(rt; is_searched(b"", text, Err(0)), "{text}");
     }
