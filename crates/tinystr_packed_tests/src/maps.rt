@@ -173,17 +173,18 @@ fn is_refused(keys: &[u8], values: &[u8], fault: MapError) -> bool {
 #[test]
 fn a_map_of_std_is_packed_and_read_back(rt: HostRuntime) {
     for rows in [
-        "",
-        "EUR=34",
-        "USD=78 CHF=12 JPY=56 EUR=34",
-        "EUR=00 EUR=34 A=zz",
+    for (rows, keys, values) in [
+        ("", "", ""),
+        ("EUR=34", "EUR", "34"),
+        ("USD=78 CHF=12 JPY=56 EUR=34", "CHFEURJPYUSD", "12345678"),
+        ("EUR=00 =34 EUR=zz A=56", "\0\0\0A\0\0EUR", "3456zz"),
     ] {
-        assert!(rt; is_packed_and_read(rt.alloc(), rows), "{rows}");
+        assert!(rt; is_packed_and_read(rt.alloc(), rows, keys, values), "{rows}");
     }
 }
 
-/// Whether the map of the rows, packed, has the entries of std's map.
-fn is_packed_and_read(alloc: Global, rows: &str) -> bool {
+/// Whether std's map of the rows is packed to the keys and the values, and these have its entries.
+fn is_packed_and_read(alloc: Global, rows: &str, keys: &str, values: &str) -> bool {
     let mut map = BTreeMap::new(alloc);
     for row in rows.split_whitespace() {
         let Some((key, value)) = row.split_once('=') else {
@@ -196,10 +197,13 @@ fn is_packed_and_read(alloc: Global, rows: &str) -> bool {
             _ => return false,
         }
     }
-    let Ok((keys, values)) = pack_map(alloc, &map) else {
-        return false;
-    };
-    match PackedMap::<3, 2>::new(keys.as_slice(), values.as_slice()) {
+    match pack_map(alloc, &map) {
+        Ok((made, others)) => if made.as_slice() != keys.as_bytes() || others.as_slice() != values.as_bytes() {
+            return false;
+        },
+        Err(_) => return false,
+    }
+    match PackedMap::<3, 2>::new(keys.as_bytes(), values.as_bytes()) {
         Ok(packed) => packed.len() == map.len() && are_entries(&packed, &map),
         Err(_) => false,
     }
