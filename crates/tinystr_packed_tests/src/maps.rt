@@ -172,14 +172,16 @@ fn is_refused(keys: &[u8], values: &[u8], fault: MapError) -> bool {
 
 #[test]
 fn a_map_of_std_is_packed_and_read_back(rt: HostRuntime) {
-    for rows in [
     for (rows, keys, values) in [
         ("", "", ""),
         ("EUR=34", "EUR", "34"),
         ("USD=78 CHF=12 JPY=56 EUR=34", "CHFEURJPYUSD", "12345678"),
         ("EUR=00 =34 EUR=zz A=56", "\0\0\0A\0\0EUR", "3456zz"),
     ] {
-        assert!(rt; is_packed_and_read(rt.alloc(), rows, keys, values), "{rows}");
+        assert!(rt;
+            is_packed_and_read(rt.alloc(), rows, keys, values),
+            "{rows}"
+        );
     }
 }
 
@@ -197,14 +199,13 @@ fn is_packed_and_read(alloc: Global, rows: &str, keys: &str, values: &str) -> bo
             _ => return false,
         }
     }
-    match pack_map(alloc, &map) {
-        Ok((made, others)) => if made.as_slice() != keys.as_bytes() || others.as_slice() != values.as_bytes() {
-            return false;
-        },
-        Err(_) => return false,
-    }
+    let is_packed = match pack_map(alloc, &map) {
+        Ok((made, others)) => made.as_slice() == keys.as_bytes()
+            && others.as_slice() == values.as_bytes(),
+        Err(_) => false,
+    };
     match PackedMap::<3, 2>::new(keys.as_bytes(), values.as_bytes()) {
-        Ok(packed) => packed.len() == map.len() && are_entries(&packed, &map),
+        Ok(packed) => is_packed && packed.len() == map.len() && are_entries(&packed, &map),
         Err(_) => false,
     }
 }
