@@ -7,4 +7,6 @@ mod forms;
 #[cfg(test)]
 mod keys;
 #[cfg(test)]
+mod packing;
+#[cfg(test)]
 mod run;

@@ -2,12 +2,12 @@
 #![tactic(auto)]
 
 pub mod columns;
+pub mod countries;
 pub mod currency;
 pub mod joining;
 pub mod json;
 pub mod keys;
 pub mod locale;
-pub mod packed;
 pub mod preconditions;
 pub mod round_trip;
 pub mod script_code;

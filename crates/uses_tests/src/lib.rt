@@ -5,6 +5,8 @@
 #[cfg(test)]
 mod columns;
 #[cfg(test)]
+mod countries;
+#[cfg(test)]
 mod currency;
 #[cfg(test)]
 mod joining;
@@ -14,8 +16,6 @@ mod json;
 mod keys;
 #[cfg(test)]
 mod locale;
-#[cfg(test)]
-mod packed;
 #[cfg(test)]
 mod preconditions;
 #[cfg(test)]

@@ -1,0 +1,7 @@
+pub mod MapBytes
+pub mod PackedMaps
+pub mod PackedTexts
+pub mod Prefixes
+pub mod RecordOrder
+pub mod RisingTexts
+pub mod SortedPacks

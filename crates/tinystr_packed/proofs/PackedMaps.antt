@@ -1,0 +1,128 @@
+-- Maps whose keys and values are packed.
+use Rattle.std.proofs.Common.{◌≡◌, ◌≢◌, ℕ, suc, zero, false, ◌<◌, ◌*◌, true, List, [], ◌∷◌, length, take, drop, get_or, refl, sym, ap, ◌∙◌, arith, All, IsSome, IsTrue, Bool, ◌↔◌, is_some, Bor}
+use Rattle.std.specs.Cmp.Lexicographic.{slice_cmp}
+use Rattle.std.specs.List.{Contains, flat_map, slice_get, zip}
+use Rattle.std.specs.Map.{keys_of, values_of}
+use Rattle.std.specs.Option.{option_map, option_copied}
+use Rattle.std.specs.Slice.{IsItemAt}
+use Rattle.std.specs.Ordering.{nat_cmp, eq_by_cmp}
+use Rattle.std.specs.Simd.{first_chunks}
+use Rattle.std.specs.declared.option.Option.{Option}
+use Rattle.std.specs.declared.option.Option.TheVariants.{Some, None}
+use Rattle.std.proofs.Math.Nat.{suc-mul, zero-mul}
+use Rattle.std.proofs.lemmas.Cmp.{nat_list_cmp_total, eq_by_cmp_equiv}
+use Rattle.std.proofs.lemmas.List.{get_or-map, length-append, length-drop, length-take, take-append-drop}
+use Rattle.std.proofs.lemmas.List.Elements.{All-cons, All-nil, All-head, All-tail}
+use Rattle.std.proofs.lemmas.Map.Entries.{lookup_from_place, length-keys_of, length-values_of}
+use Rattle.std.proofs.lemmas.Map.Keys.{sorted_from_all_adjacent, IsDistinct-from_sorted}
+use Rattle.std.proofs.lemmas.Map.Lookups.{exact_bytes}
+use Rattle.std.specs.Cmp.{Equal-is}
+use Rattle.std.proofs.lemmas.Map.Made.{keys_of-zip}
+use Rattle.std.proofs.lemmas.Map.Views.{Contains-keys_from_lookup, IsSome-lookup_from_Contains}
+use Rattle.std.proofs.lemmas.Option.{slice_get-get_or, slice_get-map, slice_get_past, get_or_from_slice_get, slice_get_within}
+use Rattle.std.proofs.lemmas.Slice.Zip.{get_or-zip, length-zip, seconds-zip}
+use Rattle.tinystr_words.specs.Text.{IsStrictText, pad}
+use Rattle.tinystr_packed.proofs.PackedTexts.{packed, AllStrict, packed_injective}
+use Rattle.tinystr_packed.specs.Map.{ArePacked, get}
+use Rattle.tinystr_packed.specs.Rising.{IsRising}
+
+-- so many chunks
+pub length-first_chunks : (m k : ℕ) (xs : List ℕ) → length (first_chunks m k xs) ≡ k
+length-first_chunks m zero xs = refl
+length-first_chunks m (suc k) xs = ap suc (length-first_chunks m k (drop m xs))
+
+-- chunks of the whole list, joined, are the list
+pub flat_map-first_chunks : (m k : ℕ) (xs : List ℕ) → length xs ≡ k * m → flat_map (λ (v : List ℕ). v) (first_chunks m k xs) ≡ xs
+flat_map-first_chunks m zero [] e = refl
+flat_map-first_chunks m zero (x ∷ xs) e = absurd (omega (arith, zero-mul m))
+flat_map-first_chunks m (suc k) xs e =
+    rw (flat_map-first_chunks m k (drop m xs) (omega (arith, length-drop m xs, suc-mul k m))) (take-append-drop m xs)
+
+-- and each has its length
+pub All-first_chunks : (m k : ℕ) (xs : List ℕ) → length xs ≡ k * m → All (λ (v : List ℕ). length v ≡ m) (first_chunks m k xs)
+All-first_chunks m zero xs e = All-nil (λ (v : List ℕ). length v ≡ m)
+All-first_chunks m (suc k) xs e =
+    All-cons (λ (v : List ℕ). length v ≡ m) (take m xs) (first_chunks m k (drop m xs)) (omega (arith, length-take m xs, suc-mul k m)) (All-first_chunks m k (drop m xs) (omega (arith, length-drop m xs, suc-mul k m)))
+
+-- the value of a key stands at its place
+pub get-found : (es : List (List ℕ × List ℕ)) (key : List ℕ) (i : ℕ) → IsRising (keys_of es) → slice_get (keys_of es) i ≡ Some key → get es key ≡ slice_get (values_of es) i
+get-found es key i up here =
+    let inside : i < length es = omega (arith, slice_get_within (keys_of es) i key here, length-keys_of es) in
+    let e = get_or es i (key, []) in
+    let is_key : e.0 ≡ key = sym (get_or-map (λ (e : List ℕ × List ℕ). e.0) es i (key, []) key inside) ∙ get_or_from_slice_get (keys_of es) i key key here in
+    let entry : slice_get es i ≡ Some (key, e.1) = slice_get-get_or es i (key, []) inside ∙ ap (λ (k : List ℕ). Some (k, e.1)) is_key in
+    let distinct = IsDistinct-from_sorted (slice_cmp nat_cmp) (keys_of es) (sorted_from_all_adjacent nat_list_cmp_total (keys_of es) [] up) in
+    lookup_from_place (eq_by_cmp_equiv nat_list_cmp_total) es i key e.1 distinct entry
+    ∙ sym (slice_get-map (λ (e : List ℕ × List ℕ). e.1) es i ∙ ap (λ (o : Option (List ℕ × List ℕ)). option_map (λ (e : List ℕ × List ℕ). e.1) o) entry)
+
+none_from : (o : Option (List ℕ)) → ¬ IsSome o → o ≡ None
+none_from None h = refl
+none_from (Some v) h = absurd (h refl)
+
+same_from_eq : (t s : List ℕ) → eq_by_cmp (slice_cmp nat_cmp) t s ≡ true → t ≡ s
+same_from_eq t s e = exact_bytes t s (grind (arith, Equal-is))
+
+-- what is no key has no value
+pub get-absent : (es : List (List ℕ × List ℕ)) (key : List ℕ) → ¬ Contains (keys_of es) key → get es key ≡ None
+get-absent es key absent = none_from (get es key) (λ some. absent (Contains-keys_from_lookup same_from_eq key es some))
+
+same_from_iff : {P : Type 0} (a b : Bool) → (IsTrue a ↔ P) → (IsTrue b ↔ P) → a ≡ b
+same_from_iff true true h k = refl
+same_from_iff true false h k = sym (k.1 (h.0 refl))
+same_from_iff false true h k = h.1 (k.0 refl)
+same_from_iff false false h k = refl
+
+-- an answer that tells the keys tells the values
+pub is_some-get : (es : List (List ℕ × List ℕ)) (key : List ℕ) (b : Bool) → (IsTrue b ↔ Contains (keys_of es) key) → b ≡ is_some (get es key)
+is_some-get es key b h =
+    let eq = eq_by_cmp_equiv nat_list_cmp_total in
+    same_from_iff b (is_some (get es key)) h ((λ some. Contains-keys_from_lookup same_from_eq key es some), (λ found. IsSome-lookup_from_Contains eq key es found))
+
+-- what a slice lends at an index
+pub option_copied-item : (xs : List (List ℕ)) (i : ℕ) (r : Option (Bor (List ℕ))) → IsItemAt xs i r → option_copied r ≡ slice_get xs i
+option_copied-item xs i None h = sym (slice_get_past xs i h.3)
+option_copied-item xs i (Some x) h = ap Some h.1 ∙ sym (slice_get-get_or xs i x.now h.3.0)
+
+-- keys and values that are packed
+pub ArePacked-new : (ks vs : List (List ℕ)) (keys values : List ℕ) (n m k : ℕ) → All (λ (t : List ℕ). IsStrictText t n) ks → IsRising ks → keys ≡ flat_map (λ (t : List ℕ). pad t n) ks
+    → length values ≡ k * m → k ≡ length ks → vs ≡ first_chunks m k values → ArePacked (zip ks vs) keys values n m
+ArePacked-new ks vs keys values n m k strict up joined long count is =
+    let same : length vs ≡ length ks = rw is (length-first_chunks m k values ∙ count) in
+    let ks_are = keys_of-zip ks vs same in
+    let vs_are = seconds-zip ks vs same in
+    record {
+      strict = rw ks_are strict;
+      rising = rw ks_are up;
+      long = rw (vs_are, is) (All-first_chunks m k values long);
+      joined_keys = rw ks_are joined;
+      joined_values = rw (vs_are, is) (sym (flat_map-first_chunks m k values long));
+    }
+
+-- lists of one length, joined
+length-same : (vs : List (List ℕ)) (m : ℕ) → All (λ (v : List ℕ). length v ≡ m) vs → length (flat_map (λ (v : List ℕ). v) vs) ≡ length vs * m
+length-same [] m h = sym (zero-mul m)
+length-same (v ∷ vs) m h =
+    omega (arith, length-append v (flat_map (λ (v : List ℕ). v) vs), All-head (λ (v : List ℕ). length v ≡ m) v vs h, length-same vs m (All-tail (λ (v : List ℕ). length v ≡ m) v vs h), suc-mul (length vs) m)
+
+-- the bytes of entries are m for each key
+pub length-ArePacked : (es : List (List ℕ × List ℕ)) (keys values : List ℕ) (n m : ℕ) → ArePacked es keys values n m → length values ≡ length (keys_of es) * m
+length-ArePacked es keys values n m h =
+    rw (h.joined_values, length-same (values_of es) m h.long, length-values_of es, length-keys_of es)
+
+-- entries have the keys that are packed
+keys_of-ArePacked : (es : List (List ℕ × List ℕ)) (ks : List (List ℕ)) (keys values : List ℕ) (n m : ℕ) → 0 < n → AllStrict n ks → keys ≡ packed n ks → ArePacked es keys values n m → keys_of es ≡ ks
+keys_of-ArePacked es ks keys values n m some strict joined h = packed_injective n (keys_of es) ks some h.strict strict (sym h.joined_keys ∙ joined)
+
+-- where these don't rise, there are no such entries
+pub unsorted-no_entries : (ks : List (List ℕ)) (keys values : List ℕ) (n m : ℕ) → 0 < n → AllStrict n ks → keys ≡ packed n ks → ¬ IsRising ks
+    → ¬ ((es : List (List ℕ × List ℕ)) × ArePacked es keys values n m)
+unsorted-no_entries ks keys values n m some strict joined falls found =
+    falls (rw (← keys_of-ArePacked found.0 ks keys values n m some strict joined found.1) found.1.rising)
+
+-- nor where there aren't m bytes for each
+pub unmatched-no_entries : (ks : List (List ℕ)) (keys values : List ℕ) (n m : ℕ) → 0 < n → AllStrict n ks → keys ≡ packed n ks → length values ≢ length ks * m
+    → ¬ ((es : List (List ℕ × List ℕ)) × ArePacked es keys values n m)
+unmatched-no_entries ks keys values n m some strict joined other found =
+    other (rw (← keys_of-ArePacked found.0 ks keys values n m some strict joined found.1) (length-ArePacked found.0 keys values n m found.1))
+
+pub ruleset map_steps = (keys_of-zip, seconds-zip, length-zip, length-keys_of, length-values_of, is_some-get)

@@ -1,0 +1,132 @@
+-- Texts that begin with a text.
+use Rattle.std.proofs.Common.{◌≡◌, ◌≢◌, ℕ, suc, zero, ◌+◌, ◌-◌, ◌<◌, ◌≤◌, Bool, true, false, ◌&&◌, List, [], ◌∷◌, ◌++◌, length, map, take, drop, get_or, refl, sym, ap, ◌∙◌, arith, nat_eq, inl, inr}
+use Rattle.std.specs.List.{starts_with, filter, All}
+use Rattle.std.specs.List.Sorted.{IsPartitionedBy, IsPartitionPoint}
+use Rattle.std.specs.Ordering.{nat_cmp}
+use Rattle.std.specs.declared.cmp.Ordering.TheVariants.{Less, Equal, Greater}
+use Rattle.std.proofs.lemmas.Bool.{cases_lt, false≢true}
+use Rattle.std.proofs.lemmas.Bool.Decides.{nat_tests}
+use Rattle.std.proofs.lemmas.Cmp.{nat_list_cmp_total, tied_itself}
+use Rattle.std.proofs.lemmas.List.{get_or-drop, get_or-take, get_or_default, append-nil, length-drop, length-map, length-take, take-append-drop}
+use Rattle.std.proofs.lemmas.List.Elements.{filter-append, All-head, All-tail}
+use Rattle.tinystr_words.specs.Text.{IsTextByte, IsText, IsPaddedText, text_of}
+use Rattle.tinystr_words.proofs.Texts.{NULS}
+use Rattle.tinystr_packed.specs.Rising.{order, text_at, IsRising, IsFirstNotBelow}
+use Rattle.tinystr_packed.proofs.RisingTexts.{IsRecordOf-at, order-rising}
+
+abbrev pub begins : List ℕ → List ℕ → Bool
+begins p t = starts_with nat_eq t p
+
+-- NULs behind a text don't matter to a text that it begins with
+begins-nuls : (p t : List ℕ) (k : ℕ) → IsText p → begins p (t ++ NULS k) ≡ begins p t
+begins-nuls [] t k h = refl
+begins-nuls (x ∷ p) [] zero h = refl
+begins-nuls (x ∷ p) [] (suc k) h =
+    let char = All-head IsTextByte x p h in
+    let other : nat_eq x 0 ≡ false = grind (arith, nat_tests) in
+    rw other refl
+begins-nuls (x ∷ p) (y ∷ t) k h = ap (λ (b : Bool). nat_eq x y && b) (begins-nuls p t k (All-tail IsTextByte x p h))
+
+begins-padded : (p raw : List ℕ) (n : ℕ) → IsText p → IsPaddedText raw n → begins p raw ≡ begins p (text_of raw)
+begins-padded p raw n h k = ap (λ (l : List ℕ). begins p l) k.padded ∙ begins-nuls p (text_of raw) (n - length (text_of raw)) h
+
+-- a text that begins with p isn't below p
+not_below_beginning : (p t : List ℕ) → begins p t ≡ true → order t p ≢ Less
+not_below_beginning [] [] h less = cc
+not_below_beginning [] (y ∷ t) h less = cc
+not_below_beginning (x ∷ p) [] h less = cc
+not_below_beginning (x ∷ p) (y ∷ t) h less =
+    elim (cases_lt x y) [
+      | inl more ↦ (let e : nat_eq x y ≡ false = grind (arith, nat_tests) in absurd (false≢true (rw e at h)))
+      | inr others ↦ elim (cases_lt y x) [
+        | inl fewer ↦ (let e : nat_eq x y ≡ false = grind (arith, nat_tests) in absurd (false≢true (rw e at h)))
+        | inr rest ↦ (let same : y ≡ x = omega arith in
+            let tie : nat_cmp x x ≡ Equal = grind (arith, nat_tests) in
+            let one : nat_eq x x ≡ true = grind (arith, nat_tests) in
+            not_below_beginning p t (rw (same, one) at h) (rw (same, tie) at less))
+      ]
+    ]
+
+both_true : (a b : Bool) → (a && b) ≡ true → (a ≡ true) × (b ≡ true)
+both_true true b h = (refl, h)
+both_true false b h = absurd (false≢true h)
+
+-- between p and a text that begins with p all begin with p
+begins-between : (p t s : List ℕ) → order t p ≢ Less → order t s ≢ Greater → begins p s ≡ true → begins p t ≡ true
+begins-between [] t s low high h = refl
+begins-between (x ∷ p) t [] low high h = absurd (false≢true h)
+begins-between (x ∷ p) [] (y ∷ s) low high h = absurd (low refl)
+begins-between (x ∷ p) (z ∷ t) (y ∷ s) low high h =
+    let parts = both_true (nat_eq x y) (begins p s) h in
+    let same : y ≡ x = grind (arith, nat_tests, parts.0) in
+    elim (cases_lt z x) [
+      | inl less ↦ (let e : nat_cmp z x ≡ Less = grind (arith, nat_tests) in absurd (low (rw e refl)))
+      | inr others ↦ elim (cases_lt x z) [
+        | inl more ↦ (let e : nat_cmp z y ≡ Greater = grind (arith, nat_tests) in absurd (high (rw e refl)))
+        | inr rest ↦ (let tied : z ≡ x = omega arith in
+            let tie : nat_cmp x x ≡ Equal = grind (arith, nat_tests) in
+            let one : nat_eq x x ≡ true = grind (arith, nat_tests) in
+            rw (tied, one) (begins-between p t s (λ less. low (rw (tied, tie) less)) (λ above. high (rw (tied, same, tie) above)) parts.1))
+      ]
+    ]
+
+-- ---- among texts that rise
+
+begins-text : (records ts : List (List ℕ)) (p d : List ℕ) (n k : ℕ) → All (λ r. IsPaddedText r n) records → map text_of records ≡ ts → IsText p → k < length records → begins p (get_or records k d) ≡ begins p (text_at ts k)
+begins-text records ts p d n k h view text inside =
+    let here = IsRecordOf-at records ts (get_or records k d) n k h view inside (get_or_default records k d [] inside) in
+    begins-padded p (get_or records k d) n text here.padded ∙ ap (λ (l : List ℕ). begins p l) here.text
+
+-- no text is above a later one
+not_above : (ts : List (List ℕ)) (i j : ℕ) → IsRising ts → i ≤ j → j < length ts → order (text_at ts i) (text_at ts j) ≢ Greater
+not_above ts i j up le inside above =
+    let no_more = rw (above, tied_itself nat_list_cmp_total (text_at ts j)) at (order-rising ts (text_at ts j) i j up le inside) in
+    absurd (omega arith)
+
+-- from the first text that isn't below p on, those that begin with p stand in front
+pub IsPartitionedBy-begins : (records rest ts : List (List ℕ)) (p : List ℕ) (n i : ℕ) → All (λ r. IsPaddedText r n) records → map text_of records ≡ ts → IsText p → IsRising ts → IsFirstNotBelow p ts i → rest ≡ drop i records → IsPartitionedBy (begins p) rest
+IsPartitionedBy-begins records rest ts p n i h view text up first cut j k d le inside here =
+    let long : length records ≡ length ts = rw (← view) (sym (length-map records text_of)) in
+    let within : i + k < length records = omega (arith, ap (λ (l : List (List ℕ)). length l) cut, length-drop i records) in
+    let far : begins p (text_at ts (i + k)) ≡ true = sym (begins-text records ts p d n (i + k) h view text within) ∙ (rw (cut, get_or-drop) at here) in
+    let near = begins-between p (text_at ts (i + j)) (text_at ts (i + k)) (first.not_below (i + j) (omega arith) (omega arith)) (not_above ts (i + j) (i + k) up (omega arith) (omega arith)) far in
+    rw (cut, get_or-drop) (begins-text records ts p d n (i + j) h view text (omega arith) ∙ near)
+
+-- ---- what a filter keeps of a list of three parts
+
+filter-none : (f : List ℕ → Bool) (xs : List (List ℕ)) → ((k : ℕ) → k < length xs → f (get_or xs k []) ≡ false) → filter f xs ≡ []
+filter-none f [] h = refl
+filter-none f (x ∷ xs) h = let first : f x ≡ false = h 0 (omega arith) in rw first (filter-none f xs (λ k below. h (suc k) (omega arith)))
+
+filter-all : (f : List ℕ → Bool) (xs : List (List ℕ)) → ((k : ℕ) → k < length xs → f (get_or xs k []) ≡ true) → filter f xs ≡ xs
+filter-all f [] h = refl
+filter-all f (x ∷ xs) h = let first : f x ≡ true = h 0 (omega arith) in rw first (ap (λ (l : List (List ℕ)). x ∷ l) (filter-all f xs (λ k below. h (suc k) (omega arith))))
+
+filter-middle : (f : List ℕ → Bool) (xs : List (List ℕ)) (i m : ℕ) → ((k : ℕ) → k < i → f (get_or xs k []) ≡ false) → ((k : ℕ) → i ≤ k → k < i + m → k < length xs → f (get_or xs k []) ≡ true)
+    → ((k : ℕ) → i + m ≤ k → k < length xs → f (get_or xs k []) ≡ false) → take m (drop i xs) ≡ filter f xs
+filter-middle f xs i m before inside behind =
+    let rest = drop i xs in
+    let front = filter-none f (take i xs) (λ k below. rw (get_or-take i xs k [] (omega (arith, length-take i xs))) (before k (omega (arith, length-take i xs)))) in
+    let middle = filter-all f (take m rest) (λ k below. rw (get_or-take m rest k [] (omega (arith, length-take m rest)), get_or-drop) (inside (i + k) (omega arith) (omega (arith, length-take m rest)) (omega (arith, length-take m rest, length-drop i xs)))) in
+    let back = filter-none f (drop m rest) (λ k below. rw (get_or-drop, get_or-drop) (behind (i + (m + k)) (omega arith) (omega (arith, length-drop m rest, length-drop i xs)))) in
+    sym (ap (λ (l : List (List ℕ)). filter f l) (sym (take-append-drop i xs)) ∙ filter-append f (take i xs) rest
+    ∙ rw front (ap (λ (l : List (List ℕ)). filter f l) (sym (take-append-drop m rest)) ∙ filter-append f (take m rest) (drop m rest) ∙ rw (middle, back) (append-nil (take m rest))))
+
+is_false : (b : Bool) → b ≢ true → b ≡ false
+is_false true h = absurd (h refl)
+is_false false h = refl
+
+-- the texts that begin with p
+pub filter-begins : (records rest ts : List (List ℕ)) (p : List ℕ) (n i m : ℕ) → All (λ r. IsPaddedText r n) records → map text_of records ≡ ts → IsText p → IsFirstNotBelow p ts i → rest ≡ drop i records
+    → IsPartitionPoint (λ r. begins p r ≡ true) (λ r. begins p r ≡ false) rest m → take m (drop i ts) ≡ filter (begins p) ts
+filter-begins records rest ts p n i m h view text first cut parts =
+    let long : length records ≡ length ts = rw (← view) (sym (length-map records text_of)) in
+    let count : length rest ≡ length ts - i = omega (arith, ap (λ (l : List (List ℕ)). length l) cut, length-drop i records) in
+    filter-middle (begins p) ts i m
+    (λ k below. is_false (begins p (text_at ts k)) (λ yes. not_below_beginning p (text_at ts k) yes (first.below k below)))
+    (λ k from to inside.
+    let place : i + (k - i) ≡ k = omega arith in
+    sym (begins-text records ts p [] n k h view text (omega arith)) ∙ (rw (cut, get_or-drop, place) at (parts.0 (k - i) [] (omega arith) (omega arith))))
+    (λ k from inside.
+    let place : i + (k - i) ≡ k = omega arith in
+    sym (begins-text records ts p [] n k h view text (omega arith)) ∙ (rw (cut, get_or-drop, place) at (parts.1 (k - i) [] (omega arith) (omega arith))))

@@ -1,0 +1,161 @@
+-- Texts that rise.
+use Rattle.std.proofs.Common.{◌≡◌, ◌≢◌, ℕ, ◌+◌, ◌-◌, ◌<◌, ◌≤◌, List, [], ◌∷◌, length, map, take, get_or, refl, ap, sym, ◌∙◌, arith, add-one, Bool, false, true}
+use Rattle.std.specs.Cmp.Lexicographic.{slice_cmp}
+use Rattle.std.specs.Ordering.{nat_cmp, is_lt, ordering_index}
+use Rattle.std.specs.declared.cmp.Ordering.{Ordering}
+use Rattle.std.specs.declared.cmp.Ordering.TheVariants.{Less, Equal, Greater}
+use Rattle.std.specs.List.{All, Contains, slice_get}
+use Rattle.std.specs.Str.{bytes_eq}
+use Rattle.std.specs.declared.option.Option.TheVariants.{Some, None}
+use Rattle.std.proofs.lemmas.Option.{slice_get-get_or, slice_get_within, get_or_from_slice_get}
+use Rattle.std.specs.List.Sorted.{IsSortedBy, IsPartitionedBy, IsPartitionPoint}
+use Rattle.std.proofs.lemmas.Cmp.{nat_list_cmp_total, nat_list_eq_equiv, tied_itself}
+use Rattle.std.proofs.lemmas.List.Sorted.{searchable_from_sorted}
+use Rattle.std.proofs.lemmas.Bool.{false≢true}
+use Rattle.std.proofs.lemmas.List.{get_or_default, get_or-map, get_or-take, length-map, length-take}
+use Rattle.tinystr_words.specs.Text.{IsPaddedText, text_of}
+use Rattle.tinystr_words.proofs.Texts.{length-pad}
+use Rattle.tinystr_words.proofs.Before.{cmp_is_same}
+use Rattle.tinystr_words.proofs.Order.{cmp-IsPaddedText}
+use Rattle.tinystr_packed.specs.Rising.{order, text_at, IsRising, IsFirstFall, IsPlaceFor, IsFirstNotBelow}
+
+-- a padded text has n bytes
+length-padded : (xs : List ℕ) (n : ℕ) → IsPaddedText xs n → length xs ≡ n
+length-padded xs n h = ap (λ (l : List ℕ). length l) h.padded ∙ length-pad (text_of xs) n h.fits
+
+-- the record of the text at an index
+pub record IsRecordOf (raw : List ℕ) (ts : List (List ℕ)) (n i : ℕ) : Type 0 where
+  pub inside : i < length ts
+  pub padded : IsPaddedText raw n
+  pub text : text_of raw ≡ text_at ts i
+
+pub IsRecordOf-at : (records ts : List (List ℕ)) (raw : List ℕ) (n i : ℕ) → All (λ r. IsPaddedText r n) records → map text_of records ≡ ts → i < length records → raw ≡ get_or records i [] → IsRecordOf raw ts n i
+IsRecordOf-at records ts raw n i h view inside is = record {
+  inside = rw (← view, length-map) inside;
+  padded = rw (← is) at (h i [] inside);
+  text = rw (← view) (ap text_of is ∙ sym (get_or-map text_of records i [] [] inside));
+}
+
+-- a record behind the first
+pub IsRecordOf-behind : (records rest ts : List (List ℕ)) (first raw : List ℕ) (n i : ℕ) → All (λ r. IsPaddedText r n) records → map text_of records ≡ ts → records ≡ first ∷ rest → i < length rest → raw ≡ get_or rest i raw → IsRecordOf raw ts n (i + 1)
+IsRecordOf-behind records rest ts first raw n i h view cut inside is =
+    IsRecordOf-at records ts raw n (i + 1) h view (rw cut (omega arith)) (rw (cut, add-one) (is ∙ get_or_default rest i raw [] inside))
+
+-- records are in the order of their texts
+pub order-records : (xs ys : List ℕ) (ts : List (List ℕ)) (n i j : ℕ) → IsRecordOf xs ts n i → IsRecordOf ys ts n j → slice_cmp nat_cmp xs ys ≡ order (text_at ts i) (text_at ts j)
+order-records xs ys ts n i j h k =
+    rw (← h.text, ← k.text) (cmp-IsPaddedText xs ys n h.padded k.padded (length-padded xs n h.padded) (length-padded ys n k.padded))
+
+-- the first texts rise
+pub IsRising-take : (ts : List (List ℕ)) (m : ℕ) → ((k : ℕ) → k + 1 < m → order (text_at ts k) (text_at ts (k + 1)) ≡ Less) → IsRising (take m ts)
+IsRising-take ts m up k inside =
+    let short : k + 1 < m = omega (arith, length-take m ts) in
+    rw (get_or-take m ts k [] (omega arith), get_or-take m ts (k + 1) [] short) (up k short)
+
+-- texts that fall somewhere don't rise
+pub not_rising : (ts : List (List ℕ)) (i : ℕ) → IsFirstFall ts i → ¬ IsRising ts
+not_rising ts i h up =
+    let next : i - 1 + 1 ≡ i = omega (arith, h.behind) in
+    h.falls (rw next at (up (i - 1) (rw next h.inside)))
+
+-- the first text that isn't above the one before it
+pub IsFirstFall-next : (ts : List (List ℕ)) (i : ℕ) → i + 1 < length ts → ((k : ℕ) → k < i → order (text_at ts k) (text_at ts (k + 1)) ≡ Less) → is_lt (order (text_at ts i) (text_at ts (i + 1))) ≡ false → IsFirstFall ts (i + 1)
+IsFirstFall-next ts i inside up falls =
+    let before : i + 1 - 1 ≡ i = omega arith in
+    record {
+      behind = omega arith;
+      inside = inside;
+      falls = rw before (λ less. absurd (false≢true (rw less at (sym falls))));
+      before = IsRising-take ts (i + 1) (λ k short. up k (omega arith));
+    }
+
+-- an order that is found to be below
+pub Less-from_is_lt : (o : Ordering) → is_lt o ≡ true → o ≡ Less
+Less-from_is_lt Less h = refl
+Less-from_is_lt Equal h = cc
+Less-from_is_lt Greater h = cc
+
+-- rising texts are sorted
+IsSortedBy-rising : (ts : List (List ℕ)) → IsRising ts → IsSortedBy (λ (t s : List ℕ). is_lt (order t s)) ts
+IsSortedBy-rising ts up k d from inside =
+    let less : order (get_or ts k d) (get_or ts (k + 1) d) ≡ Less = rw (get_or_default ts k d [] (omega arith), get_or_default ts (k + 1) d [] inside) (up k inside) in
+    ap is_lt (nat_list_cmp_total.antisymm (get_or ts (k + 1) d) (get_or ts k d)) ∙ rw less refl
+
+-- so their order beside a key doesn't fall
+pub order-rising : (ts : List (List ℕ)) (key : List ℕ) (i j : ℕ) → IsRising ts → i ≤ j → j < length ts → ordering_index (order (text_at ts i) key) ≤ ordering_index (order (text_at ts j) key)
+order-rising ts key i j up le inside = searchable_from_sorted nat_list_cmp_total (λ (t : List ℕ). t) ts key (IsSortedBy-rising ts up) i j [] le inside
+
+-- where one text is below the key, so are those before it
+below_from_rising : (ts : List (List ℕ)) (key : List ℕ) (i j : ℕ) → IsRising ts → i ≤ j → j < length ts → order (text_at ts j) key ≡ Less → order (text_at ts i) key ≡ Less
+below_from_rising ts key i j up le inside less =
+    let no_more = rw less at (order-rising ts key i j up le inside) in
+    grind arith
+
+-- the test of a record beside the bytes of a key
+abbrev pub is_below_key : List ℕ → List ℕ → Bool
+is_below_key key raw = is_lt (slice_cmp nat_cmp raw key)
+
+is_below_key-text : (records ts : List (List ℕ)) (key bytes d : List ℕ) (n i : ℕ) → All (λ r. IsPaddedText r n) records → map text_of records ≡ ts → IsPaddedText bytes n → text_of bytes ≡ key → i < length records
+    → is_below_key bytes (get_or records i d) ≡ is_lt (order (text_at ts i) key)
+is_below_key-text records ts key bytes d n i h view padded text inside =
+    let here = IsRecordOf-at records ts (get_or records i d) n i h view inside (get_or_default records i d [] inside) in
+    ap (λ (o : Ordering). is_lt o) (rw (← here.text, ← text) (cmp-IsPaddedText (get_or records i d) bytes n here.padded padded (length-padded (get_or records i d) n here.padded) (length-padded bytes n padded)))
+
+-- records of rising texts are cut in two by that test
+pub IsPartitionedBy-rising : (records ts : List (List ℕ)) (key bytes : List ℕ) (n : ℕ) → All (λ r. IsPaddedText r n) records → map text_of records ≡ ts → IsPaddedText bytes n → text_of bytes ≡ key → IsRising ts → IsPartitionedBy (is_below_key bytes) records
+IsPartitionedBy-rising records ts key bytes n h view padded text up i j d le inside below =
+    let far = sym (is_below_key-text records ts key bytes d n j h view padded text inside) ∙ below in
+    let near = below_from_rising ts key i j up le (rw (← view, length-map) inside) (Less-from_is_lt (order (text_at ts j) key) far) in
+    is_below_key-text records ts key bytes d n i h view padded text (omega arith) ∙ rw near refl
+
+-- and so are the texts
+pub IsFirstNotBelow-cut : (records ts : List (List ℕ)) (key bytes : List ℕ) (n i : ℕ) → All (λ r. IsPaddedText r n) records → map text_of records ≡ ts → IsPaddedText bytes n → text_of bytes ≡ key → i ≤ length records
+    → IsPartitionPoint (λ r. is_below_key bytes r ≡ true) (λ r. is_below_key bytes r ≡ false) records i → IsFirstNotBelow key ts i
+IsFirstNotBelow-cut records ts key bytes n i h view padded text fits cut = record {
+  inside = rw (← view, length-map) fits;
+  below = λ k before. Less-from_is_lt (order (text_at ts k) key) (sym (is_below_key-text records ts key bytes [] n k h view padded text (omega arith)) ∙ cut.0 k [] (omega arith) before);
+  not_below = λ k behind inside less.
+      let within : k < length records = rw (← view, length-map) at inside in
+      absurd (false≢true (sym (cut.1 k [] behind within) ∙ is_below_key-text records ts key bytes [] n k h view padded text within ∙ rw less refl));
+}
+
+-- an order that is neither below nor equal
+Greater-from_others : (o : Ordering) → o ≢ Less → o ≢ Equal → o ≡ Greater
+Greater-from_others Less a b = absurd (a refl)
+Greater-from_others Equal a b = absurd (b refl)
+Greater-from_others Greater a b = refl
+
+-- where the key isn't, all texts from its place on are above it
+pub IsPlaceFor-missed : (ts : List (List ℕ)) (key : List ℕ) (i : ℕ) → IsRising ts → IsFirstNotBelow key ts i → (i < length ts → text_at ts i ≢ key) → IsPlaceFor key ts i
+IsPlaceFor-missed ts key i up h other = record {
+  inside = h.inside;
+  below = h.below;
+  above = λ k behind inside.
+      let here : order (text_at ts i) key ≡ Greater = Greater-from_others (order (text_at ts i) key) (h.not_below i (omega arith) (omega arith)) (λ same. other (omega arith) ((cmp_is_same (text_at ts i) key).0 same)) in
+      let no_less = rw here at (order-rising ts key i k up behind inside) in
+      grind arith;
+}
+
+-- the key is none of them
+pub not_contained : (ts : List (List ℕ)) (key : List ℕ) (i : ℕ) → IsPlaceFor key ts i → ¬ Contains ts key
+not_contained ts key i h found =
+    let is : text_at ts found.0 ≡ key = get_or_default ts found.0 [] key found.1 ∙ found.2 in
+    let same : order (text_at ts found.0) key ≡ Equal = rw is (tied_itself nat_list_cmp_total key) in
+    let before = h.below found.0 in
+    let behind = h.above found.0 in
+    let inside = found.1 in
+    grind arith
+
+-- a text that is read is one of them
+pub Contains-read : (ts : List (List ℕ)) (key : List ℕ) (i : ℕ) → slice_get ts i ≡ Some key → Contains ts key
+Contains-read ts key i at = (i, slice_get_within ts i key at, get_or_from_slice_get ts i key key at)
+
+-- past the end the key isn't
+pub missed_past : (ts : List (List ℕ)) (key : List ℕ) (i : ℕ) → slice_get ts i ≡ None → i < length ts → text_at ts i ≢ key
+missed_past ts key i none inside is = let at = slice_get-get_or ts i [] inside in cc
+
+-- nor where another text is
+pub missed_other : (ts : List (List ℕ)) (key text : List ℕ) (i : ℕ) → slice_get ts i ≡ Some text → bytes_eq text key ≡ false → i < length ts → text_at ts i ≢ key
+missed_other ts key text i at differs inside is =
+    let same : text ≡ key = sym (get_or_from_slice_get ts i text [] at) ∙ is in
+    absurd (false≢true (sym differs ∙ rw same (nat_list_eq_equiv.refl key)))

@@ -1,0 +1,37 @@
+-- Texts that rise, and places among them.
+use Rattle.std.specs.Prelude.{◌≡◌, ◌≢◌, ℕ, ◌+◌, ◌-◌, ◌<◌, ◌≤◌, List, [], length, take, slice_index_or}
+use Rattle.std.specs.Cmp.Lexicographic.{slice_cmp}
+use Rattle.std.specs.Ordering.{nat_cmp}
+use Rattle.std.specs.declared.cmp.Ordering.{Ordering}
+use Rattle.std.specs.declared.cmp.Ordering.TheVariants.{Less, Greater}
+
+-- the order of two texts
+abbrev pub order : List ℕ → List ℕ → Ordering
+order t s = slice_cmp nat_cmp t s
+
+-- the text at an index
+abbrev pub text_at : List (List ℕ) → ℕ → List ℕ
+text_at texts k = slice_index_or texts k []
+
+-- each text is below the next
+abbrev pub IsRising : List (List ℕ) → Type 0
+IsRising texts = (k : ℕ) → k + 1 < length texts → order (text_at texts k) (text_at texts (k + 1)) ≡ Less
+
+-- the text at i is the first that isn't above the one before it
+pub record IsFirstFall (texts : List (List ℕ)) (i : ℕ) : Type 0 where
+  pub behind : 0 < i
+  pub inside : i < length texts
+  pub falls : order (text_at texts (i - 1)) (text_at texts i) ≢ Less
+  pub before : IsRising (take i texts)
+
+-- the texts before i are below t, and those from i on are above
+pub record IsPlaceFor (t : List ℕ) (texts : List (List ℕ)) (i : ℕ) : Type 0 where
+  pub inside : i ≤ length texts
+  pub below : (k : ℕ) → k < i → order (text_at texts k) t ≡ Less
+  pub above : (k : ℕ) → i ≤ k → k < length texts → order (text_at texts k) t ≡ Greater
+
+-- the texts before i are below t, and none from i on is
+pub record IsFirstNotBelow (t : List ℕ) (texts : List (List ℕ)) (i : ℕ) : Type 0 where
+  pub inside : i ≤ length texts
+  pub below : (k : ℕ) → k < i → order (text_at texts k) t ≡ Less
+  pub not_below : (k : ℕ) → i ≤ k → k < length texts → order (text_at texts k) t ≢ Less

@@ -1,0 +1,17 @@
+//! Packed records: texts of at most `N` bytes, each padded with NULs to `N` bytes, one after another. Their bytes are
+//! checked once, and then read in place.
+#![tactic(auto)]
+
+pub mod laws;
+mod map;
+mod packing;
+mod record;
+mod sorted;
+mod sorting;
+mod table;
+
+pub use map::{Entries, MapError, PackedMap, pack_map};
+pub use packing::{pack, unpack};
+pub use sorted::{NotRising, SortedTable};
+pub use sorting::pack_sorted;
+pub use table::{Table, Texts};

@@ -1,0 +1,203 @@
+//! Maps whose keys and values are packed, read in place.
+
+ghost use Rattle.std.specs.Prelude.{◌≡◌, ◌<◌, ◌^◌, ◌↔◌, [], List, ℕ, is_some, length, IsOk, IsTrue, IfOk, IfErr};
+ghost use Rattle.std.specs.Iterator.{YieldsFirstBy, item_count};
+ghost use Rattle.std.specs.Map.{keys_of, values_of};
+ghost use Rattle.std.specs.Option.{option_copied};
+ghost use Rattle.tinystr_packed.specs.Map.{ArePacked, RefusesMap, get};
+ghost use Rattle.tinystr_packed.specs.Rising.{IsRising};
+
+use crate::sorted::{NotRising, SortedTable};
+use crate::table::{Table, Texts};
+use std::alloc::{AllocError, Global};
+use std::collections::BTreeMap;
+use std::marker::Model;
+use tinystr::TinyAsciiStr;
+use tinystr::ule::UleError;
+
+/// Why bytes are no packed map.
+#[derive(Clone, Copy, Debug, PartialEq, Eq)]
+pub enum MapError {
+    /// The keys are no packed records.
+    Keys(UleError),
+    /// A key isn't above the one before it.
+    Order(NotRising),
+    /// There are `keys` keys, and `len` bytes aren't a value for each.
+    Values { keys: usize, len: usize },
+}
+
+/// Keys of at most `N` bytes that rise, and a value of `M` bytes for each. A clause sees the entries of a `BTreeMap`.
+#[derive(Drop)]
+pub struct PackedMap<'a, const N: usize, const M: usize> {
+    keys: SortedTable<'a, N>,
+    values: &'a [[u8; M]],
+}
+
+impl<'a, const N: usize, const M: usize> Model for PackedMap<'a, N, M> {
+    ghost use Rattle.std.specs.Prelude.{◌≡◌, List, ℕ, length, zip};
+    ghost use Rattle.tinystr_packed.specs.Rising.{IsRising};
+
+    ghost Value = { List (List ℕ × List ℕ) };
+
+    ghost view = { λ s. zip s.keys s.values.now };
+
+    ghost invariant = { λ s. IsRising s.keys × (length s.values.now ≡ length s.keys) };
+}
+
+impl<'a, const N: usize, const M: usize> PackedMap<'a, N, M> {
+    /// The map of the bytes of its keys and of its values, which are checked here alone. `N` and `M` have to be above 0.
+    ///
+    /// The error is `Keys` where the keys are no packed records, else `Order` where they don't rise, else `Values`.
+    pub fn new(keys: &'a [u8], values: &'a [u8]) -> Result<Self, MapError>
+        requires keys { 0 < N }
+        requires values { 0 < M }
+        ensures accepted { IsOk result
+            ↔ ((entries : List (List ℕ × List ℕ)) × ArePacked entries keys.now values.now N M) }
+        ensures entries { IfOk result (λ map. ArePacked map keys.now values.now N M) }
+        ensures fault { IfErr result (λ e. RefusesMap e keys.now values.now N M) }
+    {
+        let table = match Table::new(keys) {
+            Ok(table) => table,
+            Err(fault) => return Err(MapError::Keys(fault)),
+        };
+        let keys = match SortedTable::new(table) {
+            Ok(keys) => keys,
+            Err(fault) => return Err(MapError::Order(fault)),
+        };
+        let count = keys.table().len();
+        let len = values.len();
+        if len % M != 0 || len / M != count {
+            return Err(MapError::Values { keys: count, len });
+        }
+        // where there is no value, an array of `M` bytes may have no size
+        if values.is_empty() {
+            return Ok(PackedMap { keys, values: &[] });
+        }
+        Ok(PackedMap {
+            keys,
+            values: values.as_chunks().0,
+        })
+    }
+
+    /// How many entries.
+    #[tactic(auto, using(crate::proofs::PackedMaps::map_steps))]
+    pub fn len(&self) -> usize
+        ensures len { result ≡ length self.now }
+        ensures rising { IsRising (keys_of self.now) }
+    {
+        self.values.len()
+    }
+
+    /// Whether there is no entry.
+    #[tactic(auto, using(crate::proofs::PackedMaps::map_steps))]
+    pub fn is_empty(&self) -> bool
+        ensures { IsTrue result ↔ (self.now ≡ []) }
+    {
+        self.len() == 0
+    }
+
+    /// The value of a key; none where it is no key.
+    pub fn get(&self, key: &TinyAsciiStr<N>) -> Option<&'a [u8; M]>
+        ensures { option_copied result ≡ get self.now key.now }
+    {
+        match self.keys.binary_search(key) {
+            Ok(index) => self.values.get(index),
+            Err(_) => None,
+        }
+    }
+
+    /// Whether it is a key.
+    pub fn contains_key(&self, key: &TinyAsciiStr<N>) -> bool
+        ensures { result ≡ is_some (get self.now key.now) }
+    {
+        self.keys.contains(key)
+    }
+
+    /// The keys in order.
+    #[tactic(auto, using(crate::proofs::PackedMaps::map_steps))]
+    pub fn keys(&self) -> &SortedTable<'a, N>
+        ensures { result.now ≡ keys_of self.now }
+    {
+        &self.keys
+    }
+
+    /// The values, in the order of their keys.
+    #[tactic(auto, using(crate::proofs::PackedMaps::map_steps))]
+    pub fn values(&self) -> &'a [[u8; M]]
+        ensures { result.now ≡ values_of self.now }
+    {
+        self.values
+    }
+
+    /// The keys with their values, in order.
+    #[tactic(auto, using(crate::proofs::PackedMaps::map_steps))]
+    pub fn iter(&self) -> Entries<'a, N, M>
+        ensures entries { result ≡ self.now }
+        ensures bound { length result < 2 ^ 64 }
+    {
+        Entries {
+            keys: self.keys.table().iter(),
+            values: self.values,
+        }
+    }
+}
+
+/// The bytes of the keys and the bytes of the values of a map, each packed: what `PackedMap::new` takes. Only memory can
+/// stop it.
+pub fn pack_map<const N: usize, const M: usize>(
+    alloc: Global,
+    map: &BTreeMap<TinyAsciiStr<N>, [u8; M]>,
+) -> Result<(Vec<u8>, Vec<u8>), AllocError>
+    ensures { IfOk result (λ made. ArePacked map.now.entries made.0.items made.1.items N M) }
+{
+    // Its contract says that the keys rise.
+    let _ = map.len();
+    let mut keys = Vec::new(alloc);
+    let mut values = Vec::new(alloc);
+    for (key, value) in map {
+        // Its contract says that the text fits.
+        let _ = key.as_utf8();
+        keys.extend_from_slice(key.all_bytes())?;
+        values.extend_from_slice(value)?;
+    }
+    Ok((keys, values))
+}
+
+/// The keys of a map with their values, in order. A clause sees those that are left.
+#[derive(Drop)]
+pub struct Entries<'a, const N: usize, const M: usize> {
+    keys: Texts<'a, N>,
+    values: &'a [[u8; M]],
+}
+
+impl<'a, const N: usize, const M: usize> Model for Entries<'a, N, M> {
+    ghost use Rattle.std.specs.Prelude.{◌≡◌, List, ℕ, length, zip};
+
+    ghost Value = { List (List ℕ × List ℕ) };
+
+    ghost view = { λ s. zip s.keys s.values.now };
+
+    ghost invariant = { λ s. length s.values.now ≡ length s.keys };
+}
+
+impl<'a, const N: usize, const M: usize> Iterator for Entries<'a, N, M> {
+    type Item = (TinyAsciiStr<N>, &'a [u8; M]);
+
+    ghost next_gives = { YieldsFirstBy (λ entry. (entry.0, entry.1.now)) (λ rest. rest) };
+
+    ghost remaining = { item_count (λ rest. rest) };
+
+    fn next(&mut self) -> Option<(TinyAsciiStr<N>, &'a [u8; M])> {
+        let key = self.keys.next()?;
+        let values = self.values;
+        let (value, rest) = values.split_first()?;
+        self.values = rest;
+        Some((key, value))
+    }
+
+    #[tactic(auto, using(crate::proofs::PackedMaps::map_steps))]
+    fn size_hint(&self) -> (usize, Option<usize>) {
+        let len = self.values.len();
+        (len, Some(len))
+    }
+}

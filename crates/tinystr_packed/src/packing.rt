@@ -1,0 +1,40 @@
+//! Texts packed, and read back.
+
+ghost use Rattle.std.specs.Prelude.{◌≡◌, All, IfOk};
+ghost use Rattle.std.specs.List.{flat_map};
+ghost use Rattle.tinystr_words.specs.Packed.{IsPacked};
+ghost use Rattle.tinystr_words.specs.Text.{IsStrictText, pad};
+
+use crate::table::Table;
+use std::alloc::{AllocError, Global};
+use tinystr::TinyAsciiStr;
+
+/// The texts, packed. Only memory can stop it.
+pub fn pack<const N: usize>(alloc: Global, texts: &[TinyAsciiStr<N>]) -> Result<Vec<u8>, AllocError>
+    ensures packed { IfOk result (λ made. IsPacked made.items N) }
+    ensures each { IfOk result (λ _. All (λ t. IsStrictText t N) texts.now) }
+    ensures bytes { IfOk result (λ made. made.items ≡ flat_map (λ t. pad t N) texts.now) }
+{
+    let mut bytes = Vec::new(alloc);
+    for text in texts {
+        // Its contract says that the text fits.
+        let _ = text.as_utf8();
+        bytes.extend_from_slice(text.all_bytes())?;
+    }
+    tinystr_words::laws::texts_packed();
+    Ok(bytes)
+}
+
+/// The texts of a table, in a vector. Only memory can stop it.
+pub fn unpack<const N: usize>(
+    alloc: Global,
+    table: &Table<'_, N>,
+) -> Result<Vec<TinyAsciiStr<N>>, AllocError>
+    ensures { IfOk result (λ made. made.items ≡ table.now) }
+{
+    let mut texts = Vec::new(alloc);
+    for text in table.iter() {
+        texts.push(text)?;
+    }
+    Ok(texts)
+}

@@ -1,0 +1,22 @@
+//! Texts packed in order.
+
+ghost use Rattle.std.specs.Prelude.{IfOk};
+ghost use Rattle.tinystr_packed.specs.Sorting.{ArePackedInOrder};
+
+use crate::packing::pack;
+use std::alloc::{AllocError, Global};
+use tinystr::TinyAsciiStr;
+
+/// The texts in order and each once, packed: what `SortedTable` takes. Only memory can stop it.
+pub fn pack_sorted<const N: usize>(
+    alloc: Global,
+    texts: &[TinyAsciiStr<N>],
+) -> Result<Vec<u8>, AllocError>
+    ensures { IfOk result (λ made. ArePackedInOrder texts.now made.items N) }
+{
+    let mut sorted = Vec::new(alloc);
+    sorted.extend_from_slice(texts)?;
+    sorted.sort_unstable();
+    sorted.dedup();
+    pack(alloc, sorted.as_slice())
+}

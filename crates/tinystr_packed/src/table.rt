@@ -1,0 +1,186 @@
+//! Tables of packed records, and the iterator over their texts.
+
+ghost use Rattle.std.specs.Prelude.{◌≡◌, ◌<◌, ◌≤◌, ◌↔◌, ◌^◌, ◌-◌, [], length, map, take, drop, All, IsOk, IsNone, IfSome, IsTrue, IfOk, IfErr, slice_get, slice_index_or};
+ghost use Rattle.std.specs.Iterator.{YieldsFirst, YieldsLast, item_count};
+ghost use Rattle.std.specs.List.{flat_map};
+ghost use Rattle.tinystr_words.specs.Packed.{IsPacked};
+ghost use Rattle.tinystr_words.specs.Text.{IsStrictText, IsPaddedText, pad, text_of};
+ghost use Rattle.tinystr.specs.Records.{RefusesRecords};
+ghost use Rattle.tinystr_packed.specs.Rising.{IsRising, IsFirstFall};
+
+use crate::record::is_below;
+use std::marker::Model;
+use std::ops::Range;
+use tinystr::TinyAsciiStr;
+use tinystr::ule::UleError;
+
+/// Packed records of `N` bytes. A clause sees their texts.
+#[derive(Drop)]
+pub struct Table<'a, const N: usize> {
+    records: &'a [[u8; N]],
+}
+
+impl<'a, const N: usize> Model for Table<'a, N> {
+    ghost use Rattle.std.specs.Prelude.{List, ℕ, All, map};
+    ghost use Rattle.tinystr_words.specs.Text.{IsPaddedText, text_of};
+
+    ghost Value = { List (List ℕ) };
+
+    ghost view = { λ s. map text_of s.records.now };
+
+    ghost invariant = { λ s. All (λ raw. IsPaddedText raw N) s.records.now };
+}
+
+impl<'a, const N: usize> Table<'a, N> {
+    /// The table of bytes, which are checked here alone. `N` has to be above 0.
+    ///
+    /// The error is that of `TinyAsciiStr::validate_bytes`: `Length` where `N` doesn't divide the number of bytes, else
+    /// `Parse`, the first record that is no padded text.
+    #[tactic(auto, using(crate::proofs::PackedTexts::table_steps))]
+    pub fn new(bytes: &'a [u8]) -> Result<Self, UleError>
+        requires { 0 < N }
+        ensures packed { IsOk result ↔ IsPacked bytes.now N }
+        ensures bytes { IfOk result (λ table. bytes.now ≡ flat_map (λ t. pad t N) table) }
+        ensures texts { IfOk result (λ table. All (λ t. IsStrictText t N) table) }
+        ensures fault { IfErr result (λ e. RefusesRecords e bytes.now N) }
+    {
+        TinyAsciiStr::<N>::validate_bytes(bytes)?;
+        // where there is no record, an array of `N` bytes may have no size
+        if bytes.is_empty() {
+            return Ok(Table { records: &[] });
+        }
+        Ok(Table {
+            records: bytes.as_chunks().0,
+        })
+    }
+
+    /// How many texts.
+    pub fn len(&self) -> usize
+        ensures { result ≡ length self.now }
+    {
+        self.records.len()
+    }
+
+    /// Whether there is no text.
+    pub fn is_empty(&self) -> bool
+        ensures { IsTrue result ↔ (self.now ≡ []) }
+    {
+        self.records.is_empty()
+    }
+
+    /// The text at an index, counted from 0, in constant time; none past the end.
+    #[tactic(auto, using(crate::proofs::PackedTexts::places))]
+    pub fn get(&self, index: usize) -> Option<TinyAsciiStr<N>>
+        ensures { result ≡ slice_get self.now index }
+    {
+        let raw = self.records.get(index)?;
+        Some(TinyAsciiStr::from_utf8_unchecked(*raw))
+    }
+
+    /// The text at an index below the number of texts.
+    pub fn text_at(&self, index: usize) -> TinyAsciiStr<N>
+        requires { index < length self.now }
+        ensures { result ≡ slice_index_or self.now index [] }
+    {
+        self.get(index).unwrap()
+    }
+
+    /// The first text, if there is one.
+    pub fn first(&self) -> Option<TinyAsciiStr<N>>
+        ensures { result ≡ slice_get self.now 0 }
+    {
+        self.get(0)
+    }
+
+    /// The last text, if there is one.
+    pub fn last(&self) -> Option<TinyAsciiStr<N>>
+        ensures { result ≡ slice_get self.now (length self.now - 1) }
+    {
+        self.get(self.len().checked_sub(1)?)
+    }
+
+    /// The table of the texts at a range of indices.
+    #[tactic(auto, using(crate::proofs::PackedTexts::slices))]
+    pub fn slice(&self, range: Range<usize>) -> Table<'a, N>
+        requires start { range.start ≤ range.end }
+        requires end { range.end ≤ length self.now }
+        ensures { result ≡ take (range.end - range.start) (drop range.start self.now) }
+    {
+        let records = self.records;
+        Table {
+            records: &records[range],
+        }
+    }
+
+    /// The texts in order.
+    pub fn iter(&self) -> Texts<'a, N>
+        ensures texts { result ≡ self.now }
+        ensures bound { length result < 2 ^ 64 }
+    {
+        Texts {
+            records: self.records,
+        }
+    }
+
+    // The index of the first text that isn't above the one before it.
+    pub(crate) fn first_fall(&self) -> Option<usize>
+        ensures rising { IsNone result ↔ IsRising self.now }
+        ensures first { IfSome result (λ index. IsFirstFall self.now index) }
+    {
+        let (first, rest) = self.records.split_first()?;
+        let mut before = first;
+        for (index, raw) in rest.iter().enumerate() {
+            if !is_below(&before[..], &raw[..]) {
+                return Some(index + 1);
+            }
+            before = raw;
+        }
+        None
+    }
+
+    // The records themselves.
+    #[inline(always)]
+    pub(crate) fn records(&self) -> &'a [[u8; N]]
+        ensures texts { map text_of result.now ≡ self.now }
+        ensures padded { All (λ raw. IsPaddedText raw N) result.now }
+    {
+        self.records
+    }
+}
+
+/// The texts of a table in order. A clause sees those that are left.
+#[derive(Drop)]
+pub struct Texts<'a, const N: usize> {
+    records: &'a [[u8; N]],
+}
+
+impl<'a, const N: usize> Model for Texts<'a, N> {
+    ghost use Rattle.std.specs.Prelude.{List, ℕ, All, map};
+    ghost use Rattle.tinystr_words.specs.Text.{IsPaddedText, text_of};
+
+    ghost Value = { List (List ℕ) };
+
+    ghost view = { λ s. map text_of s.records.now };
+
+    ghost invariant = { λ s. All (λ raw. IsPaddedText raw N) s.records.now };
+}
+
+impl<'a, const N: usize> Iterator for Texts<'a, N> {
+    type Item = TinyAsciiStr<N>;
+
+    ghost next_gives = { YieldsFirst (λ rest. rest) };
+
+    ghost remaining = { item_count (λ rest. rest) };
+
+    fn next(&mut self) -> Option<TinyAsciiStr<N>> {
+        let records = self.records;
+        let (raw, rest) = records.split_first()?;
+        self.records = rest;
+        Some(TinyAsciiStr::from_utf8_unchecked(*raw))
+    }
+
+    fn size_hint(&self) -> (usize, Option<usize>) {
+        let len = self.records.len();
+        (len, Some(len))
+    }
+}

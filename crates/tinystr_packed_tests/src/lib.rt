@@ -1,0 +1,15 @@
+//! The tests of `tinystr_packed`. They stand apart from it, since a crate with tests is proved once more with them.
+#![tactic(auto)]
+
+#[cfg(test)]
+mod maps;
+#[cfg(test)]
+mod packing;
+#[cfg(test)]
+mod prefixes;
+#[cfg(test)]
+mod searching;
+#[cfg(test)]
+mod slices;
+#[cfg(test)]
+mod tables;

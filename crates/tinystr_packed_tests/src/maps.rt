@@ -1,0 +1,220 @@
+//! Packed maps.
+
+use std::alloc::Global;
+use std::collections::BTreeMap;
+use tinystr::ule::UleError;
+use tinystr::{ParseError, TinyAsciiStr};
+use tinystr_packed::{MapError, NotRising, PackedMap, pack_map};
+
+const KEYS: &[u8] = b"CHFEURJPYUSD";
+
+const VALUES: &[u8] = b"\x01\x02\x03\x04\x05\x06\x07\x08";
+
+fn value_of(keys: &[u8], values: &[u8], key: &str) -> Option<[u8; 2]> {
+    let map = PackedMap::<3, 2>::new(keys, values).ok()?;
+    map.get(&TinyAsciiStr::try_from_str(key).ok()?).copied()
+}
+
+fn is_key(keys: &[u8], values: &[u8], key: &str) -> bool {
+    match (
+        PackedMap::<3, 2>::new(keys, values),
+        TinyAsciiStr::try_from_str(key),
+    ) {
+        (Ok(map), Ok(key)) => map.contains_key(&key),
+        _ => false,
+    }
+}
+
+#[test]
+fn each_key_has_its_value(rt: HostRuntime) {
+    for (key, value) in [
+        ("CHF", [1, 2]),
+        ("EUR", [3, 4]),
+        ("JPY", [5, 6]),
+        ("USD", [7, 8]),
+    ] {
+        assert!(rt; value_of(KEYS, VALUES, key) == Some(value), "{key}");
+        assert!(rt; is_key(KEYS, VALUES, key), "{key}");
+    }
+}
+
+#[test]
+fn other_texts_have_no_value(rt: HostRuntime) {
+    for key in "|A|CHE|CHG|D|EU|EUS|KRW|USC|USE|zzz".split('|') {
+        assert!(rt; value_of(KEYS, VALUES, key).is_none(), "{key}");
+        assert!(rt; !is_key(KEYS, VALUES, key), "{key}");
+        assert!(rt;
+            value_of(b"", b"", key).is_none() && !is_key(b"", b"", key),
+            "{key}"
+        );
+    }
+}
+
+#[test]
+fn a_map_of_one_entry_has_that_alone(rt: HostRuntime) {
+    assert!(rt; value_of(b"EUR", b"\0\xff", "EUR") == Some([0, 255]));
+    assert!(rt; value_of(b"EUR", b"\0\xff", "CHF").is_none());
+    assert!(rt; value_of(b"EUR", b"\0\xff", "USD").is_none());
+}
+
+#[test]
+fn a_map_has_an_entry_for_each_key(rt: HostRuntime) {
+    for len in 0..=4 {
+        assert!(rt; has_len(&KEYS[..3 * len], &VALUES[..2 * len], len), "{len}");
+    }
+}
+
+fn has_len(keys: &[u8], values: &[u8], len: usize) -> bool {
+    match PackedMap::<3, 2>::new(keys, values) {
+        Ok(map) => map.len() == len
+            && map.is_empty() == (len == 0)
+            && map.keys().table().len() == len
+            && map.values().as_flattened() == values,
+        Err(_) => false,
+    }
+}
+
+#[test]
+fn entries_come_in_the_order_of_their_keys(rt: HostRuntime) {
+    for len in 0..=4 {
+        assert!(rt;
+            has_entries(&KEYS[..3 * len], &VALUES[..2 * len], len),
+            "{len}"
+        );
+    }
+}
+
+/// Whether the map's entries are the first of the four, and the iterator tells each time how many are left.
+fn has_entries(keys: &[u8], values: &[u8], len: usize) -> bool {
+    let Ok(map) = PackedMap::<3, 2>::new(keys, values) else {
+        return false;
+    };
+    let expected = [
+        ("CHF", [1, 2]),
+        ("EUR", [3, 4]),
+        ("JPY", [5, 6]),
+        ("USD", [7, 8]),
+    ];
+    let mut entries = map.iter();
+    let mut left = len;
+    for (key, value) in expected.into_iter().take(len) {
+        if entries.size_hint() != (left, Some(left)) {
+            return false;
+        }
+        match entries.next() {
+            Some((found, at)) if found.as_str() == key && *at == value => {}
+            _ => return false,
+        }
+        left = left.saturating_sub(1);
+    }
+    entries.size_hint() == (0, Some(0)) && entries.next().is_none()
+}
+
+#[test]
+fn keys_are_refused_first_then_their_order_then_the_values(rt: HostRuntime) {
+    let length = |len| MapError::Keys(UleError::Length { len });
+    let bad = |index, fault| MapError::Keys(UleError::Parse { index, fault });
+    let falls = |index| MapError::Order(NotRising { index });
+    let values = |keys, len| MapError::Values { keys, len };
+    for (keys, bytes, fault) in [
+        // keys that aren't packed
+        (&b"CHFE"[..], &b"\x01\x02"[..], length(4)),
+        (&b"CH"[..], &b""[..], length(2)),
+        (
+            &b"CHFE\0R"[..],
+            &b"\x01\x02\x03\x04"[..],
+            bad(1, ParseError::ContainsNull),
+        ),
+        (
+            &b"\xffHFEUR"[..],
+            &b"\x01\x02\x03\x04"[..],
+            bad(0, ParseError::NonAscii),
+        ),
+        // that, though they don't rise either and the values are too few
+        (
+            &b"EURCHF\0US"[..],
+            &b"\x01"[..],
+            bad(2, ParseError::ContainsNull),
+        ),
+        // keys that don't rise
+        (&b"EURCHF"[..], &b"\x01\x02\x03\x04"[..], falls(1)),
+        (&b"EUREUR"[..], &b"\x01\x02\x03\x04"[..], falls(1)),
+        (
+            &b"CHFEURUSDJPY"[..],
+            &b"\x01\x02\x03\x04\x05\x06\x07\x08"[..],
+            falls(3),
+        ),
+        // that, though the values are too few
+        (&b"EUREUR"[..], &b"\x01"[..], falls(1)),
+        // values that aren't two bytes for each key
+        (&b"CHFEUR"[..], &b"\x01\x02\x03"[..], values(2, 3)),
+        (&b"CHFEUR"[..], &b"\x01\x02\x03\x04\x05"[..], values(2, 5)),
+        (&b"CHFEUR"[..], &b"\x01\x02"[..], values(2, 2)),
+        (
+            &b"CHFEUR"[..],
+            &b"\x01\x02\x03\x04\x05\x06"[..],
+            values(2, 6),
+        ),
+        (&b"CHF"[..], &b""[..], values(1, 0)),
+        (&b""[..], &b"\x01"[..], values(0, 1)),
+        (&b""[..], &b"\x01\x02"[..], values(0, 2)),
+    ] {
+        assert!(rt; is_refused(keys, bytes, fault), "{fault:?}");
+    }
+}
+
+fn is_refused(keys: &[u8], values: &[u8], fault: MapError) -> bool {
+    match PackedMap::<3, 2>::new(keys, values) {
+        Ok(_) => false,
+        Err(found) => found == fault,
+    }
+}
+
+#[test]
+fn a_map_of_std_is_packed_and_read_back(rt: HostRuntime) {
+    for (rows, keys, values) in [
+        ("", "", ""),
+        ("EUR=34", "EUR", "34"),
+        ("USD=78 CHF=12 JPY=56 EUR=34", "CHFEURJPYUSD", "12345678"),
+        ("EUR=00 =34 EUR=zz A=56", "\0\0\0A\0\0EUR", "3456zz"),
+    ] {
+        assert!(rt;
+            is_packed_and_read(rt.alloc(), rows, keys, values),
+            "{rows}"
+        );
+    }
+}
+
+/// Whether std's map of the rows is packed to the keys and the values, and these have its entries.
+fn is_packed_and_read(alloc: Global, rows: &str, keys: &str, values: &str) -> bool {
+    let mut map = BTreeMap::new(alloc);
+    for row in rows.split_whitespace() {
+        let Some((key, value)) = row.split_once('=') else {
+            return false;
+        };
+        match (TinyAsciiStr::<3>::try_from_str(key), value.as_bytes()) {
+            (Ok(key), [first, second]) => if map.insert(key, [*first, *second]).is_err() {
+                return false;
+            },
+            _ => return false,
+        }
+    }
+    let is_packed = match pack_map(alloc, &map) {
+        Ok((made, others)) => made.as_slice() == keys.as_bytes()
+            && others.as_slice() == values.as_bytes(),
+        Err(_) => false,
+    };
+    match PackedMap::<3, 2>::new(keys.as_bytes(), values.as_bytes()) {
+        Ok(packed) => is_packed && packed.len() == map.len() && are_entries(&packed, &map),
+        Err(_) => false,
+    }
+}
+
+fn are_entries(packed: &PackedMap<'_, 3, 2>, map: &BTreeMap<TinyAsciiStr<3>, [u8; 2]>) -> bool {
+    for (key, value) in packed.iter() {
+        if map.get(&key) != Some(value) {
+            return false;
+        }
+    }
+    true
+}

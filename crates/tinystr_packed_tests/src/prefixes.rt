@@ -1,0 +1,85 @@
+//! The texts of a sorted table that begin with a text.
+
+use tinystr::TinyAsciiStr;
+use tinystr_packed::{SortedTable, Table};
+
+// Each line of the words is a text of the file.
+const FILES: &[(&[u8], &str)] = &[
+    (b"", ""),
+    (b"\0\0\0\0", "\n"),
+    (b"abc\0", "abc\n"),
+    (b"ab\0\0abc\0abcd", "ab\nabc\nabcd\n"),
+    (
+        b"\0\0\0\0ab\0\0abc\0abcdabd\0b\0\0\0ba\0\0c\0\0\0",
+        "\nab\nabc\nabcd\nabd\nb\nba\nc\n",
+    ),
+    (
+        b"AbcdBcdeaaaaabczabdaacaaz\0\0\0",
+        "Abcd\nBcde\naaaa\nabcz\nabda\nacaa\nz\n",
+    ),
+];
+
+#[test]
+fn texts_with_a_prefix_are_those_that_std_tells(rt: HostRuntime) {
+    for (file, words) in FILES {
+        for prefix in "|A|B|a|aa|ab|abc|abcd|abd|abe|ac|b|ba|bab|bb|c|cc|z|zz|~".split('|') {
+            assert!(rt;
+                has_exactly_those(file, words, prefix),
+                "{prefix} in {words}"
+            );
+        }
+    }
+}
+
+/// Whether the table of those with the prefix has the words that begin with it, in order, and finds the prefix if it is
+/// a word.
+fn has_exactly_those(file: &[u8], words: &str, prefix: &str) -> bool {
+    let Ok(table) = Table::<4>::new(file) else {
+        return false;
+    };
+    let (Ok(sorted), Ok(beginning)) = (SortedTable::new(table), TinyAsciiStr::try_from_str(prefix))
+    else {
+        return false;
+    };
+    let begun = sorted.with_prefix(&beginning);
+    let mut is_word = false;
+    let mut texts = begun.table().iter();
+    for word in words.lines() {
+        if word.starts_with(prefix) {
+            match texts.next() {
+                Some(text) if text.as_str() == word => {}
+                _ => return false,
+            }
+        }
+        is_word = is_word || word == prefix;
+    }
+    texts.next().is_none() && begun.contains(&beginning) == is_word
+}
+
+#[test]
+fn texts_with_a_prefix_are_counted(rt: HostRuntime) {
+    for (prefix, count) in [
+        ("", 7),
+        ("ab", 4),
+        ("abc", 2),
+        ("abcd", 1),
+        ("b", 2),
+        ("c", 1),
+        ("abca", 0),
+        ("B", 0),
+        ("d", 0),
+    ] {
+        assert!(rt; counts(prefix, count), "{prefix}");
+    }
+}
+
+fn counts(prefix: &str, count: usize) -> bool {
+    let file = b"ab\0\0abc\0abcdabd\0b\0\0\0ba\0\0c\0\0\0";
+    match (Table::<4>::new(file), TinyAsciiStr::try_from_str(prefix)) {
+        (Ok(table), Ok(beginning)) => match SortedTable::new(table) {
+            Ok(sorted) => sorted.with_prefix(&beginning).table().len() == count,
+            Err(_) => false,
+        },
+        _ => false,
+    }
+}

@@ -1,0 +1,115 @@
+//! Searches in sorted tables.
+
+ghost use Rattle.std.specs.Prelude.{◌<◌, ◌^◌};
+
+use tinystr::TinyAsciiStr;
+use tinystr_packed::{SortedTable, Table};
+
+/// Whether a search in the sorted table of a file has the answer, and `contains` the same.
+fn answers<const N: usize>(file: &[u8], key: &TinyAsciiStr<N>, answer: Result<usize, usize>) -> bool
+    requires { 0 < N }
+{
+    let Ok(table) = Table::<N>::new(file) else {
+        return false;
+    };
+    match SortedTable::new(table) {
+        Ok(sorted) => sorted.binary_search(key) == answer && sorted.contains(key) == answer.is_ok(),
+        Err(_) => false,
+    }
+}
+
+/// As `answers`, of a key by its text.
+fn finds<const N: usize>(file: &[u8], key: &str, answer: Result<usize, usize>) -> bool
+    requires positive { 0 < N }
+    requires sized { N < 2 ^ 63 }
+{
+    match TinyAsciiStr::<N>::try_from_str(key) {
+        Ok(key) => answers(file, &key, answer),
+        Err(_) => false,
+    }
+}
+
+#[test]
+fn each_place_of_a_short_table_is_found(rt: HostRuntime) {
+    let file = b"bdfhjlnpr";
+    for len in 0..=file.len() {
+        for (turn, letter) in ('a'..='s').enumerate() {
+            assert!(rt;
+                is_at_its_place(&file[..len], turn, letter),
+                "{letter} of {len}"
+            );
+        }
+    }
+}
+
+/// Whether the letter at a turn is found at half of it where the turn is odd and the file goes so far, as `b` at 0, and
+/// else belongs there, or at the end.
+fn is_at_its_place(file: &[u8], turn: usize, letter: char) -> bool {
+    let place = turn / 2;
+    let answer = if turn % 2 == 1 && place < file.len() {
+        Ok(place)
+    } else {
+        Err(place.min(file.len()))
+    };
+    let mut text = [0; 4];
+    finds::<1>(file, letter.encode_utf8(&mut text), answer)
+}
+
+#[test]
+fn texts_that_begin_others_come_first(rt: HostRuntime) {
+    let file = b"\0\0\0a\0\0aa\0aaaab\0b\0\0";
+    for (index, text) in "|a|aa|aaa|ab|b".split('|').enumerate() {
+        assert!(rt; finds::<3>(file, text, Ok(index)), "{text}");
+    }
+    for (text, place) in [
+        ("A", 1),
+        ("aA", 2),
+        ("aaA", 3),
+        ("aab", 4),
+        ("ac", 5),
+        ("az", 5),
+        ("ba", 6),
+        ("~~~", 6),
+    ] {
+        assert!(rt; finds::<3>(file, text, Err(place)), "{text}");
+    }
+}
+
+#[test]
+fn each_byte_tells_texts_of_a_full_word_apart(rt: HostRuntime) {
+    let file = b"aaaaaaaaaaaaaaacaaaaaacacaaaaaaa";
+    for (text, answer) in [
+        ("a", Err(0)),
+        ("aaaaaaa", Err(0)),
+        ("aaaaaaaa", Ok(0)),
+        ("aaaaaaab", Err(1)),
+        ("aaaaaaac", Ok(1)),
+        ("aaaaaaad", Err(2)),
+        ("aaaaaaca", Ok(2)),
+        ("baaaaaac", Err(3)),
+        ("caaaaaaa", Ok(3)),
+        ("caaaaaab", Err(4)),
+        ("d", Err(4)),
+    ] {
+        assert!(rt; finds::<8>(file, text, answer), "{text}");
+    }
+}
+
+#[test]
+fn each_byte_tells_longer_texts_apart(rt: HostRuntime) {
+    let file = b"aaaaaaaaaaaaaaaaacaaaaaaacacaaaaaaaa";
+    for (text, answer) in [
+        ("aaaaaaaa", Err(0)),
+        ("aaaaaaaaa", Ok(0)),
+        ("aaaaaaaab", Err(1)),
+        ("aaaaaaaac", Ok(1)),
+        ("aaaaaaab", Err(2)),
+        ("aaaaaaaca", Ok(2)),
+        ("aaaaaaacb", Err(3)),
+        ("baaaaaaaa", Err(3)),
+        ("caaaaaaaa", Ok(3)),
+        ("caaaaaaab", Err(4)),
+    ] {
+        assert!(rt; finds::<9>(file, text, answer), "{text}");
+    }
+}

@@ -1,0 +1,183 @@
+//! Packed records.
+
+use std::alloc::Global;
+use tinystr::ule::UleError;
+use tinystr::{ParseError, TinyAsciiStr};
+use tinystr_packed::{NotRising, SortedTable, Table, pack, unpack};
+
+#[test]
+fn records_are_read_in_place(rt: HostRuntime) {
+    let file = b"Latnab\0\0Cyrl";
+    for (index, text) in "Latn ab Cyrl".split_whitespace().enumerate() {
+        assert!(rt; has_record(file, index, text), "{text}");
+    }
+    assert!(rt; is_past_the_end(file, 3));
+    assert!(rt; is_past_the_end(file, 4));
+    assert!(rt; is_past_the_end(file, 1 << 62), "its place is no usize");
+    assert!(rt; is_past_the_end(b"", 0));
+}
+
+fn has_record(file: &[u8], index: usize, text: &str) -> bool {
+    match Table::<4>::new(file) {
+        Ok(table) => matches!(table.get(index), Some(found) if found.as_str() == text),
+        Err(_) => false,
+    }
+}
+
+fn is_past_the_end(file: &[u8], index: usize) -> bool {
+    match Table::<4>::new(file) {
+        Ok(table) => table.get(index).is_none(),
+        Err(_) => false,
+    }
+}
+
+#[test]
+fn a_table_has_a_text_for_each_record(rt: HostRuntime) {
+    for (len, file) in ["", "Latn", "Latnab\0\0", "Latnab\0\0Cyrl"]
+        .into_iter()
+        .enumerate()
+    {
+        assert!(rt; has_len(file.as_bytes(), len), "{file}");
+    }
+}
+
+fn has_len(file: &[u8], len: usize) -> bool {
+    match Table::<4>::new(file) {
+        Ok(table) => table.len() == len && table.is_empty() == (len == 0),
+        Err(_) => false,
+    }
+}
+
+#[test]
+fn packed_texts_are_read_in_place(rt: HostRuntime) {
+    for text in "Latn|ab||Cyrl".split('|') {
+        assert!(rt; is_read_back(rt.alloc(), text), "{text}");
+    }
+}
+
+/// Whether the text, packed behind another, is the record at 1, and nothing stands behind it.
+fn is_read_back(alloc: Global, text: &str) -> bool {
+    let Ok(value) = TinyAsciiStr::<4>::try_from_str(text) else {
+        return false;
+    };
+    match pack(alloc, &[TinyAsciiStr::<4>::default(), value]) {
+        Ok(made) => has_record(made.as_slice(), 1, text) && is_past_the_end(made.as_slice(), 2),
+        Err(_) => false,
+    }
+}
+
+#[test]
+fn texts_are_read_in_order(rt: HostRuntime) {
+    for file in ["", "Latn", "Latnab\0\0Cyrl", "ab\0\0\0\0\0\0ab\0\0"] {
+        assert!(rt;
+            is_unpacked_and_packed(rt.alloc(), file.as_bytes()),
+            "{file}"
+        );
+    }
+}
+
+/// Whether the texts of a file, packed again, are the file.
+fn is_unpacked_and_packed(alloc: Global, file: &[u8]) -> bool {
+    let Ok(table) = Table::<4>::new(file) else {
+        return false;
+    };
+    match unpack(alloc, &table) {
+        Ok(texts) => match pack(alloc, texts.as_slice()) {
+            Ok(made) => made.as_slice() == file,
+            Err(_) => false,
+        },
+        Err(_) => false,
+    }
+}
+
+#[test]
+fn an_iterator_tells_how_many_texts_are_left(rt: HostRuntime) {
+    for file in ["", "Latn", "Latnab\0\0Cyrl"] {
+        assert!(rt; counts_down(file.as_bytes()), "{file}");
+    }
+}
+
+fn counts_down(file: &[u8]) -> bool {
+    let Ok(table) = Table::<4>::new(file) else {
+        return false;
+    };
+    let len = table.len();
+    let mut texts = table.iter();
+    let mut is_exact = texts.size_hint() == (len, Some(len));
+    for left in (0..len).rev() {
+        is_exact = is_exact && texts.next().is_some() && texts.size_hint() == (left, Some(left));
+    }
+    is_exact
+}
+
+#[test]
+fn sorted_tables_are_searched(rt: HostRuntime) {
+    let file = b"\0\0\0\0Cyrlab\0\0abc\0b\0\0\0";
+    for (index, text) in "|Cyrl|ab|abc|b".split('|').enumerate() {
+        assert!(rt; is_searched(file, text, Ok(index)), "{text}");
+    }
+    for (text, place) in [
+        ("A", 1),
+        ("D", 2),
+        ("a", 2),
+        ("abb", 3),
+        ("abca", 4),
+        ("bb", 5),
+    ] {
+        assert!(rt; is_searched(file, text, Err(place)), "{text}");
+        assert!(rt; is_searched(b"", text, Err(0)), "{text}");
+    }
+}
+
+fn is_searched(file: &[u8], text: &str, answer: Result<usize, usize>) -> bool {
+    match (sorted_table(file), TinyAsciiStr::<4>::try_from_str(text)) {
+        (Ok(sorted), Ok(key)) => sorted.binary_search(&key) == answer
+            && sorted.contains(&key) == answer.is_ok()
+            && sorted.table().len() == file.len() / 4,
+        _ => false,
+    }
+}
+
+fn sorted_table(file: &[u8]) -> Result<SortedTable<'_, 4>, Option<NotRising>> {
+    match Table::<4>::new(file) {
+        Ok(table) => SortedTable::new(table).map_err(Some),
+        Err(_) => Err(None),
+    }
+}
+
+#[test]
+fn the_first_text_that_does_not_rise_is_named(rt: HostRuntime) {
+    for (file, index) in [
+        ("LatnCyrl", 1),
+        ("ab\0\0ab\0\0", 1),
+        ("ab\0\0abc\0abb\0", 2),
+        ("a\0\0\0b\0\0\0b\0\0\0a\0\0\0", 2),
+        ("a\0\0\0\0\0\0\0", 1),
+    ] {
+        assert!(rt; is_refused_at(file.as_bytes(), index), "{file}");
+    }
+}
+
+fn is_refused_at(file: &[u8], index: usize) -> bool {
+    matches!(sorted_table(file), Err(Some(fall)) if fall == NotRising { index })
+}
+
+#[test]
+fn a_file_is_refused_for_its_length_or_its_first_bad_record(rt: HostRuntime) {
+    assert!(rt; is_refused(b"Latna", UleError::Length { len: 5 }));
+    assert!(rt; is_refused(b"\0a\x80", UleError::Length { len: 3 }));
+    let bad = |index, fault| UleError::Parse { index, fault };
+    let null = ParseError::ContainsNull;
+    let high = ParseError::NonAscii;
+    assert!(rt; is_refused(b"Latna\0b\0", bad(1, null)));
+    assert!(rt; is_refused(b"a\0b\0Lat\x80", bad(0, null)));
+    assert!(rt; is_refused(b"Lat\x80a\0b\0", bad(0, high)));
+    assert!(rt; is_refused(b"LatnCyrl\xff\0\0\0", bad(2, high)));
+}
+
+fn is_refused(file: &[u8], error: UleError) -> bool {
+    match Table::<4>::new(file) {
+        Ok(_) => false,
+        Err(fault) => fault == error,
+    }
+}

@@ -1,2 +1,0 @@
-pub mod PackedTexts
-pub mod RisingTexts
