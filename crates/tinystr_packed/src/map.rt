@@ -27,7 +27,7 @@ pub enum MapError {
 }
 
 /// Keys of at most `N` bytes that rise, and a value of `M` bytes for each. A clause sees the entries of a `BTreeMap`.
-#[derive(Drop)]
+#[derive(Clone, Drop)]
 pub struct PackedMap<'a, const N: usize, const M: usize> {
     keys: SortedTable<'a, N>,
     values: &'a [[u8; M]],
@@ -164,7 +164,7 @@ pub fn pack_map<const N: usize, const M: usize>(
 }
 
 /// The keys of a map with their values, in order. A clause sees those that are left.
-#[derive(Drop)]
+#[derive(Clone, Drop)]
 pub struct Entries<'a, const N: usize, const M: usize> {
     keys: Texts<'a, N>,
     values: &'a [[u8; M]],

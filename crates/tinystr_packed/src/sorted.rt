@@ -13,7 +13,7 @@ use thiserror::Error;
 use tinystr::TinyAsciiStr;
 
 /// A table whose texts rise, each above the one before it. A clause sees the texts.
-#[derive(Drop)]
+#[derive(Clone, Drop)]
 pub struct SortedTable<'a, const N: usize> {
     table: Table<'a, N>,
 }

@@ -15,7 +15,7 @@ use tinystr::TinyAsciiStr;
 use tinystr::ule::UleError;
 
 /// Packed records of `N` bytes. A clause sees their texts.
-#[derive(Drop)]
+#[derive(Clone, Drop)]
 pub struct Table<'a, const N: usize> {
     records: &'a [[u8; N]],
 }
@@ -149,7 +149,7 @@ impl<'a, const N: usize> Table<'a, N> {
 }
 
 /// The texts of a table in order. A clause sees those that are left.
-#[derive(Drop)]
+#[derive(Clone, Drop)]
 pub struct Texts<'a, const N: usize> {
     records: &'a [[u8; N]],
 }
