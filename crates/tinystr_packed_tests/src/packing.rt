@@ -50,6 +50,7 @@ fn texts_in_any_order_are_packed_in_order_and_each_once(rt: HostRuntime) {
         ("", &b"\0\0\0\0"[..]),
         ("b", &b"b\0\0\0"[..]),
         ("b|a", &b"a\0\0\0b\0\0\0"[..]),
+        ("a|a", &b"a\0\0\0"[..]),
         ("a|a|a", &b"a\0\0\0"[..]),
         ("b|a|b|", &b"\0\0\0\0a\0\0\0b\0\0\0"[..]),
         ("abc|ab|abcd|b|Z", &b"Z\0\0\0ab\0\0abc\0abcdb\0\0\0"[..]),

@@ -6,8 +6,8 @@ use tinystr_packed::Table;
 
 const FILE: &[u8] = b"d\0\0abc\0\0\0b\0\0";
 
-// The texts of the file, which don't rise.
-const TEXTS: &str = "d|abc||b";
+// The texts of the file, a line each. They don't rise.
+const TEXTS: &str = "d\nabc\n\nb\n";
 
 fn is_text<const N: usize>(found: Option<TinyAsciiStr<N>>, text: Option<&str>) -> bool {
     match (found, text) {
@@ -38,7 +38,7 @@ fn has_ends(file: &[u8], first: Option<&str>, last: Option<&str>) -> bool {
 
 #[test]
 fn each_text_stands_at_its_index(rt: HostRuntime) {
-    for (index, text) in TEXTS.split('|').enumerate() {
+    for (index, text) in TEXTS.lines().enumerate() {
         assert!(rt; is_at(index, text), "{text}");
     }
 }
@@ -54,19 +54,19 @@ fn is_at(index: usize, text: &str) -> bool {
 
 #[test]
 fn texts_come_in_the_order_of_the_table(rt: HostRuntime) {
-    assert!(rt; has_texts(FILE, TEXTS.split('|')));
-    assert!(rt; has_texts(b"", "".split_whitespace()));
-    assert!(rt; has_texts(b"abc", "abc".split_whitespace()));
+    assert!(rt; has_texts(FILE, TEXTS));
+    assert!(rt; has_texts(b"", ""));
+    assert!(rt; has_texts(b"abc", "abc\n"));
 }
 
-/// Whether the iterator gives exactly the texts, and tells each time how many are left.
-fn has_texts<'a>(file: &[u8], texts: impl Iterator<Item = &'a str>) -> bool {
+/// Whether the iterator gives exactly the texts of the lines, and tells each time how many are left.
+fn has_texts(file: &[u8], lines: &str) -> bool {
     let Ok(table) = Table::<3>::new(file) else {
         return false;
     };
     let mut left = table.len();
     let mut found = table.iter();
-    for text in texts {
+    for text in lines.lines() {
         if found.size_hint() != (left, Some(left)) || !is_text(found.next(), Some(text)) {
             return false;
         }
