@@ -1,1 +1,2 @@
+pub mod Countries
 pub mod Keys

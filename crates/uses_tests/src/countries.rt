@@ -1,7 +1,6 @@
 //! Country codes.
 
-use tinystr_packed::{SortedTable, Table};
-use uses::countries::index_of_country;
+use uses::countries::{countries, index_of_country};
 
 #[test]
 fn countries_are_found_by_their_codes(rt: HostRuntime) {
@@ -14,11 +13,24 @@ fn countries_are_found_by_their_codes(rt: HostRuntime) {
 }
 
 fn is_found(file: &[u8], code: &str, index: Option<usize>) -> bool {
-    let Ok(table) = Table::<2>::new(file) else {
-        return false;
-    };
-    match SortedTable::new(table) {
-        Ok(codes) => index_of_country(&codes, code) == index,
-        Err(_) => false,
+    match countries(file) {
+        Some(codes) => index_of_country(&codes, code) == index,
+        None => false,
+    }
+}
+
+#[test]
+fn a_file_of_countries_has_codes_that_rise(rt: HostRuntime) {
+    for (file, count) in [("", 0), ("AT", 1), ("ATCHDE", 3)] {
+        let found = countries(file.as_bytes());
+        assert!(rt;
+            found.is_some_and(|codes| codes.table().len() == count),
+            "{file}"
+        );
+    }
+    for file in [
+        "ATCHD", "AtCHDE", "A\0CHDE", "A1CHDE", "ATATDE", "ATDECH", "AT\0\0DE",
+    ] {
+        assert!(rt; countries(file.as_bytes()).is_none(), "{file:?}");
     }
 }
