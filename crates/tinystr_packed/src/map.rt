@@ -15,14 +15,14 @@ use std::marker::Model;
 use tinystr::TinyAsciiStr;
 use tinystr::ule::UleError;
 
-/// Why bytes are no packed map.
+/// Why bytes aren't a packed map.
 #[derive(Clone, Copy, Debug, PartialEq, Eq)]
 pub enum MapError {
-    /// The keys are no packed records.
+    /// The keys aren't packed records.
     Keys(UleError),
     /// A key isn't above the one before it.
     Order(NotRising),
-    /// There are `keys` keys, and `len` bytes aren't a value for each.
+    /// `len` bytes aren't `M` for each of `keys` keys.
     Values { keys: usize, len: usize },
 }
 
@@ -96,7 +96,7 @@ impl<'a, const N: usize, const M: usize> PackedMap<'a, N, M> {
         self.len() == 0
     }
 
-    /// The value of a key; none where it is no key.
+    /// The value of a key, or `None` where it isn't one.
     pub fn get(&self, key: &TinyAsciiStr<N>) -> Option<&'a [u8; M]>
         ensures { option_copied result ≡ get self.now key.now }
     {

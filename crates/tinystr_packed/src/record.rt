@@ -23,7 +23,7 @@ pub fn is_below(left: &[u8], right: &[u8]) -> bool
     }
 }
 
-// The number that at most eight bytes spell with NULs behind them, the greatest first.
+// The number that at most eight bytes spell with NULs behind them, the first the most significant.
 #[inline(always)]
 fn number(bytes: &[u8]) -> u64
     requires { length bytes.now ≤ 8 }

@@ -9,7 +9,6 @@ ghost use Rattle.tinystr_packed.specs.Rising.{IsRising, IsFirstFall, IsPlaceFor,
 use crate::record::is_below;
 use crate::table::Table;
 use std::marker::Model;
-use thiserror::Error;
 use tinystr::TinyAsciiStr;
 
 /// A table whose texts rise, each above the one before it. A clause sees the texts.
@@ -30,8 +29,7 @@ impl<'a, const N: usize> Model for SortedTable<'a, N> {
 }
 
 /// The text at `index` is the first that isn't above the one before it.
-#[derive(Clone, Copy, Debug, PartialEq, Eq, Error)]
-#[error("record {index} isn't above the one before it")]
+#[derive(Clone, Copy, Debug, PartialEq, Eq)]
 pub struct NotRising {
     pub index: usize,
 }

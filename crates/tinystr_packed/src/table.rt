@@ -1,7 +1,7 @@
 //! Tables of packed records, and the iterator over their texts.
 
 ghost use Rattle.std.specs.Prelude.{◌≡◌, ◌<◌, ◌≤◌, ◌↔◌, ◌^◌, ◌-◌, [], length, map, take, drop, All, IsOk, IsNone, IfSome, IsTrue, IfOk, IfErr, slice_get, slice_index_or};
-ghost use Rattle.std.specs.Iterator.{YieldsFirst, YieldsLast, item_count};
+ghost use Rattle.std.specs.Iterator.{YieldsFirst, item_count};
 ghost use Rattle.std.specs.List.{flat_map};
 ghost use Rattle.tinystr_words.specs.Packed.{IsPacked};
 ghost use Rattle.tinystr_words.specs.Text.{IsStrictText, IsPaddedText, pad, text_of};
@@ -35,7 +35,7 @@ impl<'a, const N: usize> Table<'a, N> {
     /// The table of bytes, which are checked here alone. `N` has to be above 0.
     ///
     /// The error is that of `TinyAsciiStr::validate_bytes`: `Length` where `N` doesn't divide the number of bytes, else
-    /// `Parse`, the first record that is no padded text.
+    /// `Parse`, the first record that isn't a padded text.
     #[tactic(auto, using(crate::proofs::PackedTexts::table_steps))]
     pub fn new(bytes: &'a [u8]) -> Result<Self, UleError>
         requires { 0 < N }
@@ -68,7 +68,7 @@ impl<'a, const N: usize> Table<'a, N> {
         self.records.is_empty()
     }
 
-    /// The text at an index, counted from 0, in constant time; none past the end.
+    /// The text at an index, counted from 0, in constant time, or `None` past the end.
     #[tactic(auto, using(crate::proofs::PackedTexts::places))]
     pub fn get(&self, index: usize) -> Option<TinyAsciiStr<N>>
         ensures { result ≡ slice_get self.now index }

@@ -9,6 +9,8 @@ mod errors;
 #[cfg(test)]
 mod forms;
 #[cfg(test)]
+mod in_rust;
+#[cfg(test)]
 mod order;
 #[cfg(test)]
 mod printing;
