@@ -9,8 +9,8 @@ use Rattle.std.proofs.lemmas.Simd.{map-map}
 use Rattle.tinystr_words.specs.Text.{IsTextByte, IsStrictText}
 use Rattle.tinystr_words.specs.Classes.{is_alphabetic, is_digit, is_alphanumeric, ask}
 use Rattle.tinystr_words.specs.Case.{lower, raise, lowercase, titlecase, uppercase}
-use Rattle.subtags.specs.Grammar.{fold_byte, fold_text, is_language, is_script, is_region, canonical_part}
-use Rattle.subtags.specs.Parts.{IsCanonicalPart}
+use Rattle.subtags.specs.Grammar.{fold_byte, fold_text, is_language, is_script, is_region, canonical_subtag}
+use Rattle.subtags.specs.Subtags.{IsCanonicalSubtag}
 
 -- where f after g is f at each element, it is so on a list
 pub map-map_absorbed : {X : Type 0} (f g : X → X) → ((x : X) → f (g x) ≡ f x) → (l : List X) → map f (map g l) ≡ map f l
@@ -29,9 +29,9 @@ fold_text-titlecase : (t : List ℕ) → fold_text (titlecase t) ≡ fold_text t
 fold_text-titlecase [] = refl
 fold_text-titlecase (b ∷ t) = ap₂ (λ (x : ℕ) (y : List ℕ). x ∷ y) (grind (arith, nat_tests)) (map-map_absorbed fold_byte lower (λ c. grind (arith, nat_tests)) t)
 
--- a canonical part folds as the part does
-pub fold_text-canonical_part : (p : List ℕ) → fold_text (canonical_part p) ≡ fold_text p
-fold_text-canonical_part p =
+-- a canonical subtag folds as the subtag does
+pub fold_text-canonical_subtag : (p : List ℕ) → fold_text (canonical_subtag p) ≡ fold_text p
+fold_text-canonical_subtag p =
     let in_title = fold_text-titlecase p in
     let raised = map-map_absorbed fold_byte raise (λ b. grind (arith, nat_tests)) p in
     grind arith
@@ -62,8 +62,8 @@ pub same_test_from_fold_text : (t : List ℕ → Bool) → ((p : List ℕ) → t
 same_test_from_fold_text t e p q alike = sym (e p) ∙ ap t alike ∙ e q
 
 -- a language, a script or a region has letters and digits alone
-pub alphanumeric-from_part : (p : List ℕ) → (is_language p || is_script p || is_region p) ≡ true → list_all is_alphanumeric p ≡ true
-alphanumeric-from_part p h =
+pub alphanumeric-from_subtag : (p : List ℕ) → (is_language p || is_script p || is_region p) ≡ true → list_all is_alphanumeric p ≡ true
+alphanumeric-from_subtag p h =
     let letters = weaker is_alphabetic (λ b a. grind arith) in
     let digits = weaker is_digit (λ b a. grind arith) in
     grind arith
@@ -72,8 +72,8 @@ alphanumeric-from_part p h =
     weaker t e a = list_all-from_AllPass is_alphanumeric p (All-from_list_all t (λ b. is_alphanumeric b ≡ true) e p a)
 
 -- and is a text
-pub IsStrictText-from_part : (p : List ℕ) (n : ℕ) → (is_language p || is_script p || is_region p) ≡ true → length p ≤ n → IsStrictText p n
-IsStrictText-from_part p n h fits = record { text = All-from_list_all is_alphanumeric IsTextByte (λ b a. grind (arith, nat_tests)) p (alphanumeric-from_part p h); fits = fits }
+pub IsStrictText-from_subtag : (p : List ℕ) (n : ℕ) → (is_language p || is_script p || is_region p) ≡ true → length p ≤ n → IsStrictText p n
+IsStrictText-from_subtag p n h fits = record { text = All-from_list_all is_alphanumeric IsTextByte (λ b a. grind (arith, nat_tests)) p (alphanumeric-from_subtag p h); fits = fits }
 
 -- where all bytes of a text are asked one question, the answer is that of each byte
 pub ask-same : (p : ℕ → Bool) (t : List ℕ) → ask p p t ≡ list_all p t
@@ -94,31 +94,31 @@ titlecase-lowercase_titlecase (b ∷ t) =
 
 -- a script, folded, has the same titlecase
 pub titlecase-fold_text : (p : List ℕ) → is_script p ≡ true → titlecase (fold_text p) ≡ titlecase p
-titlecase-fold_text p h = ap titlecase (fold_text-alphanumeric p (alphanumeric-from_part p (grind arith))) ∙ (titlecase-lowercase_titlecase p).0
+titlecase-fold_text p h = ap titlecase (fold_text-alphanumeric p (alphanumeric-from_subtag p (grind arith))) ∙ (titlecase-lowercase_titlecase p).0
 
 -- a region, folded, has the same uppercase
 pub uppercase-fold_text : (p : List ℕ) → is_region p ≡ true → uppercase (fold_text p) ≡ uppercase p
-uppercase-fold_text p h = ap uppercase (fold_text-alphanumeric p (alphanumeric-from_part p (grind arith))) ∙ map-map_absorbed raise lower (λ b. grind (arith, nat_tests)) p
+uppercase-fold_text p h = ap uppercase (fold_text-alphanumeric p (alphanumeric-from_subtag p (grind arith))) ∙ map-map_absorbed raise lower (λ b. grind (arith, nat_tests)) p
 
 -- a language in lowercase is canonical
-pub IsCanonicalPart-lowercase : (p : List ℕ) → is_language p ≡ true → IsCanonicalPart is_language lowercase (lowercase p)
-IsCanonicalPart-lowercase p h = record {
-  form = same_test_from_fold_text is_language is_language-fold_text (lowercase p) p (map-map_absorbed fold_byte lower (λ b. grind (arith, nat_tests)) p) ∙ h;
+pub IsCanonicalSubtag-lowercase : (p : List ℕ) → is_language p ≡ true → IsCanonicalSubtag is_language lowercase (lowercase p)
+IsCanonicalSubtag-lowercase p h = record {
+  well_formed = same_test_from_fold_text is_language is_language-fold_text (lowercase p) p (map-map_absorbed fold_byte lower (λ b. grind (arith, nat_tests)) p) ∙ h;
   canonical = map-map_absorbed lower lower (λ b. grind (arith, nat_tests)) p;
 }
 
 -- a script in titlecase is canonical
-pub IsCanonicalPart-titlecase : (p : List ℕ) → is_script p ≡ true → IsCanonicalPart is_script titlecase (titlecase p)
-IsCanonicalPart-titlecase p h = record {
-  form = same_test_from_fold_text is_script is_script-fold_text (titlecase p) p (fold_text-titlecase p) ∙ h;
+pub IsCanonicalSubtag-titlecase : (p : List ℕ) → is_script p ≡ true → IsCanonicalSubtag is_script titlecase (titlecase p)
+IsCanonicalSubtag-titlecase p h = record {
+  well_formed = same_test_from_fold_text is_script is_script-fold_text (titlecase p) p (fold_text-titlecase p) ∙ h;
   canonical = (titlecase-lowercase_titlecase p).1;
 }
 
 -- a region in uppercase is canonical
-pub IsCanonicalPart-uppercase : (p : List ℕ) → is_region p ≡ true → IsCanonicalPart is_region uppercase (uppercase p)
-IsCanonicalPart-uppercase p h = record {
-  form = same_test_from_fold_text is_region is_region-fold_text (uppercase p) p (map-map_absorbed fold_byte raise (λ b. grind (arith, nat_tests)) p) ∙ h;
+pub IsCanonicalSubtag-uppercase : (p : List ℕ) → is_region p ≡ true → IsCanonicalSubtag is_region uppercase (uppercase p)
+IsCanonicalSubtag-uppercase p h = record {
+  well_formed = same_test_from_fold_text is_region is_region-fold_text (uppercase p) p (map-map_absorbed fold_byte raise (λ b. grind (arith, nat_tests)) p) ∙ h;
   canonical = map-map_absorbed raise raise (λ b. grind (arith, nat_tests)) p;
 }
 
-pub ruleset part_steps = (IsStrictText-from_part, ask-same, IsCanonicalPart-lowercase, IsCanonicalPart-titlecase, IsCanonicalPart-uppercase)
+pub ruleset subtag_steps = (IsStrictText-from_subtag, ask-same, IsCanonicalSubtag-lowercase, IsCanonicalSubtag-titlecase, IsCanonicalSubtag-uppercase)

@@ -1,5 +1,5 @@
 pub mod FoldLemmas
-pub mod CutLemmas
+pub mod SplitLemmas
 pub mod CanonLemmas
 pub mod ReadLemmas
 pub mod JoinLemmas

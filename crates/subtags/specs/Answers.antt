@@ -3,12 +3,12 @@ use Rattle.std.specs.Prelude.{◌≡◌, ℕ, List, codes, Result, IsOk, IfOk, I
 use Rattle.std.specs.Result.{result_ok}
 use Rattle.subtags.specs.declared.error.LangIdError.{LangIdError}
 use Rattle.subtags.specs.declared.error.LangIdError.TheVariants.{InvalidLanguage, InvalidSubtag}
-use Rattle.subtags.specs.Grammar.{fold_text, parts, is_language, IsLangId, canonical_text, canonical_of}
-use Rattle.subtags.specs.Parts.{first}
+use Rattle.subtags.specs.Grammar.{fold_text, subtags_of, is_language, IsLangId, canonical_text, canonical_of}
+use Rattle.subtags.specs.Subtags.{first}
 
--- why an input is refused: for its first part, or for what stands behind it
+-- why an input is refused: for its first subtag, or for what stands behind it
 abbrev pub refusal_of : List ℕ → LangIdError
-refusal_of u = if is_language (first (parts (fold_text u))) then InvalidSubtag else InvalidLanguage
+refusal_of u = if is_language (first (subtags_of (fold_text u))) then InvalidSubtag else InvalidLanguage
 
 -- the canonical text exactly of the language identifiers, and else the reason
 pub record IsLangIdRead (u : List ℕ) (r : Result (List ℕ) LangIdError) : Type 0 where

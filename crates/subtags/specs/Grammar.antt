@@ -10,22 +10,22 @@ abbrev pub dash : ℕ
 dash = 0x2D
 
 -- '_'
-abbrev pub low_line : ℕ
-low_line = 0x5F
+abbrev pub underscore : ℕ
+underscore = 0x5F
 
 abbrev pub is_separator : ℕ → Bool
-is_separator b = b == dash || b == low_line
+is_separator b = b == dash || b == underscore
 
 -- '-' for '_', and a letter in lowercase
 abbrev pub fold_byte : ℕ → ℕ
-fold_byte b = if b == low_line then dash else lower b
+fold_byte b = if b == underscore then dash else lower b
 
 abbrev pub fold_text : List ℕ → List ℕ
 fold_text u = map fold_byte u
 
 -- what stands before, between and behind the dashes
-abbrev pub parts : List ℕ → List (List ℕ)
-parts u = slice_split (λ b. b == dash) u
+abbrev pub subtags_of : List ℕ → List (List ℕ)
+subtags_of u = slice_split (λ b. b == dash) u
 
 -- 2, 3 or 5 to 8
 abbrev pub is_language_length : ℕ → Bool
@@ -57,23 +57,23 @@ is_lang_id (l ∷ ps) = is_language l && is_tail ps
 
 -- a language identifier, in any case and with either separator
 abbrev pub IsLangId : List ℕ → Type 0
-IsLangId u = IsTrue (is_lang_id (parts (fold_text u)))
+IsLangId u = IsTrue (is_lang_id (subtags_of (fold_text u)))
 
 -- a script in titlecase, a region in uppercase
-abbrev pub canonical_part : List ℕ → List ℕ
-canonical_part p = if is_script p then titlecase p else uppercase p
+abbrev pub canonical_subtag : List ℕ → List ℕ
+canonical_subtag p = if is_script p then titlecase p else uppercase p
 
 -- the language stays as it was folded
-abbrev pub canonical_parts : List (List ℕ) → List (List ℕ)
-canonical_parts [] = []
-canonical_parts (l ∷ ps) = l ∷ map canonical_part ps
+abbrev pub canonical_subtags : List (List ℕ) → List (List ℕ)
+canonical_subtags [] = []
+canonical_subtags (l ∷ ps) = l ∷ map canonical_subtag ps
 
 abbrev pub canonical_text : List ℕ → List ℕ
-canonical_text u = join_with_byte dash (canonical_parts (parts (fold_text u)))
+canonical_text u = join_with_byte dash (canonical_subtags (subtags_of (fold_text u)))
 
 -- the canonical text, where the input is a language identifier
 abbrev pub canonical_of : List ℕ → Option (List ℕ)
-canonical_of u = if is_lang_id (parts (fold_text u)) then Some (canonical_text u) else None
+canonical_of u = if is_lang_id (subtags_of (fold_text u)) then Some (canonical_text u) else None
 
 -- a text that is accepted, and is its own canonical text
 pub record IsCanonical (t : List ℕ) : Type 0 where

@@ -1,4 +1,4 @@
 pub mod Grammar
-pub mod Parts
+pub mod Subtags
 pub mod Answers
 pub mod FromFront

@@ -6,9 +6,9 @@ use std::fmt;
 /// Why an input is no language identifier, or no language, script or region where one is parsed.
 #[derive(Clone, Copy, Debug, PartialEq, Eq)]
 pub enum LangIdError {
-    /// The first part is no language; or a language was parsed, and the input is none.
+    /// The first subtag isn't a language; or a `Language` was parsed, and the input isn't one.
     InvalidLanguage,
-    /// The first part is a language, and what stands behind it isn't accepted; or a script or a region was parsed, and
+    /// The first subtag is a language, and what stands behind it isn't accepted; or a script or a region was parsed, and
     /// the input is none.
     InvalidSubtag,
 }

@@ -5,15 +5,16 @@ ghost use Rattle.std.specs.Fmt.{debug_str, styled_text};
 ghost use Rattle.std.specs.Result.{result_ok};
 ghost use Rattle.tinystr_words.specs.Case.{lowercase, titlecase, uppercase};
 ghost use Rattle.subtags.specs.Grammar.{dash, fold_text, is_language, is_language_length, is_script, is_region, IsLangId, IsCanonical, canonical_text, canonical_of};
-ghost use Rattle.subtags.specs.Parts.{IsCanonicalPart, language_of, script_of, region_of, join_parts};
+ghost use Rattle.subtags.specs.Subtags.{IsCanonicalSubtag, language_of, script_of, region_of, join_subtags};
 ghost use Rattle.subtags.specs.Answers.{refusal_of, IsLangIdRead};
 
-use crate::cut::{cut, last_region, past_script, take_script};
 use crate::error::LangIdError;
 use crate::language::Language;
-use crate::part::{Kind, Part};
 use crate::region::Region;
 use crate::script::Script;
+use crate::split::split_first;
+use crate::subtag::{Subtag, SubtagKind};
+use crate::tail::{last_region, past_script, take_script};
 use std::convert::{AsSlice, AsStr};
 use std::fmt;
 use std::marker::Model;
@@ -48,9 +49,9 @@ impl Model for LangId {
 
 impl LangId {
     /// Reads a language, and behind it a script, a region, both or nothing, in any case and with a `-` or a `_` before
-    /// each later part.
+    /// each later subtag.
     ///
-    /// The error is `InvalidLanguage` where the first part is no language, else `InvalidSubtag`.
+    /// The error is `InvalidLanguage` where the first subtag is no language, else `InvalidSubtag`.
     pub fn try_from_utf8(code_units: &[u8]) -> Result<Self, LangIdError>
         ensures accepted { IsOk result ↔ IsLangId code_units.now }
         ensures text { IfOk result (λ id. id ≡ canonical_text code_units.now) }
@@ -58,7 +59,7 @@ impl LangId {
         ensures refusal { IfErr result (λ e. e ≡ refusal_of code_units.now) }
         ensures value { result_ok result ≡ canonical_of code_units.now }
     {
-        let (first, rest) = cut(code_units);
+        let (first, rest) = split_first(code_units);
         let Some(language) = Language::try_from_utf8(first) else {
             return Err(LangIdError::InvalidLanguage);
         };
@@ -67,16 +68,16 @@ impl LangId {
         Ok(Self::from_parts(language, script, region))
     }
 
-    /// The identifier of these parts, which gives them back.
-    #[tactic(auto, using(crate::proofs::JoinLemmas::parts_of_join_parts))]
+    /// The identifier of these subtags, which gives them back.
+    #[tactic(auto, using(crate::proofs::JoinLemmas::subtags_of_join_subtags))]
     pub fn from_parts(language: Language, script: Option<Script>, region: Option<Region>) -> Self
-        ensures text { result ≡ join_parts language script region }
+        ensures text { result ≡ join_subtags language script region }
         ensures language { language_of result ≡ language }
         ensures script { script_of result ≡ script }
         ensures region { region_of result ≡ region }
     {
         LangId {
-            text: join_parts(language, script, region),
+            text: join_subtags(language, script, region),
         }
     }
 
@@ -103,7 +104,7 @@ impl LangId {
     pub fn language(&self) -> Language
         ensures { result ≡ language_of self.now }
     {
-        let (first, _) = cut(self.text.as_utf8());
+        let (first, _) = split_first(self.text.as_utf8());
         Language::from_canonical(front(self.text, first.len()))
     }
 
@@ -112,7 +113,7 @@ impl LangId {
     pub fn script(&self) -> Option<Script>
         ensures { result ≡ script_of self.now }
     {
-        let (_, rest) = cut(self.text.as_utf8());
+        let (_, rest) = split_first(self.text.as_utf8());
         let Some(rest) = rest else {
             return None;
         };
@@ -128,7 +129,7 @@ impl LangId {
     pub fn region(&self) -> Option<Region>
         ensures { result ≡ region_of self.now }
     {
-        let (_, rest) = cut(self.text.as_utf8());
+        let (_, rest) = split_first(self.text.as_utf8());
         let Some(rest) = rest else {
             return None;
         };
@@ -214,18 +215,18 @@ fn front(text: TinyAsciiStr<17>, len: usize) -> TinyAsciiStr<8>
     }
 }
 
-// The parts, joined by dashes; and that they are canonical, each by its invariant. The language and one part behind it
+// The subtags, joined by dashes; and that they are canonical, each by its invariant. The language and one subtag behind it
 // fit into one word.
 #[inline]
-fn join_parts(
+fn join_subtags(
     language: Language,
     script: Option<Script>,
     region: Option<Region>,
 ) -> TinyAsciiStr<17>
-    ensures text { result ≡ join_parts language script region }
-    ensures language { IsCanonicalPart is_language lowercase language }
-    ensures script { IfSome script (IsCanonicalPart is_script titlecase) }
-    ensures region { IfSome region (IsCanonicalPart is_region uppercase) }
+    ensures text { result ≡ join_subtags language script region }
+    ensures language { IsCanonicalSubtag is_language lowercase language }
+    ensures script { IfSome script (IsCanonicalSubtag is_script titlecase) }
+    ensures region { IfSome region (IsCanonicalSubtag is_region uppercase) }
 {
     let language = language.to_text();
     match (script, region) {
@@ -240,7 +241,7 @@ fn join_parts(
 #[tactic(auto, using(crate::proofs::JoinLemmas::take_take_append))]
 #[inline]
 fn join_three(language: TinyAsciiStr<8>, script: Script, region: Region) -> TinyAsciiStr<17>
-    ensures { result ≡ join_parts language (Some script) (Some region) }
+    ensures { result ≡ join_subtags language (Some script) (Some region) }
 {
     let script: TinyAsciiStr<5> = after_dash(script);
     let tail = script.concat::<4, 9>(after_dash(region));
@@ -250,12 +251,12 @@ fn join_three(language: TinyAsciiStr<8>, script: Script, region: Region) -> Tiny
     language.concat(tail)
 }
 
-// A dash and the part.
+// A dash and the subtag.
 #[inline]
-fn after_dash<K: Kind<M>, const M: usize, const N: usize>(part: Part<K, M>) -> TinyAsciiStr<N>
+fn after_dash<K: SubtagKind<M>, const M: usize, const N: usize>(subtag: Subtag<K, M>) -> TinyAsciiStr<N>
     requires { 1 + M ≤ N }
-    ensures { result ≡ dash ∷ part }
+    ensures { result ≡ dash ∷ subtag }
 {
     let dash = tinystr!(1, "-").unwrap();
-    dash.concat(part.to_text())
+    dash.concat(subtag.to_text())
 }

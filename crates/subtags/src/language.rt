@@ -5,24 +5,24 @@ ghost use Rattle.subtags.specs.Grammar.{is_language};
 ghost use Rattle.subtags.specs.declared.error.LangIdError.TheVariants.{InvalidLanguage};
 
 use crate::error::LangIdError;
-use crate::part::{Kind, Part};
+use crate::subtag::{Subtag, SubtagKind};
 use tinystr::TinyAsciiStr;
 
 /// A language: 2, 3 or 5 to 8 letters, kept in lowercase.
-pub type Language = Part<LanguageKind, 8>;
+pub type Language = Subtag<LanguageKind, 8>;
 
 /// The kind of a language.
 pub struct LanguageKind;
 
-impl Kind<8> for LanguageKind {
-    ghost has_form = { is_language };
+impl SubtagKind<8> for LanguageKind {
+    ghost is_well_formed = { is_language };
 
     ghost in_case = { lowercase };
 
     ghost refusal = { InvalidLanguage };
 
     #[inline]
-    #[tactic(auto, using(crate::proofs::FoldLemmas::part_steps))]
+    #[tactic(auto, using(crate::proofs::FoldLemmas::subtag_steps))]
     fn read(code_units: &[u8]) -> Option<TinyAsciiStr<8>> {
         if !matches!(code_units.len(), 2 | 3 | 5..=8) {
             return None;

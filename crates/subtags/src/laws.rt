@@ -6,17 +6,17 @@ ghost use Rattle.std.specs.Ordering.{nat_cmp};
 ghost use Rattle.std.specs.Cmp.Lexicographic.{slice_cmp};
 ghost use Rattle.std.specs.declared.cmp.Ordering.TheVariants.{Less};
 ghost use Rattle.tinystr_words.specs.Order.{IsBefore};
-ghost use Rattle.subtags.specs.Grammar.{is_separator, fold_text, parts, IsLangId, IsCanonical, canonical_text};
-ghost use Rattle.subtags.specs.Parts.{language_of, script_of, region_of, join_parts};
+ghost use Rattle.subtags.specs.Grammar.{is_separator, fold_text, subtags_of, IsLangId, IsCanonical, canonical_text};
+ghost use Rattle.subtags.specs.Subtags.{language_of, script_of, region_of, join_subtags};
 
 use crate::error::LangIdError;
 use crate::lang_id::LangId;
-use crate::part::{Kind, Part};
+use crate::subtag::{Subtag, SubtagKind};
 use std::cmp::Ordering;
 
-/// To fold an input and then cut it at each dash is to cut it at each separator and then fold its parts.
-pub fn cut_before_fold()
-    ensures { (u : List ℕ) → parts (fold_text u) ≡ map fold_text (slice_split is_separator u) }
+/// To fold an input and then split it at each dash is to split it at each separator and then fold its subtags.
+pub fn split_before_fold()
+    ensures { (u : List ℕ) → subtags_of (fold_text u) ≡ map fold_text (slice_split is_separator u) }
 {}
 
 /// A canonical text is accepted, is its own canonical text, and folds as the input does.
@@ -31,8 +31,8 @@ pub fn fold_tells_apart()
 {}
 
 /// A canonical text is its language, its script and its region, joined by dashes.
-pub fn joined_parts()
-    ensures { (t : List ℕ) → IsCanonical t → t ≡ join_parts (language_of t) (script_of t) (region_of t) }
+pub fn joined_subtags()
+    ensures { (t : List ℕ) → IsCanonical t → t ≡ join_subtags (language_of t) (script_of t) (region_of t) }
 {}
 
 /// Reading the text of an identifier gives the identifier back.
@@ -59,22 +59,22 @@ pub fn identifier_order(id: &LangId, other: &LangId) -> (bool, Ordering, Option<
     )
 }
 
-/// The same of the parts of a kind: of languages, of scripts, of regions.
-pub fn part_order<K: Kind<N>, const N: usize>(
-    part: &Part<K, N>,
-    other: &Part<K, N>,
+/// The same of the subtags of a kind: of languages, of scripts, of regions.
+pub fn subtag_order<K: SubtagKind<N>, const N: usize>(
+    subtag: &Subtag<K, N>,
+    other: &Subtag<K, N>,
 ) -> (bool, Ordering, Option<Ordering>, bool)
-    ensures equal { IsTrue result.0 ↔ (part.now ≡ other.now) }
-    ensures order { result.1 ≡ slice_cmp nat_cmp part.now other.now }
-    ensures before { (result.1 ≡ Less) ↔ IsBefore part.now other.now }
+    ensures equal { IsTrue result.0 ↔ (subtag.now ≡ other.now) }
+    ensures order { result.1 ≡ slice_cmp nat_cmp subtag.now other.now }
+    ensures before { (result.1 ≡ Less) ↔ IsBefore subtag.now other.now }
     ensures partial { result.2 ≡ Some result.1 }
-    ensures less { IsTrue result.3 ↔ IsBefore part.now other.now }
+    ensures less { IsTrue result.3 ↔ IsBefore subtag.now other.now }
 {
     tinystr_words::laws::order_compared();
     (
-        part == other,
-        part.cmp(other),
-        part.partial_cmp(other),
-        part < other,
+        subtag == other,
+        subtag.cmp(other),
+        subtag.partial_cmp(other),
+        subtag < other,
     )
 }

@@ -1,16 +1,17 @@
 //! Language identifiers: a language, and behind it a script, a region, both or nothing, as `en`, `es-419` and
-//! `zh-Hant-TW`. They are read in any case, with `-` or `_` between the parts. A value is its canonical text, and
+//! `zh-Hant-TW`. They are read in any case, with `-` or `_` between the subtags. A value is its canonical text, and
 //! nothing allocates. Nothing is looked up in a registry.
 #![tactic(auto)]
 
-mod cut;
 pub mod error;
 pub mod lang_id;
 pub mod language;
 pub mod laws;
-pub mod part;
 pub mod region;
 pub mod script;
+mod split;
+pub mod subtag;
+mod tail;
 
 pub use error::LangIdError;
 pub use lang_id::LangId;

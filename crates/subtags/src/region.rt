@@ -5,34 +5,34 @@ ghost use Rattle.subtags.specs.Grammar.{is_region};
 ghost use Rattle.subtags.specs.declared.error.LangIdError.TheVariants.{InvalidSubtag};
 
 use crate::error::LangIdError;
-use crate::part::{Kind, Part};
+use crate::subtag::{Subtag, SubtagKind};
 use tinystr::TinyAsciiStr;
 
 /// A region: 2 letters or 3 digits, kept in uppercase.
-pub type Region = Part<RegionKind, 3>;
+pub type Region = Subtag<RegionKind, 3>;
 
 /// The kind of a region.
 pub struct RegionKind;
 
-impl Kind<3> for RegionKind {
-    ghost has_form = { is_region };
+impl SubtagKind<3> for RegionKind {
+    ghost is_well_formed = { is_region };
 
     ghost in_case = { uppercase };
 
     ghost refusal = { InvalidSubtag };
 
     #[inline]
-    #[tactic(auto, using(crate::proofs::FoldLemmas::part_steps))]
+    #[tactic(auto, using(crate::proofs::FoldLemmas::subtag_steps))]
     fn read(code_units: &[u8]) -> Option<TinyAsciiStr<3>> {
         let Ok(text) = TinyAsciiStr::<3>::try_from_utf8(code_units) else {
             return None;
         };
-        let has_form = match code_units.len() {
+        let is_well_formed = match code_units.len() {
             2 => text.is_ascii_alphabetic(),
             3 => text.is_ascii_numeric(),
             _ => false,
         };
-        if has_form {
+        if is_well_formed {
             Some(text.to_ascii_uppercase())
         } else {
             None

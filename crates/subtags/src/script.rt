@@ -5,24 +5,24 @@ ghost use Rattle.subtags.specs.Grammar.{is_script};
 ghost use Rattle.subtags.specs.declared.error.LangIdError.TheVariants.{InvalidSubtag};
 
 use crate::error::LangIdError;
-use crate::part::{Kind, Part};
+use crate::subtag::{Subtag, SubtagKind};
 use tinystr::TinyAsciiStr;
 
 /// A script: 4 letters, kept in titlecase.
-pub type Script = Part<ScriptKind, 4>;
+pub type Script = Subtag<ScriptKind, 4>;
 
 /// The kind of a script.
 pub struct ScriptKind;
 
-impl Kind<4> for ScriptKind {
-    ghost has_form = { is_script };
+impl SubtagKind<4> for ScriptKind {
+    ghost is_well_formed = { is_script };
 
     ghost in_case = { titlecase };
 
     ghost refusal = { InvalidSubtag };
 
     #[inline]
-    #[tactic(auto, using(crate::proofs::FoldLemmas::part_steps))]
+    #[tactic(auto, using(crate::proofs::FoldLemmas::subtag_steps))]
     fn read(code_units: &[u8]) -> Option<TinyAsciiStr<4>> {
         if code_units.len() != 4 {
             return None;

@@ -3,9 +3,9 @@
 #![tactic(auto)]
 
 #[cfg(test)]
-mod order;
+mod kinds;
 #[cfg(test)]
-mod parts;
+mod order;
 #[cfg(test)]
 mod printing;
 #[cfg(test)]

@@ -4,7 +4,7 @@ use std::cmp::Ordering::{self, Equal, Greater, Less};
 use std::collections::HashSet;
 use std::str::FromStr;
 use std::test::Fail;
-use subtags::laws::{identifier_order, part_order, read_back};
+use subtags::laws::{identifier_order, subtag_order, read_back};
 use subtags::{LangId, LangIdError, Language, Region, Script};
 
 #[test]
@@ -13,7 +13,7 @@ fn identifiers_compare_as_their_texts(rt: HostRuntime) {
 }
 
 #[test]
-fn parts_compare_as_their_texts(rt: HostRuntime) {
+fn subtags_compare_as_their_texts(rt: HostRuntime) {
     assert!(rt; are_in_order::<Language>("de en enx"));
     assert!(rt; are_in_order::<Script>("Cyrl Hans Latn"));
     assert!(rt; are_in_order::<Region>("001 419 DE US"));
@@ -50,9 +50,9 @@ fn laws_answer_as_their_calls(rt: HostRuntime) -> Result<(), Fail> {
     assert!(rt; identifier_order(&more, &less) == (false, Greater, Some(Greater), false));
     assert!(rt; identifier_order(&more, &more) == (true, Equal, Some(Equal), false));
     let (less, more): (Region, Region) = ("DE".parse()?, "US".parse()?);
-    assert!(rt; part_order(&less, &more) == (false, Less, Some(Less), true));
-    assert!(rt; part_order(&more, &less) == (false, Greater, Some(Greater), false));
-    assert!(rt; part_order(&more, &more) == (true, Equal, Some(Equal), false));
+    assert!(rt; subtag_order(&less, &more) == (false, Less, Some(Less), true));
+    assert!(rt; subtag_order(&more, &less) == (false, Greater, Some(Greater), false));
+    assert!(rt; subtag_order(&more, &more) == (true, Equal, Some(Equal), false));
     Ok(())
 }
 

@@ -17,7 +17,7 @@ fn an_identifier_is_printed_as_a_text(rt: HostRuntime) -> Result<(), Fail> {
 }
 
 #[test]
-fn a_part_is_printed_as_a_text(rt: HostRuntime) -> Result<(), Fail> {
+fn a_subtag_is_printed_as_a_text(rt: HostRuntime) -> Result<(), Fail> {
     let language: Language = "ZH".parse()?;
     assert!(rt; forms_of(rt.alloc(), &language)?.as_str() == "zh|\"zh\"|--zh---|zh   |z");
     let script: Script = "hant".parse()?;

@@ -26,7 +26,7 @@ fn is_read_as_its_text(row: &str) -> bool {
 }
 
 #[test]
-fn a_first_part_that_is_no_language_is_named(rt: HostRuntime) {
+fn a_first_subtag_that_is_no_language_is_named(rt: HostRuntime) {
     for input in "|a|abcd|abcdefghi|e1|-en|en.US|en/US|en US|abcd-!!|e@|e[|`n|{n".split('|') {
         assert!(rt; is_refused(input, LangIdError::InvalidLanguage), "{input}");
     }

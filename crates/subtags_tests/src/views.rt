@@ -10,7 +10,7 @@ fn identifiers_show_their_text_and_bytes(rt: HostRuntime) {
 }
 
 #[test]
-fn parts_show_their_text_and_bytes(rt: HostRuntime) {
+fn subtags_show_their_text_and_bytes(rt: HostRuntime) {
     assert!(rt; shows_its_text::<Language>("abcdefgh"));
     assert!(rt; shows_its_text::<Script>("Hant"));
     assert!(rt; shows_its_text::<Region>("419"));
@@ -34,7 +34,7 @@ fn identifiers_are_tried_from_texts(rt: HostRuntime) {
 }
 
 #[test]
-fn parts_are_tried_from_texts(rt: HostRuntime) {
+fn subtags_are_tried_from_texts(rt: HostRuntime) {
     assert!(rt; is_tried_as::<Language>("ZH", "zh"));
     assert!(rt; is_tried_as::<Script>("hANT", "Hant"));
     assert!(rt; is_tried_as::<Region>("tw", "TW"));

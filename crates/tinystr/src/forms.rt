@@ -42,7 +42,7 @@ pub enum FormWriteError {
 }
 
 impl<const N: usize> TinyAsciiStr<N> {
-    /// The JSON string of the text. It allocates a copy of the text from `alloc`, and the error is want of that memory.
+    /// The JSON string of the text. It allocates a copy of the text from `alloc`, and the error is that it failed.
     #[inline]
     pub fn to_json(&self, alloc: Global) -> Result<Value, AllocError>
         ensures { IfOk result (λ value. view value ≡ json_form self.now) }
@@ -145,7 +145,9 @@ impl<const N: usize> UnvalidatedTinyAsciiStr<N> {
     }
 }
 
-// The fault at the first of `expected` positions that has one.
+// The fault at the first of `expected` positions that has one. Bytes are read in order, so the end of the input is told
+// where it comes, and a byte behind a NUL for that. `ascii::strict::find_fault` tells the first fault of code units that
+// were counted before, and one above 127 for that.
 #[tactic(auto, using(tinystr_words::proofs::ByteForms::byte_pass))]
 fn find_byte_fault(input: &[u8], expected: usize) -> Option<BytesReadError>
     ensures { option_map byte_fault_of result ≡ byte_fault expected input.now }

@@ -1,5 +1,5 @@
-//! Packed records: padded texts of `N` bytes, one behind another, which are checked once and then
-//! read in place.
+//! Packed records: padded texts of `N` bytes, one behind another, which are checked once and then read in place. ULE is
+//! zerovec's word for what is read so: an unaligned little-endian form.
 
 ghost use Rattle.std.specs.Prelude.{◌≡◌, ◌≢◌, ◌<◌, ◌≤◌, ◌%◌, ◌↔◌, length, replicate, take, All, IsOk, IfErr, IsErrOf};
 ghost use Rattle.tinystr_words.specs.Text.{IsPaddedText};

@@ -1,3 +1,3 @@
-pub mod Words
+pub mod Fields
 pub mod Reply
 pub mod Output

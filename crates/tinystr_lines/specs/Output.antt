@@ -7,13 +7,13 @@ use Rattle.tinystr_lines.specs.Reply.{reply}
 abbrev pub is_line_feed : ℕ → Bool
 is_line_feed b = b == 10
 
--- the parts, without the last where that is empty
+-- the pieces, without the last where that is empty
 abbrev pub without_empty_last : List (List ℕ) → List (List ℕ)
 without_empty_last [] = []
-without_empty_last (part ∷ []) = if length part == 0 then [] else part ∷ []
-without_empty_last (part ∷ next ∷ more) = part ∷ without_empty_last (next ∷ more)
+without_empty_last (piece ∷ []) = if length piece == 0 then [] else piece ∷ []
+without_empty_last (piece ∷ next ∷ more) = piece ∷ without_empty_last (next ∷ more)
 
--- the parts between line feeds, the last part only if it isn't empty
+-- the pieces between line feeds, the last piece only if it isn't empty
 abbrev pub lines_of : List ℕ → List (List ℕ)
 lines_of input = without_empty_last (slice_split is_line_feed input)
 

@@ -7,14 +7,14 @@ use Rattle.tinystr_words.specs.Text.{is_strict_text, is_padded_text}
 use Rattle.tinystr_words.specs.Packed.{record_at}
 use Rattle.tinystr_words.specs.Reading.{Fault, fault_in, lossy}
 use Rattle.tinystr_words.specs.Reading.Fault.{too_long, contains_null, non_ascii}
-use Rattle.tinystr_words.specs.Questions.{answer, in_case}
-use Rattle.subtags.specs.Grammar.{fold_text, parts, is_lang_id, canonical_text}
+use Rattle.tinystr_words.specs.Questions.{ask_question, in_case}
+use Rattle.subtags.specs.Grammar.{fold_text, subtags_of, is_lang_id, canonical_text}
 use Rattle.subtags.specs.Answers.{refusal_of, message_of}
 use Rattle.tinystr_lines.specs.declared.command.Command.{Command}
 use Rattle.tinystr_lines.specs.declared.command.Command.TheVariants.{OnText, Lossy, Records, Locale}
 use Rattle.tinystr_lines.specs.declared.command.TextCall.{TextCall}
 use Rattle.tinystr_lines.specs.declared.command.TextCall.TheVariants.{Text, Len, Ask, Change}
-use Rattle.tinystr_lines.specs.Words.{capacity_of, command_of}
+use Rattle.tinystr_lines.specs.Fields.{capacity_of, command_of}
 
 abbrev pub truth_text : Bool → List ℕ
 truth_text true = codes "true"
@@ -29,7 +29,7 @@ fault_text non_ascii = codes "non ascii"
 abbrev pub answer_of : TextCall → List ℕ → List ℕ
 answer_of Text t = t
 answer_of Len t = decimal (length t)
-answer_of (Ask question) t = truth_text (answer question t)
+answer_of (Ask question) t = truth_text (ask_question question t)
 answer_of (Change case) t = in_case case t
 
 -- a call's answer where the units are such a text, and else their fault
@@ -63,7 +63,7 @@ records_reply n bytes =
 -- the canonical text of a language identifier, or why there is none
 unfoldable pub locale_reply : List ℕ → List ℕ
 locale_reply units =
-    if is_lang_id (parts (fold_text units)) then canonical_text units else message_of (refusal_of units)
+    if is_lang_id (subtags_of (fold_text units)) then canonical_text units else message_of (refusal_of units)
 
 -- the reply of a command to units at capacity n
 abbrev pub command_reply : ℕ → List ℕ → Command → List ℕ
@@ -72,15 +72,15 @@ command_reply n units Lossy = lossy units replacement n
 command_reply n units Records = records_reply n units
 command_reply n units Locale = locale_reply units
 
--- the reply at capacity n to a command's word and the units
+-- the reply at capacity n to a command's field and the units
 abbrev pub reply_at : ℕ → List ℕ → List ℕ → List ℕ
-reply_at n word units =
-    option_map_or (command_reply n units) (command_of word) (codes "bad command")
+reply_at n field units =
+    option_map_or (command_reply n units) (command_of field) (codes "bad command")
 
--- the reply to the words of a line: its capacity is tested before its command
-unfoldable pub words_reply : List ℕ → List ℕ → List ℕ → List ℕ
-words_reply capacity word units =
-    option_map_or (λ n. reply_at n word units) (capacity_of capacity) (codes "bad capacity")
+-- the reply to the fields of a line: its capacity is tested before its command
+unfoldable pub fields_reply : List ℕ → List ℕ → List ℕ → List ℕ
+fields_reply capacity field units =
+    option_map_or (λ n. reply_at n field units) (capacity_of capacity) (codes "bad capacity")
 
 abbrev pub is_space : ℕ → Bool
 is_space b = b == 32
@@ -91,5 +91,5 @@ unfoldable pub reply : List ℕ → List ℕ
 reply line =
     let rest = after_first is_space line in
     if list_any is_space line
-    then words_reply (before_first is_space line) (before_first is_space rest) (after_first is_space rest)
+    then fields_reply (before_first is_space line) (before_first is_space rest) (after_first is_space rest)
     else codes "bad line"

@@ -1,7 +1,7 @@
-//! The commands of a line, and the words that name them.
+//! The commands of a line, and the fields that name them.
 
 ghost use Rattle.std.specs.Prelude.{◌≡◌, map};
-ghost use Rattle.tinystr_lines.specs.Words.{named, command_of};
+ghost use Rattle.tinystr_lines.specs.Fields.{named, command_of};
 
 use self::Command::{Locale, Lossy, OnText, Records};
 use self::TextCall::{Ask, Change, Len, Text};
@@ -38,7 +38,7 @@ pub enum TextCall {
     Change(Case),
 }
 
-// Each word that names a command.
+// Each field that names a command.
 const COMMANDS: [(&[u8], Command); 17] = [
     (b"text", OnText(Text)),
     (b"len", OnText(Len)),
@@ -59,12 +59,12 @@ const COMMANDS: [(&[u8], Command); 17] = [
     (b"locale", Locale),
 ];
 
-// The command that a word names in a table.
-fn named(mut table: &[(&[u8], Command)], word: &[u8]) -> Option<Command>
-    ensures { result ≡ named (map (λ row. (row.0.now, row.1)) table.entry.now) word.now }
+// The command that a field names in a table.
+fn named(mut table: &[(&[u8], Command)], field: &[u8]) -> Option<Command>
+    ensures { result ≡ named (map (λ row. (row.0.now, row.1)) table.entry.now) field.now }
 {
     while let [row, rest @ ..] = table {
-        if word == row.0 {
+        if field == row.0 {
             return Some(row.1);
         }
         table = rest;
@@ -73,11 +73,11 @@ fn named(mut table: &[(&[u8], Command)], word: &[u8]) -> Option<Command>
 }
 
 impl Command {
-    /// The command that a word names, by its one spelling in lowercase.
-    #[tactic(auto, unfolding(crate::specs::Words::command_of))]
-    pub fn parse(word: &[u8]) -> Option<Command>
-        ensures { result ≡ command_of word.now }
+    /// The command that a field names, by its one spelling in lowercase.
+    #[tactic(auto, unfolding(crate::specs::Fields::command_of))]
+    pub fn parse(field: &[u8]) -> Option<Command>
+        ensures { result ≡ command_of field.now }
     {
-        named(&COMMANDS, word)
+        named(&COMMANDS, field)
     }
 }

@@ -4,7 +4,7 @@ ghost use Rattle.std.specs.Prelude.{◌≡◌, ◌++◌, ◌≢◌, OnOk, IfOk, 
 ghost use Rattle.std.specs.Io.KnownBytes.{Keeps, Appends, Consumes, IsAtEnd};
 ghost use Rattle.tinystr_lines.specs.Output.{AppendsBeginning, reply_line, output_of};
 
-use crate::cut::cut_at;
+use crate::split::split_at_first;
 use crate::reply::push_reply;
 use std::alloc::{AllocError, Global};
 use std::io::{Read, Write};
@@ -68,7 +68,7 @@ fn output(alloc: Global, input: &[u8]) -> Result<Vec<u8>, AllocError>
     let mut out = Vec::new(alloc);
     let mut rest = input;
     while !rest.is_empty() {
-        let (line, more) = cut_at(rest, b'\n');
+        let (line, more) = split_at_first(rest, b'\n');
         push_reply_line(&mut out, line)?;
         rest = more;
     }

@@ -3,10 +3,10 @@
 ghost use Rattle.std.specs.Prelude.{◌≡◌, ◌<◌, ◌^◌, ◌++◌, codes, OnOk};
 ghost use Rattle.std.specs.Fmt.{decimal};
 ghost use Rattle.tinystr.specs.Error.{fault_of};
-ghost use Rattle.tinystr_lines.specs.Reply.{fault_text, truth_text, bad_index_text, answer_of, call_reply, records_reply, locale_reply, reply_at, words_reply, reply};
+ghost use Rattle.tinystr_lines.specs.Reply.{fault_text, truth_text, bad_index_text, answer_of, call_reply, records_reply, locale_reply, reply_at, fields_reply, reply};
 
 use crate::command::{Command, TextCall};
-use crate::cut::{cut_at, split_once};
+use crate::split::{split_at_first, split_once};
 use std::alloc::AllocError;
 use std::io::Write;
 use subtags::LangId;
@@ -141,16 +141,16 @@ fn push_locale_reply(out: &mut Vec<u8>, units: &[u8]) -> Result<(), AllocError>
     }
 }
 
-// Appends the reply at the capacity `N` to a command's word and the units.
+// Appends the reply at the capacity `N` to a command's field and the units.
 fn push_reply_at<const N: usize>(
     out: &mut Vec<u8>,
-    word: &[u8],
+    field: &[u8],
     units: &[u8],
 ) -> Result<(), AllocError>
     requires { N < 2 ^ 63 }
-    ensures { OnOk result (out.new.items ≡ out.old.items ++ reply_at N word.now units.now) }
+    ensures { OnOk result (out.new.items ≡ out.old.items ++ reply_at N field.now units.now) }
 {
-    match Command::parse(word) {
+    match Command::parse(field) {
         Some(Command::OnText(call)) => push_call_reply::<N>(out, call, units),
         Some(Command::Lossy) => {
             push_text(out, TinyAsciiStr::<N>::from_utf8_lossy(units, REPLACEMENT))
@@ -161,29 +161,29 @@ fn push_reply_at<const N: usize>(
     }
 }
 
-// Appends the reply to the words of a line.
-#[tactic(auto, unfolding(crate::specs::Reply::words_reply, crate::specs::Words::capacity_of))]
-fn push_words_reply(
+// Appends the reply to the fields of a line.
+#[tactic(auto, unfolding(crate::specs::Reply::fields_reply, crate::specs::Fields::capacity_of))]
+fn push_fields_reply(
     out: &mut Vec<u8>,
     capacity: &[u8],
-    word: &[u8],
+    field: &[u8],
     units: &[u8],
 ) -> Result<(), AllocError>
     ensures { OnOk result
-        (out.new.items ≡ out.old.items ++ words_reply capacity.now word.now units.now) }
+        (out.new.items ≡ out.old.items ++ fields_reply capacity.now field.now units.now) }
 {
     match capacity {
-        b"0" => push_reply_at::<0>(out, word, units),
-        b"1" => push_reply_at::<1>(out, word, units),
-        b"2" => push_reply_at::<2>(out, word, units),
-        b"3" => push_reply_at::<3>(out, word, units),
-        b"4" => push_reply_at::<4>(out, word, units),
-        b"5" => push_reply_at::<5>(out, word, units),
-        b"8" => push_reply_at::<8>(out, word, units),
-        b"9" => push_reply_at::<9>(out, word, units),
-        b"16" => push_reply_at::<16>(out, word, units),
-        b"17" => push_reply_at::<17>(out, word, units),
-        b"32" => push_reply_at::<32>(out, word, units),
+        b"0" => push_reply_at::<0>(out, field, units),
+        b"1" => push_reply_at::<1>(out, field, units),
+        b"2" => push_reply_at::<2>(out, field, units),
+        b"3" => push_reply_at::<3>(out, field, units),
+        b"4" => push_reply_at::<4>(out, field, units),
+        b"5" => push_reply_at::<5>(out, field, units),
+        b"8" => push_reply_at::<8>(out, field, units),
+        b"9" => push_reply_at::<9>(out, field, units),
+        b"16" => push_reply_at::<16>(out, field, units),
+        b"17" => push_reply_at::<17>(out, field, units),
+        b"32" => push_reply_at::<32>(out, field, units),
         _ => out.extend_from_slice(b"bad capacity"),
     }
 }
@@ -196,6 +196,6 @@ pub fn push_reply(out: &mut Vec<u8>, line: &[u8]) -> Result<(), AllocError>
     let Some((capacity, rest)) = split_once(line, b' ') else {
         return out.extend_from_slice(b"bad line");
     };
-    let (word, units) = cut_at(rest, b' ');
-    push_words_reply(out, capacity, word, units)
+    let (field, units) = split_at_first(rest, b' ');
+    push_fields_reply(out, capacity, field, units)
 }

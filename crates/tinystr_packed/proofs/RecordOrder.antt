@@ -14,7 +14,7 @@ use Rattle.tinystr_words.specs.Words.{word}
 use Rattle.tinystr_words.proofs.OrderByNumbers.{AreBytes, slice_cmp-first_eight, slice_cmp-widened}
 use Rattle.tinystr_words.proofs.Texts.{get_or-pad, length-pad}
 use Rattle.tinystr_words.proofs.WordAsNumber.{word-nuls}
-use Rattle.tinystr_words.proofs.WordFromParts.{map-mod_bytes}
+use Rattle.tinystr_words.proofs.WordFromPieces.{map-mod_bytes}
 
 -- what the type of bytes says
 abbrev pub AllFit : List ℕ → Type 0

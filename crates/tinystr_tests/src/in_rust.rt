@@ -41,7 +41,7 @@ fn a_char_is_a_text_and_back(rt: HostRuntime) {
 
 #[test]
 fn a_number_is_a_text_and_back(rt: HostRuntime) {
-    // the bytes of `EUR`, the first lowest
+    // the bytes of `EUR`, little-endian
     let number = 0x0052_5545u64;
     assert!(rt; u64::from_le_bytes(*eur().resize::<8>().all_bytes()) == number);
     let made = TinyAsciiStr::<8>::try_from_raw(number.to_le_bytes());

@@ -6,7 +6,7 @@ use Rattle.std.proofs.lemmas.Bool.Decides.{nat_tests}
 use Rattle.std.specs.List.{list_all}
 use Rattle.tinystr_words.specs.Classes.{ask, is_not_lower, is_not_upper}
 use Rattle.tinystr_words.specs.Case.{lower, raise, lowercase, titlecase, uppercase}
-use Rattle.tinystr_words.proofs.AnswersByParts.{ask-same}
+use Rattle.tinystr_words.proofs.TextsByPieces.{ask-same}
 
 -- ---- done twice
 

@@ -17,7 +17,7 @@ use Rattle.tinystr_words.proofs.Decimals.{word_onto, word_is_onto, word_onto-two
 use Rattle.tinystr_words.proofs.Lanes.{IsBytes, IsBytes-from_IsText, word-lt}
 use Rattle.tinystr_words.proofs.Numerals.{IsDigit, IsText-decimal, digits-decimal, no_leading_zero, eight_digits, digits-eight_digits, length-eight_digits, eight_digits-zeros, eight_digits-last, drop-zeros}
 use Rattle.tinystr_words.proofs.WordAsNumber.{pow_256}
-use Rattle.tinystr_words.proofs.WordFromParts.{word_split}
+use Rattle.tinystr_words.proofs.WordFromPieces.{word_split}
 
 -- ---- four numbers in lanes of 16 bits
 

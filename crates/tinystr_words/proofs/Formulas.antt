@@ -14,7 +14,7 @@ use Rattle.tinystr_words.specs.Questions.{in_case}
 use Rattle.tinystr_words.specs.declared.question.Case.{Case}
 use Rattle.tinystr_words.specs.declared.question.Case.TheVariants.{Lower, Title, Upper}
 use Rattle.tinystr_words.proofs.Texts.{NULS, length-pad}
-use Rattle.tinystr_words.proofs.AnswersByParts.{first_change, later_change, length-in_case}
+use Rattle.tinystr_words.proofs.TextsByPieces.{first_change, later_change, length-in_case}
 use Rattle.std.proofs.Math.Dec.{eqb-suc-zero}
 use Rattle.std.proofs.Math.Bool.{and-true}
 use Rattle.std.proofs.lemmas.Simd.{Each1-replicate}

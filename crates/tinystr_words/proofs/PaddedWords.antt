@@ -5,9 +5,9 @@ use Rattle.std.proofs.lemmas.List.{places, same_lists, nil_from_length, append-n
 use Rattle.std.proofs.lemmas.Bool.Decides.{nat_tests}
 use Rattle.tinystr_words.specs.Text.{IsPadded, IsPaddedText, pad, text_of}
 use Rattle.tinystr_words.specs.declared.question.Question.{Question}
-use Rattle.tinystr_words.specs.Questions.{answer, in_case, later_case, later_question}
+use Rattle.tinystr_words.specs.Questions.{ask_question, in_case, later_case, later_question}
 use Rattle.tinystr_words.proofs.Texts.{IsPaddedText-drop, IsPaddedText-made, IsPaddedText-take, length-text_of-le, take-pad, text_of-drop, text_of-made, text_of-take}
-use Rattle.tinystr_words.proofs.AnswersByParts.{IsText-in_case, answer-parts, in_case-padded, in_case-parts, length-in_case}
+use Rattle.tinystr_words.proofs.TextsByPieces.{IsText-in_case, ask_question-pieces, in_case-padded, in_case-pieces, length-in_case}
 use Rattle.tinystr_words.specs.Padded.{IsFirstWord}
 use Rattle.std.proofs.lemmas.Slice.{drop-put_mid, take-put_mid}
 use borrow.Rule.Slice.PartMut.{put_mid}
@@ -35,16 +35,16 @@ len_step l w y n all sum c e left =
     omega (arith, front, back, whole, length-append (take 16 (text_of l)) (drop 16 (text_of l)))
 
 -- an answer is that of the first word and that of the others
-pub answer-first_word : (l w y : List ℕ) (q : Question) → IsFirstWord l w y → answer q (text_of l) ≡ (answer q w && answer (later_question q) (text_of y))
-answer-first_word l w y q c = rw (c.word_text, c.others_text) (answer-parts q 15 (text_of l))
+pub ask_question-first_word : (l w y : List ℕ) (q : Question) → IsFirstWord l w y → ask_question q (text_of l) ≡ (ask_question q w && ask_question (later_question q) (text_of y))
+ask_question-first_word l w y q c = rw (c.word_text, c.others_text) (ask_question-pieces q 15 (text_of l))
 
 -- where one word fails, the whole text does
-pub answer-word_fails : (l w y : List ℕ) (q : Question) (r all : Bool) → IsFirstWord l w y → r ≡ answer q w → r ≡ false → answer q (text_of l) ≡ all → false ≡ all
-answer-word_fails l w y q r all c answered fails left = sym (rw (← answered, fails) at (answer-first_word l w y q c)) ∙ left
+pub ask_question-word_fails : (l w y : List ℕ) (q : Question) (r all : Bool) → IsFirstWord l w y → r ≡ ask_question q w → r ≡ false → ask_question q (text_of l) ≡ all → false ≡ all
+ask_question-word_fails l w y q r all c answered fails left = sym (rw (← answered, fails) at (ask_question-first_word l w y q c)) ∙ left
 
 -- where one word passes, the others decide
-pub answer-word_passes : (l w y : List ℕ) (q later : Question) (r all : Bool) → IsFirstWord l w y → r ≡ answer q w → r ≡ true → later ≡ later_question q → answer q (text_of l) ≡ all → answer later (text_of y) ≡ all
-answer-word_passes l w y q later r all c answered passes later_is left = rw later_is (sym (rw (← answered, passes) at (answer-first_word l w y q c)) ∙ left)
+pub ask_question-word_passes : (l w y : List ℕ) (q later : Question) (r all : Bool) → IsFirstWord l w y → r ≡ ask_question q w → r ≡ true → later ≡ later_question q → ask_question q (text_of l) ≡ all → answer later (text_of y) ≡ all
+ask_question-word_passes l w y q later r all c answered passes later_is left = rw later_is (sym (rw (← answered, passes) at (ask_question-first_word l w y q c)) ∙ left)
 
 -- ---- bytes tested for a padded text, word by word
 
@@ -114,7 +114,7 @@ in_case-first_word all bytes word made start k c later fits size p word_is made_
     let tail : drop (start + 16) bytes ≡ drop 16 rest = sym (drop-drop 16 start bytes) in
     rw (front, back, tail, made_now, e)
     (append_assoc (take start bytes) (in_case c (take 16 rest)) (in_case (later_case c) (drop 16 rest))
-    ∙ ap (λ (l : List ℕ). take start bytes ++ l) (sym (in_case-parts c 15 rest)) ∙ left)
+    ∙ ap (λ (l : List ℕ). take start bytes ++ l) (sym (in_case-pieces c 15 rest)) ∙ left)
 
 -- the last word changed
 pub in_case-last_word : (all bytes word made t : List ℕ) (start k count : ℕ) (c : Case) →

@@ -8,5 +8,5 @@ pub mod Words
 pub mod Questions
 pub mod ByteForm
 pub mod Packed
-pub mod ReadParts
+pub mod ReadPieces
 pub mod Padded

@@ -31,8 +31,8 @@ later_class AlphabeticLowercase = is_lower
 later_class AlphabeticTitlecase = is_lower
 later_class AlphabeticUppercase = is_upper
 
-abbrev pub answer : Question → List ℕ → Bool
-answer q t = ask (first_class q) (later_class q) t
+abbrev pub ask_question : Question → List ℕ → Bool
+ask_question q t = ask (first_class q) (later_class q) t
 
 -- the question with no first byte of its own
 abbrev pub later_question : Question → Question

@@ -1,8 +1,16 @@
-//! The decimal digits of a number, in a word.
+//! The decimal digits of a number: how many, and in a word.
 
-ghost use Rattle.std.specs.Prelude.{◌≡◌, ◌+◌, ◌*◌, ◌/◌, ◌%◌, ◌^◌, ◌<◌};
+ghost use Rattle.std.specs.Prelude.{◌≡◌, ◌+◌, ◌*◌, ◌/◌, ◌%◌, ◌^◌, ◌<◌, ◌≤◌, ◌↔◌, length, IsTrue};
 ghost use Rattle.std.specs.Fmt.{decimal};
 ghost use Rattle.tinystr_words.specs.Words.{word};
+
+/// Whether the decimal text of a number has at most so many digits.
+#[inline(always)]
+pub fn decimal_fits(number: u32, most: usize) -> bool
+    ensures { IsTrue result ↔ (length (decimal number) ≤ most) }
+{
+    most >= 10 || (most > 0 && number < 10u32.pow(most as u32))
+}
 
 // The two digits of a number below 100 in two lanes, the tens lowest.
 #[inline(always)]

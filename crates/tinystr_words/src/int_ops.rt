@@ -7,15 +7,15 @@ ghost use Rattle.tinystr_words.specs.Text.{IsText, IsPaddedText, IsPadded, pad, 
 ghost use Rattle.tinystr_words.specs.Classes.{ask, is_upper, is_lower, is_digit, is_alphabetic, is_alphanumeric, is_not_upper, is_not_lower, is_in, is_not_in};
 ghost use Rattle.tinystr_words.specs.Case.{lowercase, titlecase, uppercase};
 ghost use Rattle.tinystr_words.specs.Decimal.{last};
-ghost use Rattle.tinystr_words.specs.Questions.{answer, in_case};
+ghost use Rattle.tinystr_words.specs.Questions.{ask_question, in_case};
 
-use crate::decimal::{decimal_word, eight_digits};
+use crate::decimal::{decimal_fits, decimal_word, eight_digits};
 use crate::kernel::{
-    DIGIT, LOWER, Range, UPPER, case_bits, faults, inside, marks, no_character_marked,
+    DIGIT, LOWER, Range, UPPER, case_bits, unpadded, inside, marks, no_character_marked,
     no_lane_marked, outside, with_case_bits,
 };
 use crate::question::{Case, Question};
-use crate::unit::{Unit, is_text};
+use crate::code_unit::{CodeUnit, is_text};
 use crate::word::{Word, lanes};
 use std::marker::Model;
 use std::simd::prelude::*;
@@ -54,7 +54,7 @@ impl<T: Word<LEN>, const LEN: usize> Aligned<T, LEN> {
         requires padded { IsPaddedText src.now N }
         ensures { result ≡ text_of src.now }
     {
-        Self::from_part(src)
+        Self::from_padded(src)
     }
 
     /// The text's length.
@@ -166,25 +166,25 @@ impl<T: Word<LEN>, const LEN: usize> Aligned<T, LEN> {
 impl<T: Word<LEN>, const LEN: usize> Aligned<T, LEN> {
     /// Takes the text of at most `LEN` bytes, which have to be a text and then NULs.
     #[inline(always)]
-    pub fn from_part(part: &[u8]) -> Self
-        requires fits { length part.now ≤ LEN }
-        requires padded { IsPadded part.now }
-        ensures { result ≡ text_of part.now }
+    pub fn from_padded(bytes: &[u8]) -> Self
+        requires fits { length bytes.now ≤ LEN }
+        requires padded { IsPadded bytes.now }
+        ensures { result ≡ text_of bytes.now }
     {
         Aligned {
-            word: T::load(part),
+            word: T::load(bytes),
         }
     }
 
     /// Takes the text of at most `LEN` bytes, if they are a text and then NULs.
     #[inline(always)]
-    pub fn try_from_part(part: &[u8]) -> Option<Self>
-        requires fits { length part.now ≤ LEN }
-        ensures { MatchOption result (¬ IsPadded part.now)
-            (λ t. IsPadded part.now × (t ≡ text_of part.now)) }
+    pub fn try_from_padded(bytes: &[u8]) -> Option<Self>
+        requires fits { length bytes.now ≤ LEN }
+        ensures { MatchOption result (¬ IsPadded bytes.now)
+            (λ t. IsPadded bytes.now × (t ≡ text_of bytes.now)) }
     {
-        let word = T::load(part);
-        if faults(word, marks(word)).equals(T::splat(0)) {
+        let word = T::load(bytes);
+        if unpadded(word, marks(word)).equals(T::splat(0)) {
             Some(Aligned { word })
         } else {
             None
@@ -193,7 +193,7 @@ impl<T: Word<LEN>, const LEN: usize> Aligned<T, LEN> {
 
     /// Takes at most `LEN` units, if they are a text, with no NUL.
     #[inline(always)]
-    pub fn try_from_text<U: Unit>(units: &[U]) -> Option<Self>
+    pub fn try_from_text<U: CodeUnit>(units: &[U]) -> Option<Self>
         requires fits { length units.now ≤ LEN }
         ensures { MatchOption result (¬ IsText (map U.number units.now))
             (λ t. IsText (map U.number units.now) × (t ≡ map U.number units.now)) }
@@ -228,7 +228,7 @@ impl<T: Word<LEN>, const LEN: usize> Aligned<T, LEN> {
     /// The answer of the method that the question names, as `is_ascii_titlecase` for `Titlecase`.
     #[inline(always)]
     pub fn ask(&self, question: Question) -> bool
-        ensures { result ≡ answer question self.now }
+        ensures { result ≡ ask_question question self.now }
     {
         match question {
             Question::Alphabetic => self.each_letter(),
@@ -295,18 +295,10 @@ impl<T: Word<LEN>, const LEN: usize> Aligned<T, LEN> {
     }
 }
 
-/// Whether the decimal text of a number has at most so many digits.
-#[inline(always)]
-pub fn decimal_fits(number: u32, most: usize) -> bool
-    ensures { IsTrue result ↔ (length (decimal number) ≤ most) }
-{
-    most >= 10 || (most > 0 && number < 10u32.pow(most as u32))
-}
-
 impl Aligned<u64, 8> {
     /// The text and then another, cut where they are longer than 8 bytes together.
     #[inline(always)]
-    pub fn join(&self, other: &Self) -> Self
+    pub fn concat(&self, other: &Self) -> Self
         ensures { result ≡ take 8 (self.now ++ other.now) }
     {
         let (front, back) = (self.word, other.word);

@@ -62,7 +62,7 @@ pub fn marks<T: Word<LEN>, const LEN: usize>(bytes: T) -> T
 
 /// The high bits of the lanes, and the marks of those that stand after a lane without one.
 #[inline(always)]
-pub fn faults<T: Word<LEN>, const LEN: usize>(bytes: T, marks: T) -> T
+pub fn unpadded<T: Word<LEN>, const LEN: usize>(bytes: T, marks: T) -> T
     ensures { T.number result ≡ bit_or
         (bit_and (T.number bytes) (word (first_then LEN 0x80 0x80)))
         (bit_and (T.number marks / 256) (256 ^ LEN - 1 - T.number marks)) }

@@ -184,7 +184,7 @@ pub fn texts_packed()
 /// The classes and the case changes are those of std's calls on a `u8`, a `char` and a `str`, and a question of one class
 /// asks each byte.
 #[tactic(auto, using(crate::proofs::LawSets::words_of_std))]
-pub fn std_words()
+pub fn same_as_std()
     ensures upper { (b : ℕ) → is_upper b ≡ is_ascii_uppercase b }
     ensures lower { (b : ℕ) → is_lower b ≡ is_ascii_lowercase b }
     ensures digit { (b : ℕ) → is_digit b ≡ is_ascii_digit b }

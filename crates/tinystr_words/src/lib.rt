@@ -2,6 +2,7 @@
 //! texts in words of 32, 64 and 128 bits.
 #![tactic(auto)]
 
+mod code_unit;
 mod decimal;
 pub mod int_ops;
 #[doc(hidden)]
@@ -10,11 +11,11 @@ pub mod laws;
 #[doc(hidden)]
 pub mod padded;
 mod question;
-mod unit;
 #[doc(hidden)]
 pub mod word;
 
-pub use question::{Case, Question};
-pub use unit::Unit;
+pub use code_unit::CodeUnit;
 #[doc(hidden)]
-pub use unit::are_characters;
+pub use code_unit::are_characters;
+pub use decimal::decimal_fits;
+pub use question::{Case, Question};

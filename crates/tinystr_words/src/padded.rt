@@ -1,26 +1,30 @@
-//! Padded bytes of any length: a text and then NULs. `width_of` tells the narrowest words that take them.
+//! Padded bytes of any length, a text and then NULs: what `tinystr` calls. `width_of` tells the narrowest words that take
+//! them, and each call here hands them to these: to `Aligned4`, `Aligned8` and `Aligned16` of `int_ops` up to 16 bytes, and
+//! past them to the module below that is named for what it does.
 
 ghost use Rattle.std.specs.Prelude.{◌≡◌, ◌≤◌, ◌++◌, ◌↔◌, length, take, IsTrue, IsOk, IfOk, IfErr};
 ghost use Rattle.std.specs.Fmt.{decimal};
 ghost use Rattle.std.specs.Str.{bytes_eq};
 ghost use Rattle.tinystr_words.specs.Text.{IsPaddedText, text_of, pad};
 ghost use Rattle.tinystr_words.specs.Decimal.{last};
-ghost use Rattle.tinystr_words.specs.Questions.{answer, in_case};
+ghost use Rattle.tinystr_words.specs.Questions.{ask_question, in_case};
 ghost use Rattle.tinystr_words.specs.Padded.{IsWidthOf};
 
+mod code_units;
+mod concatenation;
 mod copying;
 mod equality;
-mod joining;
 mod order;
 mod replacing;
-mod units;
 mod words;
 
-use crate::int_ops::{Aligned4, Aligned8, Aligned16, decimal_fits};
+use crate::decimal::decimal_fits;
+use crate::int_ops::{Aligned4, Aligned8, Aligned16};
 use crate::{Case, Question};
+use concatenation::{LONGEST, concat_in_memory, concat_in_vectors, concat_in_word};
 pub use copying::{cut, resize};
 pub use order::compare;
-pub use units::{lossy, low_bytes, read_all};
+pub use code_units::{lossy, low_bytes, read_all};
 
 /// The words that take padded bytes: the narrowest that holds all, since it is loaded and asked in the fewest steps.
 #[derive(Clone, Copy)]
@@ -35,7 +39,7 @@ pub enum Width {
     Many,
 }
 
-/// The words that take so many bytes. The number is known when the program is built, and no test of it is left.
+/// The words that take so many bytes. The number is known at compile time, and no test of it is left.
 #[inline(always)]
 pub fn width_of(len: usize) -> Width
     ensures { IsWidthOf result len }
@@ -57,9 +61,9 @@ pub fn is_padded<const N: usize>(bytes: &[u8; N]) -> bool
     ensures { IsTrue result ↔ IsPaddedText bytes.now N }
 {
     match width_of(N) {
-        Width::Four => Aligned4::try_from_part(&bytes[..]).is_some(),
-        Width::Eight => Aligned8::try_from_part(&bytes[..]).is_some(),
-        Width::Sixteen => Aligned16::try_from_part(&bytes[..]).is_some(),
+        Width::Four => Aligned4::try_from_padded(&bytes[..]).is_some(),
+        Width::Eight => Aligned8::try_from_padded(&bytes[..]).is_some(),
+        Width::Sixteen => Aligned16::try_from_padded(&bytes[..]).is_some(),
         Width::Many => words::is_padded(&bytes[..]),
     }
 }
@@ -73,10 +77,12 @@ pub fn decimal<const N: usize>(number: u32) -> Result<[u8; N], [u8; N]>
 {
     let fits = decimal_fits(number, N);
     match width_of(N) {
+        // 5 to 8 digits, made at once
         Width::Eight => {
             let digits = cut(&Aligned8::from_number(number, N).to_bytes());
             if fits { Ok(digits) } else { Err(digits) }
         }
+        // of others, two at a time
         _ if fits => Ok(cut(&Aligned16::from_decimal(number).to_bytes())),
         _ => Err(cut(&Aligned16::from_last_digits(number, N).to_bytes())),
     }
@@ -105,9 +111,11 @@ pub fn equals<const N: usize>(left: &[u8; N], right: &[u8; N]) -> bool
     match width_of(N) {
         Width::Four => Aligned4::from_ascii_bytes(left).equals(&Aligned4::from_ascii_bytes(right)),
         Width::Eight => Aligned8::from_ascii_bytes(left).equals(&Aligned8::from_ascii_bytes(right)),
+        // 9 to 15 bytes, which no vector loads
         Width::Sixteen if N < 16 => Aligned16::from_ascii_bytes(left).equals(
             &Aligned16::from_ascii_bytes(right),
         ),
+        // vectors of sixteen bytes
         Width::Sixteen | Width::Many => equality::equal(&left[..], &right[..]),
     }
 }
@@ -116,7 +124,7 @@ pub fn equals<const N: usize>(left: &[u8; N], right: &[u8; N]) -> bool
 #[inline(always)]
 pub fn ask<const N: usize>(bytes: &[u8; N], question: Question) -> bool
     requires { IsPaddedText bytes.now N }
-    ensures { result ≡ answer question (text_of bytes.now) }
+    ensures { result ≡ ask_question question (text_of bytes.now) }
 {
     match width_of(N) {
         Width::Four => Aligned4::from_ascii_bytes(bytes).ask(question),
@@ -128,7 +136,7 @@ pub fn ask<const N: usize>(bytes: &[u8; N], question: Question) -> bool
 /// Changes the case of the text in place.
 #[inline(always)]
 #[tactic(auto, using(crate::proofs::PaddedWords::in_case_take))]
-pub fn change<const N: usize>(bytes: &mut [u8; N], case: Case)
+pub fn put_in_case<const N: usize>(bytes: &mut [u8; N], case: Case)
     requires { IsPaddedText bytes.old N }
     ensures { bytes.new ≡ pad (in_case case (text_of bytes.old)) N }
 {
@@ -141,14 +149,15 @@ pub fn change<const N: usize>(bytes: &mut [u8; N], case: Case)
             let word = Aligned8::from_ascii_bytes(bytes).in_case(case);
             bytes.copy_from_slice(&word[..N]);
         }
-        Width::Sixteen | Width::Many => words::change(bytes, case),
+        Width::Sixteen | Width::Many => words::put_in_case(bytes, case),
     }
 }
 
-/// The first `Q` bytes of the two texts joined.
+/// The first `Q` bytes of the two texts joined. Which way is taken is known at compile time, but for whether the first text
+/// fills the result.
 #[inline(always)]
 #[tactic(auto, using(crate::proofs::Cutting::fronts_joined))]
-pub fn join<const N: usize, const M: usize, const Q: usize>(
+pub fn concat<const N: usize, const M: usize, const Q: usize>(
     front: &[u8; N],
     back: &[u8; M],
 ) -> [u8; Q]
@@ -160,15 +169,15 @@ pub fn join<const N: usize, const M: usize, const Q: usize>(
     let first = &front[..N.min(Q)];
     let second = &back[..M.min(Q)];
     match width_of(Q) {
-        Width::Sixteen | Width::Many if first.len() <= 32 && second.len() <= 32 => {
-            joining::join(first, second)
+        // short arrays to more than 8 bytes, as `concat::<8, 16>` of a text of at most 8
+        Width::Sixteen | Width::Many if first.len() <= LONGEST && second.len() <= LONGEST => {
+            concat_in_vectors(first, second)
         }
         // a first text that fills the result is copied as it is
         _ if Q > 0 && Q <= N && front[Q - 1] != 0 => cut(front),
-        Width::Four | Width::Eight => {
-            let text = Aligned8::from_part(first).join(&Aligned8::from_part(second));
-            cut(&text.to_bytes())
-        }
-        Width::Sixteen | Width::Many => copying::join(*front, len(front), back),
+        // to at most 8 bytes, as `concat::<4, 8>`
+        Width::Four | Width::Eight => concat_in_word(first, second),
+        // a long array, as `concat::<64, 128>`
+        Width::Sixteen | Width::Many => concat_in_memory(*front, len(front), back),
     }
 }

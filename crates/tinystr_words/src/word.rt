@@ -1,11 +1,11 @@
-//! An unsigned integer as a word of byte lanes, the first byte lowest.
+//! An unsigned integer as a little-endian word of byte lanes.
 
 ghost use Rattle.std.specs.Prelude.{◌≡◌, ◌+◌, ◌-◌, ◌*◌, ◌/◌, ◌%◌, ◌^◌, ◌<◌, ◌≤◌, ◌==◌, ℕ, [], ◌∷◌, length, map, slice_index, bit_and, bit_or};
 ghost use Rattle.std.specs.Int.Bits.{bit_xor};
 ghost use Rattle.std.proofs.Common.{lit<, lit≤};
 ghost use Rattle.tinystr_words.specs.Words.{word, first_then, lanes_of, text_in, HasLowLanes, HoldsText};
 
-use crate::unit::Unit;
+use crate::code_unit::CodeUnit;
 use std::simd::prelude::*;
 
 /// An integer of `LEN` bytes.
@@ -29,8 +29,8 @@ pub trait Word<const LEN: usize>: Copy + Drop {
     }
 
     /// The word whose first lanes are the lowest bytes of these units and whose others are NUL, made in registers: two
-    /// parts of half a word, which may overlap, are all units.
-    fn load<U: Unit>(src: &[U]) -> Self
+    /// pieces of half a word, which may overlap, are all units.
+    fn load<U: CodeUnit>(src: &[U]) -> Self
         requires { length src.now ≤ LEN }
         ensures { number result ≡ word (map (λ u. U.number u % 256) src.now) };
 
@@ -111,7 +111,7 @@ impl Word<4> for u32 {
 
     // Of one to three units, the first, the middle and the last are all.
     #[inline(always)]
-    fn load<U: Unit>(src: &[U]) -> u32 {
+    fn load<U: CodeUnit>(src: &[U]) -> u32 {
         let len = src.len();
         if len == 0 {
             return 0;
@@ -188,9 +188,9 @@ impl Word<8> for u64 {
         u64::to_le_bytes(self)
     }
 
-    // Four units are two parts too, as `is_text` tests them: so their length is asked once where both are done.
+    // Four units are two pieces too, as `is_text` tests them: so their length is asked once where both are done.
     #[inline(always)]
-    fn load<U: Unit>(src: &[U]) -> u64 {
+    fn load<U: CodeUnit>(src: &[U]) -> u64 {
         let len = src.len();
         if len < 4 {
             return u64::from(<u32 as Word<4>>::load(src));
@@ -319,7 +319,7 @@ impl Word<16> for u128 {
     }
 
     #[inline(always)]
-    fn load<U: Unit>(src: &[U]) -> u128 {
+    fn load<U: CodeUnit>(src: &[U]) -> u128 {
         let len = src.len();
         if len <= 8 {
             return u128::from(<u64 as Word<8>>::load(src));

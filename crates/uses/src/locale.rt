@@ -7,7 +7,7 @@ ghost use Rattle.std.specs.List.{join_by};
 ghost use Rattle.std.specs.Ordering.{nat_cmp};
 ghost use Rattle.std.specs.String.{string_bytes};
 ghost use Rattle.subtags.specs.Grammar.{IsLangId, canonical_text, fold_text};
-ghost use Rattle.subtags.specs.Parts.{language_of, script_of, region_of};
+ghost use Rattle.subtags.specs.Subtags.{language_of, script_of, region_of};
 
 use std::alloc::{AllocError, Global};
 use std::collections::BTreeMap;

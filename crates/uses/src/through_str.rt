@@ -8,7 +8,7 @@ ghost use Rattle.tinystr_words.specs.Classes.{ask, is_upper};
 
 use std::alloc::{AllocError, Global};
 use tinystr::TinyAsciiStr;
-use tinystr_words::laws::std_words;
+use tinystr_words::laws::same_as_std;
 
 // Whether std calls each byte an uppercase letter.
 fn is_each_uppercase(text: &str) -> bool
@@ -21,7 +21,7 @@ fn is_each_uppercase(text: &str) -> bool
 pub fn is_of_uppercase_letters<const N: usize>(text: &TinyAsciiStr<N>) -> bool
     ensures { result ≡ ask is_upper is_upper text.now }
 {
-    std_words();
+    same_as_std();
     is_each_uppercase(text.as_str())
 }
 
@@ -32,7 +32,7 @@ pub fn uppercase_string<const N: usize>(
 ) -> Result<String, AllocError>
     ensures { IfOk result (λ string. string_bytes string ≡ uppercase text.now) }
 {
-    std_words();
+    same_as_std();
     text.as_str().to_ascii_uppercase(alloc)
 }
 
@@ -40,6 +40,6 @@ pub fn uppercase_string<const N: usize>(
 pub fn is_same_in_lowercase<const N: usize>(text: &TinyAsciiStr<N>, other: &str) -> bool
     ensures { IsTrue result ↔ (lowercase text.now ≡ lowercase other.now) }
 {
-    std_words();
+    same_as_std();
     text.as_str().eq_ignore_ascii_case(other)
 }

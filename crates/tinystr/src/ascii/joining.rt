@@ -48,7 +48,7 @@ impl<const N: usize> TinyAsciiStr<N> {
         ensures whole { N + M ≤ Q → result ≡ self.entry ++ other.entry }
     {
         TinyAsciiStr {
-            bytes: padded::join(&self.bytes, &other.bytes),
+            bytes: padded::concat(&self.bytes, &other.bytes),
         }
     }
 

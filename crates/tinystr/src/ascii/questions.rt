@@ -3,7 +3,7 @@
 ghost use Rattle.std.specs.Prelude.{◌≡◌};
 ghost use Rattle.tinystr_words.specs.Classes.{ask, is_alphabetic, is_alphanumeric, is_digit, is_lower, is_upper, is_not_lower, is_not_upper};
 ghost use Rattle.tinystr_words.specs.Case.{lowercase, titlecase, uppercase};
-ghost use Rattle.tinystr_words.specs.Questions.{answer, in_case};
+ghost use Rattle.tinystr_words.specs.Questions.{ask_question, in_case};
 
 use crate::ascii::TinyAsciiStr;
 use tinystr_words::{Case, Question, padded};
@@ -12,7 +12,7 @@ impl<const N: usize> TinyAsciiStr<N> {
     /// The answer to a question by name, as `is_ascii_titlecase` to `Titlecase`.
     #[inline(always)]
     pub fn ask(&self, question: Question) -> bool
-        ensures { result ≡ answer question self.now }
+        ensures { result ≡ ask_question question self.now }
     {
         padded::ask(&self.bytes, question)
     }
@@ -23,7 +23,7 @@ impl<const N: usize> TinyAsciiStr<N> {
         ensures { result ≡ in_case case self.entry }
     {
         let mut bytes = self.bytes;
-        padded::change(&mut bytes, case);
+        padded::put_in_case(&mut bytes, case);
         TinyAsciiStr { bytes }
     }
 

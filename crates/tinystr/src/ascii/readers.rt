@@ -8,7 +8,7 @@ ghost use Rattle.tinystr.specs.Error.{fault_of};
 
 use crate::ascii::{TinyAsciiStr, strict};
 use crate::error::ParseError;
-use tinystr_words::{Unit, padded};
+use tinystr_words::{CodeUnit, padded};
 
 impl<const N: usize> TinyAsciiStr<N> {
     /// Reads a string of at most `N` bytes, each from 1 to 127.
@@ -68,9 +68,9 @@ impl<const N: usize> TinyAsciiStr<N> {
     }
 
     // The first units, with the replacement for each that is no character.
-    #[tactic(auto, using(tinystr_words::proofs::WholeUnits::lossy_is_padded))]
+    #[tactic(auto, using(tinystr_words::proofs::WholeCodeUnits::lossy_is_padded))]
     #[inline(always)]
-    fn read_lossy<U: Unit>(units: &[U], replacement: u8) -> Self
+    fn read_lossy<U: CodeUnit>(units: &[U], replacement: u8) -> Self
         requires { IsTextByte replacement }
         ensures { result ≡ lossy (map U.number units.now) replacement N }
     {

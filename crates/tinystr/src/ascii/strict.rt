@@ -9,26 +9,28 @@ use crate::ascii::TinyAsciiStr;
 use crate::error::ParseError;
 use tinystr_words::int_ops::{Aligned8, Aligned16};
 use tinystr_words::padded::{self, Width, cut, width_of};
-use tinystr_words::{Unit, are_characters};
+use tinystr_words::{CodeUnit, are_characters};
 
 /// The text of the units, or why there is none. The value is made where its bytes are: an array in an `Option` or a
 /// `Result` of its own would be moved once more.
 #[inline(always)]
-pub fn read<U: Unit, const N: usize>(units: &[U]) -> Result<TinyAsciiStr<N>, ParseError>
+pub fn read<U: CodeUnit, const N: usize>(units: &[U]) -> Result<TinyAsciiStr<N>, ParseError>
     ensures accepted { IsOk result ↔ IsStrictText (map U.number units.now) N }
     ensures text { IfOk result (λ t. t ≡ map U.number units.now) }
     ensures fault { IfErr result (λ e. fault_of e ≡ fault_in N (map U.number units.now)) }
 {
     if N > 16 && units.len() > 16 {
-        return read_parts(units);
+        return read_pieces(units);
     }
     if units.len() <= N {
         match width_of(N) {
+            // up to 8 units: one register
             Width::Four | Width::Eight => {
                 if let Some(text) = Aligned8::try_from_text(units) {
                     return Ok(TinyAsciiStr::from_utf8_unchecked(cut(&text.to_bytes())));
                 }
             }
+            // up to 16, at larger capacities too: more are read by pieces
             Width::Sixteen | Width::Many => {
                 if let Some(text) = Aligned16::try_from_text(units) {
                     return Ok(TinyAsciiStr::from_utf8_unchecked(cut(&text.to_bytes())));
@@ -47,12 +49,13 @@ pub fn read_padded<const N: usize>(raw: [u8; N]) -> Result<TinyAsciiStr<N>, Pars
     ensures fault { IfErr result (λ e. fault_of e ≡ fault_in N raw.entry) }
 {
     match width_of(N) {
-        // the word's own bytes, since the array would be moved in pieces that fit no register
+        // 9 to 16 bytes: the word's own, since the array would be moved in pieces that fit no register
         Width::Sixteen => {
-            if let Some(text) = Aligned16::try_from_part(&raw[..]) {
+            if let Some(text) = Aligned16::try_from_padded(&raw[..]) {
                 return Ok(TinyAsciiStr::from_utf8_unchecked(cut(&text.to_bytes())));
             }
         }
+        // the array as it was given, in one register, or in memory
         Width::Four | Width::Eight | Width::Many => {
             if padded::is_padded(&raw) {
                 return Ok(TinyAsciiStr::from_utf8_unchecked(raw));
@@ -62,7 +65,7 @@ pub fn read_padded<const N: usize>(raw: [u8; N]) -> Result<TinyAsciiStr<N>, Pars
     Err(fault::<u8, N>(&raw[..]))
 }
 
-/// Whether all records are padded texts. None is left early, so that the compiler asks several at once.
+/// Whether all records are padded texts. There is no early exit, so that the compiler asks several at once.
 #[inline(always)]
 pub fn are_padded<const N: usize>(records: &[[u8; N]]) -> bool
     ensures { IsTrue result ↔ All (λ bytes. IsPaddedText bytes N) records.now }
@@ -74,10 +77,10 @@ pub fn are_padded<const N: usize>(records: &[[u8; N]]) -> bool
     are_padded
 }
 
-// The text of the units, read by parts, or why there is none.
+// The text of the units, read by pieces, or why there is none.
 #[tactic(auto, using(crate::proofs::Scans::scan_steps))]
 #[inline(always)]
-fn read_parts<U: Unit, const N: usize>(units: &[U]) -> Result<TinyAsciiStr<N>, ParseError>
+fn read_pieces<U: CodeUnit, const N: usize>(units: &[U]) -> Result<TinyAsciiStr<N>, ParseError>
     ensures accepted { IsOk result ↔ IsStrictText (map U.number units.now) N }
     ensures text { IfOk result (λ t. t ≡ map U.number units.now) }
     ensures fault { IfErr result (λ e. fault_of e ≡ fault_in N (map U.number units.now)) }
@@ -98,9 +101,10 @@ fn read_parts<U: Unit, const N: usize>(units: &[U]) -> Result<TinyAsciiStr<N>, P
     Ok(TinyAsciiStr::from_utf8_unchecked(bytes))
 }
 
-// The fault at the first position whose unit is above 127, or is a character after a NUL.
+// The fault at the first position whose unit is above 127, or is a character after a NUL. Where a unit is both, it is
+// above 127: `forms::find_byte_fault` has the other order, that of the byte form.
 #[tactic(auto, using(crate::proofs::Scans::scan_steps))]
-fn find_fault<U: Unit>(units: &[U]) -> Option<ParseError>
+fn find_fault<U: CodeUnit>(units: &[U]) -> Option<ParseError>
     ensures { option_map fault_of result ≡ first_fault (map U.number units.now) }
 {
     let mut is_after_nul = false;
@@ -121,7 +125,7 @@ fn find_fault<U: Unit>(units: &[U]) -> Option<ParseError>
 // Why there is no text of at most `N` units.
 #[tactic(auto, using(crate::proofs::Scans::scan_steps))]
 #[inline(always)]
-fn fault<U: Unit, const N: usize>(units: &[U]) -> ParseError
+fn fault<U: CodeUnit, const N: usize>(units: &[U]) -> ParseError
     ensures { fault_of result ≡ fault_in N (map U.number units.now) }
 {
     if units.len() > N {

@@ -1,12 +1,12 @@
 //! At most sixteen bytes in a vector, with a replacement for those that are no characters. They are loaded in registers:
-//! a load of bytes that were stored in parts would wait for them.
+//! a load of bytes that were stored in pieces would wait for them.
 
 ghost use Rattle.std.specs.Prelude.{◌≡◌, ◌≤◌, length, map, replicate};
 ghost use Rattle.tinystr_words.specs.Text.{pad};
 ghost use Rattle.tinystr_words.specs.Reading.{lossy_byte};
 
 use super::copying::resize;
-use crate::unit::CHARACTERS;
+use crate::code_unit::CHARACTERS;
 use crate::word::{Word, lanes};
 use std::simd::prelude::*;
 

@@ -2,7 +2,7 @@
 
 ghost use Rattle.std.specs.Prelude.{◌≡◌, ◌<◌, ◌↔◌, length, IsTrue, MatchOption};
 ghost use Rattle.tinystr_words.specs.Text.{IsPadded, text_of, pad};
-ghost use Rattle.tinystr_words.specs.Questions.{answer, in_case};
+ghost use Rattle.tinystr_words.specs.Questions.{ask_question, in_case};
 ghost use Rattle.tinystr_words.specs.Padded.{IsFirstWord};
 
 use crate::int_ops::Aligned16;
@@ -26,7 +26,7 @@ pub fn is_padded(bytes: &[u8]) -> bool
     let mut rest = bytes;
     let mut is_ended = false;
     while let Some((first, after)) = rest.split_first_chunk::<16>() {
-        let Some(word) = Aligned16::try_from_part(first) else {
+        let Some(word) = Aligned16::try_from_padded(first) else {
             return false;
         };
         let len = word.len();
@@ -36,7 +36,7 @@ pub fn is_padded(bytes: &[u8]) -> bool
         is_ended = len < 16;
         rest = after;
     }
-    match Aligned16::try_from_part(rest) {
+    match Aligned16::try_from_padded(rest) {
         Some(word) => !is_ended || word.len() == 0,
         None => false,
     }
@@ -55,14 +55,14 @@ pub fn len(bytes: &[u8]) -> usize
         sum += word.len();
         rest = after;
     }
-    sum + Aligned16::from_part(rest).len()
+    sum + Aligned16::from_padded(rest).len()
 }
 
 /// Whether each word passes, the later ones without a first character.
 #[inline(always)]
 pub fn ask(bytes: &[u8], question: Question) -> bool
     requires { IsPadded bytes.now }
-    ensures { result ≡ answer question (text_of bytes.now) }
+    ensures { result ≡ ask_question question (text_of bytes.now) }
 {
     let mut rest = bytes;
     let mut asked = question;
@@ -73,12 +73,12 @@ pub fn ask(bytes: &[u8], question: Question) -> bool
         rest = after;
         asked = question.of_later_words();
     }
-    Aligned16::from_part(rest).ask(asked)
+    Aligned16::from_padded(rest).ask(asked)
 }
 
 /// Changes each word in place, the later ones without a first character. The NULs behind the text stay.
 #[inline(always)]
-pub fn change(bytes: &mut [u8], case: Case)
+pub fn put_in_case(bytes: &mut [u8], case: Case)
     requires { IsPadded bytes.old }
     ensures { bytes.new ≡ pad (in_case case (text_of bytes.old)) (length bytes.old) }
 {
@@ -86,12 +86,12 @@ pub fn change(bytes: &mut [u8], case: Case)
     let mut applied = case;
     while bytes.len() - start >= 16 {
         let end = start + 16;
-        let word = Aligned16::from_part(&bytes[start..end]).in_case(applied);
+        let word = Aligned16::from_padded(&bytes[start..end]).in_case(applied);
         bytes[start..end].copy_from_slice(&word);
         start = end;
         applied = case.of_later_words();
     }
     let count = bytes.len() - start;
-    let word = Aligned16::from_part(&bytes[start..]).in_case(applied);
+    let word = Aligned16::from_padded(&bytes[start..]).in_case(applied);
     bytes[start..].copy_from_slice(&word[..count]);
 }

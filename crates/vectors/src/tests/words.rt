@@ -38,9 +38,9 @@ fn part_of<const N: usize>(text: &TinyAsciiStr<N>) -> &[u8]
 // Whether each word that holds the text at its own length has its forms.
 fn are_right_of_part<const N: usize>(text: &TinyAsciiStr<N>, vector: &Vector) -> bool {
     let part = part_of(text);
-    (N > 4 || has_forms(&Aligned4::from_part(part), vector))
-        && (N > 8 || has_forms(&Aligned8::from_part(part), vector))
-        && (N > 16 || has_forms(&Aligned16::from_part(part), vector))
+    (N > 4 || has_forms(&Aligned4::from_padded(part), vector))
+        && (N > 8 || has_forms(&Aligned8::from_padded(part), vector))
+        && (N > 16 || has_forms(&Aligned16::from_padded(part), vector))
 }
 
 // Whether each word that holds an array of the text has its forms.
@@ -120,7 +120,7 @@ fn is_padding_alone(bytes: &[u8]) -> Option<bool> {
     if bytes.len() > 8 || Aligned8::try_from_text(bytes).is_some() {
         return None;
     }
-    Some(Aligned8::try_from_part(bytes).is_some())
+    Some(Aligned8::try_from_padded(bytes).is_some())
 }
 
 #[test]

@@ -3,7 +3,7 @@ use Rattle.std.proofs.lemmas.Bool.Decides.{nat_tests}
 use Rattle.std.proofs.lemmas.List.{length-map}
 use Rattle.tinystr_words.specs.Case.{lower, raise}
 use Rattle.tinystr_words.specs.declared.question.Case.TheVariants.{Title}
-use Rattle.tinystr_words.proofs.AnswersByParts.{length-in_case}
+use Rattle.tinystr_words.proofs.TextsByPieces.{length-in_case}
 use Rattle.tinystr_words.proofs.CaseFacts.{map-map_same, titlecase-twice}
 use Rattle.tinystr_words.proofs.laws.case_twice.Goals as goal
 

@@ -1,7 +1,7 @@
 use Rattle.std.proofs.lemmas.List.{map-append}
 use Rattle.tinystr_words.specs.Case.{lower, raise}
 use Rattle.tinystr_words.specs.declared.question.Case.TheVariants.{Title}
-use Rattle.tinystr_words.proofs.AnswersByParts.{ask-append, in_case-append}
+use Rattle.tinystr_words.proofs.TextsByPieces.{ask-append, in_case-append}
 use Rattle.tinystr_words.proofs.laws.word_join.Goals as goal
 
 pub returns : goal.returns

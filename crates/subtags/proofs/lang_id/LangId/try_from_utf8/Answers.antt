@@ -8,19 +8,19 @@ use Rattle.subtags.proofs.lang_id.LangId.try_from_utf8.Goals as goal
 
 pub returns-in_default : goal.returns-in_default
 returns-in_default c =
-    let refused = refused_without_language c.args.code_units.now c.cut.result.0.now _ c.cut.ensures.parts (false_from_ne_true _ c.in_default.ensures) in
+    let refused = refused_without_language c.args.code_units.now c.split_first.result.0.now _ c.split_first.ensures.subtags_of (false_from_ne_true _ c.in_default.ensures) in
     record { accepted = grind arith; text = tt; fold = tt; refusal = sym refused.1; value = rw (refused.0) refl }
 
 pub returns-in_err-region : goal.returns-in_err-region
 returns-in_err-region c =
     let err = rw (c.last_region.ensures, c.take_script-script.ensures.rest) at c.in_err-region.was in
-    let refused = refused_without_tail c.args.code_units.now c.cut.result.0.now _ c.in_err-region.field-0.0 c.cut.ensures.parts c.in-Some.ensures.0 err in
+    let refused = refused_without_tail c.args.code_units.now c.split_first.result.0.now _ c.in_err-region.field-0.0 c.split_first.ensures.subtags c.in-Some.ensures.0 err in
     record { accepted = grind (arith, common_steps); text = search rules; fold = search rules; refusal = grind (arith, common_steps); value = rw (refused.0) (search rules) }
 
 pub returns : goal.returns
 returns c =
     let u = c.args.code_units.now in
     let ok = rw (c.last_region.ensures, c.take_script-script.ensures.rest) at c.in_ok-region.was in
-    let read = accepted_from_read u c.cut.result.0.now _ c.in_ok-region.region c.cut.ensures.parts c.in-Some.ensures.0 ok in
+    let read = accepted_from_read u c.split_first.result.0.now _ c.in_ok-region.region c.split_first.ensures.subtags c.in-Some.ensures.0 ok in
     let text : c.from_parts.result ≡ canonical_text u = rw (c.from_parts.ensures.text, c.in-Some.ensures.1, c.take_script-script.ensures.script) read.1 in
     record { accepted = (λ _. read.0, λ _. search rules); text = text; fold = ap fold_text text ∙ fold_text-canonical_text u; refusal = search rules; value = rw (text, read.0) refl }

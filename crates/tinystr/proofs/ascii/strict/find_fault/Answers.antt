@@ -6,7 +6,7 @@ use Rattle.tinystr.proofs.ascii.strict.find_fault.Goals.{then-code-eq0, else-cod
 
 pub loop-unit-preserved : goal.loop-unit-preserved
 loop-unit-preserved g c =
-    let number = g.U.Unit.number in
+    let number = g.U.CodeUnit.number in
     let here = get_or-map number c.args.units.now c.loop-unit.unit-index c.unit-item.result 0 c.loop-unit-test.true ∙ ap number (sym c.unit-item.is) ∙ sym c.code-code.ensures in
     let inside : c.loop-unit.unit-index < length (map number c.args.units.now) = omega (arith, length-map c.args.units.now number) in
     elim c.if-code-eq0.branch [

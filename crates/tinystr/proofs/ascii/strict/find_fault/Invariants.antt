@@ -3,4 +3,4 @@ use Rattle.tinystr_words.proofs.Readers.{IsScanned}
 use Rattle.tinystr.proofs.ascii.strict.find_fault.Given as goal
 
 abbrev pub invariant-loop-unit : goal.invariant-loop-unit
-invariant-loop-unit g l = IsScanned (map g.U.Unit.number l.units) l.unit-index l.is_after_nul
+invariant-loop-unit g l = IsScanned (map g.U.CodeUnit.number l.units) l.unit-index l.is_after_nul

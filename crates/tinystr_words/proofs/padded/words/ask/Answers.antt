@@ -1,9 +1,9 @@
 use Rattle.std.proofs.Common.{◌∙◌, rules, sym}
-use Rattle.tinystr_words.proofs.PaddedWords.{answer-word_passes, answer-word_fails}
+use Rattle.tinystr_words.proofs.PaddedWords.{ask_question-word_passes, ask_question-word_fails}
 use Rattle.tinystr_words.proofs.padded.words.ask.Goals as goal
 
 pub returns-then-not-ask : goal.returns-then-not-ask
-returns-then-not-ask c = answer-word_fails _ _ _ c.loop-word.asked _ _ c.in-Some.ensures c.ask.ensures c.if-not-ask.true c.loop-word.invariant.left
+returns-then-not-ask c = ask_question-word_fails _ _ _ c.loop-word.asked _ _ c.in-Some.ensures c.ask.ensures c.if-not-ask.true c.loop-word.invariant.left
 
 pub loop-word-preserved : goal.loop-word-preserved
 loop-word-preserved c =
@@ -12,6 +12,6 @@ loop-word-preserved c =
     record {
       padded = c.in-Some.ensures.padded;
       later = search rules;
-      left = answer-word_passes now.rest.now c.in-Some.word c.in-Some.after.now now.asked later.result c.ask.result _ c.in-Some.ensures c.ask.ensures c.if-not-ask.false
+      left = ask_question-word_passes now.rest.now c.in-Some.word c.in-Some.after.now now.asked later.result c.ask.result _ c.in-Some.ensures c.ask.ensures c.if-not-ask.false
           (later.ensures ∙ sym now.invariant.later) now.invariant.left;
     }

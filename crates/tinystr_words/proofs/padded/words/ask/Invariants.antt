@@ -1,6 +1,6 @@
 use Rattle.std.proofs.Common.{◌≡◌, length}
 use Rattle.tinystr_words.specs.Text.{IsPadded, text_of}
-use Rattle.tinystr_words.specs.Questions.{answer, later_question}
+use Rattle.tinystr_words.specs.Questions.{ask_question, later_question}
 use Rattle.tinystr_words.proofs.padded.words.ask.Given as goal
 
 -- the answer is what is asked of the rest
@@ -8,7 +8,7 @@ abbrev pub invariant-loop-word : goal.invariant-loop-word
 invariant-loop-word l = record {
   padded : IsPadded l.rest;
   later : later_question l.asked ≡ later_question l.question;
-  left : answer l.asked (text_of l.rest) ≡ answer l.question (text_of l.fn.bytes);
+  left : ask_question l.asked (text_of l.rest) ≡ ask_question l.question (text_of l.fn.bytes);
 }
 
 abbrev pub decreases-loop-word : goal.decreases-loop-word

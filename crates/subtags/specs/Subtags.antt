@@ -1,0 +1,33 @@
+-- The subtags of a canonical text.
+use Rattle.std.specs.Prelude.{◌≡◌, ℕ, Bool, IsTrue, List, [], ◌∷◌, ◌++◌, drop, Option, None, Some}
+use Rattle.std.specs.List.{find}
+use Rattle.subtags.specs.Grammar.{dash, subtags_of, is_script, is_region}
+
+-- the text of a language, a script or a region: well-formed, and as the case change leaves it
+pub record IsCanonicalSubtag (is_well_formed : List ℕ → Bool) (in_case : List ℕ → List ℕ) (t : List ℕ) : Type 0 where
+  pub well_formed : IsTrue (is_well_formed t)
+  pub canonical : in_case t ≡ t
+
+abbrev pub first : List (List ℕ) → List ℕ
+first [] = []
+first (p ∷ ps) = p
+
+abbrev pub language_of : List ℕ → List ℕ
+language_of t = first (subtags_of t)
+
+-- the later subtag that is a script
+abbrev pub script_of : List ℕ → Option (List ℕ)
+script_of t = find is_script (drop 1 (subtags_of t))
+
+-- the later subtag that is a region
+abbrev pub region_of : List ℕ → Option (List ℕ)
+region_of t = find is_region (drop 1 (subtags_of t))
+
+-- a dash and the subtag, or nothing
+abbrev pub after_dash : Option (List ℕ) → List ℕ
+after_dash None = []
+after_dash (Some p) = dash ∷ p
+
+-- the subtags_of, joined by dashes
+abbrev pub join_subtags : List ℕ → Option (List ℕ) → Option (List ℕ) → List ℕ
+join_subtags language script region = language ++ (after_dash script ++ after_dash region)

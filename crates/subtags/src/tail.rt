@@ -1,0 +1,64 @@
+//! What stands behind the language, read from the front: a script, a region, both or nothing.
+
+ghost use Rattle.std.specs.Prelude.{◌≡◌};
+ghost use Rattle.std.specs.Option.{option_copied};
+ghost use Rattle.subtags.specs.FromFront.{past_script, subtags_behind, ends_at_four, leading_script, behind_script, last_region};
+
+use crate::error::LangIdError;
+use crate::region::Region;
+use crate::script::Script;
+use crate::split::is_separator;
+
+// Whether a subtag may end behind the fourth byte, as a script does.
+#[inline]
+fn ends_at_four(units: &[u8]) -> bool
+    ensures { result ≡ ends_at_four units.now }
+{
+    units.len() == 4 || units.len() > 4 && is_separator(units[4])
+}
+
+/// What stands behind a script and a separator, or all, where there is no room for a script.
+#[inline]
+pub fn past_script(units: &[u8]) -> Option<&[u8]>
+    ensures { option_copied result ≡ past_script units.now }
+{
+    if units.len() < 4 {
+        Some(units)
+    } else {
+        units.get(5..)
+    }
+}
+
+/// Takes the first subtag off, where it is a script.
+#[inline]
+pub fn take_script(rest: Option<&[u8]>) -> (Option<Script>, Option<&[u8]>)
+    ensures script { result.0 ≡ leading_script (subtags_behind (option_copied rest.entry)) }
+    ensures rest { subtags_behind (option_copied result.1)
+        ≡ behind_script (subtags_behind (option_copied rest.entry)) }
+{
+    let Some(units) = rest else {
+        return (None, None);
+    };
+    if !ends_at_four(units) {
+        return (None, rest);
+    }
+    match Script::try_from_utf8(&units[..4]) {
+        Some(script) => (Some(script), past_script(units)),
+        None => (None, rest),
+    }
+}
+
+/// Reads what is left: a region, or nothing.
+#[inline]
+#[tactic(auto, using(crate::proofs::SplitLemmas::last_region_of_region, crate::proofs::SplitLemmas::last_region_of_no_region))]
+pub fn last_region(rest: Option<&[u8]>) -> Result<Option<Region>, LangIdError>
+    ensures { result ≡ last_region (subtags_behind (option_copied rest.entry)) }
+{
+    let Some(units) = rest else {
+        return Ok(None);
+    };
+    match Region::try_from_utf8(units) {
+        Some(region) => Ok(Some(region)),
+        None => Err(LangIdError::InvalidSubtag),
+    }
+}

@@ -1,0 +1,141 @@
+-- Two texts of at most 32 bytes, joined lane by lane.
+use Rattle.std.proofs.Common.{List, arith, cond, drop, get_or, length, min, nat_eq, nat_lt, nat_le, refl, rules, sym, take, w8, ℕ, ◌++◌, ◌+◌, ◌-◌, ◌*◌, ◌/◌, ◌<◌, ◌∙◌, ◌≡◌, ◌≤◌, ◌⊎◌, ◌||◌, ◌&&◌, T, ltb}
+use Rattle.std.proofs.lemmas.List.{get_or-drop, get_or-take, get_or_past, length-drop, length-take, length-take-le, places, same_lists, take_all}
+use Rattle.std.proofs.lemmas.Grind.{same_number_lists}
+use Rattle.std.proofs.lemmas.Bool.Decides.{nat_tests}
+use Rattle.std.proofs.lemmas.Simd.{Each1-from_get_or, SwzOk, SwzOk-from_Each1, get_or-swz_l, get_or-zip2, length-swz_l, length-zip2, swz_l}
+use Rattle.std.specs.Int.Bits.{bit_or, or_zero_l, or_zero_r}
+use Rattle.std.specs.Simd.Lanes.{chunk, zip2}
+use mir.Val.{zeroes}
+use Rattle.tinystr_words.specs.Text.{IsPadded, IsPaddedText, IsText, IsTextByte, pad, text_of}
+use Rattle.std.proofs.lemmas.List.Elements.{All-append}
+use Rattle.tinystr_words.proofs.Copying.{IsPaddedText-pad_take}
+use Rattle.tinystr_words.proofs.Texts.{IsPaddedText-drop, NULS, get_or-nuls, get_or-pad, length-text_of-le, text_of-drop, text_of-take}
+use Rattle.tinystr_words.specs.Padded.{sixteen_from}
+use Rattle.tinystr_words.specs.declared.padded.concatenation.TheConstants.{TAKEN_LANES}
+use Rattle.tinystr_words.proofs.Lanes.{below_at}
+
+get_or-nuls_left : (n : ℕ) (l : List ℕ) (k : ℕ) → k < n → get_or (NULS n ++ l) k 0 ≡ 0
+get_or-nuls_left n l k near = grind (arith, places)
+
+get_or-nuls_right : (n : ℕ) (l : List ℕ) (k : ℕ) → n ≤ k → get_or (NULS n ++ l) k 0 ≡ get_or l (k - n) 0
+get_or-nuls_right n l k far = grind (arith, places)
+
+-- n bytes from `at` on
+get_or-piece : (t : List ℕ) (n at i : ℕ) → i < n → get_or (pad (take n (drop at t)) n) i 0 ≡ get_or t (at + i) 0
+get_or-piece t n at i inside = rw get_or-pad (grind (arith, places))
+
+length-piece : (t : List ℕ) (n at : ℕ) → length (pad (take n (drop at t)) n) ≡ n
+length-piece t n at = search (rules, places)
+
+-- `sixteen_from`, lane by lane
+abbrev pub HasLanes : List ℕ → List ℕ → ℕ → Type 0
+HasLanes xs t at = (length xs ≡ 16) × ((i : ℕ) → i < 16 → get_or xs i 0 ≡ get_or t (at + i) 0)
+
+pub HasLanes-sixteen_from : (xs t : List ℕ) (at : ℕ) → xs ≡ sixteen_from t at → HasLanes xs t at
+HasLanes-sixteen_from xs t at is = rw is (length-piece t 16 at, get_or-piece t 16 at)
+
+pub sixteen_from-HasLanes : (xs t : List ℕ) (at : ℕ) → HasLanes xs t at → xs ≡ sixteen_from t at
+sixteen_from-HasLanes xs t at x =
+    same_number_lists xs (sixteen_from t at) (x.0 ∙ sym (length-piece t 16 at)) (λ i inside. let small : i < 16 = omega (arith, x.0) in x.1 i small ∙ sym (get_or-piece t 16 at i small))
+
+-- ---- lanes moved by a table
+
+-- 128, or the lane behind 48 others
+TAKEN_LANES-at : (k : ℕ) → k < 112 → get_or TAKEN_LANES k 0 ≡ cond (nat_le 48 k && nat_lt k 64) (k - 48) 128
+TAKEN_LANES-at k inside = let e = below_at (λ k. nat_eq (get_or TAKEN_LANES k 0) (cond (nat_le 48 k && nat_lt k 64) (k - 48) 128)) 112 refl k inside in grind (arith, nat_tests)
+
+-- what a lane of the table takes
+abbrev taken : List ℕ → ℕ → ℕ
+taken xs j = cond (zeroes 16 w8 j) 0 (get_or xs j 0)
+
+taken-TAKEN_LANES : (xs : List ℕ) (k : ℕ) → length xs ≡ 16 → k < 112 → taken xs (get_or TAKEN_LANES k 0) ≡ get_or (NULS 48 ++ xs) k 0
+taken-TAKEN_LANES xs k long inside = let e = TAKEN_LANES-at k inside in grind (arith, nat_tests, get_or-nuls_left 48 xs k, get_or-nuls_right 48 xs k, get_or_past xs (k - 48) 0)
+
+abbrev Allowed : ℕ → Type 0
+Allowed j = T (zeroes 16 w8 j || ltb j 16)
+
+Allowed-TAKEN_LANES : (k : ℕ) → k < 112 → Allowed (get_or TAKEN_LANES k 0)
+Allowed-TAKEN_LANES k inside = let e = below_at (λ k. zeroes 16 w8 (get_or TAKEN_LANES k 0) || ltb (get_or TAKEN_LANES k 0) 16) 112 refl k inside in rw e tt
+
+-- sixteen lanes of the table, as they are loaded
+abbrev pub lanes_of_table : ℕ → List ℕ
+lanes_of_table start = chunk 0 16 (take (112 - start) (drop start TAKEN_LANES))
+
+length-lanes_of_table : (start : ℕ) → start ≤ 96 → length (lanes_of_table start) ≡ 16
+length-lanes_of_table start inside = omega (arith, length-take {A = ℕ}, length-drop {A = ℕ})
+
+get_or-lanes_of_table : (start i : ℕ) → start ≤ 96 → i < 16 → get_or (lanes_of_table start) i 0 ≡ get_or TAKEN_LANES (start + i) 0
+get_or-lanes_of_table start i inside small = get_or-take 16 (take (112 - start) (drop start TAKEN_LANES)) i 0 small ∙ get_or-take (112 - start) (drop start TAKEN_LANES) i 0 (omega arith) ∙ get_or-drop start TAKEN_LANES i 0
+
+pub SwzOk-lanes_of_table : (start : ℕ) → start ≤ 96 → SwzOk w8 16 16 0 (lanes_of_table start)
+SwzOk-lanes_of_table start inside =
+    let many = length-lanes_of_table start inside in
+    SwzOk-from_Each1 w8 16 1 16 0 (lanes_of_table start) refl (omega arith)
+    (Each1-from_get_or Allowed (lanes_of_table start) 0 (λ i small. rw (get_or-lanes_of_table start i inside (omega arith)) (Allowed-TAKEN_LANES (start + i) (omega arith))))
+
+pub swz_l-lanes_of_table : (xs : List ℕ) (start : ℕ) → length xs ≡ 16 → start ≤ 96 → swz_l w8 16 xs 0 (lanes_of_table start) ≡ sixteen_from (NULS 48 ++ xs) start
+swz_l-lanes_of_table xs start long inside =
+    let js = lanes_of_table start in
+    let many = length-lanes_of_table start inside in
+    sixteen_from-HasLanes (swz_l w8 16 xs 0 js) (NULS 48 ++ xs) start (
+      length-swz_l w8 16 xs 0 js ∙ many,
+      λ i small.
+          let here : 16 * ((0 + i) / 16) + get_or js i 0 ≡ get_or js i 0 = omega arith in
+          get_or-swz_l w8 16 xs 0 js i (omega (arith, many)) ∙ rw here (rw (get_or-lanes_of_table start i inside small) (taken-TAKEN_LANES xs (start + i) long (omega arith))),
+    )
+
+-- ---- one text and another
+
+-- at each place at most one of the two texts has a byte
+bit_or-append : (a b : List ℕ) (e p : ℕ) → (0 < length b → e ≡ length a) → bit_or (get_or a p 0) (get_or (NULS e ++ b) p 0) ≡ get_or (a ++ b) p 0
+bit_or-append a b e p end = grind (arith, places, get_or-nuls, or_zero_l, or_zero_r, end)
+
+-- moved to where the other text ends
+pub HasLanes-or : (xs ys l a b : List ℕ) (e at start : ℕ) → (0 < length b → e ≡ length a) → start + e ≡ 48 + at → ys ≡ sixteen_from (NULS 48 ++ l) start
+    → ((k : ℕ) → get_or l k 0 ≡ get_or b k 0) → HasLanes xs a at → HasLanes (zip2 bit_or xs ys) (a ++ b) at
+HasLanes-or xs ys l a b e at start end is made same x =
+    let y = HasLanes-sixteen_from ys (NULS 48 ++ l) start made in (
+      length-zip2 bit_or xs ys (x.0 ∙ sym y.0) ∙ x.0,
+      λ i small.
+          let moved : get_or ys i 0 ≡ get_or (NULS e ++ b) (at + i) 0 =
+          y.1 i small ∙ grind (arith, get_or-nuls_left 48 l (start + i), get_or-nuls_right 48 l (start + i), get_or-nuls_left e b (at + i), get_or-nuls_right e b (at + i), same (start + i - 48)) in
+          get_or-zip2 bit_or xs ys i 0 0 0 (omega (arith, x.0)) (omega (arith, y.0)) ∙ rw (x.1 i small, moved) (bit_or-append a b e (at + i) end),
+    )
+
+-- where no byte of the other text is
+pub HasLanes-same : (xs a b : List ℕ) (e at : ℕ) → (0 < length b → e ≡ length a) → HasLanes xs a at → (at + 16 ≤ e) ⊎ (e + length b ≤ at) → HasLanes xs (a ++ b) at
+HasLanes-same xs a b e at end x out = (x.0, λ i small. grind (arith, places, x.1 i small, end, out))
+
+-- the first sixteen bytes of a text
+pub get_or-first_sixteen : (l b : List ℕ) → l ≡ sixteen_from b 0 → (k : ℕ) → get_or l k 0 ≡ get_or (take 16 b) k 0
+get_or-first_sixteen l b made k = rw made (get_or-pad (take 16 b) 16 k)
+
+-- and those behind them
+pub get_or-last_sixteen : (l b : List ℕ) → l ≡ sixteen_from b 16 → length b ≤ 32 → (k : ℕ) → get_or l k 0 ≡ get_or (drop 16 b) k 0
+get_or-last_sixteen l b made fits k = rw made (get_or-pad (take 16 (drop 16 b)) 16 k ∙ rw (take_all 16 (drop 16 b) (omega (arith, length-drop 16 b))) refl)
+
+-- ---- lanes loaded and stored
+
+pub sixteen_from-loaded : (l x : List ℕ) (start count at : ℕ) → IsPadded l → start ≡ min at (length l) → count ≡ min (length l - start) 16 → x ≡ pad (text_of (take count (drop start l))) 16
+    → x ≡ sixteen_from (text_of l) at
+sixteen_from-loaded l x start count at p is many made =
+    let y = text_of-take (drop start l) (length (drop start l)) count (IsPaddedText-drop l (length l) start p) in
+    let z = text_of-drop l (length l) start p in
+    sixteen_from-HasLanes x (text_of l) at (rw made (search (rules, places)), λ i small. rw (made, get_or-pad, y, z) (grind (arith, places, length-text_of-le l)))
+
+-- one more piece of t, which fills its array
+pub take-sixteen_from : (lanes piece t : List ℕ) (n at k : ℕ) → at + k ≤ n → k ≤ 16 → lanes ≡ sixteen_from t at → piece ≡ take k lanes → piece ≡ take k (drop at (pad (take n t) n))
+take-sixteen_from lanes piece t n at k room few made is =
+    let x = HasLanes-sixteen_from lanes t at made in
+    let size : length (take k lanes) ≡ k = length-take-le k lanes (omega (arith, x.0)) in
+    rw is (same_number_lists _ _ (search (rules, places)) (λ i inside.
+    let below : i < k = omega (arith, size) in
+    let room_at : at + i < n = omega arith in
+    rw (get_or-take, get_or-take, get_or-drop, get_or-pad, get_or-take) (x.1 i (omega arith))))
+
+-- all pieces
+pub IsPaddedText-stored : (bytes a b : List ℕ) (n at : ℕ) → n ≤ at → IsText a → IsText b → bytes ≡ take at (pad (take n (a ++ b)) n) ++ drop at (NULS n)
+    → IsPaddedText bytes n × (text_of bytes ≡ take n (a ++ b))
+IsPaddedText-stored bytes a b n at end p q e =
+    IsPaddedText-pad_take bytes (a ++ b) n (rw e (same_lists _ _ (search (rules, places)) (λ i d h. grind (arith, places)))) (All-append IsTextByte a b p q)

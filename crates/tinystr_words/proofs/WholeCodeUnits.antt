@@ -1,0 +1,99 @@
+-- Units that were read as a whole, and their array.
+use Rattle.std.proofs.Common.{Bool, IsTrue, List, ap, arith, false, get_or, inl, inr, length, map, not, set, sym, take, true, ℕ, ◌+◌, ◌<◌, ◌||◌, ◌%◌, ◌↔◌, ◌∙◌, ◌≡◌, ◌≤◌}
+use Rattle.std.proofs.lemmas.List.{get_or-map, get_or_past, length-map, length-take, take-map, take_all}
+use Rattle.std.proofs.lemmas.List.Elements.{All-from_get_or, All-map, All-weaker}
+use Rattle.std.proofs.lemmas.Bool.{cases_lt}
+use Rattle.std.specs.Prelude.{MatchBool}
+use Rattle.std.proofs.lemmas.Grind.{common_steps}
+use Rattle.tinystr_words.specs.Text.{IsPaddedText, IsStrictText, IsText, IsTextByte, pad, text_of}
+use Rattle.tinystr_words.specs.Reading.{lossy, lossy_byte}
+use Rattle.tinystr_words.proofs.Texts.{IsPaddedText-made, NULS, get_or-nuls, get_or-pad, length-pad, text_of-made}
+use Rattle.std.proofs.lemmas.Grind.{same_number_lists}
+use Rattle.std.proofs.lemmas.List.Folds.{map_fixed}
+use Rattle.tinystr_words.proofs.WordFromPieces.{map-mod_text}
+use Rattle.tinystr_words.specs.ReadPieces.{IsReadPiece}
+use Rattle.tinystr_words.proofs.Copying.{IsPaddedText-pad_take, pad-full}
+use Rattle.std.proofs.lemmas.Bool.Decides.{nat_tests}
+
+abbrev Tested : Bool → List ℕ → ℕ → ℕ → Type 0
+Tested is_bad units i j = MatchBool is_bad (¬ IsText units) ((k : ℕ) → i ≤ k → k < j → IsTextByte (get_or units k 0))
+
+-- one more unit tested
+Tested-more : (units : List ℕ) (i j : ℕ) (bad char : Bool) → j < length units → Tested bad units i j → (IsTrue char ↔ IsTextByte (get_or units j 0)) → Tested (bad || not char) units i (j + 1)
+Tested-more units i j true char inside h is = h
+Tested-more units i j false true inside h is = grind (arith, common_steps)
+Tested-more units i j false false inside h is = λ text. (let no : false ≡ true = is.1 (text j 0 inside) in grind arith)
+
+-- characters are read as they are
+map-lossy_byte : (r : ℕ) (t : List ℕ) → IsText t → map (lossy_byte r) t ≡ t
+map-lossy_byte r t h = map_fixed (lossy_byte r) t (All-weaker IsTextByte (λ u. lossy_byte r u ≡ u) (λ u char. grind (arith, nat_tests)) t h)
+
+-- what was read from one end to the other
+pub IsReadPiece-whole : (is_bad : Bool) (bytes units : List ℕ) (r n : ℕ) → length units ≤ n → length bytes ≡ n
+    → IsReadPiece is_bad (NULS n) bytes units r 0 (length units) → bytes ≡ pad (map (lossy_byte r) units) n
+IsReadPiece-whole is_bad bytes units r n fits len read =
+    let made = map (lossy_byte r) units in
+    let long : length made ≡ length units = length-map units (lossy_byte r) in
+    same_number_lists bytes (pad made n) (len ∙ sym (length-pad made n (omega arith))) (λ k below. rw get_or-pad (elim (cases_lt k (length units)) [
+      | inl inside ↦ read.read k (omega arith) inside
+      | inr outside ↦ read.kept k (get_or-nuls n k ∙ sym (get_or_past made k 0 (omega arith)))
+    ]))
+
+-- an array made of a text
+IsPaddedText-text : (bytes units : List ℕ) (n : ℕ) → length units ≤ n → IsText units → bytes ≡ pad units n
+    → IsStrictText units n × (IsPaddedText bytes n × (text_of bytes ≡ units))
+IsPaddedText-text bytes units n fits text made =
+    let strict : IsStrictText units n = record { text = text; fits = fits } in
+    (strict, (IsPaddedText-made bytes units n made strict, text_of-made bytes units n made text))
+
+-- where no unit is bad, all are read as they are
+pub IsReadPiece-text : (bytes units : List ℕ) (r n : ℕ) → length units ≤ n → length bytes ≡ n
+    → IsReadPiece false (NULS n) bytes units r 0 (length units) → IsStrictText units n × (IsPaddedText bytes n × (text_of bytes ≡ units))
+IsReadPiece-text bytes units r n fits len read =
+    let text : IsText units = All-from_get_or IsTextByte units 0 (λ k inside. read.tested k (omega arith) inside) in
+    IsPaddedText-text bytes units n fits text (IsReadPiece-whole false bytes units r n fits len read ∙ ap (λ (l : List ℕ). pad l n) (map-lossy_byte r units text))
+
+-- a text that fills its array
+pub IsPaddedText-full : {X : Type 0} (number : X → ℕ) (bytes : List ℕ) (units : List X) (n : ℕ) → length units ≡ n → IsText (map number units)
+    → bytes ≡ map (λ u. number u % 256) units → IsStrictText (map number units) n × (IsPaddedText bytes n × (text_of bytes ≡ map number units))
+IsPaddedText-full number bytes units n len text made =
+    let long : length (map number units) ≡ length units = length-map units number in
+    IsPaddedText-text bytes (map number units) n (omega arith) text (made ∙ map-mod_text number units text ∙ sym (pad-full (map number units) n (omega arith)))
+
+-- one more unit
+pub IsReadPiece-more : (old bytes units : List ℕ) (r i j x : ℕ) (bad char : Bool) → length units ≤ length bytes → j < length units → IsReadPiece bad old bytes units r i j
+    → (IsTrue char ↔ IsTextByte (get_or units j 0)) → x ≡ lossy_byte r (get_or units j 0)
+    → IsReadPiece (bad || not char) old (set bytes j x) units r i (j + 1)
+IsReadPiece-more old bytes units r i j x bad char room inside h is copy =
+    let here : get_or (map (lossy_byte r) units) j 0 ≡ x = get_or-map (lossy_byte r) units j 0 0 inside ∙ sym copy in
+    record {
+      tested = Tested-more units i j bad char inside h.tested is;
+      read = grind (arith, common_steps);
+      kept = grind (arith, common_steps);
+    }
+
+-- what a lossy reader puts is a character
+IsTextByte-lossy_byte : (r u : ℕ) → IsTextByte r → IsTextByte (lossy_byte r u)
+IsTextByte-lossy_byte r u h = grind (arith, nat_tests)
+
+-- the units that fit, with the replacement for each that is no character
+pub lossy_is_padded : (bytes units : List ℕ) (r n : ℕ) → IsTextByte r → bytes ≡ pad (lossy units r n) n → IsPaddedText bytes n × (text_of bytes ≡ lossy units r n)
+lossy_is_padded bytes units r n h made =
+    let short : take n (map (lossy_byte r) units) ≡ lossy units r n = take-map (lossy_byte r) n units in
+    let text : IsText (map (lossy_byte r) units) = All-map IsTextByte (lossy_byte r) units (λ i d inside. IsTextByte-lossy_byte r (get_or units i d) h) in
+    rw short at (IsPaddedText-pad_take bytes (map (lossy_byte r) units) n (rw short made) text)
+
+-- the first n units, as the code cuts them
+pub lossy-front : {X : Type 0} (number : X → ℕ) (units : List X) (r n : ℕ) → map (lossy_byte r) (map number (take n units)) ≡ lossy (map number units) r n
+lossy-front number units r n = ap (λ (l : List ℕ). map (lossy_byte r) l) (sym (take-map number n units))
+
+-- which are all that there are
+pub lossy-all : {X : Type 0} (number : X → ℕ) (units : List X) (r n : ℕ) → length units ≤ n → map (lossy_byte r) (map number units) ≡ lossy (map number units) r n
+lossy-all number units r n fits = ap (λ (l : List ℕ). map (lossy_byte r) l) (sym (take_all n (map number units) (omega (arith, length-map units number))))
+
+-- or fill the capacity
+pub lossy-full : {X : Type 0} (number : X → ℕ) (units : List X) (r n : ℕ) → n ≤ length units → map (lossy_byte r) (map number (take n units)) ≡ pad (lossy (map number units) r n) n
+lossy-full number units r n full =
+    let made = lossy (map number units) r n in
+    let len : length made ≡ n = length-map (take n (map number units)) (lossy_byte r) ∙ length-take n (map number units) ∙ omega (arith, length-map units number) in
+    lossy-front number units r n ∙ sym (pad-full made n (omega arith))

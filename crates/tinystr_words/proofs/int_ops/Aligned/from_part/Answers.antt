@@ -1,8 +1,0 @@
-use Rattle.tinystr_words.proofs.TextInWord.{HoldsText-padded}
-use Rattle.tinystr_words.proofs.int_ops.Aligned.from_part.Goals as goal
-
-pub invariant_of-result : goal.invariant_of-result
-invariant_of-result g c = rw c.load.ensures (HoldsText-padded g.row.LEN c.args.part.now c.type_inv.part c.requires.padded c.requires.fits).0
-
-pub returns : goal.returns
-returns g c = rw c.load.ensures (HoldsText-padded g.row.LEN c.args.part.now c.type_inv.part c.requires.padded c.requires.fits).1

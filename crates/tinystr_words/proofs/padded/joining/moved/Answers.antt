@@ -1,8 +1,0 @@
-use Rattle.tinystr_words.proofs.JoiningLanes.{swz_l-lanes_of_table, SwzOk-lanes_of_table}
-use Rattle.tinystr_words.proofs.padded.joining.moved.Goals as goal
-
-pub swizzle : goal.swizzle
-swizzle c = SwzOk-lanes_of_table c.args.start c.requires.start
-
-pub returns : goal.returns
-returns c = swz_l-lanes_of_table c.args.lanes c.args.start c.requires.len c.requires.start

@@ -1,5 +1,0 @@
-use Rattle.tinystr_words.proofs.WordFromParts.{every_other-word}
-use Rattle.tinystr_words.proofs.unit.U16Unit.word_of_four.Goals as goal
-
-pub returns : goal.returns
-returns c = every_other-word 4 c.args.units.now c.requires c.type_inv.units
