@@ -43,7 +43,7 @@ pub ask_question-word_fails : (l w y : List ℕ) (q : Question) (r all : Bool) �
 ask_question-word_fails l w y q r all c answered fails left = sym (rw (← answered, fails) at (ask_question-first_word l w y q c)) ∙ left
 
 -- where one word passes, the others decide
-pub ask_question-word_passes : (l w y : List ℕ) (q later : Question) (r all : Bool) → IsFirstWord l w y → r ≡ ask_question q w → r ≡ true → later ≡ later_question q → ask_question q (text_of l) ≡ all → answer later (text_of y) ≡ all
+pub ask_question-word_passes : (l w y : List ℕ) (q later : Question) (r all : Bool) → IsFirstWord l w y → r ≡ ask_question q w → r ≡ true → later ≡ later_question q → ask_question q (text_of l) ≡ all → ask_question later (text_of y) ≡ all
 ask_question-word_passes l w y q later r all c answered passes later_is left = rw later_is (sym (rw (← answered, passes) at (ask_question-first_word l w y q c)) ∙ left)
 
 -- ---- bytes tested for a padded text, word by word

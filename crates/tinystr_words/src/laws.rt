@@ -183,7 +183,7 @@ pub fn texts_packed()
 
 /// The classes and the case changes are those of std's calls on a `u8`, a `char` and a `str`, and a question of one class
 /// asks each byte.
-#[tactic(auto, using(crate::proofs::LawSets::words_of_std))]
+#[tactic(auto, using(crate::proofs::LawSets::same_as_std))]
 pub fn same_as_std()
     ensures upper { (b : ℕ) → is_upper b ≡ is_ascii_uppercase b }
     ensures lower { (b : ℕ) → is_lower b ≡ is_ascii_lowercase b }

@@ -1,8 +1,12 @@
 use Rattle.std.proofs.Common.{◌≤◌, rules, arith}
-use Rattle.std.proofs.lemmas.List.{length-take, take-take}
-use Rattle.tinystr_words.proofs.Cutting.{fronts_joined}
+use Rattle.std.proofs.lemmas.List.{length-take}
 use Rattle.tinystr_words.proofs.Texts.{IsPaddedText-take}
 use Rattle.tinystr_words.proofs.padded.concat.Goals as goal
 
 pub concat_in_vectors-requires : goal.concat_in_vectors-requires
 concat_in_vectors-requires g c = search (rules, IsPaddedText-take)
+
+pub concat_in_word-requires : goal.concat_in_word-requires
+concat_in_word-requires g c =
+    let small : g.row.Q ≤ 8 = search rules in
+    (omega arith, (small, (IsPaddedText-take _ _ _ c.requires.front, (omega (arith, c.min.ensures, length-take c.min.result c.args.front.now), (IsPaddedText-take _ _ _ c.requires.back, omega (arith, c.min-2.ensures, length-take c.min-2.result c.args.back.now))))))
