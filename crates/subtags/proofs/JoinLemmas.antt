@@ -13,7 +13,7 @@ use Rattle.subtags.proofs.SplitLemmas.{subtags_of-alphanumeric, subtags_of-appen
 use Rattle.subtags.proofs.CanonLemmas.{no_script-from_region}
 use Rattle.subtags.proofs.ReadLemmas.{accepted_from_read, read-IsCanonical}
 
--- of two texts that have at most 16 bytes together nothing is cut
+-- of two texts that have at most 16 bytes together nothing is split
 pub take_take_append : (l t : List ℕ) → length l + length t ≤ 16 → take 17 (take 16 (l ++ t)) ≡ l ++ t
 take_take_append l t h = let len = length-append l t in rw (take_all 16 (l ++ t) (omega arith), take_all 17 (l ++ t) (omega arith)) refl
 
@@ -36,10 +36,10 @@ subtags_of-join_subtags l (Some s) r h = subtags_of-append_after_dash l (Some (s
 read-region_alone : (r : Option (List ℕ)) → IfSome r (IsCanonicalSubtag is_region uppercase) → (leading_script (subtags_behind r) ≡ None) × (last_region (behind_script (subtags_behind r)) ≡ Ok r) × (last_region (subtags_behind r) ≡ Ok r)
 read-region_alone None region = (refl, refl, refl)
 read-region_alone (Some r) region =
-    let cut = subtags_of-alphanumeric (fold_text r) (alphanumeric-fold_text r ∙ alphanumeric-from_subtag r (grind arith)) in
+    let split = subtags_of-alphanumeric (fold_text r) (alphanumeric-fold_text r ∙ alphanumeric-from_subtag r (grind arith)) in
     let read = rw region.canonical at (last_region_of_region r region.well_formed) in
     let none = is_script-fold_text r ∙ no_script-from_region r region.well_formed in
-    (rw (cut, none) refl, rw (cut, none) (rw cut at read), read)
+    (rw (split, none) refl, rw (split, none) (rw split at read), read)
 
 -- behind the language, a canonical script is read as it is, and then the region
 read-tail_text : (s r : Option (List ℕ)) → IfSome s (IsCanonicalSubtag is_script titlecase) → IfSome r (IsCanonicalSubtag is_region uppercase) → (leading_script (subtags_behind (tail_text s r)) ≡ s) × (last_region (behind_script (subtags_behind (tail_text s r))) ≡ Ok r)

@@ -30,8 +30,8 @@ IsCanonicalSubtag-last_region (p ∷ ps) r h =
 -- the language stands in front
 pub language_in_place : (t p : List ℕ) (ps : List (List ℕ)) → IsCanonical t → subtags_of (fold_text t) ≡ fold_text p ∷ ps → p ≡ take (length p) t
     → (p ≡ language_of t) × IsCanonicalSubtag is_language lowercase p
-language_in_place t p ps h cut front =
-    let read = read-IsCanonical t p ps h cut in
+language_in_place t p ps h split front =
+    let read = read-IsCanonical t p ps h split in
     let l = language_of t in
     let len : length p ≡ length l = sym (length-map p lower) ∙ ap length read.1 in
     let same : p ≡ l = front ∙ ap₂ (λ (n : ℕ) (u : List ℕ). take n u) len (join_subtags-IsCanonical t h)
@@ -82,18 +82,18 @@ HasTail-from_tail_text (Some s) r u e script region =
 -- what stands behind the language of a canonical text
 behind-language : (t p : List ℕ) (ps : List (List ℕ)) → IsCanonical t → subtags_of (fold_text t) ≡ fold_text p ∷ ps → p ≡ take (length p) t
     → behind (length p) t ≡ tail_text (script_of t) (region_of t)
-behind-language t p ps h cut front =
-    ap₂ (λ (q u : List ℕ). behind (length q) u) (language_in_place t p ps h cut front).0 (join_subtags-IsCanonical t h)
+behind-language t p ps h split front =
+    ap₂ (λ (q u : List ℕ). behind (length q) u) (language_in_place t p ps h split front).0 (join_subtags-IsCanonical t h)
     ∙ behind-join_subtags (language_of t) (script_of t) (region_of t)
 
 -- of a canonical text that has something behind its language p
 pub HasTail-behind_language : (t p u : List ℕ) (ps : List (List ℕ)) → IsCanonical t → subtags_of (fold_text t) ≡ fold_text p ∷ ps → p ≡ take (length p) t
     → behind (length p) t ≡ Some u → HasTail (script_of t) (region_of t) u
-HasTail-behind_language t p u ps h cut front e =
-    let read = read-IsCanonical t p ps h cut in
-    HasTail-from_tail_text (script_of t) (region_of t) u (sym (behind-language t p ps h cut front) ∙ e) (rw read.2 at (IsCanonicalSubtag-leading_script ps)) (λ r is. IsCanonicalSubtag-last_region (behind_script ps) r (read.3 ∙ ap (λ (o : Option (List ℕ)). Ok o) is))
+HasTail-behind_language t p u ps h split front e =
+    let read = read-IsCanonical t p ps h split in
+    HasTail-from_tail_text (script_of t) (region_of t) u (sym (behind-language t p ps h split front) ∙ e) (rw read.2 at (IsCanonicalSubtag-leading_script ps)) (λ r is. IsCanonicalSubtag-last_region (behind_script ps) r (read.3 ∙ ap (λ (o : Option (List ℕ)). Ok o) is))
 
 -- and of one that has nothing there
 pub no_tail_in_place : (t p : List ℕ) (ps : List (List ℕ)) → IsCanonical t → subtags_of (fold_text t) ≡ fold_text p ∷ ps → p ≡ take (length p) t
     → behind (length p) t ≡ None → (script_of t ≡ None) × (region_of t ≡ None)
-no_tail_in_place t p ps h cut front e = let tail = behind-language t p ps h cut front in (grind arith, grind arith)
+no_tail_in_place t p ps h split front e = let tail = behind-language t p ps h split front in (grind arith, grind arith)

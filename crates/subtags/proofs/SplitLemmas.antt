@@ -21,7 +21,7 @@ slice_split-map f p q e (b ∷ u) =
     let rest = slice_split-map f p q e u in
     grind arith
 
--- to fold and then cut at each dash is to cut at each separator and then fold
+-- to fold and then split at each dash is to split at each separator and then fold
 pub subtags_of-fold_text : (u : List ℕ) → subtags_of (fold_text u) ≡ map fold_text (slice_split is_separator u)
 subtags_of-fold_text u = slice_split-map fold_byte (λ b. b == dash) is_separator (λ b. grind (arith, nat_tests)) u
 

@@ -8,7 +8,7 @@ use Rattle.subtags.proofs.lang_id.LangId.try_from_utf8.Goals as goal
 
 pub returns-in_default : goal.returns-in_default
 returns-in_default c =
-    let refused = refused_without_language c.args.code_units.now c.split_first.result.0.now _ c.split_first.ensures.subtags_of (false_from_ne_true _ c.in_default.ensures) in
+    let refused = refused_without_language c.args.code_units.now c.split_first.result.0.now _ c.split_first.ensures.subtags (false_from_ne_true _ c.in_default.ensures) in
     record { accepted = grind arith; text = tt; fold = tt; refusal = sym refused.1; value = rw (refused.0) refl }
 
 pub returns-in_err-region : goal.returns-in_err-region
