@@ -4,12 +4,19 @@ use std::error::Error;
 use std::fmt;
 
 /// Why an input is no language identifier, or no language, script or region where one is parsed.
+///
+/// ```rust
+/// let error = "en-Latin".parse::<LangId>().unwrap_err();
+/// assert_eq!(rt; error, LangIdError::InvalidSubtag);
+/// let printed = format!(in rt.alloc(); "{error}")?;
+/// assert_eq!(rt; printed.as_str(), "invalid subtag");
+/// ```
 #[derive(Clone, Copy, Debug, PartialEq, Eq)]
 pub enum LangIdError {
     /// The first subtag isn't a language; or a `Language` was parsed, and the input isn't one.
     InvalidLanguage,
-    /// The first subtag is a language, and what stands behind it isn't accepted; or a script or a region was parsed, and
-    /// the input is none.
+    /// The first subtag is a language, and what stands behind it isn't accepted; or a script or a region was parsed,
+    /// and the input is none.
     InvalidSubtag,
 }
 

@@ -52,6 +52,12 @@ impl LangId {
     /// each later subtag.
     ///
     /// The error is `InvalidLanguage` where the first subtag is no language, else `InvalidSubtag`.
+    ///
+    /// ```rust
+    /// assert_eq!(rt; LangId::try_from_utf8(b"EN_us")?.as_str(), "en-US");
+    /// assert_eq!(rt; LangId::try_from_utf8(b"e"), Err(LangIdError::InvalidLanguage));
+    /// assert_eq!(rt; LangId::try_from_utf8(b"en-US-posix"), Err(LangIdError::InvalidSubtag));
+    /// ```
     pub fn try_from_utf8(code_units: &[u8]) -> Result<Self, LangIdError>
         ensures accepted { IsOk result ↔ IsLangId code_units.now }
         ensures text { IfOk result (λ id. id ≡ canonical_text code_units.now) }
@@ -69,6 +75,12 @@ impl LangId {
     }
 
     /// The identifier of these subtags, which gives them back.
+    ///
+    /// ```rust
+    /// let id = LangId::from_parts("ZH".parse()?, Some("hant".parse()?), Some("tw".parse()?));
+    /// assert_eq!(rt; id.as_str(), "zh-Hant-TW");
+    /// assert_eq!(rt; LangId::from_parts("es".parse()?, None, Some("419".parse()?)).as_str(), "es-419");
+    /// ```
     #[tactic(auto, using(crate::proofs::JoinLemmas::subtags_of_join_subtags))]
     pub fn from_parts(language: Language, script: Option<Script>, region: Option<Region>) -> Self
         ensures text { result ≡ join_subtags language script region }
@@ -109,6 +121,11 @@ impl LangId {
     }
 
     /// The script, if the identifier has one.
+    ///
+    /// ```rust
+    /// assert_eq!(rt; LangId::try_from_utf8(b"zh-hant")?.script(), Some("Hant".parse()?));
+    /// assert_eq!(rt; LangId::try_from_utf8(b"zh-tw")?.script(), None);
+    /// ```
     #[inline]
     pub fn script(&self) -> Option<Script>
         ensures { result ≡ script_of self.now }

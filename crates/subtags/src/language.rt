@@ -9,6 +9,11 @@ use crate::subtag::{Subtag, SubtagKind};
 use tinystr::TinyAsciiStr;
 
 /// A language: 2, 3 or 5 to 8 letters, kept in lowercase.
+///
+/// ```rust
+/// assert_eq!(rt; "EN".parse::<Language>()?.as_str(), "en");
+/// assert_eq!(rt; "e".parse::<Language>(), Err(LangIdError::InvalidLanguage));
+/// ```
 pub type Language = Subtag<LanguageKind, 8>;
 
 /// The kind of a language.

@@ -9,6 +9,11 @@ use crate::subtag::{Subtag, SubtagKind};
 use tinystr::TinyAsciiStr;
 
 /// A region: 2 letters or 3 digits, kept in uppercase.
+///
+/// ```rust
+/// assert_eq!(rt; "gb".parse::<Region>()?.as_str(), "GB");
+/// assert_eq!(rt; "419".parse::<Region>()?.as_str(), "419");
+/// ```
 pub type Region = Subtag<RegionKind, 3>;
 
 /// The kind of a region.

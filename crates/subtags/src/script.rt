@@ -9,6 +9,10 @@ use crate::subtag::{Subtag, SubtagKind};
 use tinystr::TinyAsciiStr;
 
 /// A script: 4 letters, kept in titlecase.
+///
+/// ```rust
+/// assert_eq!(rt; "lATN".parse::<Script>()?.as_str(), "Latn");
+/// ```
 pub type Script = Subtag<ScriptKind, 4>;
 
 /// The kind of a script.

@@ -32,6 +32,12 @@ pub trait SubtagKind<const N: usize> {
 }
 
 /// A subtag of an identifier: a `Language`, a `Script` or a `Region`, by its kind.
+///
+/// ```rust
+/// let region: Region = "gb".parse()?;
+/// assert_eq!(rt; region.as_str(), "GB");
+/// assert!(rt; Script::try_from_utf8(b"Latin").is_none());
+/// ```
 #[derive_where(Clone, Copy, PartialEq, Eq, PartialOrd, Ord, Hash)]
 pub struct Subtag<K: SubtagKind<N>, const N: usize> {
     text: TinyAsciiStr<N>,

@@ -33,10 +33,22 @@ pub struct TinyAsciiStr<const N: usize> {
 }
 
 /// A text of at most 4 bytes.
+///
+/// ```rust
+/// assert_eq!(rt; TinyStr4::try_from_str("Latn")?.as_str(), "Latn");
+/// ```
 pub type TinyStr4 = TinyAsciiStr<4>;
 /// A text of at most 8 bytes.
+///
+/// ```rust
+/// assert_eq!(rt; TinyStr8::try_from_str("en-US")?.as_str(), "en-US");
+/// ```
 pub type TinyStr8 = TinyAsciiStr<8>;
 /// A text of at most 16 bytes.
+///
+/// ```rust
+/// assert_eq!(rt; TinyStr16::try_from_str("America/Guyana")?.as_str(), "America/Guyana");
+/// ```
 pub type TinyStr16 = TinyAsciiStr<16>;
 
 impl<const N: usize> Model for TinyAsciiStr<N> {
@@ -74,6 +86,10 @@ impl<const N: usize> Hash for TinyAsciiStr<N> {
 
 impl<const N: usize> TinyAsciiStr<N> {
     /// The empty text, which every capacity has.
+    ///
+    /// ```rust
+    /// assert_eq!(rt; TinyAsciiStr::<8>::default().as_str(), "");
+    /// ```
     #[inline]
     pub fn default() -> Self
         ensures { result ≡ [] }

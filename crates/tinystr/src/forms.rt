@@ -13,6 +13,10 @@ use serde_json::Value;
 use std::alloc::{AllocError, Global};
 
 /// Why a JSON value gives no text.
+///
+/// ```rust
+/// assert_eq!(rt; TinyStr8::from_json(&Value::Null), Err(JsonReadError::NotText));
+/// ```
 #[derive(Clone, Copy, Debug, PartialEq, Eq)]
 pub enum JsonReadError {
     /// The value is no string.
@@ -22,6 +26,11 @@ pub enum JsonReadError {
 }
 
 /// Why bytes give no value.
+///
+/// ```rust
+/// assert_eq!(rt; TinyStr4::read_bytes(b"G\0B\0").unwrap_err(), BytesReadError::Null);
+/// assert_eq!(rt; TinyStr4::read_bytes(b"caf\xe9").unwrap_err(), BytesReadError::NonAscii);
+/// ```
 #[derive(Clone, Copy, Debug, PartialEq, Eq)]
 pub enum BytesReadError {
     /// There are fewer than `expected` bytes.
@@ -33,6 +42,11 @@ pub enum BytesReadError {
 }
 
 /// Why bytes that may be no text aren't written.
+///
+/// ```rust
+/// let bytes = UnvalidatedTinyAsciiStr::from_utf8_unchecked(*b"\0GB");
+/// assert!(rt; matches!(bytes.to_json(rt.alloc()), Err(FormWriteError::NotAscii)));
+/// ```
 #[derive(Clone, Copy, Debug)]
 pub enum FormWriteError {
     /// The bytes are no text and then NULs.
@@ -43,6 +57,11 @@ pub enum FormWriteError {
 
 impl<const N: usize> TinyAsciiStr<N> {
     /// The JSON string of the text. It allocates a copy of the text from `alloc`, and the error is that it failed.
+    ///
+    /// ```rust
+    /// let value = tinystr!(3, "EUR")?.to_json(rt.alloc())?;
+    /// assert_eq!(rt; value.as_str(), Some("EUR"));
+    /// ```
     #[inline]
     pub fn to_json(&self, alloc: Global) -> Result<Value, AllocError>
         ensures { IfOk result (λ value. view value ≡ json_form self.now) }
@@ -52,6 +71,13 @@ impl<const N: usize> TinyAsciiStr<N> {
 
     /// The text of a JSON string. The error is `NotText` where the value is no string, and `InvalidText` where the
     /// string has more than `N` bytes, a NUL or a byte above 127.
+    ///
+    /// ```rust
+    /// let value = Value::String(String::from_str(rt.alloc(), "EUR")?);
+    /// assert_eq!(rt; TinyAsciiStr::from_json(&value), Ok(tinystr!(3, "EUR")?));
+    /// assert_eq!(rt; TinyAsciiStr::<2>::from_json(&value), Err(JsonReadError::InvalidText));
+    /// assert_eq!(rt; TinyAsciiStr::<2>::from_json(&Value::Null), Err(JsonReadError::NotText));
+    /// ```
     pub fn from_json(value: &Value) -> Result<Self, JsonReadError>
         ensures accepted { IsOk result
             ↔ IsSomeAnd (as_str (view value.now)) (λ t. IsStrictText t N) }
@@ -63,6 +89,10 @@ impl<const N: usize> TinyAsciiStr<N> {
     }
 
     /// All `N` bytes: the text and then NULs.
+    ///
+    /// ```rust
+    /// assert_eq!(rt; tinystr!(4, "GB")?.to_bytes(), *b"GB\0\0");
+    /// ```
     #[inline]
     pub fn to_bytes(&self) -> [u8; N]
         ensures bytes { result ≡ pad self.now N }
@@ -76,6 +106,13 @@ impl<const N: usize> TinyAsciiStr<N> {
     ///
     /// The error is that of the first of `N` positions that has one: the input has ended (`Length`), a byte behind a
     /// NUL is no NUL (`Null`), or a byte is above 127 (`NonAscii`). A byte that is both is `Null`.
+    ///
+    /// ```rust
+    /// let (text, rest) = TinyAsciiStr::<4>::read_bytes(b"GB\0\0EUR").unwrap();
+    /// assert_eq!(rt; text.as_str(), "GB");
+    /// assert_eq!(rt; rest, b"EUR".as_slice());
+    /// assert_eq!(rt; TinyAsciiStr::<4>::read_bytes(b"EUR").unwrap_err(), BytesReadError::Length { expected: 4 });
+    /// ```
     #[tactic(auto, using(tinystr_words::proofs::ByteForms::byte_reading))]
     pub fn read_bytes(input: &[u8]) -> Result<(Self, &[u8]), BytesReadError>
         ensures accepted { IsOk result ↔ (byte_fault N input.now ≡ None) }
@@ -119,6 +156,11 @@ impl<const N: usize> UnvalidatedTinyAsciiStr<N> {
 
     /// The bytes, where they are a text and then NULs, and else `NotAscii`: not all that `read_bytes` gives can be
     /// written again. It never answers `Memory`.
+    ///
+    /// ```rust
+    /// assert!(rt; UnvalidatedTinyAsciiStr::from_utf8_unchecked(*b"GB\0").to_bytes().is_ok());
+    /// assert!(rt; UnvalidatedTinyAsciiStr::from_utf8_unchecked(*b"\0GB").to_bytes().is_err());
+    /// ```
     pub fn to_bytes(&self) -> Result<[u8; N], FormWriteError>
         ensures accepted { IsOk result ↔ IsPaddedText self.now N }
         ensures bytes { IfOk result (λ bytes. bytes ≡ self.now) }
@@ -132,6 +174,12 @@ impl<const N: usize> UnvalidatedTinyAsciiStr<N> {
 
     /// The first `N` bytes, whatever they are, and the bytes behind them as a part of the input. The error is `Length`
     /// where there are fewer.
+    ///
+    /// ```rust
+    /// let (bytes, rest) = UnvalidatedTinyAsciiStr::<2>::read_bytes(b"\0GB").unwrap();
+    /// assert_eq!(rt; bytes.try_into_tinystr(), Err(ParseError::ContainsNull));
+    /// assert_eq!(rt; rest, b"B".as_slice());
+    /// ```
     pub fn read_bytes(input: &[u8]) -> Result<(Self, &[u8]), BytesReadError>
         ensures accepted { IsOk result ↔ (N ≤ length input.now) }
         ensures bytes { IfOk result (λ read. read.0 ≡ take N input.now) }

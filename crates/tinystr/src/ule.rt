@@ -14,6 +14,10 @@ use crate::unvalidated::UnvalidatedTinyAsciiStr;
 const BLOCK: usize = 64;
 
 /// Why bytes are no packed records.
+///
+/// ```rust
+/// assert_eq!(rt; TinyAsciiStr::<3>::validate_bytes(b"EURJP"), Err(UleError::Length { len: 5 }));
+/// ```
 #[derive(Clone, Copy, Debug, PartialEq, Eq)]
 pub enum UleError {
     /// The number of bytes, `len`, isn't divisible by the size of a record.
@@ -85,6 +89,12 @@ impl<const N: usize> TinyAsciiStr<N> {
     }
 
     /// Bytes that are those of no value, for `N` above 0: 255 each.
+    ///
+    /// ```rust
+    /// let pattern = TinyAsciiStr::<3>::niche_bit_pattern();
+    /// assert_eq!(rt; pattern, [255, 255, 255]);
+    /// assert_eq!(rt; TinyAsciiStr::try_from_raw(pattern), Err(ParseError::NonAscii));
+    /// ```
     #[inline]
     pub fn niche_bit_pattern() -> [u8; N]
         ensures { result ≡ replicate N 255 }

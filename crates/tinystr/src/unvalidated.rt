@@ -13,6 +13,13 @@ use std::fmt;
 use std::marker::Model;
 
 /// Any `N` bytes, which may or may not be a text and then NULs. Values are compared byte by byte.
+///
+/// ```rust
+/// let bytes = UnvalidatedTinyAsciiStr::try_from_utf8(b"GB\0")?;
+/// assert_eq!(rt; bytes.try_into_tinystr(), Ok(tinystr!(3, "GB")?));
+/// let bytes = UnvalidatedTinyAsciiStr::<3>::try_from_utf8(b"\0GB")?;
+/// assert_eq!(rt; bytes.try_into_tinystr(), Err(ParseError::ContainsNull));
+/// ```
 #[derive(Clone, Copy, PartialEq, Eq)]
 pub struct UnvalidatedTinyAsciiStr<const N: usize> {
     bytes: [u8; N],
@@ -77,6 +84,11 @@ impl<const N: usize> UnvalidatedTinyAsciiStr<N> {
     }
 
     /// The bytes and then NULs, up to `N`. The error is `TooLong` where there are more than `N` bytes.
+    ///
+    /// ```rust
+    /// let bytes = UnvalidatedTinyAsciiStr::<3>::try_from_utf8(b"\xff")?;
+    /// assert!(rt; bytes == UnvalidatedTinyAsciiStr::from_utf8_unchecked(*b"\xff\0\0"));
+    /// ```
     pub fn try_from_utf8(bytes: &[u8]) -> Result<Self, ParseError>
         ensures accepted { IsOk result ↔ (length bytes.now ≤ N) }
         ensures padded { IfOk result (λ made. made ≡ pad bytes.now N) }
@@ -113,6 +125,11 @@ impl<const N: usize> UnvalidatedTinyAsciiStr<N> {
 
 impl<const N: usize> TinyAsciiStr<N> {
     /// All `N` bytes, with the NULs behind the text.
+    ///
+    /// ```rust
+    /// let bytes = tinystr!(3, "GB")?.to_unvalidated();
+    /// assert!(rt; bytes == UnvalidatedTinyAsciiStr::from_utf8_unchecked(*b"GB\0"));
+    /// ```
     #[inline]
     pub fn to_unvalidated(self) -> UnvalidatedTinyAsciiStr<N>
         ensures bytes { result ≡ pad self.entry N }

@@ -16,6 +16,11 @@ use tinystr::TinyAsciiStr;
 use tinystr::ule::UleError;
 
 /// Why bytes aren't a packed map.
+///
+/// ```rust
+/// let fault = PackedMap::<3, 1>::new(b"JPYEUR", &[0, 2]).err();
+/// assert_eq!(rt; fault, Some(MapError::Order(NotRising { index: 1 })));
+/// ```
 #[derive(Clone, Copy, Debug, PartialEq, Eq)]
 pub enum MapError {
     /// The keys aren't packed records.
@@ -27,6 +32,12 @@ pub enum MapError {
 }
 
 /// Keys of at most `N` bytes that rise, and a value of `M` bytes for each. A clause sees the entries of a `BTreeMap`.
+///
+/// ```rust
+/// let places = PackedMap::<3, 1>::new(b"EURJPY", &[2, 0]).unwrap();
+/// assert_eq!(rt; places.get(&tinystr!(3, "EUR")?), Some(&[2]));
+/// assert_eq!(rt; places.get(&tinystr!(3, "CHF")?), None);
+/// ```
 #[derive(Clone, Drop)]
 pub struct PackedMap<'a, const N: usize, const M: usize> {
     keys: SortedTable<'a, N>,
@@ -48,6 +59,12 @@ impl<'a, const N: usize, const M: usize> PackedMap<'a, N, M> {
     /// The map of the bytes of its keys and of its values, which are checked here alone. `N` and `M` have to be above 0.
     ///
     /// The error is `Keys` where the keys are no packed records, else `Order` where they don't rise, else `Values`.
+    ///
+    /// ```rust
+    /// assert!(rt; PackedMap::<3, 1>::new(b"EURJPY", &[2, 0]).is_ok());
+    /// let fault = PackedMap::<3, 1>::new(b"EURJPY", &[2]).err();
+    /// assert_eq!(rt; fault, Some(MapError::Values { keys: 2, len: 1 }));
+    /// ```
     pub fn new(keys: &'a [u8], values: &'a [u8]) -> Result<Self, MapError>
         requires keys { 0 < N }
         requires values { 0 < M }
@@ -144,6 +161,15 @@ impl<'a, const N: usize, const M: usize> PackedMap<'a, N, M> {
 
 /// The bytes of the keys and the bytes of the values of a map, each packed: what `PackedMap::new` takes. Only memory can
 /// stop it.
+///
+/// ```rust
+/// let mut places = BTreeMap::new(rt.alloc());
+/// places.insert(tinystr!(3, "JPY")?, [0])?;
+/// places.insert(tinystr!(3, "EUR")?, [2])?;
+/// let (keys, values) = pack_map(rt.alloc(), &places)?;
+/// assert_eq!(rt; keys.as_slice(), b"EURJPY".as_slice());
+/// assert_eq!(rt; values.as_slice(), [2, 0].as_slice());
+/// ```
 pub fn pack_map<const N: usize, const M: usize>(
     alloc: Global,
     map: &BTreeMap<TinyAsciiStr<N>, [u8; M]>,
@@ -164,6 +190,11 @@ pub fn pack_map<const N: usize, const M: usize>(
 }
 
 /// The keys of a map with their values, in order. A clause sees those that are left.
+///
+/// ```rust
+/// let places = PackedMap::<3, 1>::new(b"EURJPY", &[2, 0]).unwrap();
+/// assert_eq!(rt; places.iter().next(), Some((tinystr!(3, "EUR")?, &[2])));
+/// ```
 #[derive(Clone, Drop)]
 pub struct Entries<'a, const N: usize, const M: usize> {
     keys: Texts<'a, N>,

@@ -10,6 +10,11 @@ use std::alloc::{AllocError, Global};
 use tinystr::TinyAsciiStr;
 
 /// The texts, packed. Only memory can stop it.
+///
+/// ```rust
+/// let bytes = pack(rt.alloc(), &[tinystr!(3, "EUR")?, tinystr!(3, "GB")?])?;
+/// assert_eq!(rt; bytes.as_slice(), b"EURGB\0".as_slice());
+/// ```
 pub fn pack<const N: usize>(alloc: Global, texts: &[TinyAsciiStr<N>]) -> Result<Vec<u8>, AllocError>
     ensures packed { IfOk result (λ made. IsPacked made.items N) }
     ensures each { IfOk result (λ _. All (λ t. IsStrictText t N) texts.now) }
@@ -26,6 +31,11 @@ pub fn pack<const N: usize>(alloc: Global, texts: &[TinyAsciiStr<N>]) -> Result<
 }
 
 /// The texts of a table, in a vector. Only memory can stop it.
+///
+/// ```rust
+/// let texts = unpack(rt.alloc(), &Table::<3>::new(b"EURGB\0").unwrap())?;
+/// assert_eq!(rt; texts.as_slice(), [tinystr!(3, "EUR")?, tinystr!(3, "GB")?].as_slice());
+/// ```
 pub fn unpack<const N: usize>(
     alloc: Global,
     table: &Table<'_, N>,

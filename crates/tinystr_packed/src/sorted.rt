@@ -12,6 +12,12 @@ use std::marker::Model;
 use tinystr::TinyAsciiStr;
 
 /// A table whose texts rise, each above the one before it. A clause sees the texts.
+///
+/// ```rust
+/// let codes = SortedTable::new(Table::<3>::new(b"CHFEURJPYUSD").unwrap()).unwrap();
+/// assert_eq!(rt; codes.binary_search(&tinystr!(3, "JPY")?), Ok(2));
+/// assert_eq!(rt; codes.binary_search(&tinystr!(3, "GBP")?), Err(2));
+/// ```
 #[derive(Clone, Drop)]
 pub struct SortedTable<'a, const N: usize> {
     table: Table<'a, N>,
@@ -29,6 +35,11 @@ impl<'a, const N: usize> Model for SortedTable<'a, N> {
 }
 
 /// The text at `index` is the first that isn't above the one before it.
+///
+/// ```rust
+/// let table = Table::<3>::new(b"CHFEUREUR").unwrap();
+/// assert_eq!(rt; SortedTable::new(table).err(), Some(NotRising { index: 2 }));
+/// ```
 #[derive(Clone, Copy, Debug, PartialEq, Eq)]
 pub struct NotRising {
     pub index: usize,
@@ -36,6 +47,11 @@ pub struct NotRising {
 
 impl<'a, const N: usize> SortedTable<'a, N> {
     /// The table, once each text is compared with the next.
+    ///
+    /// ```rust
+    /// let table = Table::<3>::new(b"EURCHF").unwrap();
+    /// assert_eq!(rt; SortedTable::new(table).err(), Some(NotRising { index: 1 }));
+    /// ```
     pub fn new(table: Table<'a, N>) -> Result<Self, NotRising>
         ensures rising { IsOk result ↔ IsRising table.entry }
         ensures texts { IfOk result (λ sorted. sorted ≡ table.entry) }
@@ -76,6 +92,13 @@ impl<'a, const N: usize> SortedTable<'a, N> {
     }
 
     /// The texts that begin with a text, as a table of them alone.
+    ///
+    /// ```rust
+    /// let codes = SortedTable::new(Table::<3>::new(b"CADCHFCZKEUR").unwrap()).unwrap();
+    /// let found = codes.with_prefix(&tinystr!(3, "CH")?);
+    /// assert_eq!(rt; found.table().len(), 1);
+    /// assert_eq!(rt; found.table().first(), Some(tinystr!(3, "CHF")?));
+    /// ```
     pub fn with_prefix(&self, beginning: &TinyAsciiStr<N>) -> SortedTable<'a, N>
         ensures { result ≡ filter (λ t. starts_with nat_eq t beginning.now) self.now }
     {

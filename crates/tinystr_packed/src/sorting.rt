@@ -8,6 +8,11 @@ use std::alloc::{AllocError, Global};
 use tinystr::TinyAsciiStr;
 
 /// The texts in order and each once, packed: what `SortedTable` takes. Only memory can stop it.
+///
+/// ```rust
+/// let texts = [tinystr!(3, "JPY")?, tinystr!(3, "EUR")?, tinystr!(3, "JPY")?];
+/// assert_eq!(rt; pack_sorted(rt.alloc(), &texts)?.as_slice(), b"EURJPY".as_slice());
+/// ```
 pub fn pack_sorted<const N: usize>(
     alloc: Global,
     texts: &[TinyAsciiStr<N>],

@@ -15,6 +15,12 @@ use tinystr::TinyAsciiStr;
 use tinystr::ule::UleError;
 
 /// Packed records of `N` bytes. A clause sees their texts.
+///
+/// ```rust
+/// let table = Table::<3>::new(b"EURGB\0").unwrap();
+/// assert_eq!(rt; table.len(), 2);
+/// assert_eq!(rt; table.get(1), Some(tinystr!(3, "GB")?));
+/// ```
 #[derive(Clone, Drop)]
 pub struct Table<'a, const N: usize> {
     records: &'a [[u8; N]],
@@ -36,6 +42,11 @@ impl<'a, const N: usize> Table<'a, N> {
     ///
     /// The error is that of `TinyAsciiStr::validate_bytes`: `Length` where `N` doesn't divide the number of bytes, else
     /// `Parse`, the first record that isn't a padded text.
+    ///
+    /// ```rust
+    /// assert!(rt; Table::<3>::new(b"EURJPY").is_ok());
+    /// assert_eq!(rt; Table::<3>::new(b"EURJP").err(), Some(UleError::Length { len: 5 }));
+    /// ```
     #[tactic(auto, using(crate::proofs::PackedTexts::table_steps))]
     pub fn new(bytes: &'a [u8]) -> Result<Self, UleError>
         requires { 0 < N }
@@ -100,6 +111,12 @@ impl<'a, const N: usize> Table<'a, N> {
     }
 
     /// The table of the texts at a range of indices.
+    ///
+    /// ```rust
+    /// let table = Table::<3>::new(b"CHFEURJPYUSD").unwrap();
+    /// assert_eq!(rt; table.slice(1..3).first(), Some(tinystr!(3, "EUR")?));
+    /// assert_eq!(rt; table.slice(1..3).last(), Some(tinystr!(3, "JPY")?));
+    /// ```
     #[tactic(auto, using(crate::proofs::PackedTexts::slices))]
     pub fn slice(&self, range: Range<usize>) -> Table<'a, N>
         requires start { range.start ≤ range.end }
@@ -113,6 +130,11 @@ impl<'a, const N: usize> Table<'a, N> {
     }
 
     /// The texts in order.
+    ///
+    /// ```rust
+    /// let table = Table::<3>::new(b"EURJPYUSD").unwrap();
+    /// assert!(rt; table.iter().all(|text| text.is_ascii_uppercase()));
+    /// ```
     pub fn iter(&self) -> Texts<'a, N>
         ensures texts { result ≡ self.now }
         ensures bound { length result < 2 ^ 64 }
@@ -149,6 +171,11 @@ impl<'a, const N: usize> Table<'a, N> {
 }
 
 /// The texts of a table in order. A clause sees those that are left.
+///
+/// ```rust
+/// let table = Table::<3>::new(b"EURGB\0").unwrap();
+/// assert_eq!(rt; table.iter().last(), Some(tinystr!(3, "GB")?));
+/// ```
 #[derive(Clone, Drop)]
 pub struct Texts<'a, const N: usize> {
     records: &'a [[u8; N]],

@@ -8,6 +8,11 @@ use crate::word::Word;
 use std::simd::prelude::*;
 
 /// A unit that a reader takes: a byte, or a 16-bit number.
+///
+/// ```rust
+/// assert_eq!(rt; CodeUnit::code(b'E'), 0x45);
+/// assert!(rt; !CodeUnit::is_character(0x20acu16));
+/// ```
 pub trait CodeUnit: Copy {
     ghost number: { Self → ℕ };
 

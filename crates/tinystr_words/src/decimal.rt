@@ -5,6 +5,11 @@ ghost use Rattle.std.specs.Fmt.{decimal};
 ghost use Rattle.tinystr_words.specs.Words.{word};
 
 /// Whether the decimal text of a number has at most so many digits.
+///
+/// ```rust
+/// assert!(rt; decimal_fits(999, 3));
+/// assert!(rt; !decimal_fits(1000, 3));
+/// ```
 #[inline(always)]
 pub fn decimal_fits(number: u32, most: usize) -> bool
     ensures { IsTrue result ↔ (length (decimal number) ≤ most) }

@@ -21,18 +21,40 @@ use std::marker::Model;
 use std::simd::prelude::*;
 
 /// A text of at most `LEN` bytes, each from 1 to 127: its bytes and then NULs, in one word.
+///
+/// ```rust
+/// let word = Aligned4::from_ascii_bytes(b"gb\0");
+/// assert_eq!(rt; word.len(), 2);
+/// assert!(rt; word.is_ascii_alphabetic_lowercase());
+/// assert_eq!(rt; word.to_ascii_uppercase(), *b"GB\0\0");
+/// ```
 #[derive(Drop)]
 pub struct Aligned<T: Word<LEN>, const LEN: usize> {
     word: T,
 }
 
 /// A text of at most 4 bytes, in 32 bits.
+///
+/// ```rust
+/// assert_eq!(rt; Aligned4::from_ascii_bytes(b"GB").to_bytes(), *b"GB\0\0");
+/// ```
 pub type Aligned4 = Aligned<u32, 4>;
 
 /// A text of at most 8 bytes, in 64 bits.
+///
+/// ```rust
+/// let language = Aligned8::from_ascii_bytes(b"en");
+/// let region = Aligned8::from_ascii_bytes(b"-GB");
+/// assert_eq!(rt; language.concat(&region).to_bytes(), *b"en-GB\0\0\0");
+/// ```
 pub type Aligned8 = Aligned<u64, 8>;
 
 /// A text of at most 16 bytes, in 128 bits.
+///
+/// ```rust
+/// let city = Aligned16::from_ascii_bytes(b"New York");
+/// assert_eq!(rt; city.to_ascii_uppercase(), *b"NEW YORK\0\0\0\0\0\0\0\0");
+/// ```
 pub type Aligned16 = Aligned<u128, 16>;
 
 impl<T: Word<LEN>, const LEN: usize> Model for Aligned<T, LEN> {
@@ -177,6 +199,11 @@ impl<T: Word<LEN>, const LEN: usize> Aligned<T, LEN> {
     }
 
     /// Takes the text of at most `LEN` bytes, if they are a text and then NULs.
+    ///
+    /// ```rust
+    /// assert!(rt; Aligned8::try_from_padded(b"GB\0").is_some());
+    /// assert!(rt; Aligned8::try_from_padded(b"\0GB").is_none());
+    /// ```
     #[inline(always)]
     pub fn try_from_padded(bytes: &[u8]) -> Option<Self>
         requires fits { length bytes.now ≤ LEN }
@@ -192,6 +219,11 @@ impl<T: Word<LEN>, const LEN: usize> Aligned<T, LEN> {
     }
 
     /// Takes at most `LEN` units, if they are a text, with no NUL.
+    ///
+    /// ```rust
+    /// assert!(rt; Aligned8::try_from_text(b"GB").is_some());
+    /// assert!(rt; Aligned8::try_from_text(b"GB\0").is_none());
+    /// ```
     #[inline(always)]
     pub fn try_from_text<U: CodeUnit>(units: &[U]) -> Option<Self>
         requires fits { length units.now ≤ LEN }
@@ -313,6 +345,11 @@ impl Aligned<u64, 8> {
 
     /// The decimal text of a number, or its last digits where it has more than so many. Eight digits are made, and
     /// those in front are shifted out: a loop that ends with the number took longer.
+    ///
+    /// ```rust
+    /// assert_eq!(rt; Aligned8::from_number(2026, 4).to_bytes(), *b"2026\0\0\0\0");
+    /// assert_eq!(rt; Aligned8::from_number(2006, 2).to_bytes(), *b"06\0\0\0\0\0\0");
+    /// ```
     #[inline(always)]
     pub fn from_number(number: u32, most: usize) -> Self
         requires { (0 < most) × (most ≤ 8) }
@@ -341,6 +378,10 @@ impl Aligned<u128, 16> {
     }
 
     /// The shortest decimal text of a number.
+    ///
+    /// ```rust
+    /// assert_eq!(rt; Aligned16::from_decimal(4294967295).to_bytes(), *b"4294967295\0\0\0\0\0\0");
+    /// ```
     #[inline(always)]
     pub fn from_decimal(number: u32) -> Self
         ensures { result ≡ decimal number }

@@ -5,6 +5,11 @@ ghost use Rattle.tinystr_words.specs.Questions.{later_question, later_case};
 
 /// A question that a text is asked: whether each byte is in a class. The titlecase ones have a class of their own for
 /// the first byte.
+///
+/// ```rust
+/// assert!(rt; Aligned4::from_ascii_bytes(b"Latn").ask(Question::Titlecase));
+/// assert!(rt; !Aligned4::from_ascii_bytes(b"Latn").ask(Question::Lowercase));
+/// ```
 #[derive(Clone, Copy)]
 pub enum Question {
     /// Each byte is a letter.
@@ -42,6 +47,10 @@ impl Question {
 }
 
 /// A case that a text is brought to.
+///
+/// ```rust
+/// assert_eq!(rt; Aligned4::from_ascii_bytes(b"lATN").in_case(Case::Title), *b"Latn");
+/// ```
 #[derive(Clone, Copy)]
 pub enum Case {
     /// Each letter in lowercase.

@@ -7,6 +7,11 @@ use tinystr_words::padded;
 
 impl<const N: usize> TinyAsciiStr<N> {
     /// The text at another capacity: its first `M` bytes where it is longer.
+    ///
+    /// ```rust
+    /// assert_eq!(rt; tinystr!(8, "en-US")?.resize::<16>().as_str(), "en-US");
+    /// assert_eq!(rt; tinystr!(8, "en-US")?.resize::<2>().as_str(), "en");
+    /// ```
     #[inline]
     pub fn resize<const M: usize>(self) -> TinyAsciiStr<M>
         ensures { result ≡ take M self.entry }

@@ -6,6 +6,13 @@ ghost use Rattle.std.specs.Fmt.{debug_str, styled_text};
 use crate::ascii::TinyAsciiStr;
 use std::fmt::{Debug, Display, Formatter, Result, Write};
 
+/// Prints the text, with the width, the fill, the alignment and the precision that std gives a string.
+///
+/// ```rust
+/// let code = tinystr!(3, "GB")?;
+/// let printed = format!(in rt.alloc(); "{code:>4}|{code:?}")?;
+/// assert_eq!(rt; printed.as_str(), r#"  GB|"GB""#);
+/// ```
 impl<const N: usize> Display for TinyAsciiStr<N> {
     ghost output = { λ t. Some t };
 

@@ -10,6 +10,10 @@ use tinystr_words::{Case, Question, padded};
 
 impl<const N: usize> TinyAsciiStr<N> {
     /// The answer to a question by name, as `is_ascii_titlecase` to `Titlecase`.
+    ///
+    /// ```rust
+    /// assert!(rt; tinystr!(4, "Latn")?.ask(Question::AlphabeticTitlecase));
+    /// ```
     #[inline(always)]
     pub fn ask(&self, question: Question) -> bool
         ensures { result ≡ ask_question question self.now }
@@ -18,6 +22,10 @@ impl<const N: usize> TinyAsciiStr<N> {
     }
 
     /// The text in a case by name, as `to_ascii_titlecase` in `Title`.
+    ///
+    /// ```rust
+    /// assert_eq!(rt; tinystr!(4, "lATN")?.in_case(Case::Title).as_str(), "Latn");
+    /// ```
     #[inline(always)]
     pub fn in_case(self, case: Case) -> Self
         ensures { result ≡ in_case case self.entry }
@@ -28,6 +36,12 @@ impl<const N: usize> TinyAsciiStr<N> {
     }
 
     /// Whether each byte is a letter. Like the other questions, it is true of the empty text.
+    ///
+    /// ```rust
+    /// assert!(rt; tinystr!(8, "EUR")?.is_ascii_alphabetic());
+    /// assert!(rt; !tinystr!(8, "en-US")?.is_ascii_alphabetic());
+    /// assert!(rt; tinystr!(8, "")?.is_ascii_alphabetic());
+    /// ```
     #[inline]
     pub fn is_ascii_alphabetic(&self) -> bool
         ensures { result ≡ ask is_alphabetic is_alphabetic self.now }
@@ -52,6 +66,11 @@ impl<const N: usize> TinyAsciiStr<N> {
     }
 
     /// Whether no byte is an uppercase letter. Bytes that are no letters pass.
+    ///
+    /// ```rust
+    /// assert!(rt; tinystr!(8, "utf-8")?.is_ascii_lowercase());
+    /// assert!(rt; !tinystr!(8, "UTF-8")?.is_ascii_lowercase());
+    /// ```
     #[inline]
     pub fn is_ascii_lowercase(&self) -> bool
         ensures { result ≡ ask is_not_upper is_not_upper self.now }
@@ -85,6 +104,11 @@ impl<const N: usize> TinyAsciiStr<N> {
     }
 
     /// Whether the first byte is an uppercase letter and each later byte is a lowercase letter.
+    ///
+    /// ```rust
+    /// assert!(rt; tinystr!(4, "Latn")?.is_ascii_alphabetic_titlecase());
+    /// assert!(rt; !tinystr!(4, "LATN")?.is_ascii_alphabetic_titlecase());
+    /// ```
     #[inline]
     pub fn is_ascii_alphabetic_titlecase(&self) -> bool
         ensures { result ≡ ask is_upper is_lower self.now }
@@ -109,6 +133,10 @@ impl<const N: usize> TinyAsciiStr<N> {
     }
 
     /// The text with its first byte in uppercase, if that is a letter, and each later letter in lowercase.
+    ///
+    /// ```rust
+    /// assert_eq!(rt; tinystr!(8, "nEW yORK")?.to_ascii_titlecase().as_str(), "New york");
+    /// ```
     #[inline]
     pub fn to_ascii_titlecase(self) -> Self
         ensures { result ≡ titlecase self.entry }

@@ -16,6 +16,12 @@ impl<const N: usize> TinyAsciiStr<N> {
     /// The error is `TooLong` where there are more than `N` bytes. Else it is the fault of the first byte that is above
     /// 127 (`NonAscii`) or is a character behind a NUL (`ContainsNull`). Where NULs stand at the end alone, it is
     /// `ContainsNull`.
+    ///
+    /// ```rust
+    /// assert_eq!(rt; TinyAsciiStr::try_from_str("EUR"), Ok(tinystr!(3, "EUR")?));
+    /// assert_eq!(rt; TinyAsciiStr::<3>::try_from_str("euros"), Err(ParseError::TooLong { max: 3, len: 5 }));
+    /// assert_eq!(rt; TinyAsciiStr::<3>::try_from_str("€"), Err(ParseError::NonAscii));
+    /// ```
     #[inline]
     pub fn try_from_str(s: &str) -> Result<Self, ParseError>
         ensures accepted { IsOk result ↔ IsStrictText s.now N }
@@ -27,6 +33,11 @@ impl<const N: usize> TinyAsciiStr<N> {
     }
 
     /// Reads at most `N` bytes, each from 1 to 127. The errors are those of `try_from_str`.
+    ///
+    /// ```rust
+    /// assert_eq!(rt; TinyAsciiStr::try_from_utf8(b"EUR"), Ok(tinystr!(3, "EUR")?));
+    /// assert_eq!(rt; TinyAsciiStr::<3>::try_from_utf8(b"EU\0"), Err(ParseError::ContainsNull));
+    /// ```
     #[inline]
     pub fn try_from_utf8(code_units: &[u8]) -> Result<Self, ParseError>
         ensures accepted { IsOk result ↔ IsStrictText code_units.now N }
@@ -39,6 +50,11 @@ impl<const N: usize> TinyAsciiStr<N> {
 
     /// Reads at most `N` numbers of 16 bits, each from 1 to 127 and a character of its own. The errors are those of
     /// `try_from_str`, in which a number above 127 is `NonAscii` and `len` counts numbers.
+    ///
+    /// ```rust
+    /// assert_eq!(rt; TinyAsciiStr::try_from_utf16(&[0x45, 0x55, 0x52]), Ok(tinystr!(3, "EUR")?));
+    /// assert_eq!(rt; TinyAsciiStr::<3>::try_from_utf16(&[0x20ac]), Err(ParseError::NonAscii));
+    /// ```
     #[inline]
     pub fn try_from_utf16(code_units: &[u16]) -> Result<Self, ParseError>
         ensures accepted { IsOk result ↔ IsStrictText code_units.now N }
@@ -81,6 +97,11 @@ impl<const N: usize> TinyAsciiStr<N> {
 
     /// Reads the first `N` bytes, with the replacement for each that is NUL or above 127. Later bytes are left out. The
     /// replacement has to be from 1 to 127.
+    ///
+    /// ```rust
+    /// assert_eq!(rt; TinyAsciiStr::<8>::from_utf8_lossy(b"caf\xe9", b'?').as_str(), "caf?");
+    /// assert_eq!(rt; TinyAsciiStr::<2>::from_utf8_lossy(b"caf\xe9", b'?').as_str(), "ca");
+    /// ```
     #[inline]
     pub fn from_utf8_lossy(code_units: &[u8], replacement: u8) -> Self
         requires { IsTextByte replacement }
@@ -91,6 +112,10 @@ impl<const N: usize> TinyAsciiStr<N> {
 
     /// Reads the first `N` numbers of 16 bits, with the replacement for each that is 0 or above 127. Later numbers are
     /// left out. The replacement has to be from 1 to 127.
+    ///
+    /// ```rust
+    /// assert_eq!(rt; TinyAsciiStr::<8>::from_utf16_lossy(&[0x20ac, 0x35], b'?').as_str(), "?5");
+    /// ```
     #[inline]
     pub fn from_utf16_lossy(code_units: &[u16], replacement: u8) -> Self
         requires { IsTextByte replacement }
@@ -101,6 +126,10 @@ impl<const N: usize> TinyAsciiStr<N> {
 
     /// The text of an array that has to be a text and then NULs. Nothing is tested when it runs: the condition is
     /// proved at the call.
+    ///
+    /// ```rust
+    /// assert_eq!(rt; TinyAsciiStr::from_utf8_unchecked(*b"GB\0").as_str(), "GB");
+    /// ```
     #[inline]
     pub fn from_utf8_unchecked(code_units: [u8; N]) -> Self
         requires { IsPaddedText code_units N }

@@ -9,6 +9,10 @@ use tinystr_words::padded;
 
 impl<const N: usize> TinyAsciiStr<N> {
     /// The length of the text in bytes.
+    ///
+    /// ```rust
+    /// assert_eq!(rt; tinystr!(8, "en-US")?.len(), 5);
+    /// ```
     #[inline]
     pub fn len(&self) -> usize
         ensures len { result ≡ length self.now }
@@ -26,6 +30,10 @@ impl<const N: usize> TinyAsciiStr<N> {
     }
 
     /// The bytes of the text, in the value itself, without the NULs behind it.
+    ///
+    /// ```rust
+    /// assert_eq!(rt; tinystr!(8, "en-US")?.as_utf8(), b"en-US".as_slice());
+    /// ```
     #[inline]
     #[tactic(auto, using(tinystr_words::proofs::Texts::padded_texts))]
     pub fn as_utf8(&self) -> &[u8]
@@ -38,6 +46,10 @@ impl<const N: usize> TinyAsciiStr<N> {
     }
 
     /// The text as a string, in the value itself.
+    ///
+    /// ```rust
+    /// assert_eq!(rt; tinystr!(8, "en-US")?.as_str(), "en-US");
+    /// ```
     // The kit tests eight bytes at once, and fewer than eight one by one: so below eight the text alone is tested, and
     // from eight on all bytes, whose number is known.
     #[inline]
@@ -55,6 +67,10 @@ impl<const N: usize> TinyAsciiStr<N> {
     }
 
     /// All `N` bytes, in the value itself: the text and then NULs.
+    ///
+    /// ```rust
+    /// assert_eq!(rt; tinystr!(4, "GB")?.all_bytes(), b"GB\0\0");
+    /// ```
     #[inline]
     pub fn all_bytes(&self) -> &[u8; N]
         ensures bytes { result.now ≡ pad self.now N }
