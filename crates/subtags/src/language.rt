@@ -17,6 +17,11 @@ use tinystr::TinyAsciiStr;
 pub type Language = Subtag<LanguageKind, 8>;
 
 /// The kind of a language.
+///
+/// ```rust
+/// let language: Subtag<LanguageKind, 8> = "EN".parse()?;
+/// assert_eq!(rt; language.as_str(), "en");
+/// ```
 pub struct LanguageKind;
 
 impl SubtagKind<8> for LanguageKind {

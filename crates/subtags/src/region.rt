@@ -17,6 +17,11 @@ use tinystr::TinyAsciiStr;
 pub type Region = Subtag<RegionKind, 3>;
 
 /// The kind of a region.
+///
+/// ```rust
+/// let region: Subtag<RegionKind, 3> = "gb".parse()?;
+/// assert_eq!(rt; region.as_str(), "GB");
+/// ```
 pub struct RegionKind;
 
 impl SubtagKind<3> for RegionKind {

@@ -16,6 +16,11 @@ use tinystr::TinyAsciiStr;
 pub type Script = Subtag<ScriptKind, 4>;
 
 /// The kind of a script.
+///
+/// ```rust
+/// let script: Subtag<ScriptKind, 4> = "latn".parse()?;
+/// assert_eq!(rt; script.as_str(), "Latn");
+/// ```
 pub struct ScriptKind;
 
 impl SubtagKind<4> for ScriptKind {

@@ -14,6 +14,11 @@ use tinystr::TinyAsciiStr;
 
 /// What tells languages, scripts and regions apart: what is well-formed, the case that they are kept in, and the error of
 /// what isn't well-formed.
+///
+/// ```rust
+/// assert!(rt; RegionKind::read(b"419").is_some());
+/// assert!(rt; ScriptKind::read(b"419").is_none());
+/// ```
 pub trait SubtagKind<const N: usize> {
     ghost is_well_formed: { List ℕ → Bool };
 
