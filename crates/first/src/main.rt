@@ -1,4 +1,4 @@
-//! Prints a currency code as it is written, and why a word is none.
+//! Prints a currency code in upper case, and the error for a word that is too long.
 #![tactic(auto)]
 
 use std::io::Error;

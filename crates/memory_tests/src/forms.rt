@@ -1,4 +1,4 @@
-//! `to_json` changes no value where memory is refused, and asks for none where the bytes are no text.
+//! `to_json` changes no value where an allocation fails, and makes none where the bytes aren't a text.
 
 use std::test::Fail;
 use tinystr::forms::FormWriteError;

@@ -1,5 +1,5 @@
-//! The tests that `scripts/checks/refused-memory` runs with each growth refused in turn. Each prints what it met. They
-//! stand apart, since every such run compiles their crate anew.
+//! The tests that `scripts/checks/refused-memory` runs with each allocation refused in turn. Each prints what it met.
+//! They stand apart, since every such run compiles their crate anew.
 #![tactic(auto)]
 
 #[cfg(test)]

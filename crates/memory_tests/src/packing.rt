@@ -59,7 +59,7 @@ fn want_of_memory_for_unpacking(rt: HostRuntime) -> Result<(), Fail> {
 fn want_of_memory_for_a_map(rt: HostRuntime) -> Result<(), Fail> {
     let mut map = BTreeMap::new(rt.alloc());
     let [key, ..] = texts();
-    // the map's own growth is refused as well
+    // the map's own allocation is refused as well
     let is_filled = map.insert(key, [1]).is_ok();
     match pack_map(rt.alloc(), &map) {
         Ok((keys, values)) if is_filled => {

@@ -9,7 +9,7 @@ const INPUT: &[u8] =
 const OUTPUT: &[u8] = b"TEST\nfalse\ntoo long 5 > 4\ntrue\nbad capacity\nbad command\nbad line\n";
 
 #[test]
-fn a_refused_growth_writes_nothing(rt: HostRuntime) -> Result<(), Fail> {
+fn a_refused_allocation_writes_nothing(rt: HostRuntime) -> Result<(), Fail> {
     let mut room = [0u8; OUTPUT.len()];
     let mut rest = &mut room[..];
     let outcome = run(rt.alloc(), &mut &INPUT[..], &mut rest);

@@ -3,7 +3,7 @@
 use std::error::Error;
 use std::fmt;
 
-/// Why an input is no language identifier, or no language, script or region where one is parsed.
+/// Why an input isn't a language identifier, or isn't a language, script or region where one is parsed.
 ///
 /// ```rust
 /// let error = "en-Latin".parse::<LangId>().unwrap_err();

@@ -51,7 +51,7 @@ impl LangId {
     /// Reads a language, and behind it a script, a region, both or nothing, in any case and with a `-` or a `_` before
     /// each later subtag.
     ///
-    /// The error is `InvalidLanguage` where the first subtag is no language, else `InvalidSubtag`.
+    /// The error is `InvalidLanguage` where the first subtag isn't a language, else `InvalidSubtag`.
     ///
     /// ```rust
     /// assert_eq!(rt; LangId::try_from_utf8(b"EN_us")?.as_str(), "en-US");
@@ -270,7 +270,9 @@ fn join_three(language: TinyAsciiStr<8>, script: Script, region: Region) -> Tiny
 
 // A dash and the subtag.
 #[inline]
-fn after_dash<K: SubtagKind<M>, const M: usize, const N: usize>(subtag: Subtag<K, M>) -> TinyAsciiStr<N>
+fn after_dash<K: SubtagKind<M>, const M: usize, const N: usize>(
+    subtag: Subtag<K, M>,
+) -> TinyAsciiStr<N>
     requires { 1 + M ≤ N }
     ensures { result ≡ dash ∷ subtag }
 {

@@ -19,9 +19,9 @@ use std::alloc::{AllocError, Global};
 /// ```
 #[derive(Clone, Copy, Debug, PartialEq, Eq)]
 pub enum JsonReadError {
-    /// The value is no string.
+    /// The value isn't a string.
     NotText,
-    /// The string is no text of the wanted capacity.
+    /// The string isn't a text of the wanted capacity.
     InvalidText,
 }
 
@@ -35,7 +35,7 @@ pub enum JsonReadError {
 pub enum BytesReadError {
     /// There are fewer than `expected` bytes.
     Length { expected: usize },
-    /// A byte that is no NUL stands behind a NUL.
+    /// A byte other than NUL stands behind a NUL.
     Null,
     /// A byte is above 127.
     NonAscii,
@@ -49,7 +49,7 @@ pub enum BytesReadError {
 /// ```
 #[derive(Clone, Copy, Debug)]
 pub enum FormWriteError {
-    /// The bytes are no text and then NULs.
+    /// The bytes aren't a text and then NULs.
     NotAscii,
     /// There was no memory for the JSON string.
     Memory(AllocError),
@@ -69,7 +69,7 @@ impl<const N: usize> TinyAsciiStr<N> {
         Ok(Value::String(String::from_str(alloc, self.as_str())?))
     }
 
-    /// The text of a JSON string. The error is `NotText` where the value is no string, and `InvalidText` where the
+    /// The text of a JSON string. The error is `NotText` where the value isn't a string, and `InvalidText` where the
     /// string has more than `N` bytes, a NUL or a byte above 127.
     ///
     /// ```rust

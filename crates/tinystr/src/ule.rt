@@ -13,7 +13,7 @@ use crate::unvalidated::UnvalidatedTinyAsciiStr;
 // How many records are asked together: enough that the compiler takes several at once, and few to search for a bad one.
 const BLOCK: usize = 64;
 
-/// Why bytes are no packed records.
+/// Why bytes aren't packed records.
 ///
 /// ```rust
 /// assert_eq!(rt; TinyAsciiStr::<3>::validate_bytes(b"EURJP"), Err(UleError::Length { len: 5 }));
@@ -22,7 +22,7 @@ const BLOCK: usize = 64;
 pub enum UleError {
     /// The number of bytes, `len`, isn't divisible by the size of a record.
     Length { len: usize },
-    /// Record `index`, counted from 0, is the first that is no padded text, and has this fault.
+    /// Record `index`, counted from 0, is the first that isn't a padded text, and has this fault.
     Parse { index: usize, fault: ParseError },
 }
 
@@ -52,7 +52,7 @@ impl<const N: usize> TinyAsciiStr<N> {
         Self::validate_records(bytes.as_chunks::<N>().0)
     }
 
-    // Whether all records are padded texts, and else the first that is none and its fault.
+    // Whether all records are padded texts, and else the first that isn't and its fault.
     #[inline]
     fn validate_records(records: &[[u8; N]]) -> Result<(), UleError>
         ensures accepted { IsOk result ↔ All (λ raw. IsPaddedText raw N) records.now }
@@ -88,7 +88,7 @@ impl<const N: usize> TinyAsciiStr<N> {
         index
     }
 
-    /// Bytes that are those of no value, for `N` above 0: 255 each.
+    /// `N` bytes of 255, which no value has if `N` is above 0.
     ///
     /// ```rust
     /// let pattern = TinyAsciiStr::<3>::niche_bit_pattern();

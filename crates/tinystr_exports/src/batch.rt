@@ -7,7 +7,7 @@ use tinystr::TinyAsciiStr;
 /// The most values of one batch.
 pub const COUNT: usize = 1024;
 
-/// The texts of a batch, with the empty text where the bytes end, or are no text.
+/// The texts of a batch, with the empty text where the bytes end, or aren't a text.
 pub fn read_texts<const N: usize>(bytes: &[u8]) -> [TinyAsciiStr<N>; COUNT]
     requires { N ≤ 128 }
 {

@@ -90,7 +90,7 @@ pub extern "C" fn tinystr_exports_read8(
     )
 }
 
-/// The same of units of 16 bits.
+/// The same of code units of 16 bits.
 #[unsafe(no_mangle)]
 pub extern "C" fn tinystr_exports_read16(
     capacity: usize,

@@ -1,4 +1,4 @@
-//! Batches of lists of units read, and decimal texts.
+//! Batches of lists of code units read, and decimal texts.
 
 ghost use Rattle.std.specs.Prelude.{◌≤◌};
 
@@ -112,7 +112,7 @@ fn lossy8_each<const N: usize>(rounds: usize, units: &[u8], starts: &[u32], text
     replace_each!(rounds, units, starts, texts, list => TinyAsciiStr::<N>::from_utf8_lossy(list, REPLACEMENT));
 }
 
-/// The same of units of 16 bits.
+/// The same of code units of 16 bits.
 pub fn read16_batch<const N: usize>(
     reader: usize,
     rounds: usize,
@@ -170,7 +170,7 @@ pub fn front_batch<const N: usize>(rounds: usize, bytes: &[u8], texts: &mut [u8]
     true
 }
 
-// 1 for a NUL, 2 for a unit above 127, and 3 for a list that is too long, with both lengths above that.
+// 1 for a NUL, 2 for a code unit above 127, and 3 for a list that is too long, with both lengths above that.
 fn code_of(fault: ParseError) -> u32 {
     match fault {
         ParseError::ContainsNull => 1,

@@ -4,12 +4,12 @@ ghost use Rattle.std.specs.Prelude.{◌≡◌, ◌++◌, ◌≢◌, OnOk, IfOk, 
 ghost use Rattle.std.specs.Io.KnownBytes.{Keeps, Appends, Consumes, IsAtEnd};
 ghost use Rattle.tinystr_lines.specs.Output.{AppendsBeginning, reply_line, output_of};
 
-use crate::split::split_at_first;
 use crate::reply::push_reply;
+use crate::split::split_at_first;
 use std::alloc::{AllocError, Global};
 use std::io::{Read, Write};
 
-/// What kept `run` from its end.
+/// Why `run` failed.
 #[derive(Debug, Drop)]
 pub enum RunError {
     /// Memory was refused.

@@ -2,6 +2,6 @@
 #![tactic(auto)]
 
 mod command;
-mod split;
 pub mod engine;
 mod reply;
+mod split;

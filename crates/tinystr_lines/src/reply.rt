@@ -13,7 +13,7 @@ use subtags::LangId;
 use tinystr::ule::UleError;
 use tinystr::{ParseError, TinyAsciiStr};
 
-// What the lossy reader puts for a unit that is no character.
+// What the lossy reader puts for a code unit that isn't a character.
 const REPLACEMENT: u8 = b'?';
 
 fn push_text<const N: usize>(out: &mut Vec<u8>, text: TinyAsciiStr<N>) -> Result<(), AllocError>
@@ -71,7 +71,7 @@ fn push_answer<const N: usize>(
     }
 }
 
-// Appends what a call gives of the text that the units are, or why they are none.
+// Appends what a call gives of the text that the code units are, or their fault.
 #[tactic(auto, unfolding(crate::specs::Reply::call_reply))]
 fn push_call_reply<const N: usize>(
     out: &mut Vec<u8>,
@@ -130,7 +130,7 @@ fn push_records_reply<const N: usize>(out: &mut Vec<u8>, bytes: &[u8]) -> Result
     }
 }
 
-// Appends the canonical text of a language identifier, or why there is none.
+// Appends the canonical text of a language identifier, or its refusal.
 #[tactic(auto, unfolding(crate::specs::Reply::locale_reply))]
 fn push_locale_reply(out: &mut Vec<u8>, units: &[u8]) -> Result<(), AllocError>
     ensures { OnOk result (out.new.items ≡ out.old.items ++ locale_reply units.now) }
@@ -141,7 +141,7 @@ fn push_locale_reply(out: &mut Vec<u8>, units: &[u8]) -> Result<(), AllocError>
     }
 }
 
-// Appends the reply at the capacity `N` to a command's field and the units.
+// Appends the reply at the capacity `N` to a command's field and the code units.
 fn push_reply_at<const N: usize>(
     out: &mut Vec<u8>,
     field: &[u8],

@@ -58,7 +58,7 @@ pub fn split_once(text: &[u8], byte: u8) -> Option<(&[u8], &[u8])>
     }
 }
 
-/// What stands before the first such byte, and what stands after it: all and nothing where there is none.
+/// What stands before the first such byte, and what stands after it: all and nothing where no byte is.
 #[tactic(auto, using(crate::proofs::Splits::split_steps))]
 pub fn split_at_first(text: &[u8], byte: u8) -> (&[u8], &[u8])
     ensures before { result.0.now ≡ before_first (λ b. b == byte) text.now }

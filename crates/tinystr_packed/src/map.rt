@@ -58,7 +58,7 @@ impl<'a, const N: usize, const M: usize> Model for PackedMap<'a, N, M> {
 impl<'a, const N: usize, const M: usize> PackedMap<'a, N, M> {
     /// The map of the bytes of its keys and of its values, which are checked here alone. `N` and `M` have to be above 0.
     ///
-    /// The error is `Keys` where the keys are no packed records, else `Order` where they don't rise, else `Values`.
+    /// The error is `Keys` where the keys aren't packed records, else `Order` where they don't rise, else `Values`.
     ///
     /// ```rust
     /// assert!(rt; PackedMap::<3, 1>::new(b"EURJPY", &[2, 0]).is_ok());

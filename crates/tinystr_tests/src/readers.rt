@@ -126,7 +126,7 @@ fn large_numbers_of_units_are_told_whole(rt: HostRuntime) {
     }
 }
 
-// The bits of a unit that no character has.
+// The bits of a code unit that no character has.
 const HIGHER_BITS: [u16; 9] = [
     0x80, 0x100, 0x200, 0x400, 0x800, 0x1000, 0x2000, 0x4000, 0x8000,
 ];
@@ -225,7 +225,7 @@ fn a_bad_byte_is_found_at_each_position_of_a_hundred(rt: HostRuntime) {
     );
 }
 
-// Whether a unit above 127 is refused and replaced there, in so many letters.
+// Whether a code unit above 127 is refused and replaced there, in so many letters.
 fn is_found_wide(unit: u16, at: usize, len: usize) -> bool {
     let mut units = [0x61; 40];
     if at >= 40 || len > 40 {

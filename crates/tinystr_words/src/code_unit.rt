@@ -7,7 +7,7 @@ ghost use Rattle.tinystr_words.specs.Words.{word};
 use crate::word::Word;
 use std::simd::prelude::*;
 
-/// A unit that a reader takes: a byte, or a 16-bit number.
+/// A code unit that a reader takes: a byte, or a 16-bit number.
 ///
 /// ```rust
 /// assert_eq!(rt; CodeUnit::code(b'E'), 0x45);
@@ -16,7 +16,7 @@ use std::simd::prelude::*;
 pub trait CodeUnit: Copy {
     ghost number: { Self → ℕ };
 
-    /// The unit as a number: 0 to 255 of a byte, else all 16 bits.
+    /// The code unit as a number: 0 to 255 of a byte, else all 16 bits.
     fn code(self) -> u16
         ensures { result ≡ number self };
 
@@ -28,22 +28,22 @@ pub trait CodeUnit: Copy {
     fn low_byte(self) -> u8
         ensures { result ≡ number self % 256 };
 
-    /// The units as bytes, if that is their type.
+    /// The code units as bytes, if that is their type.
     fn as_bytes(units: &[Self]) -> Option<&[u8]>
         ensures { IfSome result (λ bytes. bytes.now ≡ map number units.now) };
 
-    /// The lowest eight bits of each of four units, as a little-endian word. There have to be four.
+    /// The lowest eight bits of each of four code units, as a little-endian word. There have to be four.
     fn word_of_four(units: &[Self]) -> u32
         requires { length units.now ≡ 4 }
         ensures { result ≡ word (map (λ unit. number unit % 256) units.now) };
 
-    /// The lowest eight bits of each of eight units. There have to be eight.
+    /// The lowest eight bits of each of eight code units. There have to be eight.
     fn eight_low_bytes(units: &[Self]) -> [u8; 8]
         requires { length units.now ≡ 8 }
         ensures { result ≡ map (λ unit. number unit % 256) units.now };
 }
 
-/// How many units from 1 on are characters.
+/// How many code units from 1 on are characters.
 pub const CHARACTERS: u8 = 0x7f;
 
 impl CodeUnit for u8 {
@@ -121,8 +121,8 @@ impl CodeUnit for u16 {
     }
 }
 
-/// Whether all units are characters. There is no early exit, so that the compiler can test a known number of them at
-/// once.
+/// Whether all code units are characters. There is no early exit, so that the compiler can test a known number of them
+/// at once.
 #[inline(always)]
 pub fn are_characters<U: CodeUnit>(units: &[U]) -> bool
     ensures { IsTrue result ↔ IsText (map U.number units.now) }
@@ -134,7 +134,7 @@ pub fn are_characters<U: CodeUnit>(units: &[U]) -> bool
     are_characters
 }
 
-// By the first and the last `count` units, which are all.
+// By the first and the last `count` code units, which are all.
 #[inline(always)]
 fn is_text_by_ends<U: CodeUnit>(units: &[U], count: usize) -> bool
     requires least { count ≤ length units.now }
@@ -144,7 +144,7 @@ fn is_text_by_ends<U: CodeUnit>(units: &[U], count: usize) -> bool
     are_characters(&units[..count]) & are_characters(&units[units.len() - count..])
 }
 
-/// Whether at most sixteen units are a text.
+/// Whether at most sixteen code units are a text.
 #[inline(always)]
 pub fn is_text<U: CodeUnit>(units: &[U]) -> bool
     requires { length units.now ≤ 16 }

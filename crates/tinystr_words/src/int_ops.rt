@@ -9,13 +9,13 @@ ghost use Rattle.tinystr_words.specs.Case.{lowercase, titlecase, uppercase};
 ghost use Rattle.tinystr_words.specs.Decimal.{last};
 ghost use Rattle.tinystr_words.specs.Questions.{ask_question, in_case};
 
+use crate::code_unit::{CodeUnit, is_text};
 use crate::decimal::{decimal_fits, decimal_word, eight_digits};
 use crate::kernel::{
-    DIGIT, LOWER, Range, UPPER, case_bits, unpadded, inside, marks, no_character_marked,
-    no_lane_marked, outside, with_case_bits,
+    DIGIT, LOWER, Range, UPPER, case_bits, inside, marks, no_character_marked, no_lane_marked,
+    outside, unpadded, with_case_bits,
 };
 use crate::question::{Case, Question};
-use crate::code_unit::{CodeUnit, is_text};
 use crate::word::{Word, lanes};
 use std::marker::Model;
 use std::simd::prelude::*;
@@ -186,7 +186,7 @@ impl<T: Word<LEN>, const LEN: usize> Aligned<T, LEN> {
 
 // What stands from here on is there for `padded` and for the strict readers of `tinystr`.
 impl<T: Word<LEN>, const LEN: usize> Aligned<T, LEN> {
-    /// Takes the text of at most `LEN` bytes, which have to be a text and then NULs.
+    /// Reads a padded text of at most `LEN` bytes, which have to be one.
     #[inline(always)]
     pub fn from_padded(bytes: &[u8]) -> Self
         requires fits { length bytes.now ≤ LEN }
@@ -198,7 +198,7 @@ impl<T: Word<LEN>, const LEN: usize> Aligned<T, LEN> {
         }
     }
 
-    /// Takes the text of at most `LEN` bytes, if they are a text and then NULs.
+    /// Reads a padded text of at most `LEN` bytes; None if the bytes aren't one.
     ///
     /// ```rust
     /// assert!(rt; Aligned8::try_from_padded(b"GB\0").is_some());
@@ -218,7 +218,7 @@ impl<T: Word<LEN>, const LEN: usize> Aligned<T, LEN> {
         }
     }
 
-    /// Takes at most `LEN` units, if they are a text, with no NUL.
+    /// Takes at most `LEN` code units, if they are a text, with no NUL.
     ///
     /// ```rust
     /// assert!(rt; Aligned8::try_from_text(b"GB").is_some());

@@ -89,7 +89,7 @@ pub fn digits_ten()
     ensures { (n : ℕ) → n ≤ 4294967295 → length (decimal n) ≤ 10 }
 {}
 
-/// std's decimal text of a number is the shortest one, and no other list is.
+/// std's decimal text of a number is its only shortest one.
 pub fn digits_shortest()
     ensures is { (n : ℕ) → n < 2 ^ 64 → IsDecimalOf n (decimal n) }
     ensures only { (n : ℕ) (ds : List ℕ) → n < 2 ^ 64 → IsDecimalOf n ds → ds ≡ decimal n }
@@ -157,7 +157,7 @@ pub fn bytes_back()
     ensures alone { (bytes : List ℕ) (n : ℕ) → IsPaddedText bytes n → byte_fault n bytes ≡ None }
 {}
 
-/// Bytes 255 are refused for what they are.
+/// Bytes of 255 are refused as `NonAscii`.
 pub fn niche_fault()
     ensures refused { (n : ℕ) → 0 < n → ¬ IsPaddedText (replicate n 255) n }
     ensures fault { (n : ℕ) → 0 < n → fault_in n (replicate n 255) ≡ non_ascii }

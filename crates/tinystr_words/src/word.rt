@@ -28,8 +28,8 @@ pub trait Word<const LEN: usize>: Copy + Drop {
         self.to_bytes_in_registers()
     }
 
-    /// The word whose first lanes are the lowest bytes of these units and whose others are NUL, made in registers: two
-    /// pieces of half a word, which may overlap, are all units.
+    /// The word whose first lanes are the lowest bytes of these code units and whose others are NUL, made in registers:
+    /// two pieces of half a word, which may overlap, are all code units.
     fn load<U: CodeUnit>(src: &[U]) -> Self
         requires { length src.now ≤ LEN }
         ensures { number result ≡ word (map (λ u. U.number u % 256) src.now) };
@@ -109,7 +109,7 @@ impl Word<4> for u32 {
         u32::to_le_bytes(self)
     }
 
-    // Of one to three units, the first, the middle and the last are all.
+    // Of one to three code units, the first, the middle and the last are all.
     #[inline(always)]
     fn load<U: CodeUnit>(src: &[U]) -> u32 {
         let len = src.len();
@@ -188,7 +188,7 @@ impl Word<8> for u64 {
         u64::to_le_bytes(self)
     }
 
-    // Four units are two pieces too, as `is_text` tests them: so their length is asked once where both are done.
+    // Four code units are two pieces too, as `is_text` tests them: so their length is asked once where both are done.
     #[inline(always)]
     fn load<U: CodeUnit>(src: &[U]) -> u64 {
         let len = src.len();

@@ -13,7 +13,7 @@ use tinystr::TinyAsciiStr;
 /// The decimal places of each currency, by its code of at most three characters.
 pub type Places = BTreeMap<TinyAsciiStr<3>, u8>;
 
-/// The decimal places of the currency of a code, as 2 of `EUR`; none for what is no code.
+/// The decimal places of the currency of a code, as 2 of `EUR`; None if it isn't a code.
 pub fn places_of(table: &Places, code: &str) -> Option<u8>
     ensures code { IsStrictText code.now 3 → result ≡ get (slice_cmp nat_cmp) table.now code.now }
     ensures no_code { ¬ IsStrictText code.now 3 → result ≡ None }

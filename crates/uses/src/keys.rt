@@ -16,7 +16,7 @@ pub type Keys = HashSet<TinyAsciiStr<8>>;
 /// Why a key isn't added.
 #[derive(Clone, Copy, Debug)]
 pub enum KeyError {
-    /// The text is no key, for this fault.
+    /// The text isn't a key, for this fault.
     Text(ParseError),
     /// There was no memory.
     Memory(AllocError),

@@ -17,7 +17,7 @@ use subtags::{LangId, Region, laws};
 /// A number for each locale, as that of its first page.
 pub type Pages = BTreeMap<LangId, u32>;
 
-/// The page of a tag's locale, whatever the tag's case and separators; none for what is no tag.
+/// The page of a tag's locale, whatever the tag's case and separators; None if it isn't a tag.
 pub fn page_of(pages: &Pages, tag: &[u8]) -> Option<u32>
     ensures tag { IsLangId tag.now →
         result ≡ get (slice_cmp nat_cmp) pages.now (canonical_text tag.now) }
@@ -39,7 +39,7 @@ pub fn is_same_locale(tag: &[u8], other: &[u8]) -> bool
     }
 }
 
-/// The identifier of a tag, whatever type holds its text; none for what is no tag.
+/// The identifier of a tag, whatever type holds its text; None if it isn't a tag.
 pub fn read_id<T: AsStr>(tag: &T) -> Option<LangId>
     ensures { SomeIff result (IsLangId (T.text tag.now)) (canonical_text (T.text tag.now)) }
 {

@@ -21,14 +21,14 @@ pub fn latin() -> TinyAsciiStr<8>
     TinyAsciiStr::from_utf8_unchecked(*b"Latn\0\0\0\0")
 }
 
-/// The text of bytes, with `?` for each that is no character.
+/// The text of bytes, with `?` for each that isn't a character.
 pub fn with_question_marks(bytes: &[u8]) -> TinyAsciiStr<8>
     ensures { result ≡ lossy bytes.now 0x3f 8 }
 {
     TinyAsciiStr::from_utf8_lossy(bytes, b'?')
 }
 
-/// The text of bytes, with a replacement for each that is no character; none where the replacement is none itself.
+/// The text of bytes, with a replacement for each that isn't a character; None where the replacement isn't one itself.
 pub fn with_replacement(bytes: &[u8], replacement: u8) -> Option<TinyAsciiStr<8>>
     ensures tested { IsSome result ↔ IsTextByte replacement }
     ensures text { IfSome result (λ text. text ≡ lossy bytes.now replacement 8) }

@@ -9,7 +9,7 @@ use crate::ascii::TinyAsciiStr;
 use tinystr_words::{Case, Question, padded};
 
 impl<const N: usize> TinyAsciiStr<N> {
-    /// The answer to a question by name, as `is_ascii_titlecase` to `Titlecase`.
+    /// Answers a question by its name: `ask(Question::Titlecase)` is `is_ascii_titlecase()`.
     ///
     /// ```rust
     /// assert!(rt; tinystr!(4, "Latn")?.ask(Question::AlphabeticTitlecase));
@@ -65,7 +65,7 @@ impl<const N: usize> TinyAsciiStr<N> {
         self.ask(Question::Numeric)
     }
 
-    /// Whether no byte is an uppercase letter. Bytes that are no letters pass.
+    /// Whether no byte is an uppercase letter. Other bytes pass.
     ///
     /// ```rust
     /// assert!(rt; tinystr!(8, "utf-8")?.is_ascii_lowercase());
@@ -78,8 +78,7 @@ impl<const N: usize> TinyAsciiStr<N> {
         self.ask(Question::Lowercase)
     }
 
-    /// Whether the first byte isn't a lowercase letter and no later byte is an uppercase letter. Bytes that are no
-    /// letters pass.
+    /// Whether the first byte isn't a lowercase letter and no later byte is an uppercase letter. Other bytes pass.
     #[inline]
     pub fn is_ascii_titlecase(&self) -> bool
         ensures { result ≡ ask is_not_lower is_not_upper self.now }
@@ -87,7 +86,7 @@ impl<const N: usize> TinyAsciiStr<N> {
         self.ask(Question::Titlecase)
     }
 
-    /// Whether no byte is a lowercase letter. Bytes that are no letters pass.
+    /// Whether no byte is a lowercase letter. Other bytes pass.
     #[inline]
     pub fn is_ascii_uppercase(&self) -> bool
         ensures { result ≡ ask is_not_lower is_not_lower self.now }

@@ -83,7 +83,7 @@ impl<const N: usize> TinyAsciiStr<N> {
         strict::read_padded(raw)
     }
 
-    // The first units, with the replacement for each that is no character.
+    // The first code units, with the replacement for each that isn't a character.
     #[tactic(auto, using(tinystr_words::proofs::WholeCodeUnits::lossy_is_padded))]
     #[inline(always)]
     fn read_lossy<U: CodeUnit>(units: &[U], replacement: u8) -> Self

@@ -1,4 +1,4 @@
-//! The strict readers' way from units to a value, or to the first fault.
+//! The strict readers' way from code units to a value, or to the first fault.
 
 ghost use Rattle.std.specs.Prelude.{◌≡◌, ◌↔◌, map, All, IsTrue, IsOk, IfOk, IfErr, option_map};
 ghost use Rattle.tinystr_words.specs.Text.{text_of, IsStrictText, IsPaddedText};
@@ -11,7 +11,7 @@ use tinystr_words::int_ops::{Aligned8, Aligned16};
 use tinystr_words::padded::{self, Width, cut, width_of};
 use tinystr_words::{CodeUnit, are_characters};
 
-/// The text of the units, or why there is none. The value is made where its bytes are: an array in an `Option` or a
+/// The text of the code units, or its fault. The value is made where its bytes are: an array in an `Option` or a
 /// `Result` of its own would be moved once more.
 #[inline(always)]
 pub fn read<U: CodeUnit, const N: usize>(units: &[U]) -> Result<TinyAsciiStr<N>, ParseError>
@@ -24,7 +24,7 @@ pub fn read<U: CodeUnit, const N: usize>(units: &[U]) -> Result<TinyAsciiStr<N>,
     }
     if units.len() <= N {
         match width_of(N) {
-            // up to 8 units: one register
+            // up to 8 code units: one register
             Width::Four | Width::Eight => {
                 if let Some(text) = Aligned8::try_from_text(units) {
                     return Ok(TinyAsciiStr::from_utf8_unchecked(cut(&text.to_bytes())));
@@ -77,7 +77,7 @@ pub fn are_padded<const N: usize>(records: &[[u8; N]]) -> bool
     are_padded
 }
 
-// The text of the units, read by pieces, or why there is none.
+// The text of the code units, read by pieces, or its fault.
 #[tactic(auto, using(crate::proofs::Scans::scan_steps))]
 #[inline(always)]
 fn read_pieces<U: CodeUnit, const N: usize>(units: &[U]) -> Result<TinyAsciiStr<N>, ParseError>
@@ -101,8 +101,8 @@ fn read_pieces<U: CodeUnit, const N: usize>(units: &[U]) -> Result<TinyAsciiStr<
     Ok(TinyAsciiStr::from_utf8_unchecked(bytes))
 }
 
-// The fault at the first position whose unit is above 127, or is a character after a NUL. Where a unit is both, it is
-// above 127: `forms::find_byte_fault` has the other order, that of the byte form.
+// The fault at the first position whose code unit is above 127, or is a character after a NUL. Where a code unit is
+// both, it is above 127: `forms::find_byte_fault` has the other order, that of the byte form.
 #[tactic(auto, using(crate::proofs::Scans::scan_steps))]
 fn find_fault<U: CodeUnit>(units: &[U]) -> Option<ParseError>
     ensures { option_map fault_of result ≡ first_fault (map U.number units.now) }
@@ -122,7 +122,7 @@ fn find_fault<U: CodeUnit>(units: &[U]) -> Option<ParseError>
     None
 }
 
-// Why there is no text of at most `N` units.
+// Why the code units aren't a text of at most `N`.
 #[tactic(auto, using(crate::proofs::Scans::scan_steps))]
 #[inline(always)]
 fn fault<U: CodeUnit, const N: usize>(units: &[U]) -> ParseError

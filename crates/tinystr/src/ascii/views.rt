@@ -29,7 +29,7 @@ impl<const N: usize> TinyAsciiStr<N> {
         N == 0 || self.bytes[0] == 0
     }
 
-    /// The bytes of the text, in the value itself, without the NULs behind it.
+    /// Borrows the bytes of the text, without the NULs behind it.
     ///
     /// ```rust
     /// assert_eq!(rt; tinystr!(8, "en-US")?.as_utf8(), b"en-US".as_slice());

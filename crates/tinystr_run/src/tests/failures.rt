@@ -1,4 +1,4 @@
-//! A read, a write or a growth that fails.
+//! A read, a write or an allocation that fails.
 
 ghost use Rattle.std.specs.Prelude.{Some};
 

@@ -20,8 +20,8 @@ fn byte_or<U: CodeUnit>(unit: U, replacement: u8) -> u8
     }
 }
 
-// Reads `K` units into the bytes at the same places, with the replacement for each that is no character, and tells
-// whether there is one. There is no early exit, so that the compiler can take all units at once.
+// Reads `K` code units into the bytes at the same places, with the replacement for each that isn't a character, and
+// tells whether there is one. There is no early exit, so that the compiler can take all code units at once.
 #[inline(always)]
 fn read_piece<U: CodeUnit, const K: usize>(
     bytes: &mut [u8],
@@ -43,7 +43,7 @@ fn read_piece<U: CodeUnit, const K: usize>(
     is_bad
 }
 
-// Two pieces, which may overlap, are all units.
+// Two pieces, which may overlap, are all code units.
 #[inline(always)]
 fn read_pair<U: CodeUnit, const K: usize>(bytes: &mut [u8], units: &[U], replacement: u8) -> bool
     requires least { K ≤ length units.now }
@@ -56,7 +56,7 @@ fn read_pair<U: CodeUnit, const K: usize>(bytes: &mut [u8], units: &[U], replace
     is_bad | read_piece::<U, K>(bytes, units, replacement, units.len() - K)
 }
 
-// Pieces of 32 units, the last of which may overlap the one before it.
+// Pieces of 32 code units, the last of which may overlap the one before it.
 #[inline(always)]
 fn read_many<U: CodeUnit>(bytes: &mut [u8], units: &[U], replacement: u8) -> bool
     requires least { 32 ≤ length units.now }
@@ -74,8 +74,8 @@ fn read_many<U: CodeUnit>(bytes: &mut [u8], units: &[U], replacement: u8) -> boo
     is_bad | read_piece::<U, 32>(bytes, units, replacement, last)
 }
 
-/// Reads all units, by pieces as large as they and the bytes allow, with the replacement for each that is no character,
-/// and tells whether there is one.
+/// Reads all code units, by pieces as large as they and the bytes allow, with the replacement for each that isn't a
+/// character, and tells whether there is one.
 #[inline(always)]
 pub fn read_all<U: CodeUnit>(bytes: &mut [u8], units: &[U], replacement: u8) -> bool
     requires room { length units.now ≤ length bytes.old }
@@ -100,8 +100,8 @@ pub fn read_all<U: CodeUnit>(bytes: &mut [u8], units: &[U], replacement: u8) -> 
     }
 }
 
-// The low bytes of all units, eight at a time. The pieces end at 7, 15 and so on, where the compiler cuts a `Result` of a
-// text and an error of two numbers, so that each stays in a register.
+// The low bytes of all code units, eight at a time. The pieces end at 7, 15 and so on, where the compiler cuts a
+// `Result` of a text and an error of two numbers, so that each stays in a register.
 #[inline(always)]
 fn put_low_bytes<U: CodeUnit>(bytes: &mut [u8], units: &[U])
     requires least { 8 ≤ length units.now }
@@ -121,8 +121,8 @@ fn put_low_bytes<U: CodeUnit>(bytes: &mut [u8], units: &[U])
     bytes[start..len].copy_from_slice(&eight[8 - (len - start)..]);
 }
 
-/// The low bytes of `N` units. Of bytes it is one copy of a known length, which the compiler takes apart wherever a
-/// `Result` is cut. Of 16-bit units a loop over each would put the bytes together one by one.
+/// The low bytes of `N` code units. Of bytes it is one copy of a known length, which the compiler takes apart wherever
+/// a `Result` is cut. Of 16-bit code units a loop over each would put the bytes together one by one.
 #[inline(always)]
 pub fn low_bytes<U: CodeUnit, const N: usize>(units: &[U]) -> [u8; N]
     requires { length units.now ≡ N }
@@ -139,7 +139,7 @@ pub fn low_bytes<U: CodeUnit, const N: usize>(units: &[U]) -> [u8; N]
     bytes
 }
 
-// `N` units in an array of their own, which the compiler keeps in registers.
+// `N` code units in an array of their own, which the compiler keeps in registers.
 #[inline(always)]
 fn lossy_chunk<U: CodeUnit, const N: usize>(units: &[U], replacement: u8) -> [u8; N]
     requires { length units.now ≡ N }
@@ -150,7 +150,7 @@ fn lossy_chunk<U: CodeUnit, const N: usize>(units: &[U], replacement: u8) -> [u8
     bytes
 }
 
-/// The first `N` units, with the replacement for each that is no character, and then NULs.
+/// The first `N` code units, with the replacement for each that isn't a character, and then NULs.
 #[inline(always)]
 pub fn lossy<U: CodeUnit, const N: usize>(units: &[U], replacement: u8) -> [u8; N]
     ensures { result ≡ pad (lossy (map U.number units.now) replacement N) N }

@@ -1,5 +1,5 @@
-//! At most sixteen bytes in a vector, with a replacement for those that are no characters. They are loaded in registers:
-//! a load of bytes that were stored in pieces would wait for them.
+//! At most sixteen bytes in a vector, with a replacement for those that aren't characters. They are loaded in
+//! registers: a load of bytes that were stored in pieces would wait for them.
 
 ghost use Rattle.std.specs.Prelude.{◌≡◌, ◌≤◌, length, map, replicate};
 ghost use Rattle.tinystr_words.specs.Text.{pad};
@@ -16,7 +16,7 @@ static KEPT_LANES: [u8; 32] = [
     0, 0, 0, 0, 0, 0, 0, 0, 0, 0, 0, 0, 0, 0, 0, 0, //
 ];
 
-/// At most sixteen bytes, with the replacement for each that is no character, and then NULs.
+/// At most sixteen bytes, with the replacement for each that isn't a character, and then NULs.
 #[inline(always)]
 pub fn lossy_word<const N: usize>(bytes: &[u8], replacement: u8) -> [u8; N]
     requires one_word { length bytes.now ≤ 16 }

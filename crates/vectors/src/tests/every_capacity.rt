@@ -14,7 +14,7 @@ fn has_forms<const N: usize>(text: TinyAsciiStr<N>, vector: &Vector) -> bool {
         && text.to_ascii_uppercase().as_str() == vector.upper
 }
 
-// The text, read again from units of 16 bits.
+// The text, read again from code units of 16 bits.
 fn read_wide<const N: usize>(text: TinyAsciiStr<N>) -> Result<TinyAsciiStr<N>, ParseError> {
     let front = text.resize::<100>();
     let units = front.to_bytes().map(u16::from);
