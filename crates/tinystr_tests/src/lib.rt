@@ -1,5 +1,5 @@
-//! The tests of `tinystr`, each over its public calls. They stand apart from it, since a crate with tests is proved
-//! once more with them.
+//! The tests of `tinystr` and of its words, in a module for what they test. They stand apart from both, since a crate
+//! with tests is proved once more with them.
 #![tactic(auto)]
 
 #[cfg(test)]
@@ -11,16 +11,26 @@ mod forms;
 #[cfg(test)]
 mod in_rust;
 #[cfg(test)]
+mod laws;
+#[cfg(test)]
+mod neighbours;
+#[cfg(test)]
 mod order;
+#[cfg(test)]
+mod original;
 #[cfg(test)]
 mod printing;
 #[cfg(test)]
-mod readers;
+mod questions;
+#[cfg(test)]
+mod reading;
 #[cfg(test)]
 mod records;
 #[cfg(test)]
-mod traits;
+mod table;
 #[cfg(test)]
 mod unvalidated;
 #[cfg(test)]
 mod views;
+#[cfg(test)]
+mod words;

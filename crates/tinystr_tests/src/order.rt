@@ -1,9 +1,10 @@
 //! Equality, order and hash of values.
 
+use crate::neighbours::{COUNT, Text, texts};
 use std::cmp::Ordering;
 use std::collections::HashSet;
 use std::test::Fail;
-use tinystr::{TinyAsciiStr, TinyStr4};
+use tinystr::{TinyAsciiStr, TinyStr4, UnvalidatedTinyAsciiStr};
 
 fn are_ordered(order: Ordering, first: &str, second: &str) -> bool {
     match (
@@ -76,5 +77,93 @@ fn a_hash_set_holds_each_text_once(rt: HostRuntime) -> Result<(), Fail> {
         set.insert(text)?;
     }
     assert!(rt; set.len() == 2 && set.contains(&en) && set.contains(&capital));
+    Ok(())
+}
+
+// Less if the first is a proper beginning of the second, or has the lesser byte where they first differ.
+fn plain_order(first: &[u8], second: &[u8]) -> Ordering {
+    for (a, b) in first.iter().zip(second) {
+        if a < b {
+            return Ordering::Less;
+        }
+        if a > b {
+            return Ordering::Greater;
+        }
+    }
+    first.len().cmp(&second.len())
+}
+
+// Whether the values answer each comparison as the order does, both ways.
+fn answer_by<const N: usize>(order: Ordering, a: TinyAsciiStr<N>, b: TinyAsciiStr<N>) -> bool {
+    a.cmp(&b) == order
+        && b.cmp(&a) == order.reverse()
+        && a.partial_cmp(&b) == Some(order)
+        && (a == b) == (order == Ordering::Equal)
+        && (a < b) == (order == Ordering::Less)
+        && (b < a) == (order == Ordering::Greater)
+}
+
+fn any_bytes_answer_by<const N: usize>(
+    order: Ordering,
+    a: UnvalidatedTinyAsciiStr<N>,
+    b: UnvalidatedTinyAsciiStr<N>,
+) -> bool {
+    a.cmp(&b) == order
+        && a.partial_cmp(&b) == Some(order)
+        && (a == b) == (order == Ordering::Equal)
+        && (a < b) == (order == Ordering::Less)
+        && (b < a) == (order == Ordering::Greater)
+}
+
+fn are_in_order<const N: usize>(a: TinyAsciiStr<N>, b: TinyAsciiStr<N>) -> bool {
+    let order = plain_order(a.as_utf8(), b.as_utf8());
+    plain_order(a.all_bytes(), b.all_bytes()) == order
+        && answer_by(order, a, b)
+        && any_bytes_answer_by(order, a.to_unvalidated(), b.to_unvalidated())
+}
+
+fn are_in_order_at_each_capacity(a: Text, b: Text) -> bool {
+    are_in_order(a, b)
+        && are_in_order(a.resize::<4>(), b.resize::<4>())
+        && are_in_order(a.resize::<33>(), b.resize::<33>())
+}
+
+// The first pair out of order. Each pair is compared once, since both ways are asked.
+fn first_out_of_order(texts: &[Text]) -> Option<[Text; 2]> {
+    for (i, a) in texts.iter().enumerate() {
+        for b in &texts[..i + 1] {
+            if !are_in_order_at_each_capacity(*a, *b) {
+                return Some([*a, *b]);
+            }
+        }
+    }
+    None
+}
+
+#[test]
+fn the_order_is_total_and_that_of_the_padded_bytes(rt: HostRuntime) -> Result<(), Fail> {
+    let texts = texts(rt.alloc())?;
+    assert_eq!(rt; texts.len(), COUNT);
+    assert_eq!(rt; first_out_of_order(&texts), None);
+    Ok(())
+}
+
+// The same text by other calls.
+fn is_found_again(set: &HashSet<Text>, text: Text) -> bool {
+    let read = Text::from_utf8_lossy(text.as_utf8(), b'?');
+    let cut = text.resize::<33>().resize::<18>();
+    set.contains(&read) && set.contains(&cut)
+}
+
+#[test]
+fn equal_texts_hash_alike(rt: HostRuntime) -> Result<(), Fail> {
+    let texts = texts(rt.alloc())?;
+    assert_eq!(rt; texts.len(), COUNT);
+    let mut set = HashSet::new(rt.alloc());
+    for (i, text) in texts.iter().enumerate() {
+        let is_new = !texts[..i].contains(text);
+        assert!(rt; set.insert(*text)? == is_new, "{text:?}");
+        assert!(rt; is_found_again(&set, *text), "{text:?}");
+    }
     Ok(())
 }

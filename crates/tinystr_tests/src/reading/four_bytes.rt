@@ -1,4 +1,4 @@
-//! Bytes that no text has, and the bytes at the edges of those that texts have.
+//! Each reader of four bytes, for each byte at each position: those that no text has, and those at their edges.
 
 use tinystr::ParseError::{self, ContainsNull, NonAscii};
 use tinystr::TinyStr4;

@@ -4,7 +4,7 @@ use std::alloc::{AllocError, Global};
 
 /// A text and what is known of it.
 #[derive(Clone, Copy)]
-pub struct Vector {
+pub struct Row {
     /// Characters, each a byte from 1 to 127.
     pub text: &'static str,
     /// Nine letters, `y` or `n` for each question: alphabetic, alphanumeric, numeric, lowercase, titlecase, uppercase,
@@ -18,7 +18,7 @@ pub struct Vector {
     pub upper: &'static str,
 }
 
-/// A row for each vector, its fields in their order, of at most 17 characters each. Most texts are those that the Rust crate's own tests ask about.
+/// A line for each row, its fields in their order, of at most 17 characters each. Most texts are those that the Rust crate's own tests ask about.
 /// None of the answers was made by the calls that are tested on them. It is one literal, since a proof reads each
 /// literal that it meets.
 pub const TEXTS: &str = "\
@@ -57,7 +57,7 @@ A15b|nynnynnnn|a15b|A15b|A15B
 abcdefghijklmnopq|yynynnynn|abcdefghijklmnopq|Abcdefghijklmnopq|ABCDEFGHIJKLMNOPQ
 ";
 
-/// Rows of texts, some of them longer, that fill a word, end it or begin the next one.
+/// Lines of texts, some of them longer, that fill a word, end it or begin the next one.
 pub const EDGES: &str = "\
 Abcdefghijklmnopq|yynnynnyn|abcdefghijklmnopq|Abcdefghijklmnopq|ABCDEFGHIJKLMNOPQ
 Abcdefghijklmnop1|nynnynnnn|abcdefghijklmnop1|Abcdefghijklmnop1|ABCDEFGHIJKLMNOP1
@@ -71,9 +71,9 @@ Aaaaaaaaaaaaaaaaaaaaaaaaaaaaaaaaaaaaaaaaaaaaaaaaaaaaaaaaaaaaaaaaaaaaaaaaaaaaaaaa
 \x7f\x7f\x7f\x7f|nnnyyynnn|\x7f\x7f\x7f\x7f|\x7f\x7f\x7f\x7f|\x7f\x7f\x7f\x7f
 ";
 
-fn vector_of(row: &'static str) -> Option<Vector> {
-    let mut fields = row.split('|');
-    Some(Vector {
+fn row_of(line: &'static str) -> Option<Row> {
+    let mut fields = line.split('|');
+    Some(Row {
         text: fields.next()?,
         answers: fields.next()?,
         lower: fields.next()?,
@@ -82,13 +82,13 @@ fn vector_of(row: &'static str) -> Option<Vector> {
     })
 }
 
-/// The vectors of rows.
-pub fn vectors(alloc: Global, rows: &'static str) -> Result<Vec<Vector>, AllocError> {
-    let mut vectors = Vec::new(alloc);
-    for row in rows.lines() {
-        if let Some(vector) = vector_of(row) {
-            vectors.push(vector)?;
+/// The rows of some lines.
+pub fn rows_of(alloc: Global, lines: &'static str) -> Result<Vec<Row>, AllocError> {
+    let mut rows = Vec::new(alloc);
+    for line in lines.lines() {
+        if let Some(row) = row_of(line) {
+            rows.push(row)?;
         }
     }
-    Ok(vectors)
+    Ok(rows)
 }

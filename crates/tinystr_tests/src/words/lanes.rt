@@ -4,7 +4,7 @@ ghost use Rattle.std.specs.Prelude.{◌≤◌, length};
 ghost use Rattle.tinystr_words.specs.Text.{IsPadded};
 ghost use Rattle.tinystr_words.specs.Words.{HasLowLanes};
 
-use super::word_answers;
+use crate::questions::{are_spelled, word_answers};
 use tinystr_words::int_ops::{Aligned, Aligned4, Aligned8, Aligned16};
 use tinystr_words::kernel::{DIGIT, LOWER, UPPER, case_bits, outside, present};
 use tinystr_words::word::Word;
@@ -12,12 +12,12 @@ use tinystr_words::word::Word;
 // Whether the word has these answers and this length, and each case change gives the bytes.
 fn stays<T: Word<LEN>, const LEN: usize>(
     word: &Aligned<T, LEN>,
-    answers: [bool; 9],
+    answers: &str,
     bytes: [u8; LEN],
     len: usize,
 ) -> bool {
     word.len() == len
-        && word_answers(word) == answers
+        && are_spelled(word_answers(word), answers)
         && word.to_ascii_lowercase() == bytes
         && word.to_ascii_titlecase() == bytes
         && word.to_ascii_uppercase() == bytes
@@ -43,7 +43,7 @@ fn with_added(text: u32, first: u8, others: u8) -> [u8; 4]
 
 #[test]
 fn the_array_of_no_bytes_is_the_empty_text(rt: HostRuntime) {
-    let yes = [true; 9];
+    let yes = "yyyyyyyyy";
     assert!(rt; stays(&Aligned4::from_ascii_bytes(b""), yes, [0; 4], 0));
     assert!(rt; stays(&Aligned8::from_ascii_bytes(b""), yes, [0; 8], 0));
     assert!(rt; stays(&Aligned16::from_ascii_bytes(b""), yes, [0; 16], 0));
@@ -51,7 +51,7 @@ fn the_array_of_no_bytes_is_the_empty_text(rt: HostRuntime) {
 
 #[test]
 fn words_full_of_the_highest_byte(rt: HostRuntime) {
-    let answers = [false, false, false, true, true, true, false, false, false];
+    let answers = "nnnyyynnn";
     assert!(rt;
         stays(
             &Aligned4::from_ascii_bytes(&[0x7f; 4]),

@@ -1,32 +1,14 @@
 //! The thirteen calls beside a plain loop over the characters.
 
-use super::answers_of;
+use super::{Answers, answers_of, byte_answers};
 use std::process::Abort;
 use std::test::Fail;
 use tinystr::TinyAsciiStr;
 
-// The answers of a text of one character, or of a later character.
-fn plain_answers_of(byte: u8, is_first: bool) -> [bool; 9] {
-    let upper = byte.is_ascii_uppercase();
-    let lower = byte.is_ascii_lowercase();
-    let digit = byte.is_ascii_digit();
-    [
-        upper || lower,
-        upper || lower || digit,
-        digit,
-        !upper,
-        if is_first { !lower } else { !upper },
-        !lower,
-        lower,
-        if is_first { upper } else { lower },
-        upper,
-    ]
-}
-
-fn plain_answers(text: &[u8]) -> [bool; 9] {
+fn plain_answers(text: &[u8]) -> Answers {
     let mut answers = [true; 9];
     for (i, byte) in text.iter().enumerate() {
-        let passes = plain_answers_of(*byte, i == 0);
+        let passes = byte_answers(*byte, i == 0);
         for question in 0..9 {
             answers[question] &= passes[question];
         }

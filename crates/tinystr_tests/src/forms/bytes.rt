@@ -1,0 +1,120 @@
+//! The byte form of both types, there and back and refused.
+
+use std::test::Fail;
+use tinystr::forms::{BytesReadError, FormWriteError};
+use tinystr::{TinyAsciiStr, UnvalidatedTinyAsciiStr, tinystr};
+
+// Whether the text is read in front of the input, and this is left.
+fn is_read_in_front<const N: usize>(input: &[u8], text: TinyAsciiStr<N>, left: &[u8]) -> bool {
+    match TinyAsciiStr::<N>::read_bytes(input) {
+        Ok((read, rest)) => read == text && rest == left,
+        Err(_) => false,
+    }
+}
+
+#[test]
+fn bytes_in_front_are_read_and_the_rest_is_handed_back(rt: HostRuntime) -> Result<(), Fail> {
+    assert!(rt; is_read_in_front(b"abcd", tinystr!(4, "abcd")?, b""));
+    assert!(rt; is_read_in_front(b"a\0\0\0", tinystr!(4, "a")?, b""));
+    assert!(rt; is_read_in_front(b"\0\0\0\0", tinystr!(4, "")?, b""));
+    assert!(rt; is_read_in_front(b"abcde", tinystr!(4, "abcd")?, b"e"));
+    assert!(rt; is_read_in_front(b"enXY", tinystr!(2, "en")?, b"XY"));
+    assert!(rt; is_read_in_front(b"ab", tinystr!(0, "")?, b"ab"));
+    Ok(())
+}
+
+fn is_refused(input: &[u8], refusal: BytesReadError) -> bool {
+    match TinyAsciiStr::<4>::read_bytes(input) {
+        Ok(_) => false,
+        Err(fault) => fault == refusal,
+    }
+}
+
+#[test]
+fn bytes_are_refused_for_their_first_fault(rt: HostRuntime) {
+    for (input, refusal) in [
+        (b"\0\x80\0\0".as_slice(), BytesReadError::Null),
+        (b"\0a\x80\0", BytesReadError::Null),
+        (b"a\x80\0b", BytesReadError::NonAscii),
+        (b"a\0b\x80", BytesReadError::Null),
+        (b"\x80\0a\0", BytesReadError::NonAscii),
+        (b"abc\xFF", BytesReadError::NonAscii),
+        (b"ab\0\x80", BytesReadError::Null),
+        (b"", BytesReadError::Length { expected: 4 }),
+        (b"a", BytesReadError::Length { expected: 4 }),
+        (b"a\0", BytesReadError::Length { expected: 4 }),
+        (b"\0\0", BytesReadError::Length { expected: 4 }),
+        (b"\x80", BytesReadError::NonAscii),
+        (b"\0a", BytesReadError::Null),
+    ] {
+        assert!(rt; is_refused(input, refusal), "{input:?}");
+    }
+}
+
+// Whether both types refuse fewer bytes than the capacity of the value given, and tell it.
+fn are_fewer<const N: usize>(input: &[u8], _like: TinyAsciiStr<N>) -> bool {
+    let length = BytesReadError::Length { expected: N };
+    match (
+        TinyAsciiStr::<N>::read_bytes(input),
+        UnvalidatedTinyAsciiStr::<N>::read_bytes(input),
+    ) {
+        (Err(fault), Err(same)) => fault == length && same == length,
+        _ => false,
+    }
+}
+
+#[test]
+fn the_capacity_is_told_where_bytes_are_too_few(rt: HostRuntime) {
+    assert!(rt; are_fewer(b"", TinyAsciiStr::<1>::default()));
+    assert!(rt; are_fewer(b"abc", TinyAsciiStr::<17>::default()));
+    assert!(rt; are_fewer(b"abc", TinyAsciiStr::<300>::default()));
+}
+
+// Whether the text's byte form is this one, and is read back.
+fn is_byte_form<const N: usize>(text: TinyAsciiStr<N>, form: [u8; N]) -> bool {
+    text.to_bytes() == form && is_read_in_front(&form, text, b"")
+}
+
+#[test]
+fn byte_forms_are_padded_texts(rt: HostRuntime) -> Result<(), Fail> {
+    assert!(rt; is_byte_form(tinystr!(16, "verylongstring")?, *b"verylongstring\0\0"));
+    assert!(rt; is_byte_form(tinystr!(11, "shortstring")?, *b"shortstring"));
+    let long = tinystr!(24, "veryveryverylongstring")?;
+    assert!(rt; is_byte_form(long, *b"veryveryverylongstring\0\0"));
+    assert!(rt; is_byte_form(tinystr!(0, "")?, []));
+    Ok(())
+}
+
+// Whether any bytes are read in front of the input, and this is left.
+fn are_read_unless_too_few<const N: usize>(input: &[u8], bytes: [u8; N], left: &[u8]) -> bool {
+    match UnvalidatedTinyAsciiStr::<N>::read_bytes(input) {
+        Ok((read, rest)) => {
+            read == UnvalidatedTinyAsciiStr::from_utf8_unchecked(bytes) && rest == left
+        }
+        Err(_) => false,
+    }
+}
+
+#[test]
+fn bytes_that_are_no_text_are_read_and_not_written(rt: HostRuntime) {
+    let bytes = UnvalidatedTinyAsciiStr::from_utf8_unchecked([0, 0x41, 0]);
+    assert!(rt; matches!(bytes.to_bytes(), Err(FormWriteError::NotAscii)));
+    assert!(rt; matches!(bytes.to_json(rt.alloc()), Err(FormWriteError::NotAscii)));
+    assert!(rt; are_read_unless_too_few(&[0, 0x41, 0], [0, 0x41, 0], b""));
+}
+
+fn are_too_few(input: &[u8]) -> bool {
+    match UnvalidatedTinyAsciiStr::<4>::read_bytes(input) {
+        Ok(_) => false,
+        Err(fault) => fault == BytesReadError::Length { expected: 4 },
+    }
+}
+
+#[test]
+fn any_bytes_are_read_unless_too_few(rt: HostRuntime) {
+    assert!(rt; are_read_unless_too_few(b"\0\x80\0\0X", *b"\0\x80\0\0", b"X"));
+    assert!(rt; are_read_unless_too_few(b"\0\x80XY", *b"\0\x80", b"XY"));
+    assert!(rt; are_too_few(b"abc") && are_too_few(b"\0\x80a") && are_too_few(b"\0\0\0"));
+    let text = UnvalidatedTinyAsciiStr::from_utf8_unchecked(*b"ab\0");
+    assert!(rt; matches!(text.to_bytes(), Ok(bytes) if bytes == *b"ab\0"));
+}

@@ -1,0 +1,19 @@
+//! The laws that are functions.
+
+use std::cmp::Ordering;
+use std::test::Fail;
+use tinystr::laws::{niche_refused, text_order, unvalidated_back};
+use tinystr::{ParseError, TinyAsciiStr};
+
+type Text = TinyAsciiStr<18>;
+
+#[test]
+fn laws_answer_as_their_calls(rt: HostRuntime) -> Result<(), Fail> {
+    let [less, more] = [Text::try_from_str("Ab")?, Text::try_from_str("b")?];
+    assert!(rt; text_order(&less, &more) == (false, Ordering::Less));
+    assert!(rt; text_order(&more, &less) == (false, Ordering::Greater));
+    assert!(rt; text_order(&more, &more) == (true, Ordering::Equal));
+    assert!(rt; unvalidated_back(less) == Ok(less));
+    assert!(rt; niche_refused::<3>() == Err(ParseError::NonAscii));
+    Ok(())
+}

@@ -1,0 +1,4 @@
+//! The words that texts are asked in.
+
+mod lanes;
+pub mod texts;
