@@ -19,12 +19,12 @@ mod times;
 
 use batch::Batch;
 use measure::Measure;
-use questions::QUESTIONS;
 use random::Random;
 use row::{Contender, HERE, Row, THERE};
 use std::hint::black_box;
 #[cfg(has_older)]
 use theirs::older;
+use theirs::original::questions::{QUESTIONS, Question};
 use theirs::original::{self, COUNT};
 use theirs::by_hand;
 
@@ -123,9 +123,9 @@ impl Bench {
         self.take_of("Hash", n, 2 * COUNT, both!(compare(n, 2)(&given.texts, &given.others) -> (marks)));
     }
 
-    fn take_questions(&mut self, random: &mut Random, texts_of: fn(&questions::Question, &mut Random, usize) -> Vec<u8>, expected: u8) {
+    fn take_questions(&mut self, random: &mut Random, texts_of: fn(&Question, &mut Random, usize) -> Vec<u8>, expected: u8) {
         for n in CAPACITIES {
-            for question in &QUESTIONS {
+            for question in QUESTIONS {
                 let texts = texts_of(question, random, n);
                 let mut answers = vec![0; COUNT];
                 assert!(original::ask(n, question.number, 1, &texts, &mut answers));
@@ -255,10 +255,10 @@ fn main() {
         bench.take_others(&Batch::mixed(&mut random, n, 0));
     }
     bench.table = "Questions, full texts that pass";
-    bench.take_questions(&mut random, |question, random, n| question.passing(random, n, n..=n), 1);
+    bench.take_questions(&mut random, |question, random, n| questions::passing(question, random, n, n..=n), 1);
     bench.table = "Questions, mixed texts that pass";
-    bench.take_questions(&mut random, |question, random, n| question.passing(random, n, 1..=n), 1);
+    bench.take_questions(&mut random, |question, random, n| questions::passing(question, random, n, 1..=n), 1);
     bench.table = "Questions, full texts that fail at their first byte";
-    bench.take_questions(&mut random, |question, random, n| question.failing(random, n, n..=n), 0);
+    bench.take_questions(&mut random, |question, random, n| questions::failing(question, random, n, n..=n), 0);
     bench.measure.print();
 }

@@ -8,6 +8,7 @@ mod ours;
 mod random;
 
 use original::COUNT;
+use original::questions::QUESTIONS;
 use random::Random;
 use std::fmt::Debug;
 use std::ops::Range;
@@ -24,11 +25,8 @@ const LEAST_CALLS: u64 = 33_000_000;
 
 const FEW: [usize; 13] = [0, 1, 3, 4, 5, 8, 9, 12, 16, 17, 24, 32, 64];
 const TARGETS: [usize; 14] = [0, 1, 3, 4, 7, 8, 12, 16, 17, 24, 32, 48, 64, 128];
-const QUESTIONS: [&str; 12] = [
-    "len", "is_empty", "is_ascii_alphabetic", "is_ascii_alphanumeric", "is_ascii_numeric", "is_ascii_lowercase", "is_ascii_titlecase",
-    "is_ascii_uppercase", "is_ascii_alphabetic_lowercase", "is_ascii_alphabetic_titlecase", "is_ascii_alphabetic_uppercase",
-    "the last byte of as_str",
-];
+/// What `ask` answers beside the questions.
+const OTHERS: [(usize, &str); 3] = [(0, "len"), (1, "is_empty"), (11, "the last byte of as_str")];
 /// Those on letters in a case alone.
 const OF_CASED_LETTERS: Range<usize> = 8..11;
 const CASES: [&str; 4] = ["to_ascii_lowercase", "to_ascii_titlecase", "to_ascii_uppercase", "clone"];
@@ -125,7 +123,7 @@ fn padded(texts: &[Vec<u8>], n: usize) -> Vec<u8> {
 fn ask(count: &mut Count, n: usize, texts: &[Vec<u8>]) {
     for texts in texts.chunks(COUNT) {
         let bytes = padded(texts, n);
-        for (question, call) in QUESTIONS.iter().enumerate() {
+        for (question, call) in QUESTIONS.iter().map(|question| (question.number, question.call)).chain(OTHERS) {
             let mut answers = [vec![0u8; COUNT], vec![0u8; COUNT]];
             assert!(ours::ask(n, question, 1, &bytes, &mut answers[0]));
             assert!(original::ask(n, question, 1, &bytes, &mut answers[1]));
