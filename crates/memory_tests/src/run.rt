@@ -2,11 +2,7 @@
 
 use std::test::Fail;
 use tinystr_lines::engine::{RunError, run};
-
-const INPUT: &[u8] =
-    b"4 upper tEsT\n8 alphanumeric New York\n4 text abcde\n9 alphabetic_lowercase\n7 len a\n4 shout a\n\n";
-
-const OUTPUT: &[u8] = b"TEST\nfalse\ntoo long 5 > 4\ntrue\nbad capacity\nbad command\nbad line\n";
+use tinystr_lines_tests::{INPUT, OUTPUT};
 
 #[test]
 fn a_refused_allocation_writes_nothing(rt: HostRuntime) -> Result<(), Fail> {

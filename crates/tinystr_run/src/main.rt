@@ -1,9 +1,6 @@
 //! Answers each line of standard input on standard output.
 #![tactic(auto)]
 
-#[cfg(test)]
-mod tests;
-
 use std::io;
 use tinystr_lines::engine::{RunError, run};
 

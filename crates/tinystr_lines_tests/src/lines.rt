@@ -1,10 +1,17 @@
 //! Each line and its reply.
 
-use super::{INPUT, OUTPUT, output};
+use crate::{INPUT, OUTPUT};
 use std::alloc::{AllocError, Global};
 use std::process::Abort;
 use std::test::Fail;
-use tinystr_lines::engine::RunError;
+use tinystr_lines::engine::{RunError, run};
+
+// What `run` writes for an input.
+fn output(alloc: Global, input: &[u8]) -> Result<Vec<u8>, RunError> {
+    let mut out = Vec::new(alloc);
+    run(alloc, &mut &input[..], &mut out)?;
+    Ok(out)
+}
 
 // Whether what stands before the row's first tab gets what stands after it.
 fn is_answered(alloc: Global, row: &[u8]) -> Result<bool, RunError> {
