@@ -15,14 +15,14 @@ fn has_forms<const N: usize>(text: TinyAsciiStr<N>, row: &Row) -> bool {
         && text.to_ascii_uppercase().as_str() == row.upper
 }
 
-// The text, read again from units of 16 bits.
+// The text, read again from code units of 16 bits.
 fn read_wide<const N: usize>(text: TinyAsciiStr<N>) -> Result<TinyAsciiStr<N>, ParseError> {
     let front = text.resize::<100>();
     let units = front.to_bytes().map(u16::from);
     TinyAsciiStr::try_from_utf16(&units[..front.len()])
 }
 
-// Whether the text has the forms of its row at its own capacity, at 40 and at 100, and read from units of 16 bits.
+// Whether the text has the forms of its row at its own capacity, at 40 and at 100, and read from code units of 16 bits.
 fn is_right_as_value<const N: usize>(text: TinyAsciiStr<N>, row: &Row) -> bool {
     has_forms(text, row)
         && (text.len() > 40 || has_forms(text.resize::<40>(), row))
