@@ -1,9 +1,13 @@
-"""The figures that the drivers print, a line each."""
+"""The figures that the drivers print, a line each, or that a CSV file keeps."""
 
+import csv
 from collections import defaultdict
 from statistics import median
 
 HERE = "here"
+THERE = "there"
+
+COLUMNS = ["run", "place", "table", "call", "column", "whose", "nanoseconds", "instructions"]
 
 
 class Figures:
@@ -12,31 +16,51 @@ class Figures:
     """
 
     def __init__(self):
+        self.head = []
         self.rows = []
         self.times = defaultdict(lambda: defaultdict(dict))
         self.instructions = defaultdict(dict)
         self.notes = []
         self.steady = []
 
+    def add(self, run, place, cell, whose, time):
+        self.rows.append((int(run), int(place), *cell, whose, float(time)))
+        of_runs = self.times[cell][whose]
+        of_runs[run] = min(of_runs.get(run, float("inf")), float(time))
+
     def read_times(self, lines):
         for line in lines:
-            words = line.rstrip("\n").split("|")
-            run, place, kind = words[:3]
+            fields = line.rstrip("\n").split("|")
+            run, place, kind = fields[:3]
             if kind == "note":
-                if words[3] not in self.notes:
-                    self.notes.append(words[3])
+                if fields[3] not in self.notes:
+                    self.notes.append(fields[3])
             elif kind == "steady":
-                self.steady.append([float(word) for word in words[3:]])
+                self.steady.append([float(field) for field in fields[3:]])
             else:
-                *cell, whose, time = words[2:]
-                self.rows.append((int(run), int(place), *cell, whose, float(time)))
-                of_runs = self.times[tuple(cell)][whose]
-                of_runs[run] = min(of_runs.get(run, float("inf")), float(time))
+                *cell, whose, time = fields[2:]
+                self.add(run, place, tuple(cell), whose, time)
 
     def read_instructions(self, lines):
         for line in lines:
             *cell, whose, count = line.rstrip("\n").split("|")
             self.instructions[tuple(cell)][whose] = float(count)
+
+    def read_csv(self, lines):
+        lines = list(lines)
+        self.head = [line[2:].rstrip("\n") for line in lines if line.startswith("# ")]
+        for row in csv.DictReader(line for line in lines if not line.startswith("#")):
+            cell = row["table"], row["call"], row["column"]
+            self.add(row["run"], row["place"], cell, row["whose"], row["nanoseconds"])
+            if row["instructions"]:
+                self.instructions[cell][row["whose"]] = float(row["instructions"])
+
+    def write_csv(self, file):
+        file.writelines(f"# {line}\n" for line in self.head)
+        out = csv.writer(file, lineterminator="\n")
+        out.writerow(COLUMNS)
+        for row in self.rows:
+            out.writerow([*row, self.instructions[row[2:5]].get(row[5], "")])
 
     def tables(self):
         return list(dict.fromkeys(cell[0] for cell in self.times))
@@ -52,3 +76,7 @@ class Figures:
         """The ratio of this crate's time to another's, of each run."""
         here, there = self.times[cell][HERE], self.times[cell][rival]
         return [here[run] / there[run] for run in here]
+
+    def ratio(self, cell, rival):
+        """The median of the runs."""
+        return median(self.ratios(cell, rival))

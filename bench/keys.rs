@@ -1,5 +1,5 @@
 //! Times maps, a sort and other calls by keys of two to eight letters, as the program of keys.txt does with the same
-//! keys, and prints one table, with the ratio of its first column to each. The argument is a file with what that program
+//! keys, and prints a line for each type's time, as the other drivers do. The argument is a file with what that program
 //! printed. A `String` stands for a JSON value.
 
 use std::collections::{BTreeMap, HashMap};
@@ -9,6 +9,7 @@ use std::hint::black_box;
 use std::time::{Duration, Instant};
 use tinystr::TinyAsciiStr;
 
+const TABLE: &str = "Keys of 2 to 8 letters";
 const KEYS: usize = 100_000;
 const VALUES: usize = 1_000_000;
 const ROUNDS: usize = 5;
@@ -151,16 +152,18 @@ impl Row {
         self.sum = sum;
     }
 
-    /// The bytes of a key, or the nanoseconds of one call and how many times as long the first takes.
-    fn cell(&self, first: &Row) -> String {
-        let keeps_letters_elsewhere = ["`String`", "`&str`"].iter().any(|name| self.key.ends_with(name));
-        let calls = if self.call == "sort" { VALUES } else { KEYS };
+    /// How many calls there were.
+    fn calls(&self) -> usize {
         match self.call.as_str() {
-            "bytes a key" if keeps_letters_elsewhere => format!("{} + letters", self.nanos),
-            "bytes a key" => self.nanos.to_string(),
-            _ if self.key == first.key => format!("{:.0}", self.nanos as f64 / calls as f64),
-            _ => format!("{:.0} ({:.2})", self.nanos as f64 / calls as f64, first.nanos as f64 / self.nanos as f64),
+            "bytes a key" => 1,
+            "sort" => VALUES,
+            _ => KEYS,
         }
+    }
+
+    /// The bytes of a key, or the nanoseconds of one call.
+    fn print(&self) {
+        println!("{TABLE}|{}||{}|{:.4}", self.call, self.key, self.nanos as f64 / self.calls() as f64);
     }
 }
 
@@ -232,7 +235,7 @@ fn time_forms<K: Key>(key: &str) -> [Row; 3] {
     for _ in 0..ROUNDS {
         string.clear();
         let start = Instant::now();
-        print_all(&mut string, &given);
+        print_keys(&mut string, &given);
         rows[0].add(start.elapsed(), string.len() as u64);
         let start = Instant::now();
         let sum = sum_to_values(&given);
@@ -249,7 +252,7 @@ fn to_value<K: Key>(key: &K) -> String {
 }
 
 #[inline(never)]
-fn print_all<K: Key>(string: &mut String, keys: &[K]) {
+fn print_keys<K: Key>(string: &mut String, keys: &[K]) {
     for key in keys {
         write!(string, "{key}").unwrap();
     }
@@ -267,29 +270,27 @@ fn sum_from_values<K: Key>(values: &[String]) -> u64 {
     values.iter().map(|value| black_box(K::of(value)).letters().len() as u64).sum()
 }
 
-fn print_table(rows: &[Row]) {
-    let keys: Vec<&str> = rows.iter().filter(|row| row.call == "sort").map(|row| row.key.as_str()).collect();
-    println!("\n| nanoseconds a call | {} |\n|---|{}", keys.join(" | "), "---|".repeat(keys.len()));
+/// Call by call. All types have the same answers.
+fn print_all(rows: &[Row]) {
     for first in rows.iter().filter(|row| row.key == rows[0].key) {
         let of_call: Vec<&Row> = rows.iter().filter(|row| row.call == first.call).collect();
         if of_call.iter().any(|row| row.sum != first.sum) {
             eprintln!("{}: the answers differ", first.call);
             std::process::exit(1);
         }
-        let cells: Vec<String> = of_call.iter().map(|row| row.cell(first)).collect();
-        println!("| {} | {} |", first.call, cells.join(" | "));
+        of_call.iter().for_each(|row| row.print());
     }
 }
 
 fn main() {
     let printed = std::fs::read_to_string(std::env::args().nth(1).unwrap()).unwrap();
     let mut rows: Vec<Row> = printed.lines().map(|line| Row::read(line).unwrap()).collect();
-    rows.extend(time_key::<TinyAsciiStr<8>>("Rust `TinyAsciiStr<8>`"));
+    rows.extend(time_key::<TinyAsciiStr<8>>("there"));
     #[cfg(has_arrayvec)]
-    rows.extend(time_key::<arrayvec::ArrayString<8>>("Rust `ArrayString<8>`"));
+    rows.extend(time_key::<arrayvec::ArrayString<8>>("ArrayString"));
     #[cfg(has_kstring)]
-    rows.extend(time_key::<kstring::KString>("Rust `KString`"));
-    rows.extend(time_key::<String>("Rust `String`"));
-    rows.extend(time_key::<&'static str>("Rust `&str`"));
-    print_table(&rows);
+    rows.extend(time_key::<kstring::KString>("KString"));
+    rows.extend(time_key::<String>("String"));
+    rows.extend(time_key::<&'static str>("&str"));
+    print_all(&rows);
 }
