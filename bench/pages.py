@@ -1,0 +1,130 @@
+"""The blocks of a page that are made of figures: behind `<!-- bench/report NAME -->`, up to `<!-- end -->`."""
+
+import re
+
+from calls import KINDS, mean_of, ratios_of_kind
+from figures import THERE
+from pictures import calls_description
+from tables import aligned, cells_of_table, geometric, ratio_table, rows_of, type_table
+
+BLOCK = re.compile(r"(<!-- bench/report (.+?) -->\n).*?(<!-- end -->\n)", re.DOTALL)
+CAPACITIES = ["4", "8", "12", "16", "24", "32", "64"]
+
+# From which ratio on a call counts as slower than the Rust crate's.
+SLOWER = 1.05
+
+
+def fenced(table):
+    return f"```text\n{table}\n```\n"
+
+
+def machine(figures):
+    """What the figures were taken by, a line each."""
+    return fenced("\n".join(figures.head))
+
+
+def means(figures):
+    kinds = {"full texts": "full", "mixed lengths": "mixed"}
+    groups = [None, ["4"], ["8"], CAPACITIES[2:]]
+    rows = [[name, *(f"{mean_of(figures, kind, group):.2f}" for group in groups)] for name, kind in kinds.items()]
+    return fenced(aligned([["geometric mean", "all", "at 4", "at 8", "past 8"], *rows]))
+
+
+def table(figures, name):
+    return fenced(ratio_table(*rows_of(cells_of_table(figures, name), lambda cell: cell[2]), figures))
+
+
+def beside(figures, rival):
+    cells = [cell for cell in figures.times if rival in figures.times[cell]]
+    column_of = lambda cell: f"{cell[2]} {cell[0].split()[0].lower()}"
+    return fenced(ratio_table(*rows_of(cells, column_of), figures, rival))
+
+
+def merged(call):
+    return "question, slowest" if call.startswith("is_ascii_") else call
+
+
+def slower_of(ratios):
+    """The questions as one, by the slowest of them, and of each call the capacities at which it is slower."""
+    found = {}
+    for call, by_capacity in ratios.items():
+        of_call = found.setdefault(merged(call), {})
+        for capacity, ratio in by_capacity.items():
+            if ratio > SLOWER:
+                of_call[capacity] = max(ratio, of_call.get(capacity, 0))
+    return {call: of_call for call, of_call in found.items() if of_call}
+
+
+def slower(figures):
+    lines = [["slower than the Rust crate", *CAPACITIES]]
+    for kind in dict.fromkeys(KINDS.values()):
+        for call, ratios in slower_of(ratios_of_kind(figures, kind)).items():
+            head = call if kind == "failing" else f"{call}; {kind}"
+            lines.append([head, *(f"{ratios[it]:.2f}" if it in ratios else "" for it in CAPACITIES)])
+    return fenced(aligned(lines))
+
+
+def question_cell(figures, name, capacity):
+    """The mean of all questions, the fastest and the slowest."""
+    ratios = [figures.ratio(cell, THERE) for cell in figures.cells(name) if cell[2] == capacity]
+    return f"{geometric(ratios):.2f} ({min(ratios):.2f}-{max(ratios):.2f})"
+
+
+def questions(figures):
+    names = [name for name in KINDS if name.startswith("Questions, ")]
+    rows = [[name.removeprefix("Questions, "), *(question_cell(figures, name, it) for it in CAPACITIES)] for name in names]
+    return fenced(aligned([["nine questions", *CAPACITIES], *rows]))
+
+
+def others(figures):
+    """Both kinds of texts in one table."""
+    rows = {}
+    for name in ("Other calls, full texts", "Other calls, mixed texts and empty ones"):
+        of_table, _ = rows_of(figures.cells(name), lambda cell: cell[2])
+        rows.update({f"{call}; {KINDS[name]}": cells for call, cells in of_table.items()})
+    return fenced(ratio_table(rows, CAPACITIES, figures))
+
+
+def types(figures):
+    return "\n".join(f"{name}:\n\n{fenced(type_table(figures, name))}" for name in figures.tables())
+
+
+def picture(name, alternative):
+    return lambda all_figures, folder: f"![{alternative(all_figures)}]({folder}/{name})\n"
+
+
+def of(file, make, *more):
+    return lambda all_figures, folder: make(all_figures[file], *more)
+
+
+BLOCKS = {
+    "calls.svg": picture("calls.svg", lambda it: "Time of each call beside the Rust crate. " + calls_description(it["calls"])),
+    "capacities.svg": picture("capacities.svg", lambda _: "Nanoseconds of six calls by capacity, here and in the Rust crate"),
+    "keys.svg": picture("keys.svg", lambda _: "Nanoseconds of map and sort calls by type of key"),
+    "means": of("calls", means),
+    "slower": of("calls", slower),
+    "full": of("calls", table, "Full texts"),
+    "mixed": of("calls", table, "Mixed texts"),
+    "lists": of("calls", table, "Mixed lists, each read once in a turn"),
+    "questions": of("calls", questions),
+    "others": of("calls", others),
+    "0.3.2": of("calls", beside, "0.3.2"),
+    "by hand": of("calls", beside, "by hand"),
+    "packed": of("calls", table, "Bytes in front of others, and packed records"),
+    "identifiers": of("calls", table, "Language identifiers"),
+    "types": of("types", types),
+    "keys": of("keys", types),
+    "machine": of("calls", machine),
+}
+
+
+def filled(page, all_figures, folder):
+    """The page with its blocks made anew, and their names. What has no such name stays."""
+    found = []
+
+    def block(match):
+        name = match[2]
+        found.append(name)
+        return match[1] + "\n" + BLOCKS[name](all_figures, folder) + "\n" + match[3] if name in BLOCKS else match[0]
+
+    return BLOCK.sub(block, page), found
