@@ -22,7 +22,7 @@ def name_of(call, kind):
 
 
 def ratios_of_kind(figures, kind):
-    """By call and capacity; of questions that fail the slowest. A call that two tables have counts where it stands first."""
+    """By call and capacity; of questions that fail the slowest. Of a call in two tables the first counts."""
     found = {}
     for table in [it for it in KINDS if KINDS[it] == kind]:
         for cell in figures.cells(table):

@@ -24,7 +24,7 @@ def machine(figures):
 
 
 def means(figures):
-    kinds = {"full texts": "full", "mixed lengths": "mixed"}
+    kinds = {"full texts": "full", "mixed texts": "mixed"}
     groups = [None, ["4"], ["8"], CAPACITIES[2:]]
     rows = [[name, *(f"{mean_of(figures, kind, group):.2f}" for group in groups)] for name, kind in kinds.items()]
     return fenced(aligned([["geometric mean", "all", "at 4", "at 8", "past 8"], *rows]))
@@ -56,12 +56,14 @@ def slower_of(ratios):
 
 
 def slower(figures):
-    lines = [["slower than the Rust crate", *CAPACITIES]]
+    """The slowest first."""
+    rows = {}
     for kind in dict.fromkeys(KINDS.values()):
         for call, ratios in slower_of(ratios_of_kind(figures, kind)).items():
-            head = call if kind == "failing" else f"{call}; {kind}"
-            lines.append([head, *(f"{ratios[it]:.2f}" if it in ratios else "" for it in CAPACITIES)])
-    return fenced(aligned(lines))
+            rows[call if kind == "failing" else f"{call}; {kind}"] = ratios
+    heads = sorted(rows, key=lambda head: max(rows[head].values()), reverse=True)
+    line = lambda head: [head, *(f"{rows[head][it]:.2f}" if it in rows[head] else "" for it in CAPACITIES)]
+    return fenced(aligned([["call", *CAPACITIES], *map(line, heads)]))
 
 
 def question_cell(figures, name, capacity):
@@ -72,7 +74,8 @@ def question_cell(figures, name, capacity):
 
 def questions(figures):
     names = [name for name in KINDS if name.startswith("Questions, ")]
-    rows = [[name.removeprefix("Questions, "), *(question_cell(figures, name, it) for it in CAPACITIES)] for name in names]
+    row = lambda name: [name.removeprefix("Questions, "), *(question_cell(figures, name, it) for it in CAPACITIES)]
+    rows = map(row, names)
     return fenced(aligned([["nine questions", *CAPACITIES], *rows]))
 
 
@@ -90,7 +93,12 @@ def types(figures):
 
 
 def picture(name, alternative):
-    return lambda all_figures, folder: f"![{alternative(all_figures)}]({folder}/{name})\n"
+    return lambda _, folder: f"![{alternative}]({folder}/{name})\n"
+
+
+def calls_picture(all_figures, folder):
+    means = calls_description(all_figures["calls"])
+    return picture("calls.svg", f"Time of each call beside the Rust crate. {means}")(all_figures, folder)
 
 
 def of(file, make, *more):
@@ -98,9 +106,9 @@ def of(file, make, *more):
 
 
 BLOCKS = {
-    "calls.svg": picture("calls.svg", lambda it: "Time of each call beside the Rust crate. " + calls_description(it["calls"])),
-    "capacities.svg": picture("capacities.svg", lambda _: "Nanoseconds of six calls by capacity, here and in the Rust crate"),
-    "keys.svg": picture("keys.svg", lambda _: "Nanoseconds of map and sort calls by type of key"),
+    "calls.svg": calls_picture,
+    "capacities.svg": picture("capacities.svg", "Nanoseconds of six calls by capacity, here and in the Rust crate"),
+    "keys.svg": picture("keys.svg", "Nanoseconds of map and sort calls by type of key"),
     "means": of("calls", means),
     "slower": of("calls", slower),
     "full": of("calls", table, "Full texts"),

@@ -18,14 +18,16 @@ WIDTH = 860
 
 
 def svg(height, title, description, shapes):
-    body = "\n".join(shapes)
-    return f"""<svg xmlns="http://www.w3.org/2000/svg" viewBox="0 0 {WIDTH} {height}" width="{WIDTH}" height="{height}" \
-role="img" aria-labelledby="title description" font-family="sans-serif" font-size="12" fill="{GREY}">
-<title id="title">{escape(title)}</title>
-<desc id="description">{escape(description)}</desc>
-{body}
-</svg>
-"""
+    size = f'viewBox="0 0 {WIDTH} {height}" width="{WIDTH}" height="{height}"'
+    lines = [
+        f'<svg xmlns="http://www.w3.org/2000/svg" {size} role="img" aria-labelledby="title description"',
+        f'  font-family="sans-serif" font-size="12" fill="{GREY}">',
+        f'<title id="title">{escape(title)}</title>',
+        f'<desc id="description">{escape(description)}</desc>',
+        *shapes,
+        "</svg>",
+    ]
+    return "".join(f"{it}\n" for it in lines)
 
 
 def text(x, y, string, anchor="start", more=""):
@@ -46,9 +48,15 @@ def polyline(points, color):
     return f'<polyline points="{joined}" fill="none" stroke="{color}" stroke-width="2"/>'
 
 
+def rectangle(x, y, width, height, color, opacity=1):
+    size = f'width="{width:.1f}" height="{height:.1f}"'
+    return f'<rect x="{x:.1f}" y="{y:.1f}" {size} fill="{color}" opacity="{opacity}"/>'
+
+
 def dot(x, y, color, tip, is_full=True, radius=4):
     paint = f'fill="{color}"' if is_full else f'fill="none" stroke="{color}" stroke-width="1.6"'
-    return f'<circle cx="{x:.1f}" cy="{y:.1f}" r="{radius if is_full else radius - 0.6}" {paint}><title>{escape(tip)}</title></circle>'
+    place = f'cx="{x:.1f}" cy="{y:.1f}" r="{radius if is_full else radius - 0.6}"'
+    return f"<circle {place} {paint}><title>{escape(tip)}</title></circle>"
 
 
 def diamond(x, y, color, tip):
@@ -67,7 +75,7 @@ CAPACITIES = {
 }  # fmt: skip
 LEAST, MOST = 0.05, 1.5
 TICKS = [0.05, 0.1, 0.2, 0.3, 0.5, 0.7, 1.0, 1.5]
-LEFT, RIGHT, TOP, ROW = 260, 715, 74, 25
+LEFT, RIGHT, TOP, ROW = 262, 690, 74, 25
 
 
 def call_x(ratio):
@@ -108,12 +116,12 @@ def call_dots(call, kind, ratios, y, is_full):
 
 def call_legend():
     shapes = [text(12, 20, "Time of a call / the Rust crate's, by capacity:")]
-    x = LEFT + 24
+    x = LEFT + 38
     for capacity, color in CAPACITIES.items():
         shapes += [dot(x, 16, color, capacity), text(x + 8, 20, capacity)]
         x += 38
     shapes += [dot(x + 14, 16, GREY, "full texts"), text(x + 22, 20, "full texts")]
-    shapes += [dot(x + 96, 16, GREY, "mixed texts", False), text(x + 104, 20, "mixed lengths")]
+    shapes += [dot(x + 96, 16, GREY, "mixed texts", False), text(x + 104, 20, "mixed texts")]
     faster, slower = call_x(0.22), call_x(1.0) + 6
     return [*shapes, text(faster, 44, "← faster than the Rust crate", "middle"), text(slower, 44, "slower →")]
 
@@ -131,7 +139,7 @@ def calls_picture(figures):
     for i, call in enumerate(calls):
         y = TOP + ROW * (i + 0.5)
         if i % 2 == 0:
-            shapes.append(f'<rect x="0" y="{y - ROW / 2:.1f}" width="{WIDTH}" height="{ROW}" fill="{GREY}" opacity="0.08"/>')
+            shapes.append(rectangle(0, y - ROW / 2, WIDTH, ROW, GREY, 0.08))
         shapes.append(text(12, y + 4, call))
         has_two = len(kinds[call]) == 2
         for (kind, ratios, is_full), shift in zip(kinds[call], (-5.5, 5.5) if has_two else (0,)):
@@ -193,7 +201,8 @@ def panel_shapes(figures, call, panel):
         shapes += [dot(*places[it], color, f"{name} at {it}: {times[it]:.2f} ns", radius=3) for it in times]
     for whose, (name, color) in POINTS.items():
         times = times_of(figures, call, whose)
-        shapes += [diamond(panel.x(it), panel.y(times[it]), color, f"{name} at {it}: {times[it]:.2f} ns") for it in times]
+        places = {it: (panel.x(it), panel.y(nanos)) for it, nanos in times.items()}
+        shapes += [diamond(*places[it], color, f"{name} at {it}: {times[it]:.2f} ns") for it in times]
     return shapes
 
 
@@ -233,13 +242,14 @@ KEY_CALLS = [
     "BTreeMap, insert", "BTreeMap, get a present key", "BTreeMap, get an absent key",
     "HashMap, insert", "HashMap, get a present key", "HashMap, get an absent key", "sort",
 ]  # fmt: skip
-KEY_NAMES = {HERE: "TinyAsciiStr", THERE: "TinyAsciiStr 0.8.5", "the kit's ArrayString": "ArrayString", "the kit's String": "String"}
+KEY_NAMES = {HERE: "TinyAsciiStr", THERE: "TinyAsciiStr 0.8.5"}
+KITS = "the kit's "
 BAR = 17
 KEY_LABELS, KEY_PANEL = 140, 236
 
 
 def is_rattle(whose):
-    return whose == HERE or whose.startswith("the kit's")
+    return whose == HERE or whose.startswith(KITS)
 
 
 def bars(figures, cell, types, left, top):
@@ -249,23 +259,23 @@ def bars(figures, cell, types, left, top):
         nanos = figures.time(cell, whose)
         width = (KEY_PANEL - 60) * nanos / longest
         color = BLUE if is_rattle(whose) else ORANGE
-        opacity = "" if whose in (HERE, THERE) else ' opacity="0.55"'
+        opacity = 1 if whose in (HERE, THERE) else 0.55
         y = top + BAR * i
-        shapes.append(f'<rect x="{left:.1f}" y="{y:.1f}" width="{width:.1f}" height="{BAR - 4}" fill="{color}"{opacity}/>')
+        shapes.append(rectangle(left, y, width, BAR - 4, color, opacity))
         shapes.append(text(left + width + 5, y + 10.5, f"{nanos:.0f}", more=' font-size="11"'))
     return shapes
 
 
 def key_labels(types, top):
-    return [text(KEY_LABELS - 8, top + BAR * i + 10.5, KEY_NAMES.get(it, it), "end") for i, it in enumerate(types)]
+    names = [KEY_NAMES.get(it, it.removeprefix(KITS)) for it in types]
+    return [text(KEY_LABELS - 8, top + BAR * i + 10.5, name, "end") for i, name in enumerate(names)]
 
 
 def key_legend():
-    swatch = lambda x, color: f'<rect x="{x}" y="10" width="12" height="12" fill="{color}"/>'
-    return [
-        text(12, 20, "Nanoseconds a call with keys of 2 to 8 letters; each panel has its own scale"),
-        swatch(520, BLUE), text(538, 20, "Rattle, its kit's maps"), swatch(690, ORANGE), text(708, 20, "Rust, std's maps"),
-    ]  # fmt: skip
+    shapes = [text(12, 20, "Nanoseconds a call with keys of 2 to 8 letters; each panel has its own scale")]
+    for x, color, name in [(520, BLUE, "Rattle, its kit's maps"), (690, ORANGE, "Rust, std's maps")]:
+        shapes += [rectangle(x, 10, 12, 12, color), text(x + 18, 20, name)]
+    return shapes
 
 
 def keys_picture(figures):
