@@ -89,11 +89,8 @@ fn joined_from(front: &[u8], front_len: usize, back: &[u8], at: usize) -> u8x16
     }
     // and its second stands behind its first
     if 0 < at && at < 2 * LONGEST {
-        lanes = lanes
-            | moved(
-                lanes_from(back, LANES),
-                NULS_IN_FRONT - LANES + at - front_len,
-            );
+        let start = NULS_IN_FRONT - LANES + at - front_len;
+        lanes = lanes | moved(lanes_from(back, LANES), start);
     }
     lanes
 }
