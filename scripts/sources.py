@@ -30,7 +30,7 @@ class Item:
         return self.file, self.block, self.name
 
     def is_named_by(self, path):
-        """Whether the prover's path, as `padded::words::ask` or `unit::U8CodeUnit::code`, is that of this function."""
+        """Whether the prover's path, as `padded::words::ask` or `code_unit::U8CodeUnit::code`, is that of this function."""
         *before, name = path.split("::")
         if self.is_constant or name != self.name:
             return False
