@@ -61,7 +61,7 @@ subtags_of-join_canonical_subtags (l ∷ ps) h = tail_subtags l ps (alphanumeric
 pub subtags_of-canonical_text : (u : List ℕ) → IsLangId u → subtags_of (canonical_text u) ≡ canonical_subtags (subtags_of (fold_text u))
 subtags_of-canonical_text u h = subtags_of-join_canonical_subtags (subtags_of (fold_text u)) h
 
--- a region is no script
+-- a region isn't a script
 pub no_script-from_region : (p : List ℕ) → is_region p ≡ true → is_script p ≡ false
 no_script-from_region p h = grind (arith, nat_tests)
 
@@ -73,7 +73,7 @@ leading_script-tail ps h = grind (arith, is_script-canonical_subtag)
 pub last_region-tail : (ps : List (List ℕ)) → is_tail ps ≡ true → last_region (behind_script ps) ≡ Ok (find is_region (map canonical_subtag ps))
 last_region-tail ps h = grind (arith, is_region-canonical_subtag, no_script-from_region)
 
--- what stands behind the language and is no tail is refused
+-- what stands behind the language and isn't a tail is refused
 pub last_region-no_tail : (ps : List (List ℕ)) → is_tail ps ≡ false → last_region (behind_script ps) ≡ Err InvalidSubtag
 last_region-no_tail ps h = grind arith
 

@@ -32,7 +32,7 @@ subtags_of-join_subtags : (l : List ℕ) (s r : Option (List ℕ)) → is_langua
 subtags_of-join_subtags l None r h = subtags_of-append_after_dash l r (alphanumeric-from_subtag l (grind arith))
 subtags_of-join_subtags l (Some s) r h = subtags_of-append_after_dash l (Some (s ++ after_dash r)) (alphanumeric-from_subtag l (grind arith))
 
--- a canonical region alone is no script, and is read as it is
+-- a canonical region alone isn't a script, and is read as it is
 read-region_alone : (r : Option (List ℕ)) → IfSome r (IsCanonicalSubtag is_region uppercase) → (leading_script (subtags_behind r) ≡ None) × (last_region (behind_script (subtags_behind r)) ≡ Ok r) × (last_region (subtags_behind r) ≡ Ok r)
 read-region_alone None region = (refl, refl, refl)
 read-region_alone (Some r) region =
@@ -48,7 +48,7 @@ read-tail_text (Some s) r script region =
     let title = titlecase-fold_text s script.well_formed ∙ script.canonical in
     rw (subtags_of-append_after_dash s r (alphanumeric-from_subtag s (grind arith)), is_script-fold_text s, script.well_formed, title) (refl, (read-region_alone r region).2)
 
--- canonical subtags_of, joined, are a canonical text
+-- canonical subtags, joined, are a canonical text
 pub IsCanonical-join_subtags : (l : List ℕ) (s r : Option (List ℕ)) → IsCanonicalSubtag is_language lowercase l → IfSome s (IsCanonicalSubtag is_script titlecase) → IfSome r (IsCanonicalSubtag is_region uppercase) → IsCanonical (join_subtags l s r)
 IsCanonical-join_subtags l s r language script region =
     let read = read-tail_text s r script region in

@@ -12,11 +12,11 @@ use Rattle.subtags.proofs.FoldLemmas.{is_language-fold_text, fold_text-alphanume
 use Rattle.subtags.proofs.SplitLemmas.{subtags_at_first_separator}
 use Rattle.subtags.proofs.CanonLemmas.{leading_script-tail, last_region-tail, last_region-no_tail, is_tail-canonical, join_with_byte-tail, subtags_of-canonical_text}
 
--- where l is no language, the input is no identifier, for that reason
+-- where l isn't a language, the input isn't an identifier, for that reason
 pub refused_without_language : (u l : List ℕ) (ps : List (List ℕ)) → subtags_of (fold_text u) ≡ fold_text l ∷ ps → is_language l ≡ false → (is_lang_id (subtags_of (fold_text u)) ≡ false) × (refusal_of u ≡ InvalidLanguage)
 refused_without_language u l ps split h = rw (split, is_language-fold_text l, h) (refl, refl)
 
--- where l is a language and the rest is refused, the input is no identifier, for the same reason
+-- where l is a language and the rest is refused, the input isn't an identifier, for the same reason
 pub refused_without_tail : (u l : List ℕ) (ps : List (List ℕ)) (e : LangIdError) → subtags_of (fold_text u) ≡ fold_text l ∷ ps → is_language l ≡ true → last_region (behind_script ps) ≡ Err e → (is_lang_id (subtags_of (fold_text u)) ≡ false) × (refusal_of u ≡ e)
 refused_without_tail u l ps e split h refused =
     let read = last_region-tail ps in

@@ -74,7 +74,7 @@ length-script p e = grind (arith, nat_tests)
 ends_at_four-from_separator : (u : List ℕ) → 4 ≤ length u → (4 < length u → is_separator (slice_index u 4) ≡ true) → ends_at_four u ≡ true
 ends_at_four-from_separator u long hit = grind (arith, nat_tests)
 
--- where no script stands in front that can be a subtag, the first subtag is no script
+-- where no script stands in front that can be a subtag, the first subtag isn't a script
 pub no_script_in_front : (u : List ℕ) → (ends_at_four u ≡ true → is_script (take 4 u) ≡ false) → (leading_script (subtags_of (fold_text u)) ≡ None) × (behind_script (subtags_of (fold_text u)) ≡ subtags_of (fold_text u))
 no_script_in_front u h =
     let i = position_or_len is_separator u in
@@ -86,7 +86,7 @@ no_script_in_front u h =
     false≢true (sym (h (ends_at_four-from_separator u (rw four at inside) (rw four at hit))) ∙ rw four at e)) in
     rw (subtags_at_first_separator u, is_script-fold_text (take i u), none) (refl, refl)
 
--- what is no region is refused as a last region
+-- what isn't a region is refused as a last region
 pub last_region_of_no_region : (r : List ℕ) → is_region r ≡ false → last_region (subtags_of (fold_text r)) ≡ Err InvalidSubtag
 last_region_of_no_region r h =
     let i = position_or_len is_separator r in

@@ -28,6 +28,6 @@ abbrev pub after_dash : Option (List ℕ) → List ℕ
 after_dash None = []
 after_dash (Some p) = dash ∷ p
 
--- the subtags_of, joined by dashes
+-- the subtags, joined by dashes
 abbrev pub join_subtags : List ℕ → Option (List ℕ) → Option (List ℕ) → List ℕ
 join_subtags language script region = language ++ (after_dash script ++ after_dash region)

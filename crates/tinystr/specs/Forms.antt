@@ -16,7 +16,7 @@ use Rattle.tinystr.specs.declared.forms.FormWriteError.TheVariants.{NotAscii, Me
 abbrev pub json_form : List ℕ → Data
 json_form t = string t
 
--- the value is no string, or it is a string that is no text of at most n bytes
+-- the value isn't a string, or it is a string that isn't a text of at most n bytes
 abbrev pub RefusesJson : JsonReadError → Data → ℕ → Type 0
 RefusesJson NotText value n = as_str value ≡ None
 RefusesJson InvalidText value n = IsSomeAnd (as_str value) (λ t. ¬ IsStrictText t n)
@@ -27,7 +27,7 @@ byte_fault_of (Length expected) = too_short expected
 byte_fault_of Null = null
 byte_fault_of NonAscii = non_ascii
 
--- the n bytes are no text and then NULs, or they are one, and memory was asked for
+-- the n bytes aren't a text and then NULs, or they are one, and memory was asked for
 abbrev pub RefusesWrite : FormWriteError → List ℕ → ℕ → Type 0
 RefusesWrite NotAscii bytes n = ¬ IsPaddedText bytes n
 RefusesWrite (Memory refused) bytes n = IsPaddedText bytes n

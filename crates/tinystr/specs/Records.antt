@@ -12,7 +12,7 @@ RefusesRecords (Length len) bytes n = (len ≡ length bytes) × (length bytes % 
 RefusesRecords (Parse index fault) bytes n =
     (length bytes % n ≡ 0) × IsFirstBad bytes n index × (fault_of fault ≡ fault_in n (record_at n bytes index))
 
--- in a list of records, this is the first that is no padded text, and its own fault
+-- in a list of records, this is the first that isn't a padded text, and its own fault
 abbrev pub RefusesOneOf : UleError → List (List ℕ) → ℕ → Type 0
 RefusesOneOf (Length len) records n = ⊥
 RefusesOneOf (Parse index fault) records n =

@@ -10,7 +10,7 @@ use Rattle.tinystr_words.proofs.Readers.{find-none, find-first}
 use Rattle.tinystr_words.proofs.TextsDecided.{is_padded_text-Decides}
 use Rattle.tinystr_lines.specs.Reply.{bad_index_text, fault_text, first_bad_record, records_reply}
 
--- the test of a record that is no padded text, and of one that is
+-- the test of a record that isn't a padded text, and of one that is
 not_padded_passes : (raw : List ℕ) (n : ℕ) → ¬ IsPaddedText raw n → not (is_padded_text raw n) ≡ true
 not_padded_passes raw n bad = let decides = is_padded_text-Decides raw n in grind arith
 

@@ -32,16 +32,16 @@ answer_of Len t = decimal (length t)
 answer_of (Ask question) t = truth_text (ask_question question t)
 answer_of (Change case) t = in_case case t
 
--- a call's answer where the units are such a text, and else their fault
+-- a call's answer where the code units are such a text, and else their fault
 unfoldable pub call_reply : ℕ → TextCall → List ℕ → List ℕ
 call_reply n call units =
     if is_strict_text units n then answer_of call units else fault_text (fault_in n units)
 
--- what stands for a unit that is no character: `?`
+-- what stands for a code unit that isn't a character: `?`
 abbrev pub replacement : ℕ
 replacement = 63
 
--- the first record of n bytes that is no padded text
+-- the first record of n bytes that isn't a padded text
 abbrev pub first_bad_record : ℕ → List ℕ → Option ℕ
 first_bad_record n bytes = find (λ i. not (is_padded_text (record_at n bytes i) n)) (range_with_len 0 (length bytes / n))
 
@@ -60,19 +60,19 @@ records_reply n bytes =
     else (if length bytes % n == 0 then checked_reply n bytes (first_bad_record n bytes)
     else codes "bad length " ++ decimal (length bytes))
 
--- the canonical text of a language identifier, or why there is none
+-- the canonical text of a language identifier, or its refusal
 unfoldable pub locale_reply : List ℕ → List ℕ
 locale_reply units =
     if is_lang_id (subtags_of (fold_text units)) then canonical_text units else message_of (refusal_of units)
 
--- the reply of a command to units at capacity n
+-- the reply of a command to code units at capacity n
 abbrev pub command_reply : ℕ → List ℕ → Command → List ℕ
 command_reply n units (OnText call) = call_reply n call units
 command_reply n units Lossy = lossy units replacement n
 command_reply n units Records = records_reply n units
 command_reply n units Locale = locale_reply units
 
--- the reply at capacity n to a command's field and the units
+-- the reply at capacity n to a command's field and the code units
 abbrev pub reply_at : ℕ → List ℕ → List ℕ → List ℕ
 reply_at n field units =
     option_map_or (command_reply n units) (command_of field) (codes "bad command")
@@ -85,8 +85,8 @@ fields_reply capacity field units =
 abbrev pub is_space : ℕ → Bool
 is_space b = b == 32
 
--- the reply to a line: its capacity ends at its first space, its command at the second or at the end, and the units
--- are all that follow
+-- the reply to a line: its capacity ends at its first space, its command at the second or at the end, and the code
+-- units are all that follow
 unfoldable pub reply : List ℕ → List ℕ
 reply line =
     let rest = after_first is_space line in

@@ -62,7 +62,7 @@ none_from (Some v) h = absurd (h refl)
 same_from_eq : (t s : List ℕ) → eq_by_cmp (slice_cmp nat_cmp) t s ≡ true → t ≡ s
 same_from_eq t s e = exact_bytes t s (grind (arith, Equal-is))
 
--- what is no key has no value
+-- what isn't a key has no value
 pub get-absent : (es : List (List ℕ × List ℕ)) (key : List ℕ) → ¬ Contains (keys_of es) key → get es key ≡ None
 get-absent es key absent = none_from (get es key) (λ some. absent (Contains-keys_from_lookup same_from_eq key es some))
 

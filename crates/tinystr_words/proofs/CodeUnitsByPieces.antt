@@ -1,4 +1,4 @@
--- Units are a text exactly where each part of them is.
+-- Code units are a text exactly where each piece of them is.
 use Rattle.std.proofs.Common.{ℕ, ◌+◌, ◌-◌, ◌<◌, ◌≤◌, ◌≡◌, ◌↔◌, Bool, ◌&&◌, IsTrue, List, length, get_or, take, drop, arith, inl, inr}
 use Rattle.std.proofs.lemmas.Bool.{cases_lt}
 use Rattle.std.proofs.lemmas.Bool.Decides.{Decides-and, Decides-like}
@@ -15,7 +15,7 @@ All-take-Decides P xs i d tested here inside p q =
     (λ h. (rw (take-take i (i + 1) xs (omega arith)) at (All-take P i (take (i + 1) xs) h), rw (← get_or-take (i + 1) xs i d (omega arith)) (h i d (omega (arith, length-take (i + 1) xs)))))
     (Decides-and tested here p q)
 
--- a front and a back that are all units
+-- a front and a back that are all code units
 IsText-ends : (units : List ℕ) (n : ℕ) → n ≤ length units → length units ≤ n + n
     → IsText (take n units) × IsText (drop (length units - n) units) → IsText units
 IsText-ends units n least most ends = All-from_get_or IsTextByte units 0 (λ k inside. elim (cases_lt k n) [
@@ -25,7 +25,7 @@ IsText-ends units n least most ends = All-from_get_or IsTextByte units 0 (λ k i
       rw (← there, ← get_or-drop) (ends.1 (k - s) 0 (omega (arith, length-drop s units))))
 ])
 
--- the tests of both ends are that of all units
+-- the tests of both ends are that of all code units
 pub IsText-ends-Decides : (units : List ℕ) (n : ℕ) (front back : Bool) → n ≤ length units → length units ≤ n + n
     → (IsTrue front ↔ IsText (take n units)) → (IsTrue back ↔ IsText (drop (length units - n) units)) → (IsTrue (front && back) ↔ IsText units)
 IsText-ends-Decides units n front back least most p q =

@@ -1,4 +1,4 @@
--- Bytes are the same where parts are that cover them.
+-- Bytes are the same where pieces are that cover them.
 use Rattle.std.proofs.Common.{List, ap, arith, drop, length, sym, take, ℕ, ◌&&◌, ◌++◌, ◌+◌, ◌-◌, ◌∙◌, ◌≡◌, ◌≤◌}
 use Rattle.std.proofs.lemmas.Bool.Decides.{Decides-and, same_from_decides}
 use Rattle.std.proofs.lemmas.List.{drop-drop, length-drop, take-append-drop, take-take, take_all}

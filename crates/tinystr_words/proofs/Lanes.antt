@@ -87,7 +87,7 @@ disjunction = record { op = bit_or; zeros = refl; step = step_from_block bit_or 
 abbrev pub difference : Bytewise
 difference = record { op = bit_xor; zeros = refl; step = step_from_block bit_xor (xor_block 8) }
 
--- and a sum, which may leave a lane that is no byte
+-- and a sum, which may leave a lane that isn't a byte
 abbrev pub addition : Bytewise
 addition = record { op = λ m n. m + n; zeros = refl; step = λ a b r s p q. omega arith }
 

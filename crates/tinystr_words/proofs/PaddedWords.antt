@@ -53,7 +53,7 @@ pub record IsSoFar (bytes rest : List ℕ) (ended : Bool) : Type 0 where
   pub from : IsPadded rest → (ended ≡ true → text_of rest ≡ []) → IsPadded bytes
   pub to : IsPadded bytes → IsPadded rest × (ended ≡ true → text_of rest ≡ [])
 
--- where one word is no padded text, the bytes are none
+-- where one word isn't a padded text, the bytes aren't one
 pub IsSoFar-refused : (bytes rest x : List ℕ) (ended : Bool) → IsSoFar bytes rest ended → x ≡ take 16 rest → ¬ IsPadded x → ¬ IsPadded bytes
 IsSoFar-refused bytes rest x ended far e bad = λ p. bad (rw e (IsPaddedText-take rest (length rest) 16 (far.to p).0))
 

@@ -1,4 +1,4 @@
--- One pass over a list of units: what is known after the first i of them, and the fault that the pass finds.
+-- One pass over a list of code units: what is known after the first i of them, and the fault that the pass finds.
 use Rattle.std.proofs.Common.{◌≡◌, ℕ, ◌+◌, ◌<◌, ◌≤◌, ◌==◌, Bool, true, false, ◌||◌, List, length, get_or, take, Some, None, if◌then◌else◌, nat_lt, sym, ◌∙◌, refl, arith, below_more, inl, inr, zero-add}
 use Rattle.std.proofs.lemmas.Bool.{cases_lt}
 use Rattle.std.proofs.lemmas.Bool.Decides.{nat_tests}
@@ -28,14 +28,14 @@ IsScanned-none units = record { clean = λ k h. absurd (omega arith); nul = refl
 is_after_nul-more : (units : List ℕ) (i : ℕ) → i < length units → is_after_nul units (i + 1) ≡ (is_after_nul units i || (get_or units i 0 == 0))
 is_after_nul-more units i inside = list_any_more (λ u. u == 0) units i 0 inside
 
--- the next unit is a NUL
+-- the next code unit is a NUL
 pub IsScanned-nul : (units : List ℕ) (i : ℕ) (seen : Bool) → IsScanned units i seen → i < length units → get_or units i 0 ≡ 0 → IsScanned units (i + 1) true
 IsScanned-nul units i seen h inside is_nul = record {
   clean = below_more _ _ h.clean (grind (arith, nat_tests));
   nul = sym (is_after_nul-more units i inside ∙ grind (arith, nat_tests));
 }
 
--- the next unit is a character, and no NUL was seen
+-- the next code unit is a character, and no NUL was seen
 pub IsScanned-char : (units : List ℕ) (i : ℕ) → IsScanned units i false → i < length units → 0 < get_or units i 0 → get_or units i 0 < 128 → IsScanned units (i + 1) false
 IsScanned-char units i h inside some low =
     let unseen = h.nul in record {
@@ -75,14 +75,14 @@ find-is p n =
 
 -- ---- the fault that the pass finds
 
--- the next unit is above 127, and that is the first fault
+-- the next code unit is above 127, and that is the first fault
 pub first_fault-high : (units : List ℕ) (i : ℕ) (seen : Bool) → IsScanned units i seen → i < length units → 127 < get_or units i 0 → first_fault units ≡ Some non_ascii
 unfolding first_fault first_faulty
 first_fault-high units i seen h inside high =
     let above : nat_lt 127 (get_or units i 0) ≡ true = grind (arith, nat_tests) in
     rw (find-first (is_faulty units) (length units) i inside (rw above refl) h.clean, above) refl
 
--- the next unit is a character after a NUL, and that is the first fault
+-- the next code unit is a character after a NUL, and that is the first fault
 pub first_fault-late : (units : List ℕ) (i : ℕ) → IsScanned units i true → i < length units → 0 < get_or units i 0 → get_or units i 0 < 128 → first_fault units ≡ Some contains_null
 unfolding first_fault first_faulty
 first_fault-late units i h inside some low =
@@ -90,7 +90,7 @@ first_fault-late units i h inside some low =
     let character : nat_lt 0 (get_or units i 0) ≡ true = grind (arith, nat_tests) in
     rw (find-first (is_faulty units) (length units) i inside (rw (within, character, ← h.nul) refl) h.clean, within) refl
 
--- where no position is faulty, there is no fault
+-- where no position is faulty, there isn't a fault
 pub first_fault-clean : (units : List ℕ) → ((k : ℕ) → k < length units → is_faulty units k ≡ false) → first_fault units ≡ None
 unfolding first_fault first_faulty
 first_fault-clean units clean = rw (find-none (is_faulty units) (length units) clean) refl
@@ -99,7 +99,7 @@ first_fault-clean units clean = rw (find-none (is_faulty units) (length units) c
 pub first_fault-none : (units : List ℕ) (seen : Bool) → IsScanned units (length units) seen → first_fault units ≡ None
 first_fault-none units seen h = first_fault-clean units h.clean
 
--- where there is no fault, no position is faulty
+-- where there isn't a fault, no position is faulty
 pub is_faulty-none : (units : List ℕ) → first_fault units ≡ None → (k : ℕ) → k < length units → is_faulty units k ≡ false
 unfolding first_fault first_faulty
 is_faulty-none units none k inside =
@@ -120,11 +120,11 @@ fault_in-fits n units fits = let within : nat_lt n (length units) ≡ false = gr
 
 -- ---- a padded text has no faulty position, and bytes with none are a padded text
 
--- a unit that isn't faulty is below 128
+-- a code unit that isn't faulty is below 128
 is_faulty-low : (units : List ℕ) (i : ℕ) → is_faulty units i ≡ false → get_or units i 0 < 128
 is_faulty-low units i clean = grind (arith, nat_tests)
 
--- a unit that isn't faulty and stands after a NUL is a NUL
+-- a code unit that isn't faulty and stands after a NUL is a NUL
 is_faulty-after_nul : (units : List ℕ) (i j : ℕ) → is_faulty units i ≡ false → j < i → i < length units → get_or units j 0 ≡ 0 → get_or units i 0 ≡ 0
 is_faulty-after_nul units i j clean before inside nul =
     let long = length-take-le i units (omega arith) in

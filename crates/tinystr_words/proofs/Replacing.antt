@@ -1,4 +1,4 @@
--- Bytes in a vector, with a replacement for those that are no characters.
+-- Bytes in a vector, with a replacement for those that aren't characters.
 use Rattle.std.proofs.Common.{ap₂, false, lit<, subst, true, Bool, List, [], ap, arith, bit_and, cond, drop, get_or, length, ltb, map, nat_eq, nat_lt, refl, replicate, rules, sym, take, w8, zero, suc, ℕ, ◌++◌, ◌+◌, ◌-◌, ◌%◌, ◌<◌, ◌∙◌, ◌∷◌, ◌≡◌, ◌≤◌}
 use Rattle.std.proofs.lemmas.List.{get_or-drop, get_or-take, length-drop, length-map, length-replicate, length-take, places, same_lists}
 use Rattle.std.proofs.lemmas.Grind.{same_number_lists}

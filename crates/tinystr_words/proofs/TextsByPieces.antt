@@ -1,4 +1,4 @@
--- The answer and the case change of a text are those of its parts, and a padded array changes as its text does.
+-- The answer and the case change of a text are those of its pieces, and a padded array changes as its text does.
 use Rattle.std.proofs.Common.{◌≡◌, ℕ, zero, suc, ◌-◌, Bool, ◌&&◌, ◌⊎◌, inl, inr, ⊎_elim, List, [], ◌∷◌, ◌++◌, length, take, drop, map, sym, ap, ◌∙◌, refl, arith}
 use Rattle.std.proofs.Math.Bool.{and_assoc}
 use Rattle.std.proofs.lemmas.Bool.{cases_lt}
@@ -60,7 +60,7 @@ ask_question-pieces question q t =
     ∙ ask-append (first_class question) (later_class question) q (take (suc q) t) (drop (suc q) t) (IsCut-at q t)
     ∙ ap (λ r. ask_question question (take (suc q) t) && r) (later-ask_question question (drop (suc q) t))
 
--- a changed text from its changed parts
+-- a changed text from its changed pieces
 pub in_case-pieces : (c : Case) (q : ℕ) (l : List ℕ) → in_case c l ≡ in_case c (take (suc q) l) ++ in_case (later_case c) (drop (suc q) l)
 in_case-pieces c q l =
     ap (λ (m : List ℕ). in_case c m) (sym (take-append-drop (suc q) l)) ∙ in_case-append c q (take (suc q) l) (drop (suc q) l) (IsCut-at q l)

@@ -1,4 +1,4 @@
--- Units that were read as a whole, and their array.
+-- Code units that were read as a whole, and their array.
 use Rattle.std.proofs.Common.{Bool, IsTrue, List, ap, arith, false, get_or, inl, inr, length, map, not, set, sym, take, true, ℕ, ◌+◌, ◌<◌, ◌||◌, ◌%◌, ◌↔◌, ◌∙◌, ◌≡◌, ◌≤◌}
 use Rattle.std.proofs.lemmas.List.{get_or-map, get_or_past, length-map, length-take, take-map, take_all}
 use Rattle.std.proofs.lemmas.List.Elements.{All-from_get_or, All-map, All-weaker}
@@ -18,7 +18,7 @@ use Rattle.std.proofs.lemmas.Bool.Decides.{nat_tests}
 abbrev Tested : Bool → List ℕ → ℕ → ℕ → Type 0
 Tested is_bad units i j = MatchBool is_bad (¬ IsText units) ((k : ℕ) → i ≤ k → k < j → IsTextByte (get_or units k 0))
 
--- one more unit tested
+-- one more code unit tested
 Tested-more : (units : List ℕ) (i j : ℕ) (bad char : Bool) → j < length units → Tested bad units i j → (IsTrue char ↔ IsTextByte (get_or units j 0)) → Tested (bad || not char) units i (j + 1)
 Tested-more units i j true char inside h is = h
 Tested-more units i j false true inside h is = grind (arith, common_steps)
@@ -46,7 +46,7 @@ IsPaddedText-text bytes units n fits text made =
     let strict : IsStrictText units n = record { text = text; fits = fits } in
     (strict, (IsPaddedText-made bytes units n made strict, text_of-made bytes units n made text))
 
--- where no unit is bad, all are read as they are
+-- where no code unit is bad, all are read as they are
 pub IsReadPiece-text : (bytes units : List ℕ) (r n : ℕ) → length units ≤ n → length bytes ≡ n
     → IsReadPiece false (NULS n) bytes units r 0 (length units) → IsStrictText units n × (IsPaddedText bytes n × (text_of bytes ≡ units))
 IsReadPiece-text bytes units r n fits len read =
@@ -60,7 +60,7 @@ IsPaddedText-full number bytes units n len text made =
     let long : length (map number units) ≡ length units = length-map units number in
     IsPaddedText-text bytes (map number units) n (omega arith) text (made ∙ map-mod_text number units text ∙ sym (pad-full (map number units) n (omega arith)))
 
--- one more unit
+-- one more code unit
 pub IsReadPiece-more : (old bytes units : List ℕ) (r i j x : ℕ) (bad char : Bool) → length units ≤ length bytes → j < length units → IsReadPiece bad old bytes units r i j
     → (IsTrue char ↔ IsTextByte (get_or units j 0)) → x ≡ lossy_byte r (get_or units j 0)
     → IsReadPiece (bad || not char) old (set bytes j x) units r i (j + 1)
@@ -76,14 +76,14 @@ IsReadPiece-more old bytes units r i j x bad char room inside h is copy =
 IsTextByte-lossy_byte : (r u : ℕ) → IsTextByte r → IsTextByte (lossy_byte r u)
 IsTextByte-lossy_byte r u h = grind (arith, nat_tests)
 
--- the units that fit, with the replacement for each that is no character
+-- the code units that fit, with the replacement for each that isn't a character
 pub lossy_is_padded : (bytes units : List ℕ) (r n : ℕ) → IsTextByte r → bytes ≡ pad (lossy units r n) n → IsPaddedText bytes n × (text_of bytes ≡ lossy units r n)
 lossy_is_padded bytes units r n h made =
     let short : take n (map (lossy_byte r) units) ≡ lossy units r n = take-map (lossy_byte r) n units in
     let text : IsText (map (lossy_byte r) units) = All-map IsTextByte (lossy_byte r) units (λ i d inside. IsTextByte-lossy_byte r (get_or units i d) h) in
     rw short at (IsPaddedText-pad_take bytes (map (lossy_byte r) units) n (rw short made) text)
 
--- the first n units, as the code cuts them
+-- the first n code units, as the code cuts them
 pub lossy-front : {X : Type 0} (number : X → ℕ) (units : List X) (r n : ℕ) → map (lossy_byte r) (map number (take n units)) ≡ lossy (map number units) r n
 lossy-front number units r n = ap (λ (l : List ℕ). map (lossy_byte r) l) (sym (take-map number n units))
 

@@ -1,4 +1,4 @@
--- The word of some bytes is made of the words of their parts, which may overlap.
+-- The word of some bytes is made of the words of their pieces, which may overlap.
 use Rattle.std.proofs.Common.{ℕ, zero, suc, ◌+◌, ◌-◌, ◌*◌, ◌/◌, ◌%◌, ◌^◌, ◌<◌, ◌≤◌, ◌≡◌, List, [], ◌∷◌, length, get_or, take, drop, map, refl, sym, ap, ap₂, ◌∙◌, subst, arith, bit_or, Fits, w8, w16, lit<}
 use lib.Lanes.{number_l}
 use Rattle.std.proofs.Math.Nat.{pow-suc, mul_comm, mul_assoc, pow-le-pow_right}
@@ -23,7 +23,7 @@ word_split (suc n) (b ∷ l) h =
     let k : 256 ^ suc n * word (drop n l) ≡ 256 * (256 ^ n * word (drop n l)) = ap (λ p. p * word (drop n l)) (pow-suc 256 n ∙ mul_comm (256 ^ n) 256) ∙ mul_assoc 256 (256 ^ n) (word (drop n l)) in
     omega arith
 
--- ---- the parts that a word is loaded by
+-- ---- the pieces that a word is loaded by
 
 -- of one to three bytes, the first, the middle and the last
 pub word_from_three : (l : List ℕ) → IsBytes l → 0 < length l → length l < 4
@@ -46,7 +46,7 @@ word_from_three (x ∷ y ∷ z ∷ []) a some few =
     grind (arith, common_steps)
 word_from_three (x ∷ y ∷ z ∷ u ∷ l) a some few = absurd (omega arith)
 
--- ---- the lowest bytes of units
+-- ---- the lowest bytes of code units
 
 -- the lowest bytes of numbers
 pub IsBytes-low : {X : Type 0} (f : X → ℕ) (l : List X) → IsBytes (map (λ u. f u % 256) l)
@@ -66,7 +66,8 @@ map-mod_bytes l f = rw (map-id l) at (map-mod_small (λ u. u) l (rw (map-id l) (
 pub map-mod_text : {X : Type 0} (f : X → ℕ) (l : List X) → IsText (map f l) → map (λ u. f u % 256) l ≡ map f l
 map-mod_text f l h = map-mod_small f l (IsBytes-from_IsText (map f l) h)
 
--- the last n units, without those that stand among the first n, follow these, as the code shifts them, and nothing is lost
+-- the last n code units, without those that stand among the first n, follow these, as the code shifts them, and nothing
+-- is lost
 pub word_from_halves : {X : Type 0} (f : X → ℕ) (n : ℕ) (l : List X) → n ≤ length l → length l ≤ n + n
     → (word (map (λ u. f u % 256) (take n l)) + 256 ^ n * (word (map (λ u. f u % 256) (take (length l - (length l - n)) (drop (length l - n) l))) / 2 ^ (8 * (n + n - length l))) ≡ word (map (λ u. f u % 256) l))
     × (word (map (λ u. f u % 256) l) < 256 ^ (n + n))

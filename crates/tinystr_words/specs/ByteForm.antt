@@ -1,9 +1,9 @@
--- The byte form: the fault of a list of bytes whose first n are no padded text.
+-- The byte form: the fault of a list of bytes whose first n aren't a padded text.
 use Rattle.std.specs.Prelude.{ℕ, ◌==◌, ◌&&◌, not, nat_lt, nat_le, List, length, slice_index, Option, Some, None, is_some, option_and_then, if◌then◌else◌}
 use Rattle.std.specs.List.{find, range_with_len}
 use Rattle.tinystr_words.specs.Reading.{is_after_nul}
 
--- why bytes aren't read: there are fewer than a number of them, a byte behind a NUL is no NUL, or a byte is above 127
+-- why bytes aren't read: there are fewer than a number of them, a byte behind a NUL isn't a NUL, or a byte is above 127
 pub data ByteFault : Type 0 where
   too_short : ℕ → ByteFault
   null : ByteFault

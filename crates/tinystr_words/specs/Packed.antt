@@ -13,13 +13,13 @@ pub record IsPacked (bytes : List ℕ) (n : ℕ) : Type 0 where
 abbrev pub record_at : ℕ → List ℕ → ℕ → List ℕ
 record_at n bytes i = take n (drop (i * n) bytes)
 
--- record i is the first that is no padded text
+-- record i is the first that isn't a padded text
 pub record IsFirstBad (bytes : List ℕ) (n i : ℕ) : Type 0 where
   pub inside : i * n < length bytes
   pub bad : ¬ IsPaddedText (record_at n bytes i) n
   pub before : (k : ℕ) → k < i → IsPaddedText (record_at n bytes k) n
 
--- in a list of records, the one at i is the first that is no padded text
+-- in a list of records, the one at i is the first that isn't a padded text
 pub record IsFirstUnpadded (records : List (List ℕ)) (n i : ℕ) : Type 0 where
   pub inside : i < length records
   pub bad : ¬ IsPaddedText (slice_index_or records i []) n
