@@ -4,7 +4,7 @@ use std::cmp::Ordering::{self, Equal, Greater, Less};
 use std::collections::HashSet;
 use std::str::FromStr;
 use std::test::Fail;
-use subtags::laws::{identifier_order, subtag_order, read_back};
+use subtags::laws::{identifier_order, read_back, subtag_order};
 use subtags::{LangId, LangIdError, Language, Region, Script};
 
 #[test]
