@@ -6,9 +6,10 @@ use Rattle.std.proofs.lemmas.Grind.{same_number_lists}
 use Rattle.std.proofs.lemmas.List.Sums.{prefix_len_is, prefix_len-le-length}
 use Rattle.std.proofs.lemmas.List.Folds.{length-prefix_len}
 use Rattle.std.proofs.lemmas.List.Elements.{All-weaker, All-take, All-drop}
+use Rattle.std.proofs.lemmas.Str.{IsUtf8-from_ascii}
 use Rattle.std.proofs.lemmas.Str.Ascii.{IsAscii-from_all}
 use Rattle.std.specs.List.{prefix_len}
-use Rattle.std.specs.Str.{IsAscii}
+use Rattle.std.specs.Str.{IsAscii, IsUtf8}
 use Rattle.tinystr_words.specs.Text.{IsTextByte, IsText, IsStrictText, pad, text_of, IsPaddedText, IsPadded}
 
 -- the test that `text_of` makes of each byte
@@ -100,6 +101,13 @@ IsAscii-text t h = IsAscii-from_all t (All-weaker IsTextByte (λ b. b < 128) (λ
 -- padded bytes are ASCII
 pub IsAscii-padded : (bytes : List ℕ) (n : ℕ) → IsPaddedText bytes n → IsAscii bytes
 IsAscii-padded bytes n p = λ i. rw (get_or-text_of bytes n i p) (IsAscii-text (text_of bytes) p.text i)
+
+-- a text is UTF-8
+pub IsUtf8-text : (t : List ℕ) → IsText t → IsUtf8 t
+IsUtf8-text t h = IsUtf8-from_ascii t (IsAscii-text t h)
+
+-- what a string made of a text's bytes asks for
+pub ruleset utf8_texts = (IsUtf8-text)
 
 -- ---- the parts of lists that are joined, and of padded texts
 

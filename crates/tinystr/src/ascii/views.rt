@@ -50,20 +50,15 @@ impl<const N: usize> TinyAsciiStr<N> {
     /// ```rust
     /// assert_eq!(rt; tinystr!(8, "en-US")?.as_str(), "en-US");
     /// ```
-    // The kit tests eight bytes at once, and fewer than eight one by one: so below eight the text alone is tested, and
-    // from eight on all bytes, whose number is known.
     #[inline]
+    #[tactic(auto, using(tinystr_words::proofs::Texts::utf8_texts))]
     pub fn as_str(&self) -> &str
         ensures text { result.now ≡ self.now }
         ensures ascii { IsText result.now }
         ensures fits { length result.now ≤ N }
     {
-        if N < 8 {
-            std::str::from_utf8(self.as_utf8()).unwrap()
-        } else {
-            let all = std::str::from_utf8(&self.bytes[..]).unwrap();
-            &all[..self.len()]
-        }
+        // proved: what `as_utf8` gives is ASCII, so it is UTF-8
+        unsafe { std::str::from_utf8_unchecked(self.as_utf8()) }
     }
 
     /// All `N` bytes, in the value itself: the text and then NULs.
