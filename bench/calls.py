@@ -35,21 +35,14 @@ def ratios_of_kind(figures, kind):
     return found
 
 
-def rows_of_means():
-    """Which rows the means of full and of mixed texts are over, in a line."""
-    return (
-        "all 28 rows of the picture: readers, `cmp`, `==`, `len`, the nine questions (on texts that pass), case changes,"
-        " decimals, `resize` and `concat` to two capacities each, `is_empty`, `as_str`, `Display` and `Hash`"
-    )
-
-
 def mean_of(figures, kind, capacities=None):
     """Over each row of a kind once, at some capacities or at all."""
     rows = ratios_of_kind(figures, kind).values()
     return geometric([ratio for row in rows for capacity, ratio in row.items() if not capacities or capacity in capacities])
 
 
-def slowest_of(figures, kinds=("full", "mixed")):
-    """The largest ratio of these kinds, with its kind, call and capacity."""
-    rows = [(kind, call, row) for kind in kinds for call, row in ratios_of_kind(figures, kind).items()]
-    return max((ratio, kind, call, capacity) for kind, call, row in rows for capacity, ratio in row.items())
+def slowest_of(figures):
+    """The largest ratio of all rows, with its call, its capacity, and its kind of texts."""
+    kinds = dict.fromkeys(KINDS.values())
+    rows = [(call, kind, row) for kind in kinds for call, row in ratios_of_kind(figures, kind).items()]
+    return max((ratio, call, capacity, kind) for call, kind, row in rows for capacity, ratio in row.items())

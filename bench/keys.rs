@@ -1,8 +1,11 @@
 //! Times maps, a sort and other calls by keys of two to eight letters, as the program of keys.txt does with the same
 //! keys, and prints a line for each type's time, as the other drivers do. The argument is a file with what that program
-//! printed. A `String` stands for a JSON value.
+//! printed. A `String` stands for a JSON value, and a `HashMap` has a hasher like the kit's.
 
-use std::collections::{BTreeMap, HashMap};
+mod folding;
+
+use folding::FoldingMap;
+use std::collections::BTreeMap;
 use std::fmt::{Display, Write};
 use std::hash::Hash;
 use std::hint::black_box;
@@ -85,7 +88,7 @@ macro_rules! impl_map {
     ($($map:ident),*) => {
         $(impl<K: Key> Map<K> for $map<K, u32> {
             fn empty() -> Self {
-                $map::new()
+                $map::default()
             }
 
             fn put(&mut self, key: K, number: u32) {
@@ -103,7 +106,7 @@ macro_rules! impl_map {
     };
 }
 
-impl_map!(BTreeMap, HashMap);
+impl_map!(BTreeMap, FoldingMap);
 
 /// Numbers, each a product and a sum of the one before.
 struct Numbers(u64);
@@ -171,7 +174,7 @@ fn time_key<K: Key>(key: &str) -> Vec<Row> {
     let size = Row { nanos: size_of::<K>() as u64, ..Row::new(key, "bytes a key") };
     let mut rows = vec![size];
     rows.extend(time_map::<K, BTreeMap<K, u32>>(key, "BTreeMap"));
-    rows.extend(time_map::<K, HashMap<K, u32>>(key, "HashMap"));
+    rows.extend(time_map::<K, FoldingMap<K, u32>>(key, "HashMap"));
     rows.push(time_sort::<K>(key));
     rows.extend(time_forms::<K>(key));
     rows

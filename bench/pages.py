@@ -1,8 +1,9 @@
 """The blocks of a page that are made of figures: behind `<!-- bench/report NAME -->`, up to `<!-- end -->`."""
 
 import re
+from textwrap import fill
 
-from calls import KINDS, mean_of, ratios_of_kind
+from calls import FAILING, KINDS, mean_of, ratios_of_kind, slowest_of
 from figures import THERE
 from pictures import calls_description
 from tables import aligned, cells_of_table, geometric, ratio_table, rows_of, type_table
@@ -27,7 +28,22 @@ def means(figures):
     kinds = {"full texts": "full", "mixed texts": "mixed"}
     groups = [None, ["4"], ["8"], CAPACITIES[2:]]
     rows = [[name, *(f"{mean_of(figures, kind, group):.2f}" for group in groups)] for name, kind in kinds.items()]
-    return fenced(aligned([["geometric mean", "all", "at 4", "at 8", "past 8"], *rows]))
+    return fenced(aligned([[f"mean of {len(ratios_of_kind(figures, 'full'))} rows", "all", "at 4", "at 8", "past 8"], *rows]))
+
+
+def headline(figures):
+    """The means over all rows, those at capacity 4, and the slowest row, in sentences."""
+    (full, mixed), (full_at_4, mixed_at_4) = (
+        [f"{mean_of(figures, kind, capacities):.2f}" for kind in ("full", "mixed")] for capacities in (None, ["4"])
+    )
+    ratio, call, capacity, kind = slowest_of(figures)
+    slowest = "a question that fails at its first byte" if call == FAILING else f"`{call}` of {kind} texts"
+    said = (
+        f"Over all calls, a call takes {full} of the Rust crate's time on texts that fill their capacity and {mixed} on texts"
+        f" of all lengths, as geometric means; at capacity 4, that of script and currency codes, {full_at_4} and {mixed_at_4}."
+        f" The slowest is {slowest} at {capacity}, which takes {ratio:.1f} times as long."
+    )
+    return fill(said, 120) + "\n"
 
 
 def table(figures, name):
@@ -110,6 +126,7 @@ BLOCKS = {
     "capacities.svg": picture("capacities.svg", "Nanoseconds of six calls by capacity, here and in the Rust crate"),
     "keys.svg": picture("keys.svg", "Nanoseconds of map and sort calls by type of key"),
     "means": of("calls", means),
+    "headline": of("calls", headline),
     "slower": of("calls", slower),
     "full": of("calls", table, "Full texts"),
     "mixed": of("calls", table, "Mixed texts"),

@@ -242,10 +242,10 @@ KEY_CALLS = [
     "BTreeMap, insert", "BTreeMap, get a present key", "BTreeMap, get an absent key",
     "HashMap, insert", "HashMap, get a present key", "HashMap, get an absent key", "sort",
 ]  # fmt: skip
-KEY_NAMES = {HERE: "TinyAsciiStr", THERE: "TinyAsciiStr 0.8.5"}
 KITS = "the kit's "
+KEY_NAMES = {HERE: "TinyAsciiStr", THERE: "TinyAsciiStr 0.8.5"}
 BAR = 17
-KEY_LABELS, KEY_PANEL = 140, 236
+KEY_LABELS, KEY_PANEL = 158, 230
 
 
 def is_rattle(whose):
@@ -254,7 +254,7 @@ def is_rattle(whose):
 
 def bars(figures, cell, types, left, top):
     longest = max(figures.time(cell, whose) for whose in types)
-    shapes = [bold(left, top - 8, cell[1])]
+    shapes = [bold(left, top - 8, cell[1]), text(left + KEY_PANEL - 28, top - 8, f"0 to {longest:.0f} ns", "end")]
     for i, whose in enumerate(types):
         nanos = figures.time(cell, whose)
         width = (KEY_PANEL - 60) * nanos / longest
@@ -267,15 +267,16 @@ def bars(figures, cell, types, left, top):
 
 
 def key_labels(types, top):
-    names = [KEY_NAMES.get(it, it.removeprefix(KITS)) for it in types]
+    names = [KEY_NAMES.get(it, it) for it in types]
     return [text(KEY_LABELS - 8, top + BAR * i + 10.5, name, "end") for i, name in enumerate(names)]
 
 
 def key_legend():
-    shapes = [text(12, 20, "Nanoseconds a call with keys of 2 to 8 letters; each panel has its own scale")]
+    shapes = [text(12, 20, "Nanoseconds a call with keys of 2 to 8 letters; each panel has its own range, from 0")]
     for x, color, name in [(520, BLUE, "Rattle, its kit's maps"), (690, ORANGE, "Rust, std's maps")]:
         shapes += [rectangle(x, 10, 12, 12, color), text(x + 18, 20, name)]
-    return shapes
+    pale = "Full colour: both kinds of TinyAsciiStr. Pale: what one would use in their place. Both sides' hash maps hash alike."
+    return [*shapes, text(12, 40, pale)]
 
 
 def keys_picture(figures):
@@ -284,11 +285,11 @@ def keys_picture(figures):
     height = BAR * len(types) + 34
     shapes = key_legend()
     for i, call in enumerate(KEY_CALLS):
-        top = 62 + height * (i // 3)
+        top = 78 + height * (i // 3)
         if i % 3 == 0:
             shapes += key_labels(types, top)
         shapes += bars(figures, cells[call], types, KEY_LABELS + KEY_PANEL * (i % 3), top)
     title = "Nanoseconds of map and sort calls by type of key"
     nanos = lambda call: f"{call}: {figures.time(cells[call], HERE):.0f} and {figures.time(cells[call], THERE):.0f}"
     description = f"Here and with the Rust crate's values. {'; '.join(map(nanos, KEY_CALLS))} ns."
-    return svg(62 + height * ceil(len(KEY_CALLS) / 3) - 14, title, description, shapes)
+    return svg(78 + height * ceil(len(KEY_CALLS) / 3) - 14, title, description, shapes)
