@@ -37,7 +37,7 @@ def headline(figures):
         [f"{mean_of(figures, kind, capacities):.2f}" for kind in ("full", "mixed")] for capacities in (None, ["4"])
     )
     ratio, call, capacity, kind = slowest_of(figures)
-    slowest = "a question that fails at its first byte" if call == FAILING else f"`{call}` of {kind} texts"
+    slowest = "a question that fails at its first byte" if call == FAILING else f"`{call.partition(',')[0]}` of {kind} texts"
     said = (
         f"Over all calls, a call takes {full} of the Rust crate's time on texts that fill their capacity and {mixed} on texts"
         f" of all lengths, as geometric means; at capacity 4, that of script and currency codes, {full_at_4} and {mixed_at_4}."
