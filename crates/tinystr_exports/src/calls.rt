@@ -4,32 +4,13 @@ ghost use Rattle.std.specs.Prelude.{◌≤◌};
 
 use crate::batch::{COUNT, read_texts, write_numbers, write_texts};
 use crate::hashing::hash_of;
+use crate::numbers::{
+    ALPHABETIC, ALPHABETIC_LOWERCASE, ALPHABETIC_TITLECASE, ALPHABETIC_UPPERCASE, ALPHANUMERIC,
+    COPY, EQUALITY, EQUALITY_OF_HASHES, IS_EMPTY, LAST_OF_STR, LEN, LOWER, LOWERCASE, NUMERIC,
+    ORDER, TITLE, TITLECASE, UPPER, UPPERCASE,
+};
 use std::cmp::Ordering;
 use tinystr::TinyAsciiStr;
-
-const LEN: usize = 0;
-
-const IS_EMPTY: usize = 1;
-
-const ALPHABETIC: usize = 2;
-
-const ALPHANUMERIC: usize = 3;
-
-const NUMERIC: usize = 4;
-
-const LOWERCASE: usize = 5;
-
-const TITLECASE: usize = 6;
-
-const UPPERCASE: usize = 7;
-
-const ALPHABETIC_LOWERCASE: usize = 8;
-
-const ALPHABETIC_TITLECASE: usize = 9;
-
-const ALPHABETIC_UPPERCASE: usize = 10;
-
-const LAST_OF_STR: usize = 11;
 
 /// Answers question number `question` for each text; false where there is no such question.
 pub fn ask_batch<const N: usize>(
@@ -90,14 +71,6 @@ fn ask<const N: usize, const QUESTION: usize>(text: &TinyAsciiStr<N>) -> u8 {
     }
 }
 
-const LOWER: usize = 0;
-
-const TITLE: usize = 1;
-
-const UPPER: usize = 2;
-
-const COPY: usize = 3;
-
 /// Changes each text to case number `case`, or copies it; false where there is no such case.
 pub fn change_batch<const N: usize>(
     case: usize,
@@ -139,12 +112,6 @@ fn change<const N: usize, const CASE: usize>(text: TinyAsciiStr<N>) -> TinyAscii
         _ => text,
     }
 }
-
-const ORDER: usize = 0;
-
-const EQUALITY: usize = 1;
-
-const EQUALITY_OF_HASHES: usize = 2;
 
 /// Compares each pair; false where there is no comparison of that number.
 pub fn compare_batch<const N: usize>(

@@ -10,6 +10,7 @@ mod capacities;
 mod cuts;
 mod hashing;
 mod lang_ids;
+mod numbers;
 mod printing;
 mod readers;
 mod records;

@@ -3,16 +3,9 @@
 ghost use Rattle.std.specs.Prelude.{◌≤◌};
 
 use crate::batch::read_texts;
+use crate::numbers::{DEBUG, DISPLAY, PADDED, UNVALIDATED_DEBUG};
 use std::io::{self, Cursor, Write};
 use tinystr::{TinyAsciiStr, UnvalidatedTinyAsciiStr};
-
-const DISPLAY: usize = 0;
-
-const PADDED: usize = 1;
-
-const DEBUG: usize = 2;
-
-const UNVALIDATED_DEBUG: usize = 3;
 
 /// Prints each value in form number `form`; false where there is no such form.
 pub fn print_batch<const N: usize>(

@@ -3,13 +3,8 @@
 ghost use Rattle.std.specs.Prelude.{◌≤◌};
 
 use crate::batch::{COUNT, write_numbers, write_texts};
+use crate::numbers::{LOSSY, RAW, READ};
 use tinystr::{ParseError, TinyAsciiStr};
-
-const READ: usize = 0;
-
-const LOSSY: usize = 1;
-
-const RAW: usize = 2;
 
 const REPLACEMENT: u8 = b'?';
 

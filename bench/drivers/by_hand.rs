@@ -2,6 +2,7 @@
 //! texts that are known to be padded.
 
 use crate::original::COUNT;
+use crate::original::numbers::*;
 use std::arch::x86_64::*;
 
 type Bytes = [u8; 16];
@@ -69,8 +70,8 @@ fn ask_each(rounds: usize, texts: &[u8], answers: &mut [u8], ask: impl Fn(&Bytes
 
 pub fn ask(capacity: usize, question: usize, rounds: usize, texts: &[u8], answers: &mut [u8]) -> bool {
     match (capacity, question) {
-        (16, 2) => ask_each(rounds, texts, answers, is_alphabetic),
-        (16, 5) => ask_each(rounds, texts, answers, is_lowercase),
+        (16, ALPHABETIC) => ask_each(rounds, texts, answers, is_alphabetic),
+        (16, LOWERCASE) => ask_each(rounds, texts, answers, is_lowercase),
         _ => return false,
     }
     true
@@ -90,7 +91,7 @@ fn change_each(rounds: usize, texts: &[u8], changed: &mut [u8], change: impl Fn(
 
 pub fn change(capacity: usize, case: usize, rounds: usize, texts: &[u8], changed: &mut [u8]) -> bool {
     match (capacity, case) {
-        (16, 0) => change_each(rounds, texts, changed, to_lowercase),
+        (16, LOWER) => change_each(rounds, texts, changed, to_lowercase),
         _ => return false,
     }
     true

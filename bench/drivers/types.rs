@@ -1,4 +1,4 @@
-//! The tables of bench/others: both crates' values beside what one would use instead.
+//! The tables of bench/types: both crates' values beside what one would use instead.
 
 // only mixed texts are taken here
 #[allow(dead_code)]
@@ -7,9 +7,9 @@ mod callgrind;
 mod machine;
 mod measure;
 #[allow(dead_code)]
-#[path = "../diff/ours.rs"]
+#[path = "../../diff/drivers/ours.rs"]
 mod ours;
-#[path = "../diff/random.rs"]
+#[path = "../../diff/drivers/random.rs"]
 mod random;
 mod row;
 mod times;
@@ -18,6 +18,7 @@ use batch::Batch;
 use measure::Measure;
 use random::Random;
 use row::{Answers, Contender, HERE, Row, THERE, Whose};
+use theirs::original::numbers::*;
 use theirs::original::{self, COUNT};
 use theirs::values::{self, TYPES};
 
@@ -70,11 +71,11 @@ fn take_batch(measure: &mut Measure, table: &str, given: &Batch) {
             )
         };
     }
-    take!("read from bytes", COUNT, read8(n, 0) (&left.units, &left.starts) (texts, codes), read () (&left.units, &left.starts) (texts));
-    take!("cmp", COUNT, compare(n, 0) (&given.texts, &given.others) (marks), compare (0) (left.parts(), right.parts()) (marks));
-    take!("==", COUNT, compare(n, 1) (&given.texts, &given.others) (marks), compare (1) (left.parts(), right.parts()) (marks));
-    take!("hash", 2 * COUNT, compare(n, 2) (&given.texts, &given.others) (marks), compare (2) (left.parts(), right.parts()) (marks));
-    take!("clone", COUNT, change(n, 3) (&given.texts) (texts), clone () (&left.units, &left.starts) (texts));
+    take!("read from bytes", COUNT, read8(n, READ) (&left.units, &left.starts) (texts, codes), read () (&left.units, &left.starts) (texts));
+    take!("cmp", COUNT, compare(n, ORDER) (&given.texts, &given.others) (marks), compare (ORDER) (left.parts(), right.parts()) (marks));
+    take!("==", COUNT, compare(n, EQUALITY) (&given.texts, &given.others) (marks), compare (EQUALITY) (left.parts(), right.parts()) (marks));
+    take!("hash", 2 * COUNT, compare(n, EQUALITY_OF_HASHES) (&given.texts, &given.others) (marks), compare (EQUALITY_OF_HASHES) (left.parts(), right.parts()) (marks));
+    take!("clone", COUNT, change(n, COPY) (&given.texts) (texts), clone () (&left.units, &left.starts) (texts));
 }
 
 /// A value here is its bytes, as in the original.

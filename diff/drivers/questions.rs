@@ -1,5 +1,7 @@
 //! The questions on the classes of a text's bytes.
 
+use super::numbers;
+
 /// A question, its number, the bytes of a text that passes it, at the first place and later, and a first byte that fails.
 pub struct Question {
     pub call: &'static str,
@@ -19,23 +21,23 @@ const LETTERS_AND_DIGITS: &[u8] = b"abcdefghijklmnopqrstuvwxyzABCDEFGHIJKLMNOPQR
 macro_rules! each_question {
     ($with:ident) => {
         $with! {
-            is_ascii_alphabetic(2, LETTERS, LETTERS, b'-')
-            is_ascii_alphanumeric(3, LETTERS_AND_DIGITS, LETTERS_AND_DIGITS, b'-')
-            is_ascii_numeric(4, DIGITS, DIGITS, b'-')
-            is_ascii_lowercase(5, LOWER, LOWER, b'A')
-            is_ascii_titlecase(6, UPPER, LOWER, b'a')
-            is_ascii_uppercase(7, UPPER, UPPER, b'a')
-            is_ascii_alphabetic_lowercase(8, LOWER, LOWER, b'A')
-            is_ascii_alphabetic_titlecase(9, UPPER, LOWER, b'a')
-            is_ascii_alphabetic_uppercase(10, UPPER, UPPER, b'a')
+            is_ascii_alphabetic(ALPHABETIC, LETTERS, LETTERS, b'-')
+            is_ascii_alphanumeric(ALPHANUMERIC, LETTERS_AND_DIGITS, LETTERS_AND_DIGITS, b'-')
+            is_ascii_numeric(NUMERIC, DIGITS, DIGITS, b'-')
+            is_ascii_lowercase(LOWERCASE, LOWER, LOWER, b'A')
+            is_ascii_titlecase(TITLECASE, UPPER, LOWER, b'a')
+            is_ascii_uppercase(UPPERCASE, UPPER, UPPER, b'a')
+            is_ascii_alphabetic_lowercase(ALPHABETIC_LOWERCASE, LOWER, LOWER, b'A')
+            is_ascii_alphabetic_titlecase(ALPHABETIC_TITLECASE, UPPER, LOWER, b'a')
+            is_ascii_alphabetic_uppercase(ALPHABETIC_UPPERCASE, UPPER, UPPER, b'a')
         }
     };
 }
 
 macro_rules! table {
-    ($($call:ident($number:literal, $first:ident, $later:ident, $failing:literal))*) => {
+    ($($call:ident($number:ident, $first:ident, $later:ident, $failing:literal))*) => {
         pub const QUESTIONS: &[Question] = &[
-            $(Question { call: stringify!($call), number: $number, first: $first, later: $later, failing: $failing }),*
+            $(Question { call: stringify!($call), number: numbers::$number, first: $first, later: $later, failing: $failing }),*
         ];
     };
 }

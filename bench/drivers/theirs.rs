@@ -6,6 +6,6 @@ pub mod by_hand;
 pub mod locale;
 #[cfg(has_older)]
 pub mod older;
-#[path = "../diff/original.rs"]
+#[path = "../../diff/drivers/original.rs"]
 pub mod original;
 pub mod values;

@@ -8,10 +8,10 @@ mod ours;
 mod random;
 
 use original::COUNT;
+use original::numbers::*;
 use original::questions::QUESTIONS;
 use random::Random;
 use std::fmt::Debug;
-use std::ops::Range;
 
 /// The departures, by name.
 const DEPARTURES: [&str; 3] = [
@@ -26,16 +26,16 @@ const LEAST_CALLS: u64 = 33_000_000;
 const FEW: [usize; 13] = [0, 1, 3, 4, 5, 8, 9, 12, 16, 17, 24, 32, 64];
 const TARGETS: [usize; 14] = [0, 1, 3, 4, 7, 8, 12, 16, 17, 24, 32, 48, 64, 128];
 /// What `ask` answers beside the questions.
-const OTHERS: [(usize, &str); 3] = [(0, "len"), (1, "is_empty"), (11, "the last byte of as_str")];
+const OTHERS: [(usize, &str); 3] = [(LEN, "len"), (IS_EMPTY, "is_empty"), (LAST_OF_STR, "the last byte of as_str")];
 /// Those on letters in a case alone.
-const OF_CASED_LETTERS: Range<usize> = 8..11;
+const OF_CASED_LETTERS: [usize; 3] = [ALPHABETIC_LOWERCASE, ALPHABETIC_TITLECASE, ALPHABETIC_UPPERCASE];
 const CASES: [&str; 4] = ["to_ascii_lowercase", "to_ascii_titlecase", "to_ascii_uppercase", "clone"];
 const READERS: [&str; 3] = ["try_from_utf8", "from_utf8_lossy", "try_from_raw"];
 const READERS16: [&str; 2] = ["try_from_utf16", "from_utf16_lossy"];
 const RELATIONS: [&str; 3] = ["cmp", "==", "== of hashes"];
 const FORMS: [&str; 4] = ["`{}`", "`{:-^9.5}`", "`{:?}`", "`{:?}` of the unvalidated type"];
-const OF_TEXTS: Range<usize> = 0..3;
-const OF_ANY_BYTES: Range<usize> = 3..4;
+const OF_TEXTS: [usize; 3] = [DISPLAY, PADDED, DEBUG];
+const OF_ANY_BYTES: [usize; 1] = [UNVALIDATED_DEBUG];
 
 fn capacities() -> impl Iterator<Item = usize> {
     (0..=40).chain([64])
@@ -142,11 +142,11 @@ fn ask(count: &mut Count, n: usize, texts: &[Vec<u8>]) {
 }
 
 /// Prints each list in some forms: a text, or any bytes.
-fn print(count: &mut Count, n: usize, forms: Range<usize>, lists: &[Vec<u8>]) {
+fn print(count: &mut Count, n: usize, forms: &[usize], lists: &[Vec<u8>]) {
     for lists in lists.chunks(COUNT) {
         let values = padded(lists, n);
         let room = lists.len() * (9 + 6 * n);
-        for form in forms.clone() {
+        for &form in forms {
             let mut printed = [vec![0u8; room], vec![0u8; room]];
             let mut ends = [vec![u64::MAX; lists.len()], vec![u64::MAX; lists.len()]];
             assert!(ours::print(n, form, 1, &values, &mut printed[0], &mut ends[0]));
@@ -285,16 +285,16 @@ fn main() {
         read8(&mut count, n, &short);
     }
     for n in [2, 9] {
-        print(&mut count, n, OF_ANY_BYTES, &short);
+        print(&mut count, n, &OF_ANY_BYTES, &short);
     }
     short.retain(|list| list.iter().all(|b| (1..128).contains(b)));
     for n in [2, 3, 4, 7, 8, 9, 16, 17, 24] {
         ask(&mut count, n, &short);
-        print(&mut count, n, OF_TEXTS, &short);
+        print(&mut count, n, &OF_TEXTS, &short);
     }
     for (n, how_many) in [(1, 128), (0, 1)] {
         ask(&mut count, n, &short[..how_many]);
-        print(&mut count, n, OF_TEXTS, &short[..how_many]);
+        print(&mut count, n, &OF_TEXTS, &short[..how_many]);
     }
     // true here; original.rs answers in the original's place, which has no answer
     std::panic::set_hook(Box::new(|_| ()));
@@ -315,10 +315,10 @@ fn main() {
                 }
             }
             read8(&mut count, n, &lists);
-            print(&mut count, n, OF_ANY_BYTES, &lists);
+            print(&mut count, n, &OF_ANY_BYTES, &lists);
             lists.retain(|list| list.iter().all(|b| (1..128).contains(b)));
             ask(&mut count, n, &lists);
-            print(&mut count, n, OF_TEXTS, &lists);
+            print(&mut count, n, &OF_TEXTS, &lists);
         }
         let mut lists = vec![];
         let mut wide = vec![];
@@ -342,12 +342,12 @@ fn main() {
         read8(&mut count, n, &lists);
         read16(&mut count, n, &wide);
         lists.retain(|list| list.len() <= n);
-        print(&mut count, n, OF_ANY_BYTES, &lists);
+        print(&mut count, n, &OF_ANY_BYTES, &lists);
         let some = texts(&mut random, n, COUNT);
         ask(&mut count, n, &some);
-        print(&mut count, n, OF_TEXTS, &some);
+        print(&mut count, n, &OF_TEXTS, &some);
         let some: Vec<Vec<u8>> = (0..COUNT).map(|i| escaped(&mut random, n.saturating_sub(i % 3))).collect();
-        print(&mut count, n, OF_TEXTS, &some);
+        print(&mut count, n, &OF_TEXTS, &some);
     }
     for n in [1, 4] {
         read16(&mut count, n, &(0..=65535).map(|unit| vec![unit]).collect::<Vec<_>>());

@@ -1,4 +1,4 @@
-//! The tables of bench/run: the calls beside the original crate's, beside tinystr 0.3.2 and unic-langid where they are
+//! The tables of bench/calls: the calls beside the original crate's, beside tinystr 0.3.2 and unic-langid where they are
 //! installed, and beside vectors written by hand.
 
 mod batch;
@@ -9,10 +9,10 @@ mod machine;
 mod measure;
 // printing in other forms isn't timed
 #[allow(dead_code)]
-#[path = "../diff/ours.rs"]
+#[path = "../../diff/drivers/ours.rs"]
 mod ours;
 mod questions;
-#[path = "../diff/random.rs"]
+#[path = "../../diff/drivers/random.rs"]
 mod random;
 mod row;
 mod times;
@@ -25,6 +25,7 @@ use std::hint::black_box;
 #[cfg(has_older)]
 use theirs::older;
 use theirs::original::questions::{QUESTIONS, Question};
+use theirs::original::numbers::*;
 use theirs::original::{self, COUNT};
 use theirs::by_hand;
 
@@ -94,19 +95,19 @@ impl Bench {
                 ])
             };
         }
-        take!("try_from_utf8", read8(n, 0)(&given.units, &given.starts) -> (texts, codes), and older);
-        take!("try_from_utf16", read16(n, 0)(&given.wide, &given.starts) -> (texts, codes));
-        take!("try_from_raw", read8(n, 2)(&given.texts, &given.raw_starts) -> (texts, codes));
-        take!("from_utf8_lossy", read8(n, 1)(&given.units, &given.starts) -> (texts, codes));
-        take!("cmp", compare(n, 0)(&given.texts, &given.others) -> (marks), and older);
-        take!("==", compare(n, 1)(&given.texts, &given.others) -> (marks), and older);
-        take!("len", ask(n, 0)(&given.texts) -> (marks), and older);
-        take!("is_ascii_alphabetic", ask(n, 2)(&given.texts) -> (marks), and older, and by_hand);
-        take!("is_ascii_alphanumeric", ask(n, 3)(&given.texts) -> (marks), and older);
-        take!("is_ascii_lowercase", ask(n, 5)(&given.texts) -> (marks), and older, and by_hand);
-        take!("to_ascii_lowercase", change(n, 0)(&given.texts) -> (texts), and older, and by_hand);
-        take!("to_ascii_titlecase", change(n, 1)(&given.texts) -> (texts), and older);
-        take!("to_ascii_uppercase", change(n, 2)(&given.texts) -> (texts), and older);
+        take!("try_from_utf8", read8(n, READ)(&given.units, &given.starts) -> (texts, codes), and older);
+        take!("try_from_utf16", read16(n, READ)(&given.wide, &given.starts) -> (texts, codes));
+        take!("try_from_raw", read8(n, RAW)(&given.texts, &given.raw_starts) -> (texts, codes));
+        take!("from_utf8_lossy", read8(n, LOSSY)(&given.units, &given.starts) -> (texts, codes));
+        take!("cmp", compare(n, ORDER)(&given.texts, &given.others) -> (marks), and older);
+        take!("==", compare(n, EQUALITY)(&given.texts, &given.others) -> (marks), and older);
+        take!("len", ask(n, LEN)(&given.texts) -> (marks), and older);
+        take!("is_ascii_alphabetic", ask(n, ALPHABETIC)(&given.texts) -> (marks), and older, and by_hand);
+        take!("is_ascii_alphanumeric", ask(n, ALPHANUMERIC)(&given.texts) -> (marks), and older);
+        take!("is_ascii_lowercase", ask(n, LOWERCASE)(&given.texts) -> (marks), and older, and by_hand);
+        take!("to_ascii_lowercase", change(n, LOWER)(&given.texts) -> (texts), and older, and by_hand);
+        take!("to_ascii_titlecase", change(n, TITLE)(&given.texts) -> (texts), and older);
+        take!("to_ascii_uppercase", change(n, UPPER)(&given.texts) -> (texts), and older);
         take!("new_unsigned_decimal", decimal(n)(&given.numbers) -> (texts, marks));
         take!("resize to 2N", resize(n, 2 * n)(&given.texts) -> (texts));
         take!("resize to 4", resize(n, 4)(&given.texts) -> (texts));
@@ -117,10 +118,10 @@ impl Bench {
     /// Hashes are compared, so each value makes two of them.
     fn take_others(&mut self, given: &Batch) {
         let n = given.capacity;
-        self.take("is_empty", n, both!(ask(n, 1)(&given.texts) -> (marks)));
-        self.take("as_str, its last byte", n, both!(ask(n, 11)(&given.texts) -> (marks)));
+        self.take("is_empty", n, both!(ask(n, IS_EMPTY)(&given.texts) -> (marks)));
+        self.take("as_str, its last byte", n, both!(ask(n, LAST_OF_STR)(&given.texts) -> (marks)));
         self.take("Display", n, both!(display(n)(&given.texts) -> (texts)));
-        self.take_of("Hash", n, 2 * COUNT, both!(compare(n, 2)(&given.texts, &given.others) -> (marks)));
+        self.take_of("Hash", n, 2 * COUNT, both!(compare(n, EQUALITY_OF_HASHES)(&given.texts, &given.others) -> (marks)));
     }
 
     fn take_questions(&mut self, random: &mut Random, texts_of: fn(&Question, &mut Random, usize) -> Vec<u8>, expected: u8) {
@@ -140,7 +141,7 @@ impl Bench {
         for n in CAPACITIES {
             let batches: Vec<Batch> = (0..BATCHES).map(|_| Batch::mixed(random, n, 1)).collect();
             macro_rules! take {
-                ($call:literal, $reader:literal, $units:ident, $starts:ident) => {
+                ($call:literal, $reader:ident, $units:ident, $starts:ident) => {
                     if self.wants($call) {
                         let row = Row { table: self.table, call: $call, column: n.to_string(), values: BATCHES * COUNT, rounds: 1 };
                         for given in &batches {
@@ -155,9 +156,9 @@ impl Bench {
                     }
                 };
             }
-            take!("try_from_utf8", 0, units, starts);
-            take!("from_utf8_lossy", 1, units, starts);
-            take!("try_from_raw", 2, texts, raw_starts);
+            take!("try_from_utf8", READ, units, starts);
+            take!("from_utf8_lossy", LOSSY, units, starts);
+            take!("try_from_raw", RAW, texts, raw_starts);
         }
     }
 

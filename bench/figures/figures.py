@@ -7,7 +7,7 @@ from statistics import median
 HERE = "here"
 THERE = "there"
 
-COLUMNS = ["run", "place", "table", "call", "column", "whose", "nanoseconds", "instructions"]
+COLUMNS = ["run", "table", "call", "column", "whose", "nanoseconds", "instructions"]
 
 
 class Figures:
@@ -17,21 +17,20 @@ class Figures:
 
     def __init__(self):
         self.head = []
-        self.rows = []
         self.times = defaultdict(lambda: defaultdict(dict))
         self.instructions = defaultdict(dict)
         self.notes = []
         self.steady = []
 
-    def add(self, run, place, cell, whose, time):
-        self.rows.append((int(run), int(place), *cell, whose, float(time)))
+    def add(self, run, cell, whose, time):
+        """Keeps the least time of a run."""
         of_runs = self.times[cell][whose]
         of_runs[run] = min(of_runs.get(run, float("inf")), float(time))
 
     def read_times(self, lines):
         for line in lines:
             fields = line.rstrip("\n").split("|")
-            run, place, kind = fields[:3]
+            run, _place, kind = fields[:3]
             if kind == "note":
                 if fields[3] not in self.notes:
                     self.notes.append(fields[3])
@@ -39,7 +38,7 @@ class Figures:
                 self.steady.append([float(field) for field in fields[3:]])
             else:
                 *cell, whose, time = fields[2:]
-                self.add(run, place, tuple(cell), whose, time)
+                self.add(run, tuple(cell), whose, time)
 
     def read_instructions(self, lines):
         for line in lines:
@@ -51,7 +50,7 @@ class Figures:
         self.head = [line[2:].rstrip("\n") for line in lines if line.startswith("# ")]
         for row in csv.DictReader(line for line in lines if not line.startswith("#")):
             cell = row["table"], row["call"], row["column"]
-            self.add(row["run"], row["place"], cell, row["whose"], row["nanoseconds"])
+            self.add(row["run"], cell, row["whose"], row["nanoseconds"])
             if row["instructions"]:
                 self.instructions[cell][row["whose"]] = float(row["instructions"])
 
@@ -59,8 +58,10 @@ class Figures:
         file.writelines(f"# {line}\n" for line in self.head)
         out = csv.writer(file, lineterminator="\n")
         out.writerow(COLUMNS)
-        for row in self.rows:
-            out.writerow([*row, self.instructions[row[2:5]].get(row[5], "")])
+        for cell, of_crates in self.times.items():
+            for whose, of_runs in of_crates.items():
+                instructions = self.instructions[cell].get(whose, "")
+                out.writerows([run, *cell, whose, time, instructions] for run, time in of_runs.items())
 
     def tables(self):
         return list(dict.fromkeys(cell[0] for cell in self.times))

@@ -1,4 +1,4 @@
-"""The ratios of bench/run by call and capacity, gathered from its tables."""
+"""The ratios of bench/calls by call and capacity, gathered from its tables."""
 
 from figures import THERE
 from tables import geometric

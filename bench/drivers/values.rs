@@ -2,6 +2,7 @@
 //! `ArrayString` of arrayvec and `KString` of kstring.
 
 use crate::original::COUNT;
+use crate::original::numbers::*;
 use crate::original::fnv::hash_of;
 use std::cmp::Ordering;
 use std::hash::Hash;
@@ -146,12 +147,12 @@ fn relate_each<'a, T: Value<'a>>(rounds: usize, left: (&'a [u8], &[u32]), right:
 
 fn compare_each<'a, T: Value<'a>>(relation: usize, rounds: usize, left: (&'a [u8], &[u32]), right: (&'a [u8], &[u32]), answers: &mut [u8]) -> bool {
     match relation {
-        0 => relate_each::<T>(rounds, left, right, answers, |a, b| match a.cmp(b) {
+        ORDER => relate_each::<T>(rounds, left, right, answers, |a, b| match a.cmp(b) {
             Ordering::Less => 0,
             Ordering::Equal => 1,
             Ordering::Greater => 2,
         }),
-        1 => relate_each::<T>(rounds, left, right, answers, |a, b| u8::from(a == b)),
+        EQUALITY => relate_each::<T>(rounds, left, right, answers, |a, b| u8::from(a == b)),
         _ => relate_each::<T>(rounds, left, right, answers, |a, b| u8::from(hash_of(a) == hash_of(b))),
     }
     true

@@ -3,7 +3,7 @@
 from html import escape
 from math import ceil, floor, log10
 
-from calls import mean_of, ratios_of_kind
+from ratios import KINDS, mean_of, ratios_of_kind
 from figures import HERE, THERE
 from tables import geometric, types_of
 
@@ -165,9 +165,12 @@ PANEL, PANEL_HEIGHT, PANEL_TOP = 272, 200, 62
 
 
 def times_of(figures, call, whose):
-    """By capacity, of full texts."""
-    cells = [cell for cell in figures.times if cell[0].endswith("ull texts") and cell[1] == call]
-    return {cell[2]: figures.time(cell, whose) for cell in cells if whose in figures.times[cell]}
+    """By capacity, of full texts. Of a call in two tables the first counts."""
+    found = {}
+    for cell in figures.times:
+        if KINDS.get(cell[0]) == "full" and cell[1] == call and whose in figures.times[cell]:
+            found.setdefault(cell[2], figures.time(cell, whose))
+    return found
 
 
 class Panel:

@@ -1,5 +1,5 @@
 #!/usr/bin/env python3
-"""print_tables.py HEAD TIMES [OPTION..]: prints tables of a driver's figures for bench/measure, and writes them as CSV."""
+"""print_tables.py HEAD TIMES [OPTION..]: prints tables of a driver's figures for drivers/measure, and writes them as CSV."""
 
 import argparse
 import sys

@@ -3,7 +3,7 @@
 import re
 from textwrap import fill
 
-from calls import FAILING, KINDS, mean_of, ratios_of_kind, slowest_of
+from ratios import FAILING, KINDS, mean_of, ratios_of_kind, slowest_of
 from figures import THERE
 from pictures import calls_description
 from tables import aligned, cells_of_table, geometric, ratio_table, rows_of, type_table
