@@ -257,7 +257,8 @@ def is_rattle(whose):
 
 def bars(figures, cell, types, left, top):
     longest = max(figures.time(cell, whose) for whose in types)
-    shapes = [bold(left, top - 8, cell[1]), text(left + KEY_PANEL - 28, top - 8, f"0 to {longest:.0f} ns", "end")]
+    below = top + BAR * len(types) + 10
+    shapes = [bold(left, top - 8, cell[1]), text(left, below, f"0 to {longest:.0f} ns", more=' font-size="11"')]
     for i, whose in enumerate(types):
         nanos = figures.time(cell, whose)
         width = (KEY_PANEL - 60) * nanos / longest
@@ -275,7 +276,7 @@ def key_labels(types, top):
 
 
 def key_legend():
-    shapes = [text(12, 20, "Nanoseconds a call with keys of 2 to 8 letters; each panel has its own range, from 0")]
+    shapes = [text(12, 20, "Nanoseconds a call with keys of 2 to 8 letters; each panel has its own range")]
     for x, color, name in [(520, BLUE, "Rattle, its kit's maps"), (690, ORANGE, "Rust, std's maps")]:
         shapes += [rectangle(x, 10, 12, 12, color), text(x + 18, 20, name)]
     pale = "Full colour: both kinds of TinyAsciiStr. Pale: what one would use in their place. Both sides' hash maps hash alike."
@@ -285,7 +286,7 @@ def key_legend():
 def keys_picture(figures):
     cells = {cell[1]: cell for cell in figures.times}
     types = types_of(figures, [cells["sort"]])
-    height = BAR * len(types) + 34
+    height = BAR * len(types) + 48
     shapes = key_legend()
     for i, call in enumerate(KEY_CALLS):
         top = 78 + height * (i // 3)
