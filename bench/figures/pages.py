@@ -39,9 +39,9 @@ def headline(figures):
     ratio, call, capacity, kind = slowest_of(figures)
     slowest = "a question that fails at its first byte" if call == FAILING else f"`{call.partition(',')[0]}` of {kind} texts"
     said = (
-        f"Over all calls, a call takes {full} of the Rust crate's time on texts that fill their capacity and {mixed} on texts"
-        f" of all lengths, as geometric means; at capacity 4, that of script and currency codes, {full_at_4} and {mixed_at_4}."
-        f" The slowest is {slowest} at {capacity}, which takes {ratio:.1f} times as long."
+        f"A call takes {full} of the Rust crate's time on texts that fill their capacity and {mixed} on texts of all lengths,"
+        f" as geometric means over {len(ratios_of_kind(figures, 'full'))} rows; at capacity 4, that of script and currency"
+        f" codes, {full_at_4} and {mixed_at_4}. The slowest is {slowest} at {capacity}, which takes {ratio:.1f} times as long."
     )
     return fill(said, 120) + "\n"
 
