@@ -9,6 +9,8 @@ FUNCTION = re.compile(r"( *)(?:pub(?:\([a-z]+\))? )?(?:const )?fn (\w+)")
 CONSTANT = re.compile(r"( *)(?:pub(?:\([a-z]+\))? )?(?:const|static) ([A-Z]\w*)\b")
 BLOCK = re.compile(r"(?:pub )?(?:impl|trait)\b")
 ARM = re.compile(r" +(?:\| )?(?:Width|Question|Case|Command|TextCall|Self)::\w+.*=>")
+# What the check of an edit has to show of its goal: the body breaks it; none is open; it is open for another reason.
+KINDS = ("refused", "neutral", "disturbed")
 
 
 class Unreadable(Exception):
@@ -85,10 +87,10 @@ class Edit:
 
     path: Path
     text: str
+    kind: str = "refused"
     function: str = ""
     goal: str = ""
     pairs: list = field(default_factory=list)
-    is_neutral: bool = False
 
     @property
     def name(self):
@@ -118,14 +120,14 @@ class Edit:
 
 
 def read_edit(path):
-    """Reads 'refused: FUNCTION GOAL' or 'neutral: FUNCTION', then 'file: FILE' and pairs of 'old: TEXT' and 'new: TEXT'."""
+    """Reads 'KIND: FUNCTION GOAL', then 'file: FILE' and pairs of 'old: TEXT' and 'new: TEXT'."""
     edit, file, old = Edit(path, path.read_text(encoding="utf-8")), "", None
     for line in edit.text.splitlines():
         word, _, rest = line.partition(":")
         rest = rest.removeprefix(" ")
-        if word in ("refused", "neutral"):
+        if word in KINDS:
+            edit.kind = word
             edit.function, _, edit.goal = rest.partition(" ")
-            edit.is_neutral = word == "neutral"
         elif word == "file":
             file = rest.strip()
         elif word == "old":

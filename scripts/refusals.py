@@ -1,0 +1,48 @@
+"""Reads what `rt check` says of a crate: the goals that are open, each with its function."""
+
+import re
+from dataclasses import dataclass, replace
+
+ERROR = re.compile(r"(?:\./)?proofs/(\S+)\.antt:\d+:\d+: error: `([^`]+)`: (.*)")
+OPEN = re.compile(r"note: src/\S+: (?:it is not proved that .*|`search` found no proof) ?\(`([^`]+)`\)(?:; )?(.*)")
+UNPROVED = re.compile(r"fn \w+::(\S+): (?:not proved|no proof)(.*)")
+STATED = re.compile(r"note: `([^`]+)` of proofs/(\S+)/Answers\.antt must prove: (.*)")
+# What says nothing of the contract: a proof that names what the edit took away.
+GONE = re.compile(r"has no field|\(nearest: |is not in scope|has no `|was not admitted|declarations? that depends? on")
+
+
+@dataclass(frozen=True)
+class Refusal:
+    """A goal that is open, of a function or of a file of lemmas; what the prover says of it; and whether its proof
+    names what is gone."""
+
+    function: str
+    goal: str
+    said: str
+    names_what_is_gone: bool = False
+
+    @property
+    def is_of_a_step(self):
+        """Whether it asks that a value made on the way is one that its type allows. All behind it rests on that."""
+        return re.match(r"invariant_of-(?!result|self)", self.goal) is not None
+
+
+def refusals(output):
+    """The goals that a check left open, each with its function."""
+    found, waiting, stated = [], [], {}
+    # the prover wraps a long line, and indents what follows
+    for line in re.sub(r"\n  +", " ", output).splitlines():
+        if error := ERROR.match(line):
+            function = re.sub(r"/(?:Answers|Invariants|Proof)$", "", error[1]).replace("/", "::")
+            found.append(Refusal(function, error[2], error[3], bool(GONE.search(error[3]))))
+        elif note := OPEN.match(line):
+            waiting.append((note[1], note[2]))
+        elif line.startswith("fn "):
+            if function := UNPROVED.match(line):
+                searched = function[2].partition("did not prove ")[2].partition(";")[0]
+                waiting += [(it, "") for it in re.findall(r"`([^`]+)`", searched) if it not in dict(waiting)]
+                found += [Refusal(function[1], *it) for it in waiting]
+            waiting = []
+        elif goal := STATED.match(line):
+            stated[goal[2].replace("/", "::"), goal[1]] = goal[3].partition(" names you can use")[0]
+    return [replace(it, said=stated.get((it.function, it.goal), it.said)) for it in found]
