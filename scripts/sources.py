@@ -81,15 +81,22 @@ def body_of(lines, number, indent):
     return None
 
 
+def is_clause(goal):
+    """Whether a goal is a clause of the function's own contract: what it ensures where it returns."""
+    return goal.startswith("returns")
+
+
 @dataclass
 class Edit:
-    """A wrong body, or a control: its file, the function and the goal that have to refuse it, and what it changes."""
+    """A wrong body, or a control: its file, the function and the goal that have to refuse it, why that is no clause,
+    and what it changes."""
 
     path: Path
     text: str
     kind: str = "refused"
     function: str = ""
     goal: str = ""
+    elsewhere: str = ""
     pairs: list = field(default_factory=list)
 
     @property
@@ -120,7 +127,7 @@ class Edit:
 
 
 def read_edit(path):
-    """Reads 'KIND: FUNCTION GOAL', then 'file: FILE' and pairs of 'old: TEXT' and 'new: TEXT'."""
+    """Reads 'KIND: FUNCTION GOAL' and 'elsewhere: REASON', then 'file: FILE' and pairs of 'old: TEXT' and 'new: TEXT'."""
     edit, file, old = Edit(path, path.read_text(encoding="utf-8")), "", None
     for line in edit.text.splitlines():
         word, _, rest = line.partition(":")
@@ -128,6 +135,8 @@ def read_edit(path):
         if word in KINDS:
             edit.kind = word
             edit.function, _, edit.goal = rest.partition(" ")
+        elif word == "elsewhere":
+            edit.elsewhere = rest.strip()
         elif word == "file":
             file = rest.strip()
         elif word == "old":
