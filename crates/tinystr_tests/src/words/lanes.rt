@@ -102,12 +102,14 @@ fn lanes_of_a_title(rt: HostRuntime) {
             with_added(word, LOWER.low, UPPER.low),
             with_added(word, LOWER.high, UPPER.high),
             bits.to_le_bytes(),
+            word.or(bits).to_le_bytes(),
             word.xor(bits).to_le_bytes(),
         ],
         [
             [0x93, 0x84, 0xb2, 0x93],
             [0x79, 0x6a, 0x98, 0x79],
             [0x20, 0x20, 0, 0x20],
+            [0x74, 0x65, 0x73, 0x74],
             *b"Test",
         ]
     );
