@@ -150,6 +150,7 @@ impl<'a, const N: usize, const M: usize> PackedMap<'a, N, M> {
     #[tactic(auto, using(crate::proofs::PackedMaps::map_steps))]
     pub fn iter(&self) -> Entries<'a, N, M>
         ensures entries { result ≡ self.now }
+        ensures rising { IsRising (keys_of self.now) }
         ensures bound { length result < 2 ^ 64 }
     {
         Entries {

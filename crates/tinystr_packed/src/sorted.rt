@@ -65,7 +65,8 @@ impl<'a, const N: usize> SortedTable<'a, N> {
 
     /// The table itself.
     pub fn table(&self) -> &Table<'a, N>
-        ensures { result.now ≡ self.now }
+        ensures table { result.now ≡ self.now }
+        ensures rising { IsRising self.now }
     {
         &self.table
     }
@@ -76,6 +77,7 @@ impl<'a, const N: usize> SortedTable<'a, N> {
         ensures found { IfOk result (λ index. slice_get self.now index ≡ Some key.now) }
         ensures place { IfErr result (λ place. IsPlaceFor key.now self.now place) }
         ensures exact { IsOk result ↔ Contains self.now key.now }
+        ensures rising { IsRising self.now }
     {
         let place = self.first_not_below(key);
         let Some(text) = self.table.get(place) else {

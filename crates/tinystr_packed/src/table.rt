@@ -67,7 +67,8 @@ impl<'a, const N: usize> Table<'a, N> {
 
     /// How many texts.
     pub fn len(&self) -> usize
-        ensures { result ≡ length self.now }
+        ensures len { result ≡ length self.now }
+        ensures strict { All (λ t. IsStrictText t N) self.now }
     {
         self.records.len()
     }
@@ -82,7 +83,8 @@ impl<'a, const N: usize> Table<'a, N> {
     /// The text at an index, counted from 0, in constant time, or `None` past the end.
     #[tactic(auto, using(crate::proofs::PackedTexts::places))]
     pub fn get(&self, index: usize) -> Option<TinyAsciiStr<N>>
-        ensures { result ≡ slice_get self.now index }
+        ensures text { result ≡ slice_get self.now index }
+        ensures strict { All (λ t. IsStrictText t N) self.now }
     {
         let raw = self.records.get(index)?;
         Some(TinyAsciiStr::from_utf8_unchecked(*raw))
@@ -137,6 +139,7 @@ impl<'a, const N: usize> Table<'a, N> {
     /// ```
     pub fn iter(&self) -> Texts<'a, N>
         ensures texts { result ≡ self.now }
+        ensures strict { All (λ t. IsStrictText t N) self.now }
         ensures bound { length result < 2 ^ 64 }
     {
         Texts {

@@ -20,7 +20,7 @@ returns-in-Err-new-clause-fault g c =
 
 pub returns-then-len-ne0-clause-fault : goal.returns-then-len-ne0-clause-fault
 returns-then-len-ne0-clause-fault g c =
-    let count : c.len-count.result ≡ length c.in-Ok.table = rw (c.len-count.ensures, c.table.ensures, c.in-Ok-new.ensures.texts) in
+    let count : c.len-count.result ≡ length c.in-Ok.table = rw (c.len-count.ensures.len, c.table.ensures.table, c.in-Ok-new.ensures.texts) in
     let other : length c.args.values.now ≢ c.len-count.result * g.row.M =
     elim c.then-len-ne0.branch [
       | then-len-ne0-via-then-len-ne0 w ↦ λ e. w.if-len-ne0.true (rw e (mul-mod_left c.len-count.result g.row.M))
@@ -30,7 +30,7 @@ returns-then-len-ne0-clause-fault g c =
 
 pub returns-then-len-ne0-clause-accepted : goal.returns-then-len-ne0-clause-accepted
 returns-then-len-ne0-clause-accepted g c =
-    let count : c.len-count.result ≡ length c.in-Ok.table = rw (c.len-count.ensures, c.table.ensures, c.in-Ok-new.ensures.texts) in
+    let count : c.len-count.result ≡ length c.in-Ok.table = rw (c.len-count.ensures.len, c.table.ensures.table, c.in-Ok-new.ensures.texts) in
     let other : length c.args.values.now ≢ length c.in-Ok.table * g.row.M =
     rw (← count) (elim c.then-len-ne0.branch [
       | then-len-ne0-via-then-len-ne0 w ↦ λ e. w.if-len-ne0.true (rw e (mul-mod_left c.len-count.result g.row.M))
@@ -46,7 +46,7 @@ returns-then-is_empty-clause-accepted g c =
     let strict : AllStrict g.row.N c.in-Ok-new.keys = rw same c.in-Ok.ensures.texts in
     let up : IsRising c.in-Ok-new.keys = rw same (c.in-Ok-new.ensures.rising.0 refl) in
     let joined : c.args.keys.now ≡ packed g.row.N c.in-Ok-new.keys = rw same c.in-Ok.ensures.bytes in
-    let count : c.len-count.result ≡ length c.in-Ok-new.keys = rw (c.len-count.ensures, c.table.ensures) in
+    let count : c.len-count.result ≡ length c.in-Ok-new.keys = rw (c.len-count.ensures.len, c.table.ensures.table) in
     let none : length c.args.values.now ≡ 0 = grind arith in
     (λ _. (zip c.in-Ok-new.keys [], ArePacked-new c.in-Ok-new.keys [] c.args.keys.now c.args.values.now g.row.N g.row.M 0 strict up joined (grind arith) (grind arith) refl), λ _. refl)
 
@@ -56,7 +56,7 @@ returns-clause-entries g c =
     let strict : AllStrict g.row.N c.in-Ok-new.keys = rw same c.in-Ok.ensures.texts in
     let up : IsRising c.in-Ok-new.keys = rw same (c.in-Ok-new.ensures.rising.0 refl) in
     let joined : c.args.keys.now ≡ packed g.row.N c.in-Ok-new.keys = rw same c.in-Ok.ensures.bytes in
-    let count : c.len-count.result ≡ length c.in-Ok-new.keys = rw (c.len-count.ensures, c.table.ensures) in
+    let count : c.len-count.result ≡ length c.in-Ok-new.keys = rw (c.len-count.ensures.len, c.table.ensures.table) in
     let whole = div-add-mod (length c.args.values.now) g.row.M in
     ArePacked-new c.in-Ok-new.keys c.as_chunks.result.0.now c.args.keys.now c.args.values.now g.row.N g.row.M (length c.args.values.now / g.row.M) strict up joined (grind arith) (grind arith) c.as_chunks.ensures.front
 

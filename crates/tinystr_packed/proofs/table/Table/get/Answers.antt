@@ -1,0 +1,8 @@
+use Rattle.tinystr_packed.proofs.PackedTexts.{AllStrict-texts}
+use Rattle.tinystr_packed.proofs.table.Table.get.Goals as goal
+
+pub returns-in_err-raw-clause-strict : goal.returns-in_err-raw-clause-strict
+returns-in_err-raw-clause-strict g c = rw (← c.self.view_is) (AllStrict-texts c.self.inside.records.now g.row.N c.self.invariant)
+
+pub returns-clause-strict : goal.returns-clause-strict
+returns-clause-strict g c = rw (← c.self.view_is) (AllStrict-texts c.self.inside.records.now g.row.N c.self.invariant)
