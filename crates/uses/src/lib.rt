@@ -4,6 +4,7 @@
 pub mod columns;
 pub mod countries;
 pub mod currency;
+pub mod handed;
 pub mod joining;
 pub mod json;
 pub mod keys;

@@ -9,6 +9,8 @@ mod countries;
 #[cfg(test)]
 mod currency;
 #[cfg(test)]
+mod handed;
+#[cfg(test)]
 mod joining;
 #[cfg(test)]
 mod json;

@@ -1,0 +1,171 @@
+//! Tables and maps that one is handed.
+
+use std::alloc::Global;
+use std::ops::Range;
+use tinystr::{TinyAsciiStr, TinyStr8};
+use tinystr_packed::{PackedMap, SortedTable, Table};
+use uses::handed::{file_len, keys_of_codes, only_index, page, text_of_record, unpacked};
+
+const FILE: &[u8] = b"CHFEURJPYUSD";
+
+#[test]
+fn a_file_has_as_many_bytes_as_its_table_tells(rt: HostRuntime) {
+    for len in 0..=4 {
+        assert!(rt; has_len(&FILE[..3 * len]), "{len}");
+    }
+}
+
+fn has_len(file: &[u8]) -> bool {
+    match Table::<3>::new(file) {
+        Ok(table) => file_len(&table) == Some(file.len()),
+        Err(_) => false,
+    }
+}
+
+#[test]
+fn codes_of_a_table_are_keys(rt: HostRuntime) {
+    for (file, codes) in [
+        (&b"EUR"[..], "EUR"),
+        (b"USDCHFUSD", "USD|CHF|USD"),
+        (b"\0\0\0AB\0419", "|AB|419"),
+    ] {
+        assert!(rt; are_keys(rt.alloc(), file, codes), "{codes}");
+    }
+}
+
+/// Whether the keys are the codes, in order.
+fn are_keys(alloc: Global, file: &[u8], codes: &str) -> bool {
+    let Ok(table) = Table::<3>::new(file) else {
+        return false;
+    };
+    let Ok(keys) = keys_of_codes(alloc, &table) else {
+        return false;
+    };
+    let mut len = 0usize;
+    for code in codes.split('|') {
+        let Ok(key) = TinyStr8::try_from_str(code) else {
+            return false;
+        };
+        if keys.get(len) != Some(&key) {
+            return false;
+        }
+        len = len.saturating_add(1);
+    }
+    keys.len() == len
+}
+
+#[test]
+fn records_of_a_file_are_the_texts_of_its_table(rt: HostRuntime) {
+    for (index, code) in [
+        (0, Some("CHF")),
+        (1, Some("EUR")),
+        (3, Some("USD")),
+        (4, None),
+        (usize::MAX, None),
+    ] {
+        assert!(rt; has_record(index, code), "{index}");
+    }
+}
+
+fn has_record(index: usize, code: Option<&str>) -> bool {
+    match (Table::<3>::new(FILE), code) {
+        (Ok(table), Some(code)) => {
+            matches!(text_of_record(&table, index), Some(text) if text.as_str() == code)
+        }
+        (Ok(table), None) => text_of_record(&table, index).is_none(),
+        (Err(_), _) => false,
+    }
+}
+
+#[test]
+fn pages_of_a_sorted_table_are_searched(rt: HostRuntime) {
+    for (range, codes) in [
+        (0..0, ""),
+        (0..4, "CHF EUR JPY USD"),
+        (1..3, "EUR JPY"),
+        (3..4, "USD"),
+        (4..4, ""),
+    ] {
+        assert!(rt; is_page(range, codes), "{codes}");
+    }
+}
+
+/// Whether the page has the codes alone, each at its index.
+fn is_page(range: Range<usize>, codes: &str) -> bool {
+    let Some(sorted) = open(FILE) else {
+        return false;
+    };
+    if range.start > range.end || range.end > sorted.table().len() {
+        return false;
+    }
+    let found = page(&sorted, range);
+    for code in "CHF EUR JPY USD".split_whitespace() {
+        let Ok(code) = TinyAsciiStr::try_from_str(code) else {
+            return false;
+        };
+        let index = codes
+            .split_whitespace()
+            .position(|it| *code.as_str() == *it);
+        if found.binary_search(&code).ok() != index {
+            return false;
+        }
+    }
+    found.table().len() == codes.split_whitespace().count()
+}
+
+fn open(file: &[u8]) -> Option<SortedTable<'_, 3>> {
+    SortedTable::new(Table::new(file).ok()?).ok()
+}
+
+#[test]
+fn a_text_stands_at_one_index(rt: HostRuntime) {
+    for (code, index) in [
+        ("CHF", Some(0)),
+        ("EUR", Some(1)),
+        ("JPY", Some(2)),
+        ("USD", Some(3)),
+        ("", None),
+        ("EU", None),
+        ("GBP", None),
+        ("zzz", None),
+    ] {
+        assert!(rt; stands_at(code, index), "{code}");
+    }
+}
+
+fn stands_at(code: &str, index: Option<usize>) -> bool {
+    match (open(FILE), TinyAsciiStr::try_from_str(code)) {
+        (Some(sorted), Ok(code)) => only_index(&sorted, &code) == index,
+        _ => false,
+    }
+}
+
+#[test]
+fn a_packed_map_is_unpacked_to_one_of_std(rt: HostRuntime) {
+    for len in 0..=4 {
+        assert!(rt; is_unpacked(rt.alloc(), &FILE[..3 * len], len), "{len}");
+    }
+}
+
+/// Whether the map of std has the first of the four keys with their values, and no other.
+fn is_unpacked(alloc: Global, keys: &[u8], len: usize) -> bool {
+    let values = &[2, 3, 5, 7][..len.min(4)];
+    let Ok(map) = PackedMap::<3, 1>::new(keys, values) else {
+        return false;
+    };
+    let Ok(made) = unpacked(alloc, &map) else {
+        return false;
+    };
+    let mut found = 0usize;
+    for (code, value) in [("CHF", [2]), ("EUR", [3]), ("JPY", [5]), ("USD", [7])] {
+        let Ok(key) = TinyAsciiStr::try_from_str(code) else {
+            return false;
+        };
+        let expected = if found < len { Some(&value) } else { None };
+        if made.get(&key) != expected {
+            return false;
+        }
+        found = found.saturating_add(1);
+    }
+    made.len() == len
+}
