@@ -9,6 +9,7 @@ pub mod joining;
 pub mod json;
 pub mod keys;
 pub mod locale;
+pub mod packed;
 pub mod preconditions;
 pub mod round_trip;
 pub mod script_code;

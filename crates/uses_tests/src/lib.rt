@@ -19,6 +19,8 @@ mod keys;
 #[cfg(test)]
 mod locale;
 #[cfg(test)]
+mod packed;
+#[cfg(test)]
 mod preconditions;
 #[cfg(test)]
 mod round_trip;

@@ -1,0 +1,102 @@
+//! What was packed, found again.
+
+use std::alloc::Global;
+use std::collections::BTreeMap;
+use tinystr::TinyAsciiStr;
+use uses::packed::{is_in_sorted, through_table, value_in_map};
+
+fn texts(alloc: Global, words: &str) -> Option<Vec<TinyAsciiStr<4>>> {
+    let mut made = Vec::new(alloc);
+    for word in words.split('|') {
+        made.push(TinyAsciiStr::try_from_str(word).ok()?).ok()?;
+    }
+    Some(made)
+}
+
+#[test]
+fn packed_lists_are_read_back(rt: HostRuntime) {
+    for words in ["", "Latn", "b|a|b", "ab||Cyrl", "z|y|x|w|v|u|t|s|r|q|p"] {
+        assert!(rt; comes_back(rt.alloc(), words), "{words}");
+    }
+    assert!(rt; matches!(through_table::<4>(rt.alloc(), &[]), Ok(back) if back.is_empty()));
+}
+
+fn comes_back(alloc: Global, words: &str) -> bool {
+    let Some(texts) = texts(alloc, words) else {
+        return false;
+    };
+    match through_table(alloc, texts.as_slice()) {
+        Ok(back) => back.as_slice() == texts.as_slice(),
+        Err(_) => false,
+    }
+}
+
+#[test]
+fn texts_of_a_list_are_found_in_what_it_is_sorted_to(rt: HostRuntime) {
+    for (words, found, missing) in [
+        ("", "", "a"),
+        ("b|a|b", "a|b", "|ab|c|B"),
+        ("USD|EUR||JPY|EUR", "EUR||JPY|USD", "CHF|EU|EURO|eur"),
+    ] {
+        assert!(rt;
+            found
+                .split('|')
+                .all(|word| is_answered(rt.alloc(), words, word, true)),
+            "{words}"
+        );
+        assert!(rt;
+            missing
+                .split('|')
+                .all(|word| is_answered(rt.alloc(), words, word, false)),
+            "{words}"
+        );
+    }
+}
+
+fn is_answered(alloc: Global, words: &str, word: &str, is_one: bool) -> bool {
+    match (texts(alloc, words), TinyAsciiStr::try_from_str(word)) {
+        (Some(texts), Ok(text)) => {
+            matches!(is_in_sorted(alloc, texts.as_slice(), &text), Ok(found) if found == is_one)
+        }
+        _ => false,
+    }
+}
+
+#[test]
+fn keys_of_a_map_have_their_values_in_what_it_is_packed_to(rt: HostRuntime) {
+    for (key, value) in [
+        ("CHF", Some(*b"12")),
+        ("EUR", Some(*b"34")),
+        ("", Some(*b"56")),
+        ("USD", Some(*b"78")),
+        ("CH", None),
+        ("JPY", None),
+        ("eur", None),
+        ("zzz", None),
+    ] {
+        assert!(rt;
+            has_value(rt.alloc(), "USD=78 =56 CHF=00 EUR=34 CHF=12", key, value),
+            "{key}"
+        );
+        assert!(rt; has_value(rt.alloc(), "", key, None), "{key}");
+    }
+}
+
+fn has_value(alloc: Global, rows: &str, key: &str, value: Option<[u8; 2]>) -> bool {
+    let mut map = BTreeMap::new(alloc);
+    for row in rows.split_whitespace() {
+        let Some((key, value)) = row.split_once('=') else {
+            return false;
+        };
+        match (TinyAsciiStr::<3>::try_from_str(key), value.as_bytes()) {
+            (Ok(key), [first, second]) => if map.insert(key, [*first, *second]).is_err() {
+                return false;
+            },
+            _ => return false,
+        }
+    }
+    match TinyAsciiStr::try_from_str(key) {
+        Ok(key) => matches!(value_in_map(alloc, &map, &key), Ok(found) if found == value),
+        Err(_) => false,
+    }
+}
