@@ -3,15 +3,16 @@
 ghost use Rattle.std.specs.Prelude.{Some};
 
 use crate::{INPUT, OUTPUT};
-use std::alloc::Global;
+use std::alloc::{AllocError, Global};
 use std::io::{self, ErrorKind, Read, Write};
 use std::test::Fail;
 use tinystr_lines::engine::{RunError, run};
 
-// The kinds of error that a caller may take for passing, and another.
-const KINDS: [ErrorKind; 3] = [
+// The kinds of error that a caller may take for passing, or for the end of the input, and another.
+const KINDS: [ErrorKind; 4] = [
     ErrorKind::Interrupted,
     ErrorKind::WouldBlock,
+    ErrorKind::UnexpectedEof,
     ErrorKind::Other,
 ];
 
@@ -45,10 +46,11 @@ enum Fault {
     TakesNothing,
 }
 
-/// Takes one byte a write, fails at the write after so many, or at the first flush, and would go on after it.
+/// Takes a few bytes a write, fails at the write after so many, or at the first flush, and would go on after it.
 #[derive(Drop)]
 struct FailingWriter {
     taken: Vec<u8>,
+    most_a_write: usize,
     failing_write: usize,
     fault: Fault,
     flush_error: Option<ErrorKind>,
@@ -68,11 +70,9 @@ impl Write for FailingWriter {
                 Fault::TakesNothing => Ok(0),
             };
         }
-        if buf.is_empty() {
-            return Ok(0);
-        }
-        self.taken.push(buf[0])?;
-        Ok(1)
+        let count = buf.len().min(self.most_a_write);
+        self.taken.extend_from_slice(&buf[..count])?;
+        Ok(count)
     }
 
     fn flush(&mut self) -> io::Result<()> {
@@ -86,6 +86,24 @@ impl Write for FailingWriter {
 
 // A read or write that none comes to.
 const NEVER: usize = usize::MAX;
+
+// Takes one byte a write, and fails so.
+fn failing_writer(
+    alloc: Global,
+    failing_write: usize,
+    fault: Fault,
+    flush_error: Option<ErrorKind>,
+) -> FailingWriter {
+    FailingWriter {
+        taken: Vec::new(alloc),
+        most_a_write: 1,
+        failing_write,
+        fault,
+        flush_error,
+        writes: 0,
+        flushes: 0,
+    }
+}
 
 // Runs over a reader that fails so, and answers how often it was read, too.
 fn run_and_count_reads(
@@ -114,14 +132,7 @@ fn what_kept_a_run_from_its_end_is_printed_by_its_name(rt: HostRuntime) -> Resul
 
 // Whether a run asks for nothing after the failing read, or writes all where no read fails.
 fn ends_at_the_failing_read(alloc: Global, failing_read: usize, kind: ErrorKind) -> bool {
-    let mut writer = FailingWriter {
-        taken: Vec::new(alloc),
-        failing_write: NEVER,
-        fault: Fault::TakesNothing,
-        flush_error: None,
-        writes: 0,
-        flushes: 0,
-    };
+    let mut writer = failing_writer(alloc, NEVER, Fault::TakesNothing, None);
     let (outcome, reads) = run_and_count_reads(alloc, failing_read, kind, &mut writer);
     // The last read finds the end.
     if failing_read <= INPUT.len() {
@@ -152,14 +163,7 @@ fn ends_at_the_failing_write(
     fault: Fault,
     flush_error: Option<ErrorKind>,
 ) -> bool {
-    let mut writer = FailingWriter {
-        taken: Vec::new(alloc),
-        failing_write,
-        fault,
-        flush_error,
-        writes: 0,
-        flushes: 0,
-    };
+    let mut writer = failing_writer(alloc, failing_write, fault, flush_error);
     let (outcome, reads) = run_and_count_reads(alloc, NEVER, ErrorKind::Other, &mut writer);
     let (writes, flushes) = if failing_write < OUTPUT.len() {
         (failing_write + 1, 0)
@@ -180,35 +184,54 @@ fn ends_at_the_failing_write(
 }
 
 #[test]
-fn a_failed_write_or_flush_leaves_a_beginning(rt: HostRuntime) {
+fn a_failed_write_leaves_a_beginning(rt: HostRuntime) {
     for fault in [
         Fault::Error(ErrorKind::Interrupted),
         Fault::Error(ErrorKind::WouldBlock),
+        Fault::Error(ErrorKind::UnexpectedEof),
         Fault::Error(ErrorKind::Other),
         Fault::TakesNothing,
     ] {
-        for flush_error in [None, Some(KINDS[0]), Some(KINDS[1]), Some(KINDS[2])] {
-            for failing_write in 0..OUTPUT.len() + 1 {
-                let ends = ends_at_the_failing_write(rt.alloc(), failing_write, fault, flush_error);
-                assert!(rt;
-                    ends,
-                    "{fault:?} at write {failing_write}, {flush_error:?} at the flush"
-                );
-            }
+        for failing_write in 0..OUTPUT.len() {
+            let ends = ends_at_the_failing_write(rt.alloc(), failing_write, fault, None);
+            assert!(rt; ends, "{fault:?} at write {failing_write}");
         }
     }
 }
 
+// No write fails, since all is written before the failing one.
+#[test]
+fn a_failed_flush_comes_behind_all_writes(rt: HostRuntime) {
+    let all = OUTPUT.len();
+    assert!(rt; ends_at_the_failing_write(rt.alloc(), all, Fault::TakesNothing, None));
+    for kind in KINDS {
+        let ends = ends_at_the_failing_write(rt.alloc(), all, Fault::TakesNothing, Some(kind));
+        assert!(rt; ends, "{kind:?} at the flush");
+    }
+}
+
+// Whether four thousand bytes are written whole, by as many a write as that.
+fn are_written(alloc: Global, most_a_write: usize) -> Result<bool, AllocError> {
+    let input = b"4 len abc\n".repeat(alloc, 2_000)?;
+    let replies = b"3\n".repeat(alloc, 2_000)?;
+    let mut writer = failing_writer(alloc, NEVER, Fault::TakesNothing, None);
+    writer.most_a_write = most_a_write;
+    let outcome = run(alloc, &mut &input[..], &mut writer);
+    Ok(outcome.is_ok() && writer.taken == replies && writer.flushes == 1)
+}
+
+#[test]
+fn an_output_is_written_whole_by_many_writes(rt: HostRuntime) -> Result<(), Fail> {
+    for most_a_write in [1, 7, 100, 3_999] {
+        assert!(rt; are_written(rt.alloc(), most_a_write)?, "{most_a_write}");
+    }
+    Ok(())
+}
+
 #[test]
 fn a_run_that_writes_nothing_flushes(rt: HostRuntime) {
-    let mut writer = FailingWriter {
-        taken: Vec::new(rt.alloc()),
-        failing_write: NEVER,
-        fault: Fault::TakesNothing,
-        flush_error: Some(ErrorKind::Other),
-        writes: 0,
-        flushes: 0,
-    };
+    let flush_error = Some(ErrorKind::Other);
+    let mut writer = failing_writer(rt.alloc(), NEVER, Fault::TakesNothing, flush_error);
     let outcome = run(rt.alloc(), &mut &b""[..], &mut writer);
     assert!(rt; matches!(outcome, Err(RunError::Write)));
     assert!(rt; writer.writes == 0 && writer.flushes == 1);

@@ -121,6 +121,8 @@ fn the_capacity_is_tested_then_the_command_then_the_text(rt: HostRuntime) -> Res
 0 shout\tbad command
 4 shout abcde\tbad command
 4 LEN a\tbad command
+4 TEXT a\tbad command
+4 length a\tbad command
 0 len a\ttoo long 1 > 0
 4 len \x80\x80\x80\x80\x80\ttoo long 5 > 4
 32 len aaaaaaaaaaaaaaaaaaaaaaaaaaaaaaaaa\ttoo long 33 > 32
@@ -263,6 +265,8 @@ fn each_command_calls_its_own_function(rt: HostRuntime) -> Result<(), Fail> {
 fn the_lossy_reader_refuses_nothing(rt: HostRuntime) -> Result<(), Fail> {
     let rows = b"2 lossy toolong\tto
 0 lossy abc\t
+4 lossy\t
+4 lossy \t
 4 lossy \x61\0\xC3\xA9\x7A\ta???
 4 lossy oh\0o\toh?o
 17 lossy MacintoshOSX2019\xFF\tMacintoshOSX2019?
@@ -283,6 +287,8 @@ fn packed_records_are_counted_or_the_first_bad_one_is_named(rt: HostRuntime) -> 
 3 records GBPUSDx\tbad length 7
 32 records abc\tbad length 3
 2 records ab\x80\tbad length 3
+2 records ab\r\tbad length 3
+3 records ab\r\tok 1
 3 records GB\0\0A\0\tbad record 1 contains null
 1 records \x80\tbad record 0 non ascii
 2 records ab\0\x80\x80a\tbad record 1 non ascii
