@@ -10,12 +10,25 @@ fn each_kind_reads_its_own(rt: HostRuntime) {
     for row in languages.split_whitespace() {
         assert!(rt; is_language_or_none(row), "{row}");
     }
-    for row in "hANT=Hant Han1=".split_whitespace() {
+    for row in "hANT=Hant Han1= Han@= Han[= Han`= Han{=".split_whitespace() {
         assert!(rt; is_script_or_none(row), "{row}");
     }
     for row in "us=US 419=419 036=036 258=258 797=797 u= 41= u1= u12= 4a9= 1234=".split_whitespace()
     {
         assert!(rt; is_region_or_none(row), "{row}");
+    }
+}
+
+#[test]
+fn no_subtag_has_a_blank_beside_it(rt: HostRuntime) {
+    for (language, script, region) in [
+        (" en=", " Latn=", " US="),
+        ("en =", "Latn =", "US ="),
+        (" en =", " Latn =", " US ="),
+    ] {
+        assert!(rt; is_language_or_none(language));
+        assert!(rt; is_script_or_none(script));
+        assert!(rt; is_region_or_none(region));
     }
 }
 
@@ -51,6 +64,21 @@ fn subtags_of_another_kind_are_not_parsed(rt: HostRuntime) {
     assert!(rt; is_not_parsed::<Region>("abc", LangIdError::InvalidSubtag));
 }
 
+#[test]
+fn nothing_is_parsed_with_a_blank_beside_it(rt: HostRuntime) {
+    let (language, subtag) = (LangIdError::InvalidLanguage, LangIdError::InvalidSubtag);
+    assert!(rt;
+        is_not_parsed::<LangId>(" en", language) && is_not_parsed::<LangId>("en ", language)
+    );
+    assert!(rt; is_not_parsed::<LangId>("en-US ", subtag));
+    assert!(rt; is_not_parsed::<Language>(" en", language));
+    assert!(rt; is_not_parsed::<Language>("en ", language));
+    assert!(rt;
+        is_not_parsed::<Script>(" Latn", subtag) && is_not_parsed::<Script>("Latn ", subtag)
+    );
+    assert!(rt; is_not_parsed::<Region>(" US", subtag) && is_not_parsed::<Region>("US ", subtag));
+}
+
 fn is_not_parsed<T: FromStr<Err = LangIdError> + Drop>(text: &str, error: LangIdError) -> bool {
     text.parse::<T>().err() == Some(error)
 }
@@ -60,6 +88,7 @@ fn an_identifier_gives_its_subtags(rt: HostRuntime) {
     let rows = "en/en// es-419/es//419 EN_latn/en/Latn/ abcdefgh_hANT_tw/abcdefgh/Hant/TW \
                 abc/abc// abcde/abcde// abcdef/abcdef// abcdefg/abcdefg// abcdefgh/abcdefgh// \
                 abc-US/abc//US abcde-US/abcde//US abcdef-US/abcdef//US abcdefg-US/abcdefg//US abcdefgh-US/abcdefgh//US \
+                en-Latn-419/en/Latn/419 abcdefgh-419/abcdefgh//419 \
                 abc-Latn/abc/Latn/ abcde-Latn/abcde/Latn/ abcdef-Latn/abcdef/Latn/ abcdefg-Latn/abcdefg/Latn/ abcdefgh-Latn/abcdefgh/Latn/";
     for row in rows.split_whitespace() {
         assert!(rt; has_its_subtags(row), "{row}");

@@ -44,6 +44,17 @@ fn errors_say_what_is_wrong(rt: HostRuntime) -> Result<(), Fail> {
 }
 
 #[test]
+fn an_error_takes_no_width_and_no_precision(rt: HostRuntime) -> Result<(), Fail> {
+    let shown = format!(in rt.alloc();
+        "{:>20}|{:.3}",
+        LangIdError::InvalidLanguage,
+        LangIdError::InvalidSubtag
+    )?;
+    assert!(rt; shown.as_str() == "invalid language|invalid subtag");
+    Ok(())
+}
+
+#[test]
 fn errors_are_debugged_by_name(rt: HostRuntime) -> Result<(), Fail> {
     let shown = format!(in rt.alloc();
         "{:?}, {:?}",

@@ -7,7 +7,9 @@ fn accepted_inputs_give_their_canonical_text(rt: HostRuntime) {
     let rows = "en=en EN_latn-us=en-Latn-US es-419=es-419 ZH-hANT_TW=zh-Hant-TW abcde=abcde \
                 en_us=en-US abcdef=abcdef abcdefg=abcdefg abcdefgh=abcdefgh \
                 abcdefgh-Latn-419=abcdefgh-Latn-419 abcde-Latn=abcde-Latn \
-                abcdefgh-US=abcdefgh-US abcdefgh-Latn=abcdefgh-Latn";
+                abcdefgh-US=abcdefgh-US abcdefgh-Latn=abcdefgh-Latn \
+                abcdef-419=abcdef-419 abcdefg-419=abcdefg-419 abcdefgh-419=abcdefgh-419 \
+                abcdef-Latn-419=abcdef-Latn-419 abcdefg-Latn-419=abcdefg-Latn-419";
     for row in rows.split_whitespace() {
         assert!(rt; is_read_as_its_text(row), "{row}");
     }
@@ -27,7 +29,9 @@ fn is_read_as_its_text(row: &str) -> bool {
 
 #[test]
 fn a_first_subtag_that_is_no_language_is_named(rt: HostRuntime) {
-    for input in "|a|abcd|abcdefghi|e1|-en|en.US|en/US|en US|abcd-!!|e@|e[|`n|{n".split('|') {
+    for input in "|a|abcd|abcdefghi|e1|-en|en.US|en/US|en US|abcd-!!|e@|e[|`n|{n| en|en | en-US".split(
+        '|',
+    ) {
         assert!(rt; is_refused(input, LangIdError::InvalidLanguage), "{input}");
     }
 }
@@ -35,7 +39,8 @@ fn a_first_subtag_that_is_no_language_is_named(rt: HostRuntime) {
 #[test]
 fn what_stands_behind_a_language_is_a_script_a_region_or_both(rt: HostRuntime) {
     let inputs =
-        "en-|en--US|en-US-Latn|en-US-x|en-1234|en-u1|en-u|en-4a9|en-Lat1|en-LatnxUS|en-Latn-Latn|en-Latn-US-|en-4/9|en-41:";
+        "en-|en--US|en-US-Latn|en-US-x|en-1234|en-u1|en-u|en-4a9|en-Lat1|en-LatnxUS|en-Latn-Latn|en-Latn-US-|\
+         en-4/9|en-41:|en-US |en- US";
     for input in inputs.split('|') {
         assert!(rt; is_refused(input, LangIdError::InvalidSubtag), "{input}");
     }
