@@ -1,0 +1,60 @@
+//! Why bytes aren't a sorted table or a map: each case told apart from the others, and printed.
+
+use std::test::Fail;
+use tinystr::ParseError;
+use tinystr::ule::UleError;
+use tinystr_packed::{MapError, NotRising};
+
+// No two are the same, and most differ from another in one part alone.
+const FAULTS: [MapError; 9] = [
+    MapError::Keys(UleError::Length { len: 7 }),
+    MapError::Keys(UleError::Length { len: 8 }),
+    MapError::Keys(UleError::Parse {
+        index: 1,
+        fault: ParseError::NonAscii,
+    }),
+    MapError::Keys(UleError::Parse {
+        index: 1,
+        fault: ParseError::ContainsNull,
+    }),
+    MapError::Order(NotRising { index: 1 }),
+    MapError::Order(NotRising { index: 2 }),
+    MapError::Values { keys: 2, len: 3 },
+    MapError::Values { keys: 2, len: 4 },
+    MapError::Values { keys: 3, len: 3 },
+];
+
+#[test]
+fn faults_of_a_map_are_told_apart(rt: HostRuntime) {
+    assert!(rt; are_told_apart(&FAULTS));
+}
+
+// Whether each is equal to itself alone.
+fn are_told_apart(faults: &[MapError]) -> bool {
+    for (i, fault) in faults.iter().enumerate() {
+        for (j, other) in faults.iter().enumerate() {
+            if (fault == other) != (i == j) || (fault != other) != (i != j) {
+                return false;
+            }
+        }
+    }
+    true
+}
+
+#[test]
+fn places_that_do_not_rise_are_told_apart(rt: HostRuntime) {
+    let first = NotRising { index: 1 };
+    assert!(rt; first == NotRising { index: 1 } && first != NotRising { index: 2 });
+}
+
+#[test]
+fn faults_of_a_map_are_printed_by_their_names(rt: HostRuntime) -> Result<(), Fail> {
+    let [length, _, bad, _, falling, _, values, ..] = FAULTS;
+    let printed = format!(in rt.alloc(); "{length:?} {bad:?} {falling:?} {values:?}")?;
+    assert!(rt;
+        printed.as_str()
+            == "Keys(Length { len: 7 }) Keys(Parse { index: 1, fault: NonAscii }) \
+                Order(NotRising { index: 1 }) Values { keys: 2, len: 3 }"
+    );
+    Ok(())
+}

@@ -1,0 +1,139 @@
+//! Three hundred and twenty texts, more than a byte counts: packed, unpacked, sorted, found, and keys of a map.
+
+use std::alloc::{AllocError, Global};
+use std::collections::BTreeMap;
+use std::test::Fail;
+use tinystr::{TinyAsciiStr, tinystr};
+use tinystr_packed::{
+    MapError, NotRising, PackedMap, SortedTable, Table, pack, pack_map, pack_sorted, unpack,
+};
+
+type Text = TinyAsciiStr<2>;
+
+const COUNT: usize = 320;
+
+/// The file of two bytes for each text, in order: `!!`, `!"` and so on, up to 64 that begin with `%`.
+fn file() -> [u8; 640] {
+    let mut bytes = [0; 640];
+    for i in 0..COUNT {
+        bytes[2 * i] = b'!' + (i / 64) as u8;
+        bytes[2 * i + 1] = b'!' + (i % 64) as u8;
+    }
+    bytes
+}
+
+/// The texts of the file, each read by itself.
+fn texts(alloc: Global) -> Result<Vec<Text>, AllocError> {
+    let mut texts = Vec::new(alloc);
+    for record in file().chunks_exact(2) {
+        texts.push(Text::from_utf8_lossy(record, b'?'))?;
+    }
+    Ok(texts)
+}
+
+#[test]
+fn many_texts_are_packed_and_unpacked(rt: HostRuntime) -> Result<(), Fail> {
+    let texts = texts(rt.alloc())?;
+    assert!(rt; texts.len() == COUNT);
+    assert!(rt; pack(rt.alloc(), &texts)?.as_slice() == file().as_slice());
+    assert!(rt; are_unpacked(rt.alloc(), &file(), &texts)?);
+    Ok(())
+}
+
+fn are_unpacked(alloc: Global, file: &[u8], texts: &[Text]) -> Result<bool, AllocError> {
+    match Table::<2>::new(file) {
+        Ok(table) => Ok(unpack(alloc, &table)?.as_slice() == texts),
+        Err(_) => Ok(false),
+    }
+}
+
+#[test]
+fn many_texts_are_sorted(rt: HostRuntime) -> Result<(), Fail> {
+    let mut given = texts(rt.alloc())?;
+    given.reverse();
+    given.extend_from_slice(&texts(rt.alloc())?)?;
+    assert!(rt; pack_sorted(rt.alloc(), &given)?.as_slice() == file().as_slice());
+    Ok(())
+}
+
+#[test]
+fn many_texts_are_found(rt: HostRuntime) -> Result<(), Fail> {
+    assert!(rt; are_found(&file(), &texts(rt.alloc())?));
+    Ok(())
+}
+
+/// Whether each text is found at its index, the last one is the last, and 64 begin with `!`.
+fn are_found(file: &[u8], texts: &[Text]) -> bool {
+    let Ok(table) = Table::<2>::new(file) else {
+        return false;
+    };
+    let Ok(sorted) = SortedTable::new(table) else {
+        return false;
+    };
+    let Ok(beginning) = tinystr!(2, "!") else {
+        return false;
+    };
+    for (index, text) in texts.iter().enumerate() {
+        if sorted.binary_search(text) != Ok(index) {
+            return false;
+        }
+    }
+    sorted.table().len() == COUNT
+        && sorted.table().last() == texts.last().copied()
+        && sorted.with_prefix(&beginning).table().len() == 64
+}
+
+#[test]
+fn each_text_that_stands_twice_is_named(rt: HostRuntime) {
+    for index in 1..COUNT {
+        assert!(rt; is_named(index), "{index}");
+    }
+}
+
+/// Whether the text at an index doesn't rise where the one before it stands there, too.
+fn is_named(index: usize) -> bool {
+    let mut file = file();
+    if index == 0 || index >= COUNT {
+        return false;
+    }
+    file[2 * index] = file[2 * index - 2];
+    file[2 * index + 1] = file[2 * index - 1];
+    match Table::<2>::new(&file) {
+        Ok(table) => SortedTable::new(table).err() == Some(NotRising { index }),
+        Err(_) => false,
+    }
+}
+
+#[test]
+fn many_keys_have_their_values(rt: HostRuntime) -> Result<(), Fail> {
+    let texts = texts(rt.alloc())?;
+    let mut map = BTreeMap::new(rt.alloc());
+    for text in texts.iter() {
+        map.insert(*text, text.to_bytes())?;
+    }
+    let (keys, values) = pack_map(rt.alloc(), &map)?;
+    assert!(rt; keys.as_slice() == file().as_slice() && values.as_slice() == file().as_slice());
+    assert!(rt; have_their_values(&file(), &texts));
+    let fault = PackedMap::<2, 1>::new(&file(), b"").err();
+    assert!(rt;
+        fault
+            == Some(MapError::Values {
+                keys: COUNT,
+                len: 0
+            })
+    );
+    Ok(())
+}
+
+/// Whether each text is a key of the map of the file, whose value is its bytes.
+fn have_their_values(file: &[u8], texts: &[Text]) -> bool {
+    let Ok(map) = PackedMap::<2, 2>::new(file, file) else {
+        return false;
+    };
+    for text in texts {
+        if map.get(text) != Some(text.all_bytes()) {
+            return false;
+        }
+    }
+    map.len() == COUNT && map.keys().table().len() == COUNT && map.iter().count() == COUNT
+}
