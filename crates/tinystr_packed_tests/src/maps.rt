@@ -1,14 +1,25 @@
 //! Packed maps.
 
+ghost use Rattle.std.specs.Prelude.{◌<◌, ◌^◌};
+
 use std::alloc::Global;
 use std::collections::BTreeMap;
 use tinystr::ule::UleError;
 use tinystr::{ParseError, TinyAsciiStr};
 use tinystr_packed::{MapError, NotRising, PackedMap, pack_map};
 
-const KEYS: &[u8] = b"CHFEURJPYUSD";
+const KEYS: &[u8] = b"CHFEURJPYUSDXXX";
 
-const VALUES: &[u8] = b"\x01\x02\x03\x04\x05\x06\x07\x08";
+const VALUES: &[u8] = b"\x01\x02\x03\x04\x05\x06\x07\x08\0\0";
+
+// The keys, each with its value.
+const ENTRIES: [(&str, [u8; 2]); 5] = [
+    ("CHF", [1, 2]),
+    ("EUR", [3, 4]),
+    ("JPY", [5, 6]),
+    ("USD", [7, 8]),
+    ("XXX", [0, 0]),
+];
 
 fn value_of(keys: &[u8], values: &[u8], key: &str) -> Option<[u8; 2]> {
     let map = PackedMap::<3, 2>::new(keys, values).ok()?;
@@ -27,12 +38,7 @@ fn is_key(keys: &[u8], values: &[u8], key: &str) -> bool {
 
 #[test]
 fn each_key_has_its_value(rt: HostRuntime) {
-    for (key, value) in [
-        ("CHF", [1, 2]),
-        ("EUR", [3, 4]),
-        ("JPY", [5, 6]),
-        ("USD", [7, 8]),
-    ] {
+    for (key, value) in ENTRIES {
         assert!(rt; value_of(KEYS, VALUES, key) == Some(value), "{key}");
         assert!(rt; is_key(KEYS, VALUES, key), "{key}");
     }
@@ -58,8 +64,14 @@ fn a_map_of_one_entry_has_that_alone(rt: HostRuntime) {
 }
 
 #[test]
+fn the_empty_text_is_a_key(rt: HostRuntime) {
+    let (keys, values) = (b"\0\0\0EUR", b"\x07\x08\x02\x03");
+    assert!(rt; value_of(keys, values, "") == Some([7, 8]) && is_key(keys, values, ""));
+}
+
+#[test]
 fn a_map_has_an_entry_for_each_key(rt: HostRuntime) {
-    for len in 0..=4 {
+    for len in 0..=5 {
         assert!(rt; has_len(&KEYS[..3 * len], &VALUES[..2 * len], len), "{len}");
     }
 }
@@ -76,7 +88,7 @@ fn has_len(keys: &[u8], values: &[u8], len: usize) -> bool {
 
 #[test]
 fn entries_come_in_the_order_of_their_keys(rt: HostRuntime) {
-    for len in 0..=4 {
+    for len in 0..=5 {
         assert!(rt;
             has_entries(&KEYS[..3 * len], &VALUES[..2 * len], len),
             "{len}"
@@ -84,20 +96,14 @@ fn entries_come_in_the_order_of_their_keys(rt: HostRuntime) {
     }
 }
 
-/// Whether the map's entries are the first of the four, and the iterator tells each time how many are left.
+/// Whether the map's entries are the first of the five, and the iterator tells each time how many are left.
 fn has_entries(keys: &[u8], values: &[u8], len: usize) -> bool {
     let Ok(map) = PackedMap::<3, 2>::new(keys, values) else {
         return false;
     };
-    let expected = [
-        ("CHF", [1, 2]),
-        ("EUR", [3, 4]),
-        ("JPY", [5, 6]),
-        ("USD", [7, 8]),
-    ];
     let mut entries = map.iter();
     let mut left = len;
-    for (key, value) in expected.into_iter().take(len) {
+    for (key, value) in ENTRIES.into_iter().take(len) {
         if entries.size_hint() != (left, Some(left)) {
             return false;
         }
@@ -144,8 +150,9 @@ fn keys_are_refused_first_then_their_order_then_the_values(rt: HostRuntime) {
             &b"\x01\x02\x03\x04\x05\x06\x07\x08"[..],
             falls(3),
         ),
-        // that, though the values are too few
+        // that, though the values are too few, or none
         (&b"EUREUR"[..], &b"\x01"[..], falls(1)),
+        (&b"EUREUR"[..], &b""[..], falls(1)),
         // values that aren't two bytes for each key
         (&b"CHFEUR"[..], &b"\x01\x02\x03"[..], values(2, 3)),
         (&b"CHFEUR"[..], &b"\x01\x02\x03\x04\x05"[..], values(2, 5)),
@@ -179,20 +186,26 @@ fn a_map_of_std_is_packed_and_read_back(rt: HostRuntime) {
         ("EUR=00 =34 EUR=zz A=56", "\0\0\0A\0\0EUR", "3456zz"),
     ] {
         assert!(rt;
-            is_packed_and_read(rt.alloc(), rows, keys, values),
+            is_packed_and_read::<3>(rt.alloc(), rows, keys, values),
             "{rows}"
         );
     }
+    let keys = "abcdefghijklabcdefghijkm";
+    let rows = "abcdefghijkm=34 abcdefghijkl=12";
+    assert!(rt; is_packed_and_read::<12>(rt.alloc(), rows, keys, "1234"));
 }
 
 /// Whether std's map of the rows is packed to the keys and the values, and these have its entries.
-fn is_packed_and_read(alloc: Global, rows: &str, keys: &str, values: &str) -> bool {
+fn is_packed_and_read<const N: usize>(alloc: Global, rows: &str, keys: &str, values: &str) -> bool
+    requires positive { 0 < N }
+    requires sized { N < 2 ^ 63 }
+{
     let mut map = BTreeMap::new(alloc);
     for row in rows.split_whitespace() {
         let Some((key, value)) = row.split_once('=') else {
             return false;
         };
-        match (TinyAsciiStr::<3>::try_from_str(key), value.as_bytes()) {
+        match (TinyAsciiStr::<N>::try_from_str(key), value.as_bytes()) {
             (Ok(key), [first, second]) => if map.insert(key, [*first, *second]).is_err() {
                 return false;
             },
@@ -204,17 +217,22 @@ fn is_packed_and_read(alloc: Global, rows: &str, keys: &str, values: &str) -> bo
             && others.as_slice() == values.as_bytes(),
         Err(_) => false,
     };
-    match PackedMap::<3, 2>::new(keys.as_bytes(), values.as_bytes()) {
+    match PackedMap::<N, 2>::new(keys.as_bytes(), values.as_bytes()) {
         Ok(packed) => is_packed && packed.len() == map.len() && are_entries(&packed, &map),
         Err(_) => false,
     }
 }
 
-fn are_entries(packed: &PackedMap<'_, 3, 2>, map: &BTreeMap<TinyAsciiStr<3>, [u8; 2]>) -> bool {
-    for (key, value) in packed.iter() {
-        if map.get(&key) != Some(value) {
+/// Whether the packed map has the entries of the other in their order, and no more.
+fn are_entries<const N: usize>(
+    packed: &PackedMap<'_, N, 2>,
+    map: &BTreeMap<TinyAsciiStr<N>, [u8; 2]>,
+) -> bool {
+    let mut entries = packed.iter();
+    for (key, value) in map {
+        if entries.next() != Some((*key, value)) {
             return false;
         }
     }
-    true
+    entries.next().is_none()
 }

@@ -20,6 +20,7 @@ fn texts_are_padded_and_joined(rt: HostRuntime) {
         ("Latn", &b"Latn"[..]),
         ("b|a|b", &b"b\0\0\0a\0\0\0b\0\0\0"[..]),
         ("ab||Cyrl", &b"ab\0\0\0\0\0\0Cyrl"[..]),
+        ("ab|ab", &b"ab\0\0ab\0\0"[..]),
     ] {
         assert!(rt; is_packed(rt.alloc(), words, file), "{words}");
     }
@@ -54,6 +55,7 @@ fn texts_in_any_order_are_packed_in_order_and_each_once(rt: HostRuntime) {
         ("a|a|a", &b"a\0\0\0"[..]),
         ("b|a|b|", &b"\0\0\0\0a\0\0\0b\0\0\0"[..]),
         ("abc|ab|abcd|b|Z", &b"Z\0\0\0ab\0\0abc\0abcdb\0\0\0"[..]),
+        ("a|A", &b"A\0\0\0a\0\0\0"[..]),
     ] {
         assert!(rt; is_sorted_to(rt.alloc(), words, file), "{words}");
     }
@@ -104,11 +106,13 @@ fn is_as_the_set(alloc: Global, words: &str) -> bool {
     }
 }
 
+/// Whether the table has the texts of the set in their order, and no more.
 fn are_members(table: &Table<'_, 8>, set: &BTreeSet<TinyAsciiStr<8>>) -> bool {
-    for text in table.iter() {
-        if !set.contains(&text) {
+    let mut texts = table.iter();
+    for member in set {
+        if texts.next() != Some(*member) {
             return false;
         }
     }
-    true
+    texts.next().is_none()
 }

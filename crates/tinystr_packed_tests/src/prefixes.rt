@@ -1,5 +1,7 @@
 //! The texts of a sorted table that begin with a text.
 
+ghost use Rattle.std.specs.Prelude.{◌<◌, ◌^◌};
+
 use tinystr::TinyAsciiStr;
 use tinystr_packed::{SortedTable, Table};
 
@@ -24,7 +26,7 @@ fn texts_with_a_prefix_are_those_that_std_tells(rt: HostRuntime) {
     for (file, words) in FILES {
         for prefix in "|A|B|a|aa|ab|abc|abcd|abd|abe|ac|b|ba|bab|bb|c|cc|z|zz|~".split('|') {
             assert!(rt;
-                has_exactly_those(file, words, prefix),
+                has_exactly_those::<4>(file, words, prefix),
                 "{prefix} in {words}"
             );
         }
@@ -33,8 +35,11 @@ fn texts_with_a_prefix_are_those_that_std_tells(rt: HostRuntime) {
 
 /// Whether the table of those with the prefix has the words that begin with it, in order, and finds the prefix if it is
 /// a word.
-fn has_exactly_those(file: &[u8], words: &str, prefix: &str) -> bool {
-    let Ok(table) = Table::<4>::new(file) else {
+fn has_exactly_those<const N: usize>(file: &[u8], words: &str, prefix: &str) -> bool
+    requires positive { 0 < N }
+    requires sized { N < 2 ^ 63 }
+{
+    let Ok(table) = Table::<N>::new(file) else {
         return false;
     };
     let (Ok(sorted), Ok(beginning)) = (SortedTable::new(table), TinyAsciiStr::try_from_str(prefix))
@@ -54,6 +59,17 @@ fn has_exactly_those(file: &[u8], words: &str, prefix: &str) -> bool {
         is_word = is_word || word == prefix;
     }
     texts.next().is_none() && begun.contains(&beginning) == is_word
+}
+
+#[test]
+fn a_prefix_has_as_many_bytes_as_a_text(rt: HostRuntime) {
+    let words = "abcdefgh\nabcdefghi\nabcdefghj\nabcdefgi\n";
+    for prefix in "abcdefg|abcdefgh|abcdefghi|abcdefghj|abcdefghk".split('|') {
+        assert!(rt;
+            has_exactly_those::<9>(b"abcdefgh\0abcdefghiabcdefghjabcdefgi\0", words, prefix),
+            "{prefix}"
+        );
+    }
 }
 
 #[test]

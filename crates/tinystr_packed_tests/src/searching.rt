@@ -1,6 +1,6 @@
 //! Searches in sorted tables.
 
-ghost use Rattle.std.specs.Prelude.{◌<◌, ◌^◌};
+ghost use Rattle.std.specs.Prelude.{◌<◌, ◌≤◌, ◌^◌};
 
 use tinystr::TinyAsciiStr;
 use tinystr_packed::{SortedTable, Table};
@@ -112,4 +112,48 @@ fn each_byte_tells_longer_texts_apart(rt: HostRuntime) {
     ] {
         assert!(rt; finds::<9>(file, text, answer), "{text}");
     }
+}
+
+/// Whether of two texts of `N` letters, of which one has the greater letter at any one place and the lesser behind it,
+/// that one comes second alone.
+fn are_told_apart_at_each_place<const N: usize>() -> bool
+    requires positive { 0 < N }
+    requires room { N ≤ 32 }
+{
+    for at in 0..N {
+        let (mut first, mut second) = ([b'a'; N], [b'a'; N]);
+        second[at] = b'b';
+        for behind in at + 1..N {
+            first[behind] = b'z';
+        }
+        if !is_sorted(&first, &second) || is_sorted(&second, &first) {
+            return false;
+        }
+    }
+    true
+}
+
+fn is_sorted<const N: usize>(first: &[u8; N], second: &[u8; N]) -> bool
+    requires positive { 0 < N }
+    requires room { N ≤ 32 }
+{
+    let mut file = [0; 64];
+    file[..N].copy_from_slice(first);
+    file[N..2 * N].copy_from_slice(second);
+    match Table::<N>::new(&file[..2 * N]) {
+        Ok(table) => SortedTable::new(table).is_ok(),
+        Err(_) => false,
+    }
+}
+
+/// Whether texts are told apart at each place, at each of the capacities.
+macro_rules! are_told_apart {
+    ($($capacity:literal)*) => {
+        true $(&& are_told_apart_at_each_place::<$capacity>())*
+    };
+}
+
+#[test]
+fn each_byte_tells_texts_of_each_width_apart(rt: HostRuntime) {
+    assert!(rt; are_told_apart!(1 2 3 4 5 6 7 8 9 12 15 16 17 24 31 32));
 }

@@ -11,9 +11,9 @@ fn records_are_read_in_place(rt: HostRuntime) {
     for (index, text) in "Latn ab Cyrl".split_whitespace().enumerate() {
         assert!(rt; has_record(file, index, text), "{text}");
     }
-    assert!(rt; is_past_the_end(file, 3));
-    assert!(rt; is_past_the_end(file, 4));
-    assert!(rt; is_past_the_end(file, 1 << 62), "its place is no usize");
+    for index in [3, 4, 1 << 62] {
+        assert!(rt; is_past_the_end(file, index), "{index}");
+    }
     assert!(rt; is_past_the_end(b"", 0));
 }
 
@@ -49,65 +49,40 @@ fn has_len(file: &[u8], len: usize) -> bool {
 }
 
 #[test]
-fn packed_texts_are_read_in_place(rt: HostRuntime) {
-    for text in "Latn|ab||Cyrl".split('|') {
-        assert!(rt; is_read_back(rt.alloc(), text), "{text}");
-    }
-}
-
-/// Whether the text, packed behind another, is the record at 1, and nothing stands behind it.
-fn is_read_back(alloc: Global, text: &str) -> bool {
-    let Ok(value) = TinyAsciiStr::<4>::try_from_str(text) else {
-        return false;
-    };
-    match pack(alloc, &[TinyAsciiStr::<4>::default(), value]) {
-        Ok(made) => has_record(made.as_slice(), 1, text) && is_past_the_end(made.as_slice(), 2),
-        Err(_) => false,
-    }
-}
-
-#[test]
 fn texts_are_read_in_order(rt: HostRuntime) {
-    for file in ["", "Latn", "Latnab\0\0Cyrl", "ab\0\0\0\0\0\0ab\0\0"] {
+    for (file, lines) in [
+        ("", ""),
+        ("Latn", "Latn\n"),
+        ("Latnab\0\0Cyrl", "Latn\nab\nCyrl\n"),
+        ("ab\0\0\0\0\0\0ab\0\0", "ab\n\nab\n"),
+        ("ab\0\0ab\0\0", "ab\nab\n"),
+    ] {
         assert!(rt;
-            is_unpacked_and_packed(rt.alloc(), file.as_bytes()),
+            is_unpacked_and_packed(rt.alloc(), file.as_bytes(), lines),
             "{file}"
         );
     }
 }
 
-/// Whether the texts of a file, packed again, are the file.
-fn is_unpacked_and_packed(alloc: Global, file: &[u8]) -> bool {
+/// Whether the texts of a file are those of the lines, and these texts, packed again, are the file.
+fn is_unpacked_and_packed(alloc: Global, file: &[u8], lines: &str) -> bool {
     let Ok(table) = Table::<4>::new(file) else {
         return false;
     };
-    match unpack(alloc, &table) {
-        Ok(texts) => match pack(alloc, texts.as_slice()) {
-            Ok(made) => made.as_slice() == file,
-            Err(_) => false,
-        },
+    let Ok(texts) = unpack(alloc, &table) else {
+        return false;
+    };
+    let mut found = texts.iter();
+    for line in lines.lines() {
+        match found.next() {
+            Some(text) if text.as_str() == line => {}
+            _ => return false,
+        }
+    }
+    match pack(alloc, texts.as_slice()) {
+        Ok(made) => found.next().is_none() && made.as_slice() == file,
         Err(_) => false,
     }
-}
-
-#[test]
-fn an_iterator_tells_how_many_texts_are_left(rt: HostRuntime) {
-    for file in ["", "Latn", "Latnab\0\0Cyrl"] {
-        assert!(rt; counts_down(file.as_bytes()), "{file}");
-    }
-}
-
-fn counts_down(file: &[u8]) -> bool {
-    let Ok(table) = Table::<4>::new(file) else {
-        return false;
-    };
-    let len = table.len();
-    let mut texts = table.iter();
-    let mut is_exact = texts.size_hint() == (len, Some(len));
-    for left in (0..len).rev() {
-        is_exact = is_exact && texts.next().is_some() && texts.size_hint() == (left, Some(left));
-    }
-    is_exact
 }
 
 #[test]
@@ -166,6 +141,7 @@ fn is_refused_at(file: &[u8], index: usize) -> bool {
 fn a_file_is_refused_for_its_length_or_its_first_bad_record(rt: HostRuntime) {
     assert!(rt; is_refused(b"Latna", UleError::Length { len: 5 }));
     assert!(rt; is_refused(b"\0a\x80", UleError::Length { len: 3 }));
+    assert!(rt; is_refused(b"\0aaaL", UleError::Length { len: 5 }));
     let bad = |index, fault| UleError::Parse { index, fault };
     let null = ParseError::ContainsNull;
     let high = ParseError::NonAscii;
