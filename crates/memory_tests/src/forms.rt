@@ -7,25 +7,39 @@ use tinystr::{TinyAsciiStr, UnvalidatedTinyAsciiStr};
 #[test]
 fn want_of_memory_for_a_text(rt: HostRuntime) -> Result<(), Fail> {
     let text = TinyAsciiStr::<4>::try_from_utf8(b"ab")?;
-    let given = text.to_json(rt.alloc());
+    let first = text.to_json(rt.alloc());
     assert!(rt; text.to_bytes() == *b"ab\0\0");
-    match given {
-        Ok(_) => println!(rt; "text given")?,
-        Err(_) => println!(rt; "text refused")?,
-    }
+    let value = match first {
+        Ok(value) => {
+            println!(rt; "text given")?;
+            value
+        }
+        Err(_) => {
+            println!(rt; "text refused")?;
+            text.to_json(rt.alloc())?
+        }
+    };
+    assert!(rt; value.as_str() == Some("ab"));
     Ok(())
 }
 
 #[test]
 fn want_of_memory_for_bytes(rt: HostRuntime) -> Result<(), Fail> {
     let bytes = UnvalidatedTinyAsciiStr::from_utf8_unchecked(*b"ab\0");
-    let given = bytes.to_json(rt.alloc());
+    let first = bytes.to_json(rt.alloc());
     assert!(rt; bytes == UnvalidatedTinyAsciiStr::from_utf8_unchecked(*b"ab\0"));
-    match given {
-        Ok(_) => println!(rt; "bytes given")?,
-        Err(FormWriteError::Memory(_)) => println!(rt; "bytes refused")?,
-        Err(FormWriteError::NotAscii) => assert!(rt; false),
-    }
+    let value = match first {
+        Ok(value) => {
+            println!(rt; "bytes given")?;
+            value
+        }
+        Err(fault) => {
+            assert!(rt; matches!(fault, FormWriteError::Memory(_)));
+            println!(rt; "bytes refused")?;
+            bytes.to_json(rt.alloc())?
+        }
+    };
+    assert!(rt; value.as_str() == Some("ab"));
     Ok(())
 }
 

@@ -14,28 +14,36 @@ fn texts() -> [TinyAsciiStr<2>; 3] {
 
 #[test]
 fn want_of_memory_for_packing(rt: HostRuntime) -> Result<(), Fail> {
-    match pack(rt.alloc(), &texts()) {
+    let made = match pack(rt.alloc(), &texts()) {
         Ok(made) => {
-            assert!(rt; made.as_slice() == FILE);
             println!(rt; "pack given")?;
+            made
         }
-        Err(_) => println!(rt; "pack refused")?,
-    }
+        Err(_) => {
+            println!(rt; "pack refused")?;
+            pack(rt.alloc(), &texts())?
+        }
+    };
+    assert!(rt; made.as_slice() == FILE);
     Ok(())
 }
 
 #[test]
 fn want_of_memory_for_sorting(rt: HostRuntime) -> Result<(), Fail> {
     let given = texts();
-    let made = pack_sorted(rt.alloc(), &given);
+    let first = pack_sorted(rt.alloc(), &given);
     assert!(rt; given == texts());
-    match made {
+    let made = match first {
         Ok(made) => {
-            assert!(rt; made.as_slice() == b"a\0b\0".as_slice());
             println!(rt; "pack_sorted given")?;
+            made
         }
-        Err(_) => println!(rt; "pack_sorted refused")?,
-    }
+        Err(_) => {
+            println!(rt; "pack_sorted refused")?;
+            pack_sorted(rt.alloc(), &given)?
+        }
+    };
+    assert!(rt; made.as_slice() == b"a\0b\0".as_slice());
     Ok(())
 }
 
@@ -45,13 +53,17 @@ fn want_of_memory_for_unpacking(rt: HostRuntime) -> Result<(), Fail> {
         Ok(table) => table,
         Err(_) => return Ok(assert!(rt; false)),
     };
-    match unpack(rt.alloc(), &table) {
+    let made = match unpack(rt.alloc(), &table) {
         Ok(made) => {
-            assert!(rt; made.as_slice() == texts().as_slice());
             println!(rt; "unpack given")?;
+            made
         }
-        Err(_) => println!(rt; "unpack refused")?,
-    }
+        Err(_) => {
+            println!(rt; "unpack refused")?;
+            unpack(rt.alloc(), &table)?
+        }
+    };
+    assert!(rt; made.as_slice() == texts().as_slice());
     Ok(())
 }
 
@@ -59,16 +71,23 @@ fn want_of_memory_for_unpacking(rt: HostRuntime) -> Result<(), Fail> {
 fn want_of_memory_for_a_map(rt: HostRuntime) -> Result<(), Fail> {
     let mut map = BTreeMap::new(rt.alloc());
     let [key, ..] = texts();
-    // the map's own allocation is refused as well
-    let is_filled = map.insert(key, [1]).is_ok();
-    match pack_map(rt.alloc(), &map) {
-        Ok((keys, values)) if is_filled => {
-            assert!(rt;
-                keys.as_slice() == b"b\0".as_slice() && values.as_slice() == [1].as_slice()
-            );
-            println!(rt; "pack_map given")?;
+    match map.insert(key, [1]) {
+        Ok(_) => println!(rt; "map given")?,
+        Err(_) => {
+            println!(rt; "map refused")?;
+            map.insert(key, [1])?;
         }
-        _ => println!(rt; "pack_map refused")?,
     }
+    let (keys, values) = match pack_map(rt.alloc(), &map) {
+        Ok(made) => {
+            println!(rt; "pack_map given")?;
+            made
+        }
+        Err(_) => {
+            println!(rt; "pack_map refused")?;
+            pack_map(rt.alloc(), &map)?
+        }
+    };
+    assert!(rt; keys.as_slice() == b"b\0".as_slice() && values.as_slice() == [1].as_slice());
     Ok(())
 }
