@@ -39,6 +39,16 @@ fn a_text_stands_at_the_right(rt: HostRuntime) -> Result<(), Fail> {
 }
 
 #[test]
+fn a_column_has_any_width(rt: HostRuntime) -> Result<(), Fail> {
+    for width in [21, 100, 255, 256, 300] {
+        let cell = right_cell(&TinyAsciiStr::<4>::try_from_str("ab")?, width, rt.alloc())?;
+        let text = cell.as_str().trim_start_matches(' ');
+        assert!(rt; cell.len() == width && text == "ab", "{width}");
+    }
+    Ok(())
+}
+
+#[test]
 fn a_text_stands_at_the_left(rt: HostRuntime) -> Result<(), Fail> {
     for (text, cell) in [
         ("", "............"),

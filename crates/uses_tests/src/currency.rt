@@ -17,6 +17,19 @@ fn decimal_places_are_looked_up_by_code(rt: HostRuntime) {
     assert!(rt; is_set(&mut table, "EUR=3") && has_its_places(&table, "EUR=3") && table.len() == 3);
 }
 
+#[test]
+fn each_code_of_many_has_its_decimal_places(rt: HostRuntime) {
+    let mut table = BTreeMap::new(rt.alloc());
+    let rows = "USD=2 BHD=3 CLF=4 CLP=0 EUR=2 ISK=0 JPY=0 KRW=0 KWD=3 TND=3 UYW=4 XAF=0";
+    for row in rows.split_whitespace() {
+        assert!(rt; is_set(&mut table, row), "{row}");
+    }
+    assert!(rt; table.len() == 12);
+    for row in rows.split_whitespace() {
+        assert!(rt; has_its_places(&table, row), "{row}");
+    }
+}
+
 fn is_set(table: &mut Places, row: &str) -> bool {
     let Some((code, places)) = row.split_once('=') else {
         return false;

@@ -1,8 +1,10 @@
 //! Keys in JSON.
 
+ghost use Rattle.std.specs.Prelude.{◌<◌, ◌^◌};
+
 use serde_json::Value;
 use std::alloc::Global;
-use tinystr::TinyStr8;
+use tinystr::TinyAsciiStr;
 use tinystr::forms::JsonReadError;
 use uses::json::{id_of, through_json};
 
@@ -41,12 +43,17 @@ fn has_id(alloc: Global, json: &str, id: Result<&str, JsonReadError>) -> bool {
 #[test]
 fn keys_come_back_from_json(rt: HostRuntime) {
     for text in "en-US||abcdefgh|\"\\/\n\u{1}\u{7f}".split('|') {
-        assert!(rt; comes_back(rt.alloc(), text), "{text:?}");
+        let is_right = comes_back::<8>(rt.alloc(), text) && comes_back::<17>(rt.alloc(), text);
+        assert!(rt; is_right, "{text:?}");
     }
+    assert!(rt; comes_back::<17>(rt.alloc(), "abcdefgh-Hant-419"));
 }
 
-fn comes_back(alloc: Global, text: &str) -> bool {
-    let Ok(key) = TinyStr8::try_from_str(text) else {
+// Whether the key of capacity N is the same after its way through JSON.
+fn comes_back<const N: usize>(alloc: Global, text: &str) -> bool
+    requires { N < 2 ^ 63 }
+{
+    let Ok(key) = TinyAsciiStr::<N>::try_from_str(text) else {
         return false;
     };
     matches!(through_json(&key, alloc), Ok(Ok(back)) if back == key)

@@ -17,6 +17,25 @@ fn keys_are_asked_by_text(rt: HostRuntime) {
     }
 }
 
+#[test]
+fn each_key_of_many_is_added(rt: HostRuntime) {
+    let mut keys = HashSet::new(rt.alloc());
+    let texts = "abcdefgh a b c d e f g h i j k l m n o p q r s t u v w x y z";
+    for text in texts.split_whitespace() {
+        assert!(rt;
+            !has_key(&keys, text) && is_key(&mut keys, text, true),
+            "{text}"
+        );
+    }
+    assert!(rt; keys.len() == 27);
+    for text in texts.split_whitespace() {
+        assert!(rt;
+            has_key(&keys, text) && is_key(&mut keys, text, false),
+            "{text}"
+        );
+    }
+}
+
 /// Whether the text is a key, and is added where it is new.
 fn is_key(keys: &mut Keys, text: &str, new: bool) -> bool {
     matches!(add_key(keys, text), Ok(added) if added == new)

@@ -82,5 +82,7 @@ fn identifiers_are_listed_in_their_order(rt: HostRuntime) -> Result<(), Fail> {
     assert!(rt; tag_list(&[first], rt.alloc())?.as_str() == "zh-Hant-TW");
     let all = tag_list(&[first, second, first], rt.alloc())?;
     assert!(rt; all.as_str() == "zh-Hant-TW, en, zh-Hant-TW");
+    let many = tag_list(&[second; 300], rt.alloc())?;
+    assert!(rt; many.len() == 1198 && many.as_str().split(", ").all(|tag| tag == "en"));
     Ok(())
 }

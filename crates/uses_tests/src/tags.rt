@@ -15,9 +15,11 @@ fn tags_become_identifiers_in_order(rt: HostRuntime) -> Result<(), Fail> {
         "EN en eN=en",
         "zh_hant_tw en-us ZH-HANT-TW de en_US=de en-US zh-Hant-TW",
         "sr-419 sr en-x SR_cyrl sr-rs=sr sr-419 sr-Cyrl sr-RS",
+        "sv sr sq sl sk pl lv lt hu fi et cs=cs et fi hu lt lv pl sk sl sq sr sv",
     ] {
         assert!(rt; become_ids(rt.alloc(), row)?, "{row}");
     }
+    assert!(rt; ids_of(rt.alloc(), &["en"; 300])?.len() == 1);
     Ok(())
 }
 
@@ -39,10 +41,12 @@ fn texts_become_keys_in_order(rt: HostRuntime) -> Result<(), Fail> {
         "abcdefgh ninechars=abcdefgh",
         "b EN b en a=EN a b en",
         "ab a abc aB=a aB ab abc",
+        "l k j i h g f e d c b a=a b c d e f g h i j k l",
     ] {
         assert!(rt; become_keys(rt.alloc(), row)?, "{row}");
     }
     assert!(rt; keys_of(rt.alloc(), &["", ""])?.len() == 1);
+    assert!(rt; keys_of(rt.alloc(), &["en"; 300])?.len() == 1);
     Ok(())
 }
 
