@@ -18,29 +18,27 @@ pub fn table_texts(alloc: Global) -> Result<Vec<Text>, AllocError> {
     Ok(texts)
 }
 
-// Appends the text with the byte at that position changed.
-fn push_changed(texts: &mut Vec<Text>, text: Text, at: usize, byte: u8) -> Result<(), AllocError> {
-    let mut bytes = text.to_bytes();
-    if at < 18 {
-        bytes[at] = byte;
+// The text with the byte at that position changed.
+fn changed(alloc: Global, text: &[u8], at: usize, byte: u8) -> Result<Vec<u8>, AllocError> {
+    let mut changed = text.to_vec(alloc)?;
+    if let Some(place) = changed.get_mut(at) {
+        *place = byte;
     }
-    if let Ok(changed) = Text::try_from_raw(bytes) {
-        texts.push(changed)?;
-    }
-    Ok(())
+    Ok(changed)
 }
 
 // Appends the text's neighbours: without its last byte, with the least byte behind it, and with one byte that is the
 // next or the one before.
-fn push_neighbours(texts: &mut Vec<Text>, text: Text) -> Result<(), AllocError> {
-    let len = text.len();
-    if len > 0 {
-        push_changed(texts, text, len - 1, 0)?;
+fn push_neighbours(alloc: Global, texts: &mut Vec<Vec<u8>>, text: &[u8]) -> Result<(), AllocError> {
+    if let Some((_, front)) = text.split_last() {
+        texts.push(front.to_vec(alloc)?)?;
     }
-    push_changed(texts, text, len, 1)?;
-    for (at, byte) in text.as_utf8().iter().enumerate() {
-        push_changed(texts, text, at, byte.wrapping_sub(1))?;
-        push_changed(texts, text, at, byte.wrapping_add(1))?;
+    let mut longer = text.to_vec(alloc)?;
+    longer.push(1)?;
+    texts.push(longer)?;
+    for (at, byte) in text.iter().enumerate() {
+        texts.push(changed(alloc, text, at, byte.wrapping_sub(1))?)?;
+        texts.push(changed(alloc, text, at, byte.wrapping_add(1))?)?;
     }
     Ok(())
 }
@@ -48,12 +46,24 @@ fn push_neighbours(texts: &mut Vec<Text>, text: Text) -> Result<(), AllocError> 
 /// How many texts there are with their neighbours: each of the 33, and 150 bytes in all.
 pub const COUNT: usize = 33 + 32 + 33 + 2 * 150;
 
+/// Each text and its neighbours, as they are written, before any is read.
+pub fn written_texts(alloc: Global) -> Result<Vec<Vec<u8>>, AllocError> {
+    let mut texts = Vec::new(alloc);
+    for row in rows_of(alloc, TEXTS)? {
+        let text = row.text.as_bytes();
+        texts.push(text.to_vec(alloc)?)?;
+        push_neighbours(alloc, &mut texts, text)?;
+    }
+    Ok(texts)
+}
+
 /// Each text and its neighbours.
 pub fn texts(alloc: Global) -> Result<Vec<Text>, AllocError> {
     let mut texts = Vec::new(alloc);
-    for text in table_texts(alloc)? {
-        texts.push(text)?;
-        push_neighbours(&mut texts, text)?;
+    for written in written_texts(alloc)? {
+        if let Ok(text) = Text::try_from_utf8(&written) {
+            texts.push(text)?;
+        }
     }
     Ok(texts)
 }

@@ -1,6 +1,6 @@
 //! Printed forms of values.
 
-use crate::neighbours::{COUNT, texts};
+use crate::neighbours::{COUNT, Text, written_texts};
 use std::alloc::{AllocError, Global};
 use std::test::Fail;
 use tinystr::{TinyAsciiStr, TinyStr4, TinyStr8};
@@ -19,65 +19,83 @@ fn values_print_as_their_texts(rt: HostRuntime) -> Result<(), Fail> {
 fn a_width_and_a_precision_are_those_of_texts(rt: HostRuntime) -> Result<(), Fail> {
     let ab = TinyStr4::try_from_str("ab")?;
     let city = TinyStr8::try_from_str("New York")?;
-    let padded = format!(in rt.alloc(); "{ab:>5}|{ab:<5}|{ab:-^7}|{city:.3}")?;
-    assert_eq!(rt; padded.as_str(), "   ab|ab   |--ab---|New");
+    let padded = format!(in rt.alloc(); "{ab:>5}|{ab:<5}|{ab:-^7}|{city:.3}|{city:.0}|")?;
+    assert_eq!(rt; padded.as_str(), "   ab|ab   |--ab---|New||");
+    Ok(())
+}
+
+#[test]
+fn a_text_in_quotes_takes_no_width(rt: HostRuntime) -> Result<(), Fail> {
+    let ab = TinyStr4::try_from_str("ab")?;
+    assert!(rt; format!(in rt.alloc(); "{ab:>8?}|{ab:.1?}")?.as_str() == r#""ab"|"ab""#);
     Ok(())
 }
 
 // A text between so many of a fill in front of it and so many behind it.
 fn filled(
     alloc: Global,
-    fill: char,
+    fill: u8,
     front: usize,
-    text: &str,
+    text: &[u8],
     behind: usize,
-) -> Result<String, AllocError> {
-    let mut line = String::new(alloc);
-    for _ in 0..front {
-        line.push(fill)?;
-    }
-    line.push_str(text)?;
-    for _ in 0..behind {
-        line.push(fill)?;
-    }
+) -> Result<Vec<u8>, AllocError> {
+    let mut line = Vec::new(alloc);
+    line.resize(front, fill)?;
+    line.extend_from_slice(text)?;
+    line.resize(
+        front.saturating_add(text.len()).saturating_add(behind),
+        fill,
+    )?;
     Ok(line)
 }
 
-// Whether the text is printed filled up to ten characters, on each side, and is cut to a precision before.
-fn is_filled_up<const N: usize>(alloc: Global, text: TinyAsciiStr<N>) -> Result<bool, AllocError> {
+// Whether the value is printed as the text, filled up to ten characters on each side, and cut to a precision before.
+fn is_filled_up<const N: usize>(
+    alloc: Global,
+    value: TinyAsciiStr<N>,
+    text: &[u8],
+) -> Result<bool, AllocError> {
     let short = 10usize.saturating_sub(text.len());
     let half = short / 2;
-    let three = text.resize::<3>();
+    let three = &text[..text.len().min(3)];
     let short_of_three = 10usize.saturating_sub(three.len());
-    let text_str = text.as_str();
-    let unnamed = format!(in alloc; "{text:10}")?;
-    let left = format!(in alloc; "{text:.<10}")?;
-    let center = format!(in alloc; "{text:*^10}")?;
-    let right = format!(in alloc; "{text:>10}")?;
-    let cut = format!(in alloc; "{text:>10.3}")?;
+    let unnamed = format!(in alloc; "{value:10}")?;
+    let left = format!(in alloc; "{value:.<10}")?;
+    let center = format!(in alloc; "{value:*^10}")?;
+    let right = format!(in alloc; "{value:>10}")?;
+    let cut = format!(in alloc; "{value:>10.3}")?;
     Ok(
-        unnamed == filled(alloc, ' ', 0, text_str, short)?
-            && left == filled(alloc, '.', 0, text_str, short)?
-            && center == filled(alloc, '*', half, text_str, short.saturating_sub(half))?
-            && right == filled(alloc, ' ', short, text_str, 0)?
-            && cut == filled(alloc, ' ', short_of_three, three.as_str(), 0)?,
+        unnamed.as_bytes() == filled(alloc, b' ', 0, text, short)?.as_slice()
+            && left.as_bytes() == filled(alloc, b'.', 0, text, short)?.as_slice()
+            && center.as_bytes()
+                == filled(alloc, b'*', half, text, short.saturating_sub(half))?.as_slice()
+            && right.as_bytes() == filled(alloc, b' ', short, text, 0)?.as_slice()
+            && cut.as_bytes() == filled(alloc, b' ', short_of_three, three, 0)?.as_slice(),
     )
 }
 
 #[test]
 fn texts_are_filled_up_to_a_width(rt: HostRuntime) -> Result<(), Fail> {
-    let texts = texts(rt.alloc())?;
+    let texts = written_texts(rt.alloc())?;
     assert_eq!(rt; texts.len(), COUNT);
     for text in texts {
-        assert!(rt; is_filled_up(rt.alloc(), text)?, "{text:?}");
-        assert!(rt;
-            is_filled_up(rt.alloc(), text.resize::<4>())?,
-            "{text:?} at 4"
-        );
-        assert!(rt;
-            is_filled_up(rt.alloc(), text.resize::<33>())?,
-            "{text:?} at 33"
-        );
+        let value = Text::try_from_utf8(&text)?;
+        let four = &text[..text.len().min(4)];
+        let is_right = is_filled_up(rt.alloc(), value, &text)?
+            && is_filled_up(rt.alloc(), value.resize::<4>(), four)?
+            && is_filled_up(rt.alloc(), value.resize::<33>(), &text)?;
+        assert!(rt; is_right, "{value:?}");
     }
+    Ok(())
+}
+
+#[test]
+fn a_hundred_characters_are_printed(rt: HostRuntime) -> Result<(), Fail> {
+    let letters = filled(rt.alloc(), b'a', 100, b"", 0)?;
+    let text = TinyAsciiStr::<100>::try_from_utf8(&letters)?;
+    assert!(rt; format!(in rt.alloc(); "{text}")?.as_bytes() == letters.as_slice());
+    let ab = TinyStr4::try_from_str("ab")?;
+    let line = filled(rt.alloc(), b' ', 98, b"ab", 0)?;
+    assert!(rt; format!(in rt.alloc(); "{ab:>100}")?.as_bytes() == line.as_slice());
     Ok(())
 }

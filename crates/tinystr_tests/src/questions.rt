@@ -3,6 +3,7 @@
 mod every_byte;
 mod every_capacity;
 mod laws;
+mod plain;
 
 use tinystr::TinyAsciiStr;
 use tinystr_words::int_ops::Aligned;

@@ -1,42 +1,9 @@
 //! The thirteen calls beside a plain loop over the characters.
 
-use super::{Answers, answers_of, byte_answers};
+use super::plain::is_plain;
 use std::process::Abort;
 use std::test::Fail;
 use tinystr::TinyAsciiStr;
-
-fn plain_answers(text: &[u8]) -> Answers {
-    let mut answers = [true; 9];
-    for (i, byte) in text.iter().enumerate() {
-        let passes = byte_answers(*byte, i == 0);
-        for question in 0..9 {
-            answers[question] &= passes[question];
-        }
-    }
-    answers
-}
-
-// The text with its first byte and its later ones in uppercase or in lowercase, and then NULs.
-fn plain_change(text: &[u8], raises_first: bool, raises_later: bool) -> [u8; 32] {
-    let mut changed = [0; 32];
-    for i in 0..text.len().min(32) {
-        let raises = if i == 0 { raises_first } else { raises_later };
-        changed[i] = if raises {
-            text[i].to_ascii_uppercase()
-        } else {
-            text[i].to_ascii_lowercase()
-        };
-    }
-    changed
-}
-
-fn is_plain<const N: usize>(text: TinyAsciiStr<N>, bytes: &[u8]) -> bool {
-    text.len() == bytes.len()
-        && answers_of(&text) == plain_answers(bytes)
-        && text.to_ascii_lowercase().resize::<32>().to_bytes() == plain_change(bytes, false, false)
-        && text.to_ascii_titlecase().resize::<32>().to_bytes() == plain_change(bytes, true, false)
-        && text.to_ascii_uppercase().resize::<32>().to_bytes() == plain_change(bytes, true, true)
-}
 
 // Whether the bytes are read at the capacity of the value given and at 32, and are answered there as by a plain loop.
 fn are_plain<const N: usize>(bytes: &[u8], _like: TinyAsciiStr<N>) -> bool {

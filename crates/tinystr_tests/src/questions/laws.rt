@@ -1,103 +1,93 @@
-//! What questions and case changes have to do with one another, and what std's calls answer.
+//! Questions and case changes of each text and its neighbours, cut at several capacities, and of what the changes make.
 
-use crate::neighbours::{COUNT, Text, texts};
+use super::plain::{is_plain, plain_change};
+use crate::neighbours::{COUNT, Text, written_texts};
 use std::alloc::{AllocError, Global};
 use std::test::Fail;
 use tinystr::TinyAsciiStr;
 
-// A change keeps the length; done twice it is done once; lowercase forgets an uppercase before it. It leaves alone
-// exactly the texts of its case.
-fn keep_case_laws<const N: usize>(text: TinyAsciiStr<N>) -> bool {
-    let lower = text.to_ascii_lowercase();
-    let title = text.to_ascii_titlecase();
-    let upper = text.to_ascii_uppercase();
-    [lower.len(), title.len(), upper.len()] == [text.len(); 3]
-        && lower.to_ascii_lowercase() == lower
-        && title.to_ascii_titlecase() == title
-        && upper.to_ascii_uppercase() == upper
-        && upper.to_ascii_lowercase() == lower
-        && (lower == text) == text.is_ascii_lowercase()
-        && (title == text) == text.is_ascii_titlecase()
-        && (upper == text) == text.is_ascii_uppercase()
+// Whether the value is answered and changed as the text is by a plain loop, and each change of it as the changed text.
+// A change leaves alone exactly the texts of its case.
+fn stays_plain<const N: usize>(value: TinyAsciiStr<N>, text: &[u8]) -> bool {
+    let [lower, title, upper] = [
+        plain_change(text, false, false),
+        plain_change(text, true, false),
+        plain_change(text, true, true),
+    ];
+    let [lower_value, title_value, upper_value] = [
+        value.to_ascii_lowercase(),
+        value.to_ascii_titlecase(),
+        value.to_ascii_uppercase(),
+    ];
+    let len = text.len().min(32);
+    is_plain(value, text)
+        && is_plain(lower_value, &lower[..len])
+        && is_plain(title_value, &title[..len])
+        && is_plain(upper_value, &upper[..len])
+        && (lower_value == value) == (&lower[..len] == text)
+        && (title_value == value) == (&title[..len] == text)
+        && (upper_value == value) == (&upper[..len] == text)
 }
 
-// Letters in a case are letters, and in that case.
-fn keep_class_laws<const N: usize>(text: TinyAsciiStr<N>) -> bool {
-    let letters = text.is_ascii_alphabetic();
-    text.is_ascii_alphabetic_lowercase() == (letters && text.is_ascii_lowercase())
-        && text.is_ascii_alphabetic_titlecase() == (letters && text.is_ascii_titlecase())
-        && text.is_ascii_alphabetic_uppercase() == (letters && text.is_ascii_uppercase())
+// Whether the value, cut at M, stays plain, and its changes, cut there, are the fronts of the changed text.
+fn cut_stays_plain<const M: usize>(value: Text, text: &[u8]) -> bool {
+    let len = text.len().min(M).min(32);
+    stays_plain(value.resize::<M>(), &text[..len])
+        && value.to_ascii_lowercase().resize::<M>().as_utf8()
+            == &plain_change(text, false, false)[..len]
+        && value.to_ascii_titlecase().resize::<M>().as_utf8()
+            == &plain_change(text, true, false)[..len]
+        && value.to_ascii_uppercase().resize::<M>().as_utf8()
+            == &plain_change(text, true, true)[..len]
 }
 
-// The changes of a text's front are the fronts of its changes.
-fn changes_cut_alike<const M: usize>(text: Text, front: TinyAsciiStr<M>) -> bool {
-    front.as_utf8() == &text.as_utf8()[..text.len().min(M)]
-        && front.to_ascii_lowercase() == text.to_ascii_lowercase().resize()
-        && front.to_ascii_titlecase() == text.to_ascii_titlecase().resize()
-        && front.to_ascii_uppercase() == text.to_ascii_uppercase().resize()
-}
-
-fn keep_laws<const M: usize>(text: Text, front: TinyAsciiStr<M>) -> bool {
-    keep_case_laws(front) && keep_class_laws(front) && changes_cut_alike(text, front)
-}
-
-fn keeps_laws_at_each_capacity(text: Text) -> bool {
-    keep_laws(text, text)
-        && keep_laws(text, text.resize::<0>())
-        && keep_laws(text, text.resize::<1>())
-        && keep_laws(text, text.resize::<4>())
-        && keep_laws(text, text.resize::<8>())
-        && keep_laws(text, text.resize::<9>())
-        && keep_laws(text, text.resize::<16>())
-        && keep_laws(text, text.resize::<33>())
+fn stays_plain_at_each_capacity(value: Text, text: &[u8]) -> bool {
+    stays_plain(value, text)
+        && cut_stays_plain::<0>(value, text)
+        && cut_stays_plain::<1>(value, text)
+        && cut_stays_plain::<4>(value, text)
+        && cut_stays_plain::<8>(value, text)
+        && cut_stays_plain::<9>(value, text)
+        && cut_stays_plain::<16>(value, text)
+        && cut_stays_plain::<33>(value, text)
 }
 
 #[test]
 fn case_changes_keep_their_laws_and_commute_with_cutting(rt: HostRuntime) -> Result<(), Fail> {
-    let texts = texts(rt.alloc())?;
+    let texts = written_texts(rt.alloc())?;
     assert_eq!(rt; texts.len(), COUNT);
     for text in texts {
-        assert!(rt; keeps_laws_at_each_capacity(text), "{text:?}");
+        let value = Text::try_from_utf8(&text)?;
+        assert!(rt; stays_plain_at_each_capacity(value, &text), "{value:?}");
     }
     Ok(())
 }
 
-// Each question of one class, and each case change, by std's calls on the text's bytes and on its string.
-fn is_as_std_says<const N: usize>(
+// Whether lowercase and uppercase are those that std's calls give of the whole text.
+fn is_changed_as_by_std<const N: usize>(
     alloc: Global,
-    text: TinyAsciiStr<N>,
+    value: TinyAsciiStr<N>,
+    text: &[u8],
 ) -> Result<bool, AllocError> {
-    let bytes = text.as_utf8();
-    let is_asked_alike = text.is_ascii_alphabetic() == bytes.iter().all(|b| b.is_ascii_alphabetic())
-        && text.is_ascii_alphanumeric() == bytes.iter().all(|b| b.is_ascii_alphanumeric())
-        && text.is_ascii_numeric() == bytes.iter().all(|b| b.is_ascii_digit())
-        && text.is_ascii_lowercase() == bytes.iter().all(|b| !b.is_ascii_uppercase())
-        && text.is_ascii_uppercase() == bytes.iter().all(|b| !b.is_ascii_lowercase())
-        && text.is_ascii_alphabetic_lowercase() == bytes.iter().all(|b| b.is_ascii_lowercase())
-        && text.is_ascii_alphabetic_uppercase() == bytes.iter().all(|b| b.is_ascii_uppercase());
-    let lower = text.as_str().to_ascii_lowercase(alloc)?;
-    let upper = text.as_str().to_ascii_uppercase(alloc)?;
+    let lower = text.to_ascii_lowercase(alloc)?;
+    let upper = text.to_ascii_uppercase(alloc)?;
     Ok(
-        is_asked_alike
-            && text.to_ascii_lowercase().as_str() == lower.as_str()
-            && text.to_ascii_uppercase().as_str() == upper.as_str(),
+        value.to_ascii_lowercase().as_utf8() == lower.as_slice()
+            && value.to_ascii_uppercase().as_utf8() == upper.as_slice(),
     )
 }
 
 #[test]
-fn classes_and_case_changes_are_those_of_std(rt: HostRuntime) -> Result<(), Fail> {
-    let texts = texts(rt.alloc())?;
+fn case_changes_are_those_of_std(rt: HostRuntime) -> Result<(), Fail> {
+    let texts = written_texts(rt.alloc())?;
     assert_eq!(rt; texts.len(), COUNT);
     for text in texts {
-        assert!(rt; is_as_std_says(rt.alloc(), text)?, "{text:?}");
-        assert!(rt;
-            is_as_std_says(rt.alloc(), text.resize::<4>())?,
-            "{text:?} at 4"
-        );
-        assert!(rt;
-            is_as_std_says(rt.alloc(), text.resize::<33>())?,
-            "{text:?} at 33"
-        );
+        let value = Text::try_from_utf8(&text)?;
+        let four = &text[..text.len().min(4)];
+        let is_right = is_changed_as_by_std(rt.alloc(), value, &text)?
+            && is_changed_as_by_std(rt.alloc(), value.resize::<4>(), four)?
+            && is_changed_as_by_std(rt.alloc(), value.resize::<33>(), &text)?;
+        assert!(rt; is_right, "{value:?}");
     }
     Ok(())
 }
