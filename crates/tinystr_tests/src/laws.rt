@@ -3,7 +3,7 @@
 use std::cmp::Ordering;
 use std::test::Fail;
 use tinystr::laws::{niche_refused, text_order, unvalidated_back};
-use tinystr::{ParseError, TinyAsciiStr};
+use tinystr::{ParseError, TinyAsciiStr, tinystr};
 
 type Text = TinyAsciiStr<18>;
 
@@ -15,5 +15,19 @@ fn laws_answer_as_their_calls(rt: HostRuntime) -> Result<(), Fail> {
     assert!(rt; text_order(&more, &more) == (true, Ordering::Equal));
     assert!(rt; unvalidated_back(less) == Ok(less));
     assert!(rt; niche_refused::<3>() == Err(ParseError::NonAscii));
+    assert!(rt; niche_refused::<17>() == Err(ParseError::NonAscii));
+    Ok(())
+}
+
+#[test]
+fn the_last_bytes_of_longer_texts_decide_their_order(rt: HostRuntime) -> Result<(), Fail> {
+    let [less, more] = [tinystr!(9, "aaaaaaaaa")?, tinystr!(9, "aaaaaaaab")?];
+    assert!(rt; text_order(&less, &more) == (false, Ordering::Less));
+    let [less, more] = [
+        tinystr!(17, "aaaaaaaaaaaaaaaaa")?,
+        tinystr!(17, "aaaaaaaaaaaaaaaab")?,
+    ];
+    assert!(rt; text_order(&more, &less) == (false, Ordering::Greater));
+    assert!(rt; unvalidated_back(more) == Ok(more));
     Ok(())
 }

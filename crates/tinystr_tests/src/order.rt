@@ -36,7 +36,7 @@ fn texts_are_ordered_byte_by_byte(rt: HostRuntime) {
 
 // Whether a text that fills the capacity of the value given stands before the one that is greater at any one position.
 fn is_less_at_each_position<const N: usize>(_like: TinyAsciiStr<N>) -> bool {
-    let less = TinyAsciiStr::<N>::from_utf8_lossy(&[b'a'; 100], b'?');
+    let less = TinyAsciiStr::<N>::from_utf8_lossy(&[b'a'; 200], b'?');
     for at in 0..N {
         let mut bytes = less.to_bytes();
         bytes[at] = b'b';
@@ -66,7 +66,7 @@ macro_rules! are_told_apart {
 fn texts_are_told_apart_at_each_position(rt: HostRuntime) {
     assert!(rt; are_told_apart!(0 1 3 4 5 7 8 9 12 15 16));
     assert!(rt; are_told_apart!(17 18 19 20 21 22 23 24 25 26 27 28 29 30 31 32));
-    assert!(rt; are_told_apart!(33 34 40 47 48 49 64 100));
+    assert!(rt; are_told_apart!(33 34 40 47 48 49 64 100 200));
 }
 
 #[test]

@@ -18,6 +18,17 @@ fn bytes_that_are_no_text_are_kept_and_printed_as_a_list(rt: HostRuntime) -> Res
         format!(in rt.alloc(); "{bytes:?}")?.as_str(),
         "[0, 65, 0, 255, 9]"
     );
+    let bytes = Unvalidated::from_utf8_unchecked(*b"caf\xe9");
+    assert!(rt; format!(in rt.alloc(); "{bytes:?}")?.as_str() == "[99, 97, 102, 233]");
+    Ok(())
+}
+
+#[test]
+fn each_of_forty_bytes_is_printed(rt: HostRuntime) -> Result<(), Fail> {
+    let bytes = Unvalidated::from_utf8_unchecked([0xFF; 40]);
+    let printed = format!(in rt.alloc(); "{bytes:?}")?;
+    let numbers = printed.as_str().trim_matches(['[', ']']);
+    assert!(rt; numbers.len() == 198 && numbers.split(", ").all(|number| number == "255"));
     Ok(())
 }
 

@@ -20,6 +20,8 @@ fn the_empty_text_at_every_kind_of_capacity(rt: HostRuntime) -> Result<(), Fail>
     assert!(rt; is_empty_text(TinyAsciiStr::<9>::default()));
     assert!(rt; is_empty_text(TinyAsciiStr::<17>::default()));
     assert!(rt; is_empty_text(<TinyStr4 as Default>::default()));
+    assert!(rt; is_empty_text(<TinyStr8 as Default>::default()));
+    assert!(rt; is_empty_text(<TinyStr16 as Default>::default()));
     assert!(rt; is_empty_text(TinyAsciiStr::<0>::try_from_str("")?));
     assert!(rt; is_empty_text(TinyStr4::try_from_str("")?));
     assert!(rt; is_empty_text(TinyAsciiStr::try_from_raw([0; 17])?));

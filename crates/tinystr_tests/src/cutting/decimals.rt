@@ -81,8 +81,7 @@ fn a_decimal_text_is_written_whole(rt: HostRuntime) {
     assert!(rt; is_decimal(10, Ok("10"), Decimal::<2>::default()));
     assert!(rt; is_decimal(0, Ok("0"), Decimal::<4>::default()));
     assert!(rt; is_decimal(456, Ok("456"), Decimal::<3>::default()));
-    assert!(rt; is_decimal(99999, Ok("99999"), Decimal::<5>::default()));
-    assert!(rt; is_decimal(99999999, Ok("99999999"), Decimal::<8>::default()));
+    assert!(rt; is_decimal(999999999, Ok("999999999"), Decimal::<9>::default()));
     assert!(rt; is_decimal(4294967295, Ok("4294967295"), Decimal::<10>::default()));
     assert!(rt; is_decimal(7, Ok("7"), Decimal::<40>::default()));
 }
@@ -92,8 +91,6 @@ fn the_last_digits_are_written_of_a_number_that_has_more(rt: HostRuntime) {
     assert!(rt; is_decimal(10, Err("0"), Decimal::<1>::default()));
     assert!(rt; is_decimal(456, Err("56"), Decimal::<2>::default()));
     assert!(rt; is_decimal(100, Err("00"), Decimal::<2>::default()));
-    assert!(rt; is_decimal(100000, Err("00000"), Decimal::<5>::default()));
-    assert!(rt; is_decimal(100000000, Err("00000000"), Decimal::<8>::default()));
     assert!(rt; is_decimal(1000000000, Err("000000000"), Decimal::<9>::default()));
     assert!(rt; is_decimal(4294967295, Err("294967295"), Decimal::<9>::default()));
     assert!(rt; is_decimal(7, Err(""), Decimal::<0>::default()));

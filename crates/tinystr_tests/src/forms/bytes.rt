@@ -20,6 +20,8 @@ fn bytes_in_front_are_read_and_the_rest_is_handed_back(rt: HostRuntime) -> Resul
     assert!(rt; is_read_in_front(b"abcde", tinystr!(4, "abcd")?, b"e"));
     assert!(rt; is_read_in_front(b"enXY", tinystr!(2, "en")?, b"XY"));
     assert!(rt; is_read_in_front(b"ab", tinystr!(0, "")?, b"ab"));
+    let behind = b"cdefghijklmnopqrstuvwxyz";
+    assert!(rt; is_read_in_front(b"abcdefghijklmnopqrstuvwxyz", tinystr!(2, "ab")?, behind));
     Ok(())
 }
 
@@ -98,6 +100,9 @@ fn are_read_unless_too_few<const N: usize>(input: &[u8], bytes: [u8; N], left: &
 #[test]
 fn bytes_that_are_no_text_are_read_and_not_written(rt: HostRuntime) {
     let bytes = UnvalidatedTinyAsciiStr::from_utf8_unchecked([0, 0x41, 0]);
+    assert!(rt; matches!(bytes.to_bytes(), Err(FormWriteError::NotAscii)));
+    assert!(rt; matches!(bytes.to_json(rt.alloc()), Err(FormWriteError::NotAscii)));
+    let bytes = UnvalidatedTinyAsciiStr::from_utf8_unchecked(*b"a\x80\0");
     assert!(rt; matches!(bytes.to_bytes(), Err(FormWriteError::NotAscii)));
     assert!(rt; matches!(bytes.to_json(rt.alloc()), Err(FormWriteError::NotAscii)));
     assert!(rt; are_read_unless_too_few(&[0, 0x41, 0], [0, 0x41, 0], b""));

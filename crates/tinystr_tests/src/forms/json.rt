@@ -60,6 +60,7 @@ fn texts_of_one_word_come_back_from_json(rt: HostRuntime) {
     assert!(rt; read_comes_back(alloc, "en", four, r#""en""#));
     assert!(rt; read_comes_back(alloc, "Latn", four, r#""Latn""#));
     assert!(rt; read_comes_back(alloc, "calendar", eight, r#""calendar""#));
+    assert!(rt; read_comes_back(alloc, " a ", four, r#"" a ""#));
     assert!(rt; read_comes_back(alloc, "", four, r#""""#));
     assert!(rt; read_comes_back(alloc, "", TinyAsciiStr::<0>::default(), r#""""#));
 }

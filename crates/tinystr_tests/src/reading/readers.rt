@@ -40,6 +40,7 @@ fn texts_are_read_and_parsed_as_they_are_spelled(rt: HostRuntime) {
     assert!(rt; is_read(TinyAsciiStr::<2>::try_from_str("abc"), long));
     assert!(rt; is_read("abc".parse::<TinyAsciiStr<2>>(), long));
     assert!(rt; is_read("GB".parse::<TinyAsciiStr<2>>(), Ok("GB")));
+    assert!(rt; is_read("\"a\"".parse::<TinyStr4>(), Ok("\"a\"")));
     // bytes are counted, and not characters
     let accents = TinyStr4::try_from_str("ééé");
     assert!(rt; is_read(accents, Err(TooLong { max: 4, len: 6 })));
@@ -333,10 +334,62 @@ fn lossy_readers_replace_each_bad_unit(rt: HostRuntime) {
     assert!(rt; is_read(Ok(cut), Ok("a??")));
 }
 
+// Whether the lossy readers at the capacity of the value given read twenty of the byte as so many of the character.
+fn are_read_as<const N: usize>(byte: u8, character: u8, _like: TinyAsciiStr<N>) -> bool {
+    let text = [character; 20];
+    let text = &text[..N.min(20)];
+    TinyAsciiStr::<N>::from_utf8_lossy(&[byte; 20], b'?').as_utf8() == text
+        && TinyAsciiStr::<N>::from_utf16_lossy(&[u16::from(byte); 20], b'?').as_utf8() == text
+}
+
+#[test]
+fn lossy_readers_replace_each_byte_that_is_no_character(rt: HostRuntime) {
+    for byte in 0..=u8::MAX {
+        let character = if (1..=127).contains(&byte) {
+            byte
+        } else {
+            b'?'
+        };
+        let is_right = are_read_as(byte, character, TinyStr4::default())
+            && are_read_as(byte, character, TinyStr8::default())
+            && are_read_as(byte, character, TinyAsciiStr::<17>::default())
+            && are_read_as(byte, character, TinyAsciiStr::<33>::default());
+        assert!(rt; is_right, "{byte}");
+    }
+}
+
+// Whether as many code units as the capacity of the value given are read whole.
+fn is_filled<const N: usize>(_like: TinyAsciiStr<N>) -> bool {
+    let letters = b"abcdefghijklmnopqrstuvwxyzABCDEFGHIJKLMN";
+    if N > 40 {
+        return false;
+    }
+    let text = &letters[..N];
+    let units = letters.map(u16::from);
+    let units = &units[..N];
+    matches!(TinyAsciiStr::<N>::try_from_utf8(text), Ok(read) if read.as_utf8() == text)
+        && matches!(TinyAsciiStr::<N>::try_from_utf16(units), Ok(read) if read.as_utf8() == text)
+        && TinyAsciiStr::<N>::from_utf16_lossy(units, b'?').as_utf8() == text
+}
+
+/// Whether each of the capacities is filled.
+macro_rules! are_filled {
+    ($($capacity:literal)*) => {
+        true $(&& is_filled(TinyAsciiStr::<$capacity>::default()))*
+    };
+}
+
+#[test]
+fn each_capacity_is_filled(rt: HostRuntime) {
+    assert!(rt; are_filled!(0 1 2 3 4 5 6 7 8 9 10 11 12 13 14 15 16));
+    assert!(rt; are_filled!(17 18 19 20 21 22 23 24 25 26 27 28 29 30 31 32 33 40));
+}
+
 #[test]
 fn a_literal_is_read_at_its_capacity(rt: HostRuntime) {
     assert!(rt; is_read(tinystr!(8, "foobar"), Ok("foobar")));
     assert!(rt; is_read(tinystr!(12, "foobarbaz"), Ok("foobarbaz")));
+    assert!(rt; is_read(tinystr!(4, " a "), Ok(" a ")));
     assert!(rt; is_read(tinystr!(2, "abc"), Err(TooLong { max: 2, len: 3 })));
     assert!(rt; is_read(tinystr!(4, "a\0"), Err(ContainsNull)));
 }

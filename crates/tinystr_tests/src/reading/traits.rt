@@ -52,6 +52,7 @@ fn bytes_are_taken_and_shown(rt: HostRuntime) {
         &b"abcd"[..],
         &b"\x01 \x7f"[..],
         &b" a"[..],
+        &b"a "[..],
     ] {
         let is_right = are_bytes_taken::<TinyAsciiStr<4>>(bytes)
             && are_bytes_taken::<TinyAsciiStr<8>>(bytes)
