@@ -1,6 +1,6 @@
 //! Texts as JSON values and as `N` bytes, and back.
 
-ghost use Rattle.std.specs.Prelude.{◌≡◌, ◌≤◌, ◌↔◌, Some, None, option_map, length, take, drop, IsOk, IfOk, IfErr, IsSomeAnd};
+ghost use Rattle.std.specs.Prelude.{◌≡◌, ◌++◌, ◌≤◌, ◌↔◌, Some, None, option_map, length, take, drop, IsOk, IfOk, IfErr, IsSomeAnd};
 ghost use Rattle.serde_json.specs.View.{view};
 ghost use Rattle.serde_json.specs.Find.{as_str};
 ghost use Rattle.tinystr_words.specs.Text.{pad, text_of, IsStrictText, IsPaddedText};
@@ -100,6 +100,26 @@ impl<const N: usize> TinyAsciiStr<N> {
         ensures text { text_of result ≡ self.now }
     {
         *self.all_bytes()
+    }
+
+    /// Writes all `N` bytes in front of a slice of at least as many, and leaves those behind them as they were.
+    ///
+    /// ```rust
+    /// let mut record = *b".........";
+    /// tinystr!(4, "GB")?.write_bytes(&mut record[..]);
+    /// assert_eq!(rt; record, *b"GB\0\0.....");
+    /// tinystr!(3, "GBP")?.write_bytes(&mut record[4..]);
+    /// assert_eq!(rt; record, *b"GB\0\0GBP..");
+    /// ```
+    #[inline]
+    pub fn write_bytes(&self, out: &mut [u8])
+        requires { N ≤ length out.old }
+        ensures bytes { out.new ≡ pad self.now N ++ drop N out.old }
+        ensures read_back { byte_fault N out.new ≡ None }
+        ensures text { text_of (take N out.new) ≡ self.now }
+        ensures rest { drop N out.new ≡ drop N out.old }
+    {
+        out[..N].copy_from_slice(self.all_bytes());
     }
 
     /// The text of the first `N` bytes, a text and then NULs, and the bytes behind them as a part of the input.

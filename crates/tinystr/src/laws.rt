@@ -3,10 +3,19 @@
 ghost use Rattle.std.specs.Prelude.{◌≡◌, ◌<◌, ◌↔◌, Ok, Err, IsTrue};
 ghost use Rattle.std.specs.declared.cmp.Ordering.TheVariants.{Less, Equal};
 ghost use Rattle.tinystr_words.specs.Order.{IsBefore};
+ghost use Rattle.tinystr_words.specs.Text.{IsStrictText};
 
 use crate::ascii::TinyAsciiStr;
 use crate::error::ParseError;
 use std::cmp::Ordering;
+
+/// A value is a text that fits.
+#[inline]
+pub fn fits<const N: usize>(text: &TinyAsciiStr<N>)
+    ensures { IsStrictText text.now N }
+{
+    let _ = text.as_utf8();
+}
 
 /// Texts are equal exactly if they are one text, and one is less exactly if it stands before the other.
 pub fn text_order<const N: usize>(

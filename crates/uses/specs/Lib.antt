@@ -1,2 +1,3 @@
+pub mod Airports
 pub mod Countries
 pub mod Keys

@@ -4,6 +4,7 @@ ghost use Rattle.std.specs.Prelude.{◌≡◌, ◌++◌, ◌-◌, ◌≤◌, IfO
 
 use std::alloc::{AllocError, Global};
 use tinystr::TinyAsciiStr;
+use tinystr::laws::fits;
 use tinystr_words::laws::print_width;
 
 /// A text at the right of a column.
@@ -16,8 +17,7 @@ pub fn right_cell<const N: usize>(
     ensures width { N ≤ width → IfOk result (λ cell. string_len cell ≡ width) }
 {
     print_width();
-    // Its contract says that the value is a text that fits.
-    let _ = text.as_utf8();
+    fits(text);
     let cell = format!(in alloc; "{text:>width$}")?;
     Ok(cell)
 }
@@ -28,7 +28,7 @@ pub fn left_cell(text: &TinyAsciiStr<8>, alloc: Global) -> Result<String, AllocE
     ensures width { IfOk result (λ cell. string_len cell ≡ 12) }
 {
     print_width();
-    let _ = text.as_utf8();
+    fits(text);
     format!(in alloc; "{text:.<12}")
 }
 
@@ -42,7 +42,7 @@ pub fn line(
         ≡ (name.now ++ replicate (16 - length name.now) 0x20) ++ (replicate (5 - length code.now) 0x20 ++ code.now)) }
 {
     print_width();
-    let _ = name.as_utf8();
-    let _ = code.as_utf8();
+    fits(name);
+    fits(code);
     format!(in alloc; "{name:16}{code:>5}")
 }

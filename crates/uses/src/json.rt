@@ -9,6 +9,7 @@ use serde_json::Value;
 use std::alloc::{AllocError, Global};
 use tinystr::TinyAsciiStr;
 use tinystr::forms::JsonReadError;
+use tinystr::laws::fits;
 
 /// The key, of at most eight characters, in a value's member `id`. A member that isn't there is `NotText`.
 pub fn id_of(value: &Value) -> Result<TinyAsciiStr<8>, JsonReadError>
@@ -30,8 +31,7 @@ pub fn through_json<const N: usize>(
 ) -> Result<Result<TinyAsciiStr<N>, JsonReadError>, AllocError>
     ensures { IfOk result (λ back. back ≡ Ok key.now) }
 {
-    // Its contract says that the key is a text that fits.
-    let _ = key.as_utf8();
+    fits(key);
     let value = key.to_json(alloc)?;
     Ok(TinyAsciiStr::from_json(&value))
 }

@@ -1,6 +1,7 @@
 //! Short callers of the libraries, each proved from their contracts.
 #![tactic(auto)]
 
+pub mod airports;
 pub mod columns;
 pub mod countries;
 pub mod currency;

@@ -3,6 +3,8 @@
 #![tactic(auto)]
 
 #[cfg(test)]
+mod airports;
+#[cfg(test)]
 mod columns;
 #[cfg(test)]
 mod countries;

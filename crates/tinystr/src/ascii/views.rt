@@ -1,7 +1,7 @@
 //! What a value shows of its text.
 
 ghost use Rattle.std.specs.Prelude.{◌≡◌, ◌≤◌, [], length, ◌↔◌, IsTrue};
-ghost use Rattle.tinystr_words.specs.Text.{pad, text_of, IsText, IsPaddedText};
+ghost use Rattle.tinystr_words.specs.Text.{pad, text_of, IsText, IsStrictText, IsPaddedText};
 
 use crate::ascii::TinyAsciiStr;
 use std::convert::{AsSlice, AsStr};
@@ -40,6 +40,7 @@ impl<const N: usize> TinyAsciiStr<N> {
         ensures text { result.now ≡ self.now }
         ensures ascii { IsText result.now }
         ensures fits { length result.now ≤ N }
+        ensures strict { IsStrictText self.now N }
     {
         let bytes = self.bytes.as_slice();
         &bytes[..self.len()]
@@ -56,6 +57,7 @@ impl<const N: usize> TinyAsciiStr<N> {
         ensures text { result.now ≡ self.now }
         ensures ascii { IsText result.now }
         ensures fits { length result.now ≤ N }
+        ensures strict { IsStrictText self.now N }
     {
         // proved: what `as_utf8` gives is ASCII, so it is UTF-8
         unsafe { std::str::from_utf8_unchecked(self.as_utf8()) }

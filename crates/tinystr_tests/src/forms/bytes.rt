@@ -1,5 +1,7 @@
 //! The byte form of both types, there and back and refused.
 
+ghost use Rattle.std.specs.Prelude.{◌≤◌, length};
+
 use std::test::Fail;
 use tinystr::forms::{BytesReadError, FormWriteError};
 use tinystr::{TinyAsciiStr, UnvalidatedTinyAsciiStr, tinystr};
@@ -84,6 +86,36 @@ fn byte_forms_are_padded_texts(rt: HostRuntime) -> Result<(), Fail> {
     let long = tinystr!(24, "veryveryverylongstring")?;
     assert!(rt; is_byte_form(long, *b"veryveryverylongstring\0\0"));
     assert!(rt; is_byte_form(tinystr!(0, "")?, []));
+    Ok(())
+}
+
+// Whether the text, written in front of bytes of `#`, gives these, and is read back from them with the others left.
+fn is_written<const N: usize>(text: TinyAsciiStr<N>, written: &[u8]) -> bool
+    requires { length written.now ≤ 40 }
+{
+    let mut room = [b'#'; 40];
+    let out = &mut room[..written.len()];
+    if out.len() < N {
+        return false;
+    }
+    text.write_bytes(out);
+    *out == *written && is_read_in_front(written, text, &written[N..])
+}
+
+#[test]
+fn bytes_are_written_in_front_and_the_rest_stays(rt: HostRuntime) -> Result<(), Fail> {
+    assert!(rt; is_written(tinystr!(0, "")?, b""));
+    assert!(rt; is_written(tinystr!(0, "")?, b"##"));
+    assert!(rt; is_written(tinystr!(1, "")?, b"\0"));
+    assert!(rt; is_written(tinystr!(1, "a")?, b"a#"));
+    assert!(rt; is_written(tinystr!(3, "GB")?, b"GB\0#"));
+    assert!(rt; is_written(tinystr!(4, "Latn")?, b"Latn"));
+    assert!(rt; is_written(tinystr!(8, "New York")?, b"New York###"));
+    assert!(rt; is_written(tinystr!(9, "New York")?, b"New York\0#"));
+    assert!(rt; is_written(tinystr!(16, "MacintoshOSX2019")?, b"MacintoshOSX2019#"));
+    assert!(rt; is_written(tinystr!(17, "")?, b"\0\0\0\0\0\0\0\0\0\0\0\0\0\0\0\0\0##"));
+    let long = tinystr!(33, "abcdefghijklmnopqrstuvwxyz012345")?;
+    assert!(rt; is_written(long, b"abcdefghijklmnopqrstuvwxyz012345\0######"));
     Ok(())
 }
 
