@@ -1,11 +1,11 @@
 //! Facts of the definitions alone. Each function computes nothing, and its contract is its law.
 
-ghost use Rattle.std.specs.Prelude.{IsTrue, ◌≡◌, ◌<◌, ◌≤◌, ◌^◌, ◌/◌, ◌↔◌, ◌⊎◌, ℕ, List, ◌++◌, length, take, ◌+◌, ◌-◌, ◌*◌, Bool, [], ◌&&◌, All, slice_index, slice_index_or, map, replicate, None};
+ghost use Rattle.std.specs.Prelude.{IsTrue, ◌≡◌, ◌≢◌, ◌==◌, ◌<◌, ◌≤◌, ◌^◌, ◌/◌, ◌↔◌, ◌⊎◌, ℕ, List, ◌++◌, length, take, ◌+◌, ◌-◌, ◌*◌, Bool, [], ◌&&◌, All, slice_index, slice_index_or, map, replicate, None};
 ghost use Rattle.std.specs.Cmp.Lexicographic.{slice_cmp};
 ghost use Rattle.std.specs.Char.{is_ascii_alphabetic, is_ascii_alphanumeric, is_ascii_digit, is_ascii_lowercase, is_ascii_uppercase, to_ascii_lowercase, to_ascii_uppercase};
 ghost use Rattle.std.specs.Fmt.{char_count, decimal, padded, spec_fill, styled_text, take_chars};
 ghost use Rattle.std.specs.Int.{IsInRange};
-ghost use Rattle.std.specs.List.{flat_map, list_all};
+ghost use Rattle.std.specs.List.{flat_map, join_with_byte, list_all, slice_split};
 ghost use Rattle.std.specs.Ordering.{nat_cmp};
 ghost use Rattle.std.specs.Str.{str_to_ascii_lowercase, str_to_ascii_uppercase};
 ghost use Rattle.std.specs.declared.cmp.Ordering.TheVariants.{Less, Equal};
@@ -155,6 +155,16 @@ pub fn bytes_back()
         take n (pad t n ++ rest) ≡ pad t n }
     ensures strict { (t : List ℕ) (n : ℕ) → IsText t → length t ≤ n → IsStrictText t n }
     ensures alone { (bytes : List ℕ) (n : ℕ) → IsPaddedText bytes n → byte_fault n bytes ≡ None }
+{}
+
+/// Texts without the separator, joined by it and split at it, are the same texts, and the parts of a text, joined, are the
+/// text. Each part of a text that fits is one.
+pub fn split_joined()
+    ensures back { (c : ℕ) (ts : List (List ℕ)) → 0 < length ts → All (λ t. All (λ b. b ≢ c) t) ts →
+        slice_split (λ b. b == c) (join_with_byte c ts) ≡ ts }
+    ensures joined { (c : ℕ) (t : List ℕ) → join_with_byte c (slice_split (λ b. b == c) t) ≡ t }
+    ensures strict { (p : ℕ → Bool) (t : List ℕ) (n : ℕ) → IsStrictText t n →
+        All (λ part. IsStrictText part n) (slice_split p t) }
 {}
 
 /// Bytes of 255 are refused as `NonAscii`.
