@@ -3,3 +3,4 @@ pub mod Reading
 pub mod Unvalidated
 pub mod Forms
 pub mod Records
+pub mod Splitting

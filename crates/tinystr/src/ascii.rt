@@ -10,10 +10,12 @@ mod order;
 mod print;
 mod questions;
 mod readers;
+pub mod splitting;
 mod strict;
 mod views;
 
 use crate::error::ParseError;
+pub use splitting::Parts;
 use std::hash::{Hash, Hasher};
 use std::marker::Model;
 use std::str::FromStr;

@@ -10,7 +10,7 @@ pub mod macros;
 pub mod ule;
 pub mod unvalidated;
 
-pub use ascii::{TinyAsciiStr, TinyStr4, TinyStr8, TinyStr16};
+pub use ascii::{Parts, TinyAsciiStr, TinyStr4, TinyStr8, TinyStr16};
 pub use error::ParseError;
 pub use tinystr_words::{Case, Question};
 pub use unvalidated::UnvalidatedTinyAsciiStr;

@@ -2,7 +2,9 @@
 
 mod concat;
 mod decimals;
+mod join;
 mod resize;
+mod split;
 
 use tinystr::TinyAsciiStr;
 

@@ -1,6 +1,8 @@
 //! Texts at other capacities, and joined.
 
-ghost use Rattle.std.specs.Prelude.{◌≡◌, ◌++◌, ◌+◌, ◌≤◌, SomeIff, length, take};
+ghost use Rattle.std.specs.Prelude.{◌≡◌, ◌∷◌, ◌++◌, ◌+◌, ◌≤◌, SomeIff, length, take};
+ghost use Rattle.std.specs.List.{join_with_byte};
+ghost use Rattle.tinystr_words.specs.Text.{IsTextByte};
 
 use crate::ascii::TinyAsciiStr;
 use tinystr_words::padded;
@@ -76,5 +78,46 @@ impl<const N: usize> TinyAsciiStr<N> {
             return None;
         }
         Some(self.concat(other))
+    }
+
+    /// The texts joined, with the separator between each and the next, or `None` where they are longer than `Q` bytes
+    /// together. The separator has to be from 1 to 127.
+    ///
+    /// ```rust
+    /// let parts = [tinystr!(4, "zh")?, tinystr!(4, "Hant")?, tinystr!(4, "TW")?];
+    /// assert!(rt; TinyAsciiStr::join(&parts, b'-') == Some(tinystr!(10, "zh-Hant-TW")?));
+    /// assert!(rt; TinyAsciiStr::join::<9>(&parts, b'-').is_none());
+    /// ```
+    #[tactic(auto, using(tinystr_words::proofs::Parts::joined_parts))]
+    pub fn join<const Q: usize>(texts: &[Self], separator: u8) -> Option<TinyAsciiStr<Q>>
+        requires { IsTextByte separator }
+        ensures { SomeIff result (length (join_with_byte separator texts.now) ≤ Q) (join_with_byte separator texts.now) }
+    {
+        match texts.split_first() {
+            Some((first, rest)) => Self::join_behind(first.try_resize()?, rest, separator),
+            None => Some(TinyAsciiStr::default()),
+        }
+    }
+
+    // A text, and behind it each of the others with the separator in front.
+    #[tactic(auto, using(tinystr_words::proofs::Parts::joined_parts))]
+    fn join_behind<const Q: usize>(
+        first: TinyAsciiStr<Q>,
+        others: &[Self],
+        separator: u8,
+    ) -> Option<TinyAsciiStr<Q>>
+        requires { IsTextByte separator }
+        ensures { SomeIff result (length (join_with_byte separator (first.entry ∷ others.now)) ≤ Q) (join_with_byte separator (first.entry ∷ others.now)) }
+    {
+        let separator = TinyAsciiStr::<1>::from_utf8_unchecked([separator]);
+        let mut joined = first;
+        for text in others {
+            joined = joined
+                .try_concat::<1, Q>(separator)?
+                .try_concat::<N, Q>(*text)?;
+        }
+        // Its contract says that the text fits.
+        let _ = joined.as_utf8();
+        Some(joined)
     }
 }
