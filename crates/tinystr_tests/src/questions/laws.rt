@@ -29,10 +29,11 @@ fn stays_plain<const N: usize>(value: TinyAsciiStr<N>, text: &[u8]) -> bool {
         && (upper_value == value) == (&upper[..len] == text)
 }
 
-// Whether the value, cut at M, stays plain, and its changes, cut there, are the fronts of the changed text.
-fn cut_stays_plain<const M: usize>(value: Text, text: &[u8]) -> bool {
+// Whether the front, which is the value cut at M, stays plain, and the value's changes, cut there, are the fronts of the
+// changed text.
+fn cut_stays_plain<const M: usize>(value: Text, front: TinyAsciiStr<M>, text: &[u8]) -> bool {
     let len = text.len().min(M).min(32);
-    stays_plain(value.resize::<M>(), &text[..len])
+    stays_plain(front, &text[..len])
         && value.to_ascii_lowercase().resize::<M>().as_utf8()
             == &plain_change(text, false, false)[..len]
         && value.to_ascii_titlecase().resize::<M>().as_utf8()
@@ -43,13 +44,13 @@ fn cut_stays_plain<const M: usize>(value: Text, text: &[u8]) -> bool {
 
 fn stays_plain_at_each_capacity(value: Text, text: &[u8]) -> bool {
     stays_plain(value, text)
-        && cut_stays_plain::<0>(value, text)
-        && cut_stays_plain::<1>(value, text)
-        && cut_stays_plain::<4>(value, text)
-        && cut_stays_plain::<8>(value, text)
-        && cut_stays_plain::<9>(value, text)
-        && cut_stays_plain::<16>(value, text)
-        && cut_stays_plain::<33>(value, text)
+        && cut_stays_plain(value, value.resize::<0>(), text)
+        && cut_stays_plain(value, value.resize::<1>(), text)
+        && cut_stays_plain(value, value.resize::<4>(), text)
+        && cut_stays_plain(value, value.resize::<8>(), text)
+        && cut_stays_plain(value, value.resize::<9>(), text)
+        && cut_stays_plain(value, value.resize::<16>(), text)
+        && cut_stays_plain(value, value.resize::<33>(), text)
 }
 
 #[test]
