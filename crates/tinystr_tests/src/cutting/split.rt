@@ -1,10 +1,14 @@
 //! A text split at a byte.
 
+ghost use Rattle.std.specs.Prelude.{◌<◌, ◌^◌};
+
 use super::{FORTY, HUNDRED};
 use tinystr::TinyAsciiStr;
 
 // Whether the text, held at N, is split into these parts and no more.
-fn is_split<const N: usize>(text: &str, separator: u8, parts: &[&str]) -> bool {
+fn is_split<const N: usize>(text: &str, separator: u8, parts: &[&str]) -> bool
+    requires { N < 2 ^ 63 }
+{
     let Ok(text) = TinyAsciiStr::<N>::try_from_str(text) else {
         return false;
     };
