@@ -1,0 +1,36 @@
+//! A digest of results.
+
+/// A number that all results went into, by the step of FxHash.
+#[derive(Drop)]
+pub struct Digest {
+    state: u64,
+}
+
+impl Digest {
+    pub fn new() -> Self {
+        Digest { state: 0 }
+    }
+
+    #[inline(always)]
+    pub fn add(&mut self, number: u64) {
+        self.state = (self.state.rotate_left(5) ^ number).wrapping_mul(0x517c_c1b7_2722_0a95);
+    }
+
+    #[inline(always)]
+    pub fn add_bytes(&mut self, bytes: &[u8]) {
+        self.add(bytes.len() as u64);
+        let (words, rest) = bytes.as_chunks::<8>();
+        for word in words {
+            self.add(u64::from_le_bytes(*word));
+        }
+        let mut last = 0u64;
+        for byte in rest {
+            last = (last << 8) ^ u64::from(*byte);
+        }
+        self.add(last);
+    }
+
+    pub fn value(&self) -> u64 {
+        self.state
+    }
+}

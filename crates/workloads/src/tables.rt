@@ -1,0 +1,118 @@
+//! Packed files: packed, sorted, opened, searched, walked and unpacked.
+
+ghost use Rattle.std.specs.Prelude.{◌<◌, ◌^◌};
+
+use crate::codes::{short_code, short_codes};
+use crate::digest::Digest;
+use crate::random::Random;
+use std::alloc::{AllocError, Global};
+use std::collections::BTreeMap;
+use tinystr::TinyAsciiStr;
+use tinystr_packed::{PackedMap, SortedTable, Table, pack, pack_map, pack_sorted, unpack};
+
+/// Makes a file of codes of 3, of 8 and of 16 bytes, and reads each.
+pub fn run(alloc: Global, random: &mut Random, digest: &mut Digest) -> Result<(), AllocError> {
+    run_at::<3>(alloc, random, digest, 100_000)?;
+    run_at::<8>(alloc, random, digest, 400_000)?;
+    run_at::<16>(alloc, random, digest, 200_000)
+}
+
+fn run_at<const N: usize>(
+    alloc: Global,
+    random: &mut Random,
+    digest: &mut Digest,
+    count: usize,
+) -> Result<(), AllocError>
+    requires some { 0 < N }
+    requires bound { N < 2 ^ 63 }
+{
+    let codes = short_codes::<N>(alloc, random, count)?;
+    let records = pack(alloc, &codes)?;
+    digest.add_bytes(&records);
+    let file = pack_sorted(alloc, &codes)?;
+    digest.add_bytes(&file);
+    let Some(sorted) = open::<N>(&file) else {
+        return Ok(());
+    };
+    search(&sorted, &codes, random, digest);
+    let texts = unpack(alloc, sorted.table())?;
+    digest.add(texts.len() as u64);
+    map(alloc, &codes, random, digest)
+}
+
+fn open<const N: usize>(file: &[u8]) -> Option<SortedTable<'_, N>>
+    requires some { 0 < N }
+    requires bound { N < 2 ^ 63 }
+{
+    SortedTable::new(Table::<N>::new(file).ok()?).ok()
+}
+
+// Look-ups in order, of all codes as they came, of others, and of what begins with two characters.
+#[inline(never)]
+fn search<const N: usize>(
+    sorted: &SortedTable<'_, N>,
+    codes: &[TinyAsciiStr<N>],
+    random: &mut Random,
+    digest: &mut Digest,
+)
+    requires some { 0 < N }
+    requires bound { N < 2 ^ 63 }
+{
+    for text in sorted.table().iter() {
+        digest.add(text.len() as u64);
+        digest.add(u64::from(sorted.contains(&text)));
+    }
+    for code in codes {
+        add_place(digest, sorted.binary_search(code));
+    }
+    for _ in 0..codes.len() {
+        add_place(digest, sorted.binary_search(&short_code(random)));
+    }
+    for _ in 0..codes.len() / 8 {
+        let beginning = short_code::<N>(random).resize::<2>().resize::<N>();
+        let found = sorted.with_prefix(&beginning);
+        digest.add(found.table().len() as u64);
+    }
+}
+
+#[inline(always)]
+fn add_place(digest: &mut Digest, place: Result<usize, usize>) {
+    match place {
+        Ok(index) => digest.add(index as u64),
+        Err(index) => digest.add(!(index as u64)),
+    }
+}
+
+// A map of every fourth code: packed, looked up and walked.
+#[inline(never)]
+fn map<const N: usize>(
+    alloc: Global,
+    codes: &[TinyAsciiStr<N>],
+    random: &mut Random,
+    digest: &mut Digest,
+) -> Result<(), AllocError>
+    requires some { 0 < N }
+    requires bound { N < 2 ^ 63 }
+{
+    let mut places = BTreeMap::new(alloc);
+    for code in codes.iter().step_by(4) {
+        places.insert(
+            *code,
+            ((random.bits() % 0x1_0000_0000) as u32).to_le_bytes(),
+        )?;
+    }
+    let (keys, values) = pack_map(alloc, &places)?;
+    let Ok(map) = PackedMap::<N, 4>::new(&keys, &values) else {
+        return Ok(());
+    };
+    for code in codes {
+        digest.add(
+            map.get(code)
+                .map_or(0, |value| u64::from(u32::from_le_bytes(*value))),
+        );
+    }
+    for (key, value) in map.iter() {
+        digest.add(key.len() as u64 ^ u64::from(u32::from_le_bytes(*value)));
+    }
+    Ok(())
+}
