@@ -74,7 +74,7 @@ mark-is : (b : ℕ) → b < 256 → mark b ≡ cond (nat_eq b 0 || nat_eq b 0x80
 mark-is b l = same_from_nat_eq _ _ (below_at (λ b. nat_eq (mark b) (cond (nat_eq b 0 || nat_eq b 0x80) 0 0x80)) 256 refl b l)
 
 -- the high bit of a byte is clear below 128
-high_bit-is : (b : ℕ) → b < 256 → bit_and b 0x80 ≡ cond (nat_lt b 0x80) 0 0x80
+pub high_bit-is : (b : ℕ) → b < 256 → bit_and b 0x80 ≡ cond (nat_lt b 0x80) 0 0x80
 high_bit-is b l = same_from_nat_eq _ _ (below_at (λ b. nat_eq (bit_and b 0x80) (cond (nat_lt b 0x80) 0 0x80)) 256 refl b l)
 
 -- the lowest mark of a word
@@ -114,7 +114,7 @@ IsPadded-lt : (l : List ℕ) (k : ℕ) → IsPadded l → get_or l k 0 < 128
 IsPadded-lt l k p = let e = get_or-text_of l (length l) k p in grind (arith, p.text k 0, get_or_past (text_of l) k 0)
 
 -- bytes are padded exactly if the first is below 128, none but NUL follows it where it is NUL, and the others are padded
-IsPadded-cons : (b : ℕ) (l : List ℕ) → ((b < 128) × (IsPadded l × (b ≡ 0 → get_or l 0 0 ≡ 0))) ↔ IsPadded (b ∷ l)
+pub IsPadded-cons : (b : ℕ) (l : List ℕ) → ((b < 128) × (IsPadded l × (b ≡ 0 → get_or l 0 0 ≡ 0))) ↔ IsPadded (b ∷ l)
 IsPadded-cons b l = (
   λ h.
       let p = h.1.0 in

@@ -1,8 +1,6 @@
--- Padded bytes in words of sixteen: their length, questions, changes, and whether they are padded.
-use Rattle.std.proofs.Common.{Bool, List, [], ap, arith, drop, false, length, nat_lt, refl, rules, sym, take, true, ℕ, ◌&&◌, ◌++◌, ◌+◌, ◌-◌, ◌<◌, ◌∙◌, ◌≡◌, ◌≤◌}
-use Rattle.tinystr_words.proofs.Copying.{IsPadded-append}
-use Rattle.std.proofs.lemmas.List.{places, same_lists, nil_from_length, append-nil, append_assoc, drop-drop, drop_all, length-append, length-drop, length-take, length-take-le, take-append-drop, take_all}
-use Rattle.std.proofs.lemmas.Bool.Decides.{nat_tests}
+-- Padded bytes in words of sixteen: their length, questions and changes.
+use Rattle.std.proofs.Common.{Bool, List, ap, arith, drop, false, length, refl, rules, sym, take, true, ℕ, ◌&&◌, ◌++◌, ◌+◌, ◌-◌, ◌∙◌, ◌≡◌, ◌≤◌}
+use Rattle.std.proofs.lemmas.List.{places, same_lists, append_assoc, drop-drop, length-append, length-drop, length-take-le, take-append-drop, take_all}
 use Rattle.tinystr_words.specs.Text.{IsPadded, IsPaddedText, pad, text_of}
 use Rattle.tinystr_words.specs.declared.question.Question.{Question}
 use Rattle.tinystr_words.specs.Questions.{ask_question, in_case, later_case, later_question}
@@ -45,43 +43,6 @@ ask_question-word_fails l w y q r all c answered fails left = sym (rw (← answe
 -- where one word passes, the others decide
 pub ask_question-word_passes : (l w y : List ℕ) (q later : Question) (r all : Bool) → IsFirstWord l w y → r ≡ ask_question q w → r ≡ true → later ≡ later_question q → ask_question q (text_of l) ≡ all → ask_question later (text_of y) ≡ all
 ask_question-word_passes l w y q later r all c answered passes later_is left = rw later_is (sym (rw (← answered, passes) at (ask_question-first_word l w y q c)) ∙ left)
-
--- ---- bytes tested for a padded text, word by word
-
--- all bytes are a padded text exactly if the rest is, and has no text once the text has ended
-pub record IsSoFar (bytes rest : List ℕ) (ended : Bool) : Type 0 where
-  pub from : IsPadded rest → (ended ≡ true → text_of rest ≡ []) → IsPadded bytes
-  pub to : IsPadded bytes → IsPadded rest × (ended ≡ true → text_of rest ≡ [])
-
--- where one word isn't a padded text, the bytes aren't one
-pub IsSoFar-refused : (bytes rest x : List ℕ) (ended : Bool) → IsSoFar bytes rest ended → x ≡ take 16 rest → ¬ IsPadded x → ¬ IsPadded bytes
-IsSoFar-refused bytes rest x ended far e bad = λ p. bad (rw e (IsPaddedText-take rest (length rest) 16 (far.to p).0))
-
--- one more word
-pub IsSoFar-more : (bytes rest x y : List ℕ) (ended : Bool) (n : ℕ) → IsSoFar bytes rest ended → 16 ≤ length rest → x ≡ take 16 rest → y ≡ drop 16 rest
-    → IsPadded x → n ≡ length (text_of x) → (ended ≡ true → n ≡ 0) → IsSoFar bytes y (nat_lt n 16)
-IsSoFar-more bytes rest x y ended n far fits e h p is none =
-    let whole : x ++ y ≡ rest = rw (e, h) (take-append-drop 16 rest) in
-    let long : length x ≡ 16 = rw e (length-take-le 16 rest fits) in
-    let parts : IsPadded rest → (text_of x ≡ take 16 (text_of rest)) × (text_of y ≡ drop 16 (text_of rest)) =
-    λ all. rw (e, h) (text_of-take rest (length rest) 16 all, text_of-drop rest (length rest) 16 all) in
-    record {
-      from = λ q after.
-          let made = IsPadded-append x y p q (λ short. after (grind (arith, nat_tests))) in
-          let text = rw whole at made.1 in
-          far.from (rw whole at made.0) (λ on.
-          let no_rest : text_of y ≡ [] = after (grind (arith, nat_tests, none)) in
-          nil_from_length (text_of rest) (rw (text, no_rest, append-nil) (omega (arith, none on))));
-      to = λ all.
-          let q = (far.to all).0 in
-          let cut = parts q in
-          let here = ap (λ (b : List ℕ). length b) cut.0 in (
-            rw h (IsPaddedText-drop rest (length rest) 16 q),
-            λ short.
-                let few : n < 16 = grind (arith, nat_tests) in
-                cut.1 ∙ drop_all 16 (text_of rest) (omega (arith, length-take 16 (text_of rest))),
-          );
-    }
 
 -- padded bytes of a text in another case
 pub IsPaddedText-in_case : (c : Case) (l made : List ℕ) (n : ℕ) → IsPaddedText l n → made ≡ pad (in_case c (text_of l)) n → IsPaddedText made n × (text_of made ≡ in_case c (text_of l))

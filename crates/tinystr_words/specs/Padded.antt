@@ -1,5 +1,5 @@
--- The words that take padded bytes, such bytes cut after their first word, and sixteen of them from any place on.
-use Rattle.std.specs.Prelude.{◌≡◌, ◌<◌, ◌≤◌, ℕ, ◌+◌, List, length, take, drop}
+-- The words that take padded bytes, such bytes cut after their first word, and some of them from any place on.
+use Rattle.std.specs.Prelude.{◌≡◌, ◌<◌, ◌≤◌, ℕ, suc, ◌+◌, List, length, get_or, take, drop}
 use Rattle.tinystr_words.specs.Text.{IsPadded, pad, text_of}
 use Rattle.tinystr_words.specs.declared.padded.Width.{Width}
 use Rattle.tinystr_words.specs.declared.padded.Width.TheVariants.{Four, Eight, Sixteen, Many}
@@ -21,3 +21,8 @@ pub record IsFirstWord (bytes word others : List ℕ) : Type 0 where
 -- sixteen bytes of a list, from `at` on, with NULs where it ends
 abbrev pub sixteen_from : List ℕ → ℕ → List ℕ
 sixteen_from bytes at = pad (take 16 (drop at bytes)) 16
+
+-- so many bytes from `start` on are below 128, and behind each NUL among them stands another
+abbrev pub ArePaddedFrom : List ℕ → ℕ → ℕ → Type 0
+ArePaddedFrom bytes start count = (k : ℕ) → start ≤ k → k < start + count →
+    (get_or bytes k 0 < 128) × (get_or bytes k 0 ≡ 0 → get_or bytes (suc k) 0 ≡ 0)

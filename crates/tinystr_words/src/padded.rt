@@ -15,6 +15,7 @@ mod concatenation;
 mod copying;
 mod equality;
 mod order;
+mod padding;
 mod replacing;
 mod words;
 
@@ -64,7 +65,7 @@ pub fn is_padded<const N: usize>(bytes: &[u8; N]) -> bool
         Width::Four => Aligned4::try_from_padded(&bytes[..]).is_some(),
         Width::Eight => Aligned8::try_from_padded(&bytes[..]).is_some(),
         Width::Sixteen => Aligned16::try_from_padded(&bytes[..]).is_some(),
-        Width::Many => words::is_padded(&bytes[..]),
+        Width::Many => padding::is_padded(&bytes[..]),
     }
 }
 

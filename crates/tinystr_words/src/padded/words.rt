@@ -1,6 +1,6 @@
 //! Padded bytes of any length, by words of sixteen.
 
-ghost use Rattle.std.specs.Prelude.{◌≡◌, ◌<◌, ◌↔◌, length, IsTrue, MatchOption};
+ghost use Rattle.std.specs.Prelude.{◌≡◌, ◌<◌, length, MatchOption};
 ghost use Rattle.tinystr_words.specs.Text.{IsPadded, text_of, pad};
 ghost use Rattle.tinystr_words.specs.Questions.{ask_question, in_case};
 ghost use Rattle.tinystr_words.specs.Padded.{IsFirstWord};
@@ -16,30 +16,6 @@ fn split_word(bytes: &[u8]) -> Option<(Aligned16, &[u8])>
 {
     let (word, rest) = bytes.split_first_chunk::<16>()?;
     Some((Aligned16::from_ascii_bytes(word), rest))
-}
-
-/// Whether the bytes are a text and then NULs: so is each word, and all behind the text's last word are NULs.
-#[inline(always)]
-pub fn is_padded(bytes: &[u8]) -> bool
-    ensures { IsTrue result ↔ IsPadded bytes.now }
-{
-    let mut rest = bytes;
-    let mut is_ended = false;
-    while let Some((first, after)) = rest.split_first_chunk::<16>() {
-        let Some(word) = Aligned16::try_from_padded(first) else {
-            return false;
-        };
-        let len = word.len();
-        if is_ended && len > 0 {
-            return false;
-        }
-        is_ended = len < 16;
-        rest = after;
-    }
-    match Aligned16::try_from_padded(rest) {
-        Some(word) => !is_ended || word.len() == 0,
-        None => false,
-    }
 }
 
 /// The length of the text in bytes: the sum over its words.
