@@ -1,4 +1,5 @@
 pub mod MapBytes
+pub mod Numbers
 pub mod PackedMaps
 pub mod PackedTexts
 pub mod Prefixes

@@ -1,16 +1,20 @@
 -- Records of at most eight bytes are in the order of the numbers that they spell.
-use Rattle.std.proofs.Common.{◌≡◌, ℕ, ◌-◌, ◌%◌, ◌≤◌, List, [], ◌∷◌, length, map, get_or, refl, sym, ap, ◌∙◌, arith, Bool, true, false, cond, nat_lt, nat_eq, Fits, w8, inl, inr}
+use Rattle.std.proofs.Common.{◌≡◌, ℕ, ◌-◌, ◌%◌, ◌<◌, ◌≤◌, List, [], ◌∷◌, length, map, get_or, refl, sym, ap, ◌∙◌, arith, Bool, true, false, cond, nat_lt, nat_eq, Fits, w8, inl, inr}
 use Rattle.std.specs.Cmp.Lexicographic.{slice_cmp}
 use Rattle.std.specs.Int.{from_be_bytes, from_le_bytes, to_le_bytes, swap_bytes, w64}
 use Rattle.std.specs.Ordering.{nat_cmp, is_lt, ordering_then}
 use Rattle.std.specs.declared.cmp.Ordering.{Ordering}
 use Rattle.std.specs.declared.cmp.Ordering.TheVariants.{Less, Equal, Greater}
-use Rattle.std.proofs.lemmas.Bool.{cases_lt}
+use Rattle.std.proofs.lemmas.Bool.{cases_lt, lt-ltb, ltb-true}
 use Rattle.std.proofs.lemmas.List.{append-nil, take_all, drop_all}
 use Rattle.std.proofs.lemmas.Nat.{le_bytes_8}
 use Rattle.std.proofs.Math.Facts.{Fits-lt-pow}
 use Rattle.tinystr_words.specs.Text.{pad}
 use Rattle.tinystr_words.specs.Words.{word}
+use Rattle.tinystr_packed.specs.Numbers.{number_at, IsRecord, AreRisingRecords, RiseByNumber, IsFirstNumberNotBelow}
+use Rattle.tinystr_packed.specs.Rising.{order, text_at, IsFirstNotBelow}
+use Rattle.tinystr_packed.proofs.Numbers.{number_at-short}
+use Rattle.tinystr_packed.proofs.RisingTexts.{Less-from_is_lt, not_below_later}
 use Rattle.tinystr_words.proofs.OrderByNumbers.{AreBytes, slice_cmp-first_eight, slice_cmp-widened}
 use Rattle.tinystr_words.proofs.Texts.{get_or-pad, length-pad}
 use Rattle.tinystr_words.proofs.WordAsNumber.{word-nuls}
@@ -80,3 +84,35 @@ slice_cmp-numbers xs ys x y same fits a b ex ey = elim (cases_lt (length xs) 8) 
 pub nat_lt-slice_cmp : (xs ys : List ℕ) (x y : ℕ) → length xs ≡ length ys → length xs ≤ 8 → AllFit xs → AllFit ys
     → x ≡ from_be_bytes w64 (pad xs 8) → y ≡ from_be_bytes w64 (pad ys 8) → nat_lt x y ≡ is_lt (slice_cmp nat_cmp xs ys)
 nat_lt-slice_cmp xs ys x y same fits a b ex ey = rw (← slice_cmp-numbers xs ys x y same fits (AreBytes-from_type xs a) (AreBytes-from_type ys b) ex ey) (sym (is_lt-nat_cmp x y))
+
+-- ---- records of at most eight bytes
+
+is_lt-short : (xs ys : List ℕ) (n : ℕ) → n ≤ 8 → IsRecord n xs → IsRecord n ys → nat_lt (number_at 0 xs) (number_at 0 ys) ≡ is_lt (slice_cmp nat_cmp xs ys)
+is_lt-short xs ys n short x y =
+    rw (← slice_cmp-numbers xs ys (number_at 0 xs) (number_at 0 ys) (x.long ∙ sym y.long) (omega (arith, x.long)) x.bytes y.bytes (number_at-short xs (omega (arith, x.long))) (number_at-short ys (omega (arith, y.long)))) (sym (is_lt-nat_cmp (number_at 0 xs) (number_at 0 ys)))
+
+-- their numbers rise with them
+pub RiseByNumber-short : (records : List (List ℕ)) (n : ℕ) → n ≤ 8 → AreRisingRecords n records → RiseByNumber 0 records
+RiseByNumber-short records n short h = record {
+  up = λ j k le inside.
+      let falls = not_below_later records j k h.rising le inside in
+      let test = is_lt-short (text_at records k) (text_at records j) n short (h.each k inside) (h.each j (omega arith)) in
+      elim (cases_lt (number_at 0 (text_at records k)) (number_at 0 (text_at records j))) [
+        | inl less ↦ absurd (falls (Less-from_is_lt (order (text_at records k) (text_at records j)) (sym test ∙ lt-ltb (number_at 0 (text_at records k)) (number_at 0 (text_at records j)) less)))
+        | inr up ↦ up
+      ];
+}
+
+-- and find the place of a key
+pub IsFirstNotBelow-short : (records : List (List ℕ)) (key : List ℕ) (n number place : ℕ) → n ≤ 8 → AreRisingRecords n records → IsRecord n key → number ≡ number_at 0 key → IsFirstNumberNotBelow number 0 records place → IsFirstNotBelow key records place
+IsFirstNotBelow-short records key n number place short h k is found = record {
+  inside = found.inside;
+  below = λ j before.
+      let test = is_lt-short (text_at records j) key n short (h.each j (omega (arith, found.inside))) k in
+      let less : number_at 0 (text_at records j) < number_at 0 key = omega (arith, found.below j before) in
+      Less-from_is_lt (order (text_at records j) key) (sym test ∙ lt-ltb (number_at 0 (text_at records j)) (number_at 0 key) less);
+  not_below = λ j behind inside less.
+      let test = is_lt-short (text_at records j) key n short (h.each j inside) k in
+      let fewer = ltb-true (number_at 0 (text_at records j)) (number_at 0 key) (test ∙ rw less refl) in
+      absurd (omega (arith, found.not_below j behind inside));
+}

@@ -1,5 +1,5 @@
 -- Texts that rise.
-use Rattle.std.proofs.Common.{◌≡◌, ◌≢◌, ℕ, ◌+◌, ◌-◌, ◌<◌, ◌≤◌, List, [], ◌∷◌, length, map, take, get_or, refl, ap, sym, ◌∙◌, arith, add-one, Bool, false, true}
+use Rattle.std.proofs.Common.{◌≡◌, ◌≢◌, ℕ, ◌+◌, ◌-◌, ◌<◌, ◌≤◌, List, [], ◌∷◌, length, map, take, get_or, refl, ap, sym, ◌∙◌, arith, add-one, Bool, false, true, inl, inr}
 use Rattle.std.specs.Cmp.Lexicographic.{slice_cmp}
 use Rattle.std.specs.Ordering.{nat_cmp, is_lt, ordering_index}
 use Rattle.std.specs.declared.cmp.Ordering.{Ordering}
@@ -11,12 +11,13 @@ use Rattle.std.proofs.lemmas.Option.{slice_get-get_or, slice_get_within, get_or_
 use Rattle.std.specs.List.Sorted.{IsSortedBy, IsPartitionedBy, IsPartitionPoint}
 use Rattle.std.proofs.lemmas.Cmp.{nat_list_cmp_total, nat_list_eq_equiv, tied_itself}
 use Rattle.std.proofs.lemmas.List.Sorted.{searchable_from_sorted}
-use Rattle.std.proofs.lemmas.Bool.{false≢true}
-use Rattle.std.proofs.lemmas.List.{get_or_default, get_or-map, get_or-take, length-map, length-take}
+use Rattle.std.proofs.lemmas.Bool.{cases_lt, false≢true}
+use Rattle.std.proofs.lemmas.List.{get_or_default, get_or_past, get_or-map, get_or-take, length-map, length-take}
 use Rattle.tinystr_words.specs.Text.{IsPaddedText, text_of}
-use Rattle.tinystr_words.proofs.Texts.{length-pad}
+use Rattle.tinystr_words.proofs.Texts.{get_or-pad, length-pad}
 use Rattle.tinystr_words.proofs.Before.{cmp_is_same}
 use Rattle.tinystr_words.proofs.Order.{cmp-IsPaddedText}
+use Rattle.tinystr_packed.specs.Numbers.{IsRecord, AreRisingRecords}
 use Rattle.tinystr_packed.specs.Rising.{order, text_at, IsRising, IsFirstFall, IsPlaceFor, IsFirstNotBelow}
 
 -- a padded text has n bytes
@@ -91,32 +92,64 @@ below_from_rising ts key i j up le inside less =
     let no_more = rw less at (order-rising ts key i j up le inside) in
     grind arith
 
+-- and no text is below an earlier one
+pub not_below_later : (ts : List (List ℕ)) (i j : ℕ) → IsRising ts → i ≤ j → j < length ts → order (text_at ts j) (text_at ts i) ≢ Less
+not_below_later ts i j up le inside less =
+    let same : order (text_at ts i) (text_at ts i) ≡ Less = below_from_rising ts (text_at ts i) i j up le inside less in
+    let tied = tied_itself nat_list_cmp_total (text_at ts i) in
+    cc
+
 -- the test of a record beside the bytes of a key
 abbrev pub is_below_key : List ℕ → List ℕ → Bool
 is_below_key key raw = is_lt (slice_cmp nat_cmp raw key)
 
-is_below_key-text : (records ts : List (List ℕ)) (key bytes d : List ℕ) (n i : ℕ) → All (λ r. IsPaddedText r n) records → map text_of records ≡ ts → IsPaddedText bytes n → text_of bytes ≡ key → i < length records
-    → is_below_key bytes (get_or records i d) ≡ is_lt (order (text_at ts i) key)
-is_below_key-text records ts key bytes d n i h view padded text inside =
-    let here = IsRecordOf-at records ts (get_or records i d) n i h view inside (get_or_default records i d [] inside) in
-    ap (λ (o : Ordering). is_lt o) (rw (← here.text, ← text) (cmp-IsPaddedText (get_or records i d) bytes n here.padded padded (length-padded (get_or records i d) n here.padded) (length-padded bytes n padded)))
+-- a padded text is a record
+pub IsRecord-padded : (raw : List ℕ) (n : ℕ) → IsPaddedText raw n → IsRecord n raw
+IsRecord-padded raw n h = record {
+  long = length-padded raw n h;
+  bytes = λ i. rw (h.padded, get_or-pad (text_of raw) n i) (elim (cases_lt i (length (text_of raw))) [
+    | inl inside ↦ (let char = h.text i 0 inside in omega arith)
+    | inr past ↦ (let none = get_or_past (text_of raw) i 0 past in omega arith)
+  ]);
+}
 
--- records of rising texts are cut in two by that test
-pub IsPartitionedBy-rising : (records ts : List (List ℕ)) (key bytes : List ℕ) (n : ℕ) → All (λ r. IsPaddedText r n) records → map text_of records ≡ ts → IsPaddedText bytes n → text_of bytes ≡ key → IsRising ts → IsPartitionedBy (is_below_key bytes) records
-IsPartitionedBy-rising records ts key bytes n h view padded text up i j d le inside below =
-    let far = sym (is_below_key-text records ts key bytes d n j h view padded text inside) ∙ below in
-    let near = below_from_rising ts key i j up le (rw (← view, length-map) inside) (Less-from_is_lt (order (text_at ts j) key) far) in
-    is_below_key-text records ts key bytes d n i h view padded text (omega arith) ∙ rw near refl
+-- records of rising texts rise
+pub AreRisingRecords-texts : (records ts : List (List ℕ)) (n : ℕ) → All (λ r. IsPaddedText r n) records → map text_of records ≡ ts → IsRising ts → AreRisingRecords n records
+AreRisingRecords-texts records ts n h view up = record {
+  each = λ k inside. IsRecord-padded (text_at records k) n (h k [] inside);
+  rising = λ k inside.
+      let here = IsRecordOf-at records ts (text_at records k) n k h view (omega arith) refl in
+      let next = IsRecordOf-at records ts (text_at records (k + 1)) n (k + 1) h view inside refl in
+      order-records (text_at records k) (text_at records (k + 1)) ts n k (k + 1) here next ∙ up k next.inside;
+}
 
--- and so are the texts
-pub IsFirstNotBelow-cut : (records ts : List (List ℕ)) (key bytes : List ℕ) (n i : ℕ) → All (λ r. IsPaddedText r n) records → map text_of records ≡ ts → IsPaddedText bytes n → text_of bytes ≡ key → i ≤ length records
-    → IsPartitionPoint (λ r. is_below_key bytes r ≡ true) (λ r. is_below_key bytes r ≡ false) records i → IsFirstNotBelow key ts i
-IsFirstNotBelow-cut records ts key bytes n i h view padded text fits cut = record {
-  inside = rw (← view, length-map) fits;
-  below = λ k before. Less-from_is_lt (order (text_at ts k) key) (sym (is_below_key-text records ts key bytes [] n k h view padded text (omega arith)) ∙ cut.0 k [] (omega arith) before);
-  not_below = λ k behind inside less.
-      let within : k < length records = rw (← view, length-map) at inside in
-      absurd (false≢true (sym (cut.1 k [] behind within) ∙ is_below_key-text records ts key bytes [] n k h view padded text within ∙ rw less refl));
+-- a place among the records is that among their texts
+pub IsFirstNotBelow-texts : (records ts : List (List ℕ)) (key bytes : List ℕ) (n i : ℕ) → All (λ r. IsPaddedText r n) records → map text_of records ≡ ts → IsPaddedText bytes n → text_of bytes ≡ key → IsFirstNotBelow bytes records i → IsFirstNotBelow key ts i
+IsFirstNotBelow-texts records ts key bytes n i h view padded text place =
+    let long : length ts ≡ length records = rw (← view) (length-map records text_of) in
+    let same : (k : ℕ) → k < length records → order (text_at records k) bytes ≡ order (text_at ts k) key =
+    λ k inside.
+    let here = IsRecordOf-at records ts (text_at records k) n k h view inside refl in
+    rw (← here.text, ← text) (cmp-IsPaddedText (text_at records k) bytes n here.padded padded (length-padded (text_at records k) n here.padded) (length-padded bytes n padded)) in
+    record {
+      inside = omega (arith, place.inside);
+      below = λ k before. sym (same k (omega (arith, place.inside))) ∙ place.below k before;
+      not_below = λ k behind inside less. place.not_below k behind (omega arith) (same k (omega arith) ∙ less);
+    }
+
+-- records that rise are cut in two by that test
+pub IsPartitionedBy-rising : (records : List (List ℕ)) (key : List ℕ) → IsRising records → IsPartitionedBy (is_below_key key) records
+IsPartitionedBy-rising records key up i j d le inside below =
+    let far = Less-from_is_lt (order (text_at records j) key) (rw (get_or_default records j d [] inside) at below) in
+    rw (get_or_default records i d [] (omega arith), below_from_rising records key i j up le inside far) refl
+
+-- where it cuts them, the key has its place
+pub IsFirstNotBelow-cut : (records : List (List ℕ)) (key : List ℕ) (i : ℕ) → i ≤ length records
+    → IsPartitionPoint (λ r. is_below_key key r ≡ true) (λ r. is_below_key key r ≡ false) records i → IsFirstNotBelow key records i
+IsFirstNotBelow-cut records key i fits cut = record {
+  inside = fits;
+  below = λ k before. Less-from_is_lt (order (text_at records k) key) (cut.0 k [] (omega arith) before);
+  not_below = λ k behind inside less. absurd (false≢true (sym (cut.1 k [] behind inside) ∙ rw less refl));
 }
 
 -- an order that is neither below nor equal

@@ -6,6 +6,7 @@ pub mod laws;
 mod map;
 mod packing;
 mod record;
+mod search;
 mod sorted;
 mod sorting;
 mod table;

@@ -1,10 +1,11 @@
 //! The order of records, which is that of their texts.
 
-ghost use Rattle.std.specs.Prelude.{◌≡◌, ◌≤◌, length};
+ghost use Rattle.std.specs.Prelude.{◌≡◌, ◌≤◌, ◌-◌, length};
 ghost use Rattle.std.specs.Cmp.Lexicographic.{slice_cmp};
 ghost use Rattle.std.specs.Int.{from_be_bytes, w64};
 ghost use Rattle.std.specs.Ordering.{nat_cmp, is_lt};
 ghost use Rattle.tinystr_words.specs.Text.{pad};
+ghost use Rattle.tinystr_packed.specs.Numbers.{number_at};
 
 use tinystr_words::padded;
 use tinystr_words::word::Word;
@@ -20,6 +21,20 @@ pub fn is_below(left: &[u8], right: &[u8]) -> bool
         number(left) < number(right)
     } else {
         padded::compare(left, right).is_lt()
+    }
+}
+
+/// The number that eight bytes of a record spell from `start` on, or all of a record of at most eight.
+#[inline(always)]
+pub fn number_at<const N: usize>(raw: &[u8; N], start: usize) -> u64
+    requires { start ≤ N - 8 }
+    ensures { result ≡ number_at start raw.now }
+{
+    let bytes = &raw[..];
+    if N <= 8 {
+        number(bytes)
+    } else {
+        number(&bytes[start..start + 8])
     }
 }
 

@@ -1,12 +1,10 @@
 //! Tables whose texts rise, and the search in them.
 
 ghost use Rattle.std.specs.Prelude.{◌≡◌, ◌↔◌, IsOk, IsTrue, IfOk, IfErr, Some, Contains, filter, nat_eq, slice_get};
-ghost use Rattle.std.specs.Cmp.Lexicographic.{slice_cmp};
 ghost use Rattle.std.specs.List.{starts_with};
-ghost use Rattle.std.specs.Ordering.{nat_cmp, is_lt};
 ghost use Rattle.tinystr_packed.specs.Rising.{IsRising, IsFirstFall, IsPlaceFor, IsFirstNotBelow};
 
-use crate::record::is_below;
+use crate::search::first_not_below;
 use crate::table::Table;
 use std::marker::Model;
 use tinystr::TinyAsciiStr;
@@ -121,11 +119,6 @@ impl<'a, const N: usize> SortedTable<'a, N> {
     fn first_not_below(&self, key: &TinyAsciiStr<N>) -> usize
         ensures { IsFirstNotBelow key.now self.now result }
     {
-        let key = key.all_bytes();
-        self.table.records().partition_point(
-            |raw| -> bool
-                ensures { result ≡ is_lt (slice_cmp nat_cmp raw.now key.entry.now) }
-            { is_below(&raw[..], &key[..]) },
-        )
+        first_not_below(self.table.records(), key.all_bytes())
     }
 }

@@ -1,0 +1,29 @@
+-- Records by numbers that their bytes spell.
+use Rattle.std.specs.Prelude.{◌≡◌, ℕ, ◌<◌, ◌≤◌, List, length, take, drop, slice_index_or}
+use Rattle.std.specs.Int.{from_be_bytes, w64}
+use Rattle.tinystr_words.specs.Text.{pad}
+use Rattle.tinystr_packed.specs.Rising.{text_at, IsRising}
+
+-- so many bytes
+pub record IsRecord (n : ℕ) (raw : List ℕ) : Type 0 where
+  pub long : length raw ≡ n
+  pub bytes : (i : ℕ) → slice_index_or raw i 0 < 256
+
+-- records of so many bytes, each above the one before it
+pub record AreRisingRecords (n : ℕ) (records : List (List ℕ)) : Type 0 where
+  pub each : (k : ℕ) → k < length records → IsRecord n (text_at records k)
+  pub rising : IsRising records
+
+-- the number that eight bytes of a record spell from i on, the first the most significant, with NULs past its end
+unfoldable pub number_at : ℕ → List ℕ → ℕ
+number_at i raw = from_be_bytes w64 (pad (take 8 (drop i raw)) 8)
+
+-- no record's number is below an earlier one's
+pub record RiseByNumber (i : ℕ) (records : List (List ℕ)) : Type 0 where
+  pub up : (j k : ℕ) → j ≤ k → k < length records → number_at i (text_at records j) ≤ number_at i (text_at records k)
+
+-- the numbers before the place are below n, and none from there on is
+pub record IsFirstNumberNotBelow (n i : ℕ) (records : List (List ℕ)) (place : ℕ) : Type 0 where
+  pub inside : place ≤ length records
+  pub below : (k : ℕ) → k < place → number_at i (text_at records k) < n
+  pub not_below : (k : ℕ) → place ≤ k → k < length records → n ≤ number_at i (text_at records k)
