@@ -3,16 +3,19 @@ use Rattle.std.proofs.Common.{◌≡◌, ◌≢◌, ℕ, suc, zero, ◌+◌, ◌
 use Rattle.std.specs.List.{starts_with, filter, All}
 use Rattle.std.specs.List.Sorted.{IsPartitionedBy, IsPartitionPoint}
 use Rattle.std.specs.Ordering.{nat_cmp}
+use Rattle.std.specs.Str.{bytes_eq}
+use Rattle.std.proofs.lemmas.Slice.Eq.{bytes_eq-Decides}
 use Rattle.std.specs.declared.cmp.Ordering.TheVariants.{Less, Equal, Greater}
 use Rattle.std.proofs.lemmas.Bool.{cases_lt, false≢true}
 use Rattle.std.proofs.lemmas.Bool.Decides.{nat_tests}
 use Rattle.std.proofs.lemmas.Cmp.{nat_list_cmp_total, tied_itself}
-use Rattle.std.proofs.lemmas.List.{get_or-drop, get_or-take, get_or_default, append-nil, length-drop, length-map, length-take, take-append-drop}
+use Rattle.std.proofs.lemmas.List.{get_or-drop, get_or-take, get_or_default, append-nil, length-drop, length-map, length-take, length-take-le, take-append-drop}
 use Rattle.std.proofs.lemmas.List.Elements.{filter-append, All-head, All-tail}
 use Rattle.tinystr_words.specs.Text.{IsTextByte, IsText, IsPaddedText, text_of}
 use Rattle.tinystr_words.proofs.Texts.{NULS}
+use Rattle.tinystr_packed.specs.Numbers.{BeginAlike}
 use Rattle.tinystr_packed.specs.Rising.{order, text_at, IsRising, IsFirstNotBelow}
-use Rattle.tinystr_packed.proofs.RisingTexts.{IsRecordOf-at, order-rising}
+use Rattle.tinystr_packed.proofs.RisingTexts.{IsRecordOf-at, order-rising, below_from_rising}
 
 abbrev pub begins : List ℕ → List ℕ → Bool
 begins p t = starts_with nat_eq t p
@@ -91,6 +94,23 @@ IsPartitionedBy-begins records rest ts p n i h view text up first cut j k d le i
     let far : begins p (text_at ts (i + k)) ≡ true = sym (begins-text records ts p d n (i + k) h view text within) ∙ (rw (cut, get_or-drop) at here) in
     let near = begins-between p (text_at ts (i + j)) (text_at ts (i + k)) (first.not_below (i + j) (omega arith) (omega arith)) (not_above ts (i + j) (i + k) up (omega arith) (omega arith)) far in
     rw (cut, get_or-drop) (begins-text records ts p d n (i + j) h view text (omega arith) ∙ near)
+
+-- what the first and the last begin with, all do
+pub BeginAlike-ends : (records : List (List ℕ)) (key first last : List ℕ) (n : ℕ) → IsRising records → n ≤ length key → 0 < length records
+    → first ≡ get_or records 0 first → last ≡ get_or records (length records - 1) last → bytes_eq (take n first) (take n key) ≡ true → bytes_eq (take n last) (take n key) ≡ true → BeginAlike n key records
+BeginAlike-ends records key first last n up fits some is_first is_last one other = record {
+  each = λ k inside.
+      let p = take n key in
+      let long : length p ≡ n = length-take-le n key fits in
+      let head : begins p (text_at records 0) ≡ true =
+      rw (long, ← get_or_default records 0 first [] some, ← is_first) ((bytes_eq-Decides p (take n first)).1 (sym ((bytes_eq-Decides (take n first) p).0 one))) in
+      let end : begins p (text_at records (length records - 1)) ≡ true =
+      rw (long, ← get_or_default records (length records - 1) last [] (omega arith), ← is_last) ((bytes_eq-Decides p (take n last)).1 (sym ((bytes_eq-Decides (take n last) p).0 other))) in
+      let low : order (text_at records k) p ≢ Less = λ less. not_below_beginning p (text_at records 0) head (below_from_rising records p 0 k up (omega arith) inside less) in
+      let high = not_above records k (length records - 1) up (omega arith) (omega arith) in
+      let all = begins-between p (text_at records k) (text_at records (length records - 1)) low high end in
+      sym (rw long at ((bytes_eq-Decides p (take (length p) (text_at records k))).0 all));
+}
 
 -- ---- what a filter keeps of a list of three parts
 

@@ -1,21 +1,23 @@
 -- Records of at most eight bytes are in the order of the numbers that they spell.
-use Rattle.std.proofs.Common.{◌≡◌, ℕ, ◌-◌, ◌%◌, ◌<◌, ◌≤◌, List, [], ◌∷◌, length, map, get_or, refl, sym, ap, ◌∙◌, arith, Bool, true, false, cond, nat_lt, nat_eq, Fits, w8, inl, inr}
+use Rattle.std.proofs.Common.{◌≡◌, ℕ, zero, suc, ◌+◌, ◌-◌, ◌%◌, ◌<◌, ◌≤◌, List, [], ◌∷◌, length, map, take, drop, get_or, refl, sym, ap, ◌∙◌, arith, Bool, true, false, cond, nat_lt, nat_eq, Fits, w8, inl, inr}
 use Rattle.std.specs.Cmp.Lexicographic.{slice_cmp}
 use Rattle.std.specs.Int.{from_be_bytes, from_le_bytes, to_le_bytes, swap_bytes, w64}
 use Rattle.std.specs.Ordering.{nat_cmp, is_lt, ordering_then}
 use Rattle.std.specs.declared.cmp.Ordering.{Ordering}
 use Rattle.std.specs.declared.cmp.Ordering.TheVariants.{Less, Equal, Greater}
 use Rattle.std.proofs.lemmas.Bool.{cases_lt, lt-ltb, ltb-true}
-use Rattle.std.proofs.lemmas.List.{append-nil, take_all, drop_all}
+use Rattle.std.proofs.lemmas.List.{append-nil, take_all, drop_all, length-take, length-drop}
+use Rattle.std.proofs.lemmas.Cmp.{nat_cmp_total, tied_itself}
+use Rattle.std.specs.Cmp.{nat_cmp_is}
 use Rattle.std.proofs.lemmas.Nat.{le_bytes_8}
 use Rattle.std.proofs.Math.Facts.{Fits-lt-pow}
 use Rattle.tinystr_words.specs.Text.{pad}
 use Rattle.tinystr_words.specs.Words.{word}
-use Rattle.tinystr_packed.specs.Numbers.{number_at, IsRecord, AreRisingRecords, RiseByNumber, IsFirstNumberNotBelow}
+use Rattle.tinystr_packed.specs.Numbers.{number_at, IsRecord, AreRisingRecords, BeginAlike, RiseByNumber, IsFirstNumberNotBelow}
 use Rattle.tinystr_packed.specs.Rising.{order, text_at, IsFirstNotBelow}
-use Rattle.tinystr_packed.proofs.Numbers.{number_at-short}
-use Rattle.tinystr_packed.proofs.RisingTexts.{Less-from_is_lt, not_below_later}
-use Rattle.tinystr_words.proofs.OrderByNumbers.{AreBytes, slice_cmp-first_eight, slice_cmp-widened}
+use Rattle.tinystr_packed.proofs.Numbers.{number_at-short, number_at-long}
+use Rattle.tinystr_packed.proofs.RisingTexts.{Less-from_is_lt, not_below_later, IsPart-range, IsFirstNotBelow-part}
+use Rattle.tinystr_words.proofs.OrderByNumbers.{AreBytes, AreBytes-drop, slice_cmp-first_eight, slice_cmp-widened}
 use Rattle.tinystr_words.proofs.Texts.{get_or-pad, length-pad}
 use Rattle.tinystr_words.proofs.WordAsNumber.{word-nuls}
 use Rattle.tinystr_words.proofs.WordFromPieces.{map-mod_bytes}
@@ -116,3 +118,55 @@ IsFirstNotBelow-short records key n number place short h k is found = record {
       let fewer = ltb-true (number_at 0 (text_at records j)) (number_at 0 key) (test ∙ rw less refl) in
       absurd (omega (arith, found.not_below j behind inside));
 }
+
+-- ---- records that eight bytes tell apart
+
+-- what both begin with doesn't matter
+slice_cmp-same_start : (s : ℕ) (xs ys : List ℕ) → take s xs ≡ take s ys → slice_cmp nat_cmp xs ys ≡ slice_cmp nat_cmp (drop s xs) (drop s ys)
+slice_cmp-same_start zero xs ys e = refl
+slice_cmp-same_start (suc s) [] [] e = refl
+slice_cmp-same_start (suc s) [] (y ∷ ys) e = absurd cc
+slice_cmp-same_start (suc s) (x ∷ xs) [] e = absurd cc
+slice_cmp-same_start (suc s) (x ∷ xs) (y ∷ ys) e =
+    let first : x ≡ y = cc in
+    let rest : take s xs ≡ take s ys = cc in
+    rw (first, tied_itself nat_cmp_total y) (slice_cmp-same_start s xs ys rest)
+
+-- eight bytes spell a number as they are
+number_at-eight : (raw : List ℕ) (s : ℕ) → s + 8 ≤ length raw → number_at s raw ≡ from_be_bytes w64 (take 8 (drop s raw))
+number_at-eight raw s inside =
+    let long : length (take 8 (drop s raw)) ≡ 8 = omega (arith, length-take 8 (drop s raw), length-drop s raw) in
+    sym (number_at-long raw s 8 (from_be_bytes w64 (take 8 (drop s raw))) refl (ap (λ (l : List ℕ). from_be_bytes w64 l) (sym (pad-full (take 8 (drop s raw)) long))))
+
+-- the lesser number is that of the lesser record
+Less-long : (xs ys : List ℕ) (n s : ℕ) → s + 8 ≤ n → IsRecord n xs → IsRecord n ys → take s xs ≡ take s ys → number_at s xs < number_at s ys → order xs ys ≡ Less
+Less-long xs ys n s fits x y same less =
+    let lx = length-drop s xs in
+    let ly = length-drop s ys in
+    let cut = slice_cmp-first_eight (drop s xs) (drop s ys) (take 8 (drop s xs)) (take 8 (drop s ys)) (drop 8 (drop s xs)) (drop 8 (drop s ys)) (number_at s xs) (number_at s ys) (nat_cmp (number_at s xs) (number_at s ys))
+    (omega (arith, x.long)) (omega (arith, x.long, y.long)) (AreBytes-drop s xs x.bytes) (AreBytes-drop s ys y.bytes)
+    (refl, refl, omega (arith, length-drop 8 (drop s xs), x.long)) (refl, refl, omega (arith, length-drop 8 (drop s ys), y.long))
+    (number_at-eight xs s (omega (arith, x.long))) (number_at-eight ys s (omega (arith, y.long))) refl in
+    slice_cmp-same_start s xs ys same ∙ cut ∙ ap (λ (o : Ordering). ordering_then o (slice_cmp nat_cmp (drop 8 (drop s xs)) (drop 8 (drop s ys)))) (sym (nat_cmp_is (number_at s xs) (number_at s ys) Less less))
+
+-- of records that begin alike, the numbers that follow rise
+pub RiseByNumber-long : (records : List (List ℕ)) (key : List ℕ) (n s : ℕ) → s + 8 ≤ n → AreRisingRecords n records → BeginAlike s key records → RiseByNumber s records
+RiseByNumber-long records key n s fits h alike = record {
+  up = λ j k le inside.
+      let same : take s (text_at records k) ≡ take s (text_at records j) = alike.each k inside ∙ sym (alike.each j (omega arith)) in
+      elim (cases_lt (number_at s (text_at records k)) (number_at s (text_at records j))) [
+        | inl less ↦ absurd (not_below_later records j k h.rising le inside (Less-long (text_at records k) (text_at records j) n s fits (h.each k inside) (h.each j (omega arith)) same less))
+        | inr up ↦ up
+      ];
+}
+
+-- the key's place is the number's, and as many more as are below the key from there on
+pub IsFirstNotBelow-long : (records : List (List ℕ)) (key : List ℕ) (n s number place more : ℕ) → s + 8 ≤ n → AreRisingRecords n records → IsRecord n key → BeginAlike s key records → number ≡ number_at s key
+    → IsFirstNumberNotBelow number s records place → IsFirstNotBelow key (take (length records - place) (drop place records)) more → IsFirstNotBelow key records (place + more)
+IsFirstNotBelow-long records key n s number place more fits h k alike is found near =
+    let rest = take (length records - place) (drop place records) in
+    let all : place + length rest ≡ length records = omega (arith, found.inside, length-take (length records - place) (drop place records), length-drop place records) in
+    IsFirstNotBelow-part records rest key place more h.rising (IsPart-range records rest place (length records - place) (omega (arith, found.inside)) refl)
+    (λ j before. Less-long (text_at records j) key n s fits (h.each j (omega (arith, found.inside))) k (alike.each j (omega (arith, found.inside))) (omega (arith, found.below j before)))
+    (λ inside. absurd (omega arith))
+    near

@@ -1,5 +1,5 @@
 -- Texts that rise.
-use Rattle.std.proofs.Common.{◌≡◌, ◌≢◌, ℕ, ◌+◌, ◌-◌, ◌<◌, ◌≤◌, List, [], ◌∷◌, length, map, take, get_or, refl, ap, sym, ◌∙◌, arith, add-one, Bool, false, true, inl, inr}
+use Rattle.std.proofs.Common.{◌≡◌, ◌≢◌, ℕ, ◌+◌, ◌-◌, ◌<◌, ◌≤◌, List, [], ◌∷◌, length, map, take, drop, get_or, refl, ap, sym, ◌∙◌, arith, add-one, Bool, false, true, inl, inr}
 use Rattle.std.specs.Cmp.Lexicographic.{slice_cmp}
 use Rattle.std.specs.Ordering.{nat_cmp, is_lt, ordering_index}
 use Rattle.std.specs.declared.cmp.Ordering.{Ordering}
@@ -12,7 +12,7 @@ use Rattle.std.specs.List.Sorted.{IsSortedBy, IsPartitionedBy, IsPartitionPoint}
 use Rattle.std.proofs.lemmas.Cmp.{nat_list_cmp_total, nat_list_eq_equiv, tied_itself}
 use Rattle.std.proofs.lemmas.List.Sorted.{searchable_from_sorted}
 use Rattle.std.proofs.lemmas.Bool.{cases_lt, false≢true}
-use Rattle.std.proofs.lemmas.List.{get_or_default, get_or_past, get_or-map, get_or-take, length-map, length-take}
+use Rattle.std.proofs.lemmas.List.{get_or_default, get_or_past, get_or-drop, get_or-map, get_or-take, length-drop, length-map, length-take}
 use Rattle.tinystr_words.specs.Text.{IsPaddedText, text_of}
 use Rattle.tinystr_words.proofs.Texts.{get_or-pad, length-pad}
 use Rattle.tinystr_words.proofs.Before.{cmp_is_same}
@@ -87,7 +87,7 @@ pub order-rising : (ts : List (List ℕ)) (key : List ℕ) (i j : ℕ) → IsRis
 order-rising ts key i j up le inside = searchable_from_sorted nat_list_cmp_total (λ (t : List ℕ). t) ts key (IsSortedBy-rising ts up) i j [] le inside
 
 -- where one text is below the key, so are those before it
-below_from_rising : (ts : List (List ℕ)) (key : List ℕ) (i j : ℕ) → IsRising ts → i ≤ j → j < length ts → order (text_at ts j) key ≡ Less → order (text_at ts i) key ≡ Less
+pub below_from_rising : (ts : List (List ℕ)) (key : List ℕ) (i j : ℕ) → IsRising ts → i ≤ j → j < length ts → order (text_at ts j) key ≡ Less → order (text_at ts i) key ≡ Less
 below_from_rising ts key i j up le inside less =
     let no_more = rw less at (order-rising ts key i j up le inside) in
     grind arith
@@ -192,3 +192,47 @@ pub missed_other : (ts : List (List ℕ)) (key text : List ℕ) (i : ℕ) → sl
 missed_other ts key text i at differs inside is =
     let same : text ≡ key = sym (get_or_from_slice_get ts i text [] at) ∙ is in
     absurd (false≢true (sym differs ∙ rw same (nat_list_eq_equiv.refl key)))
+
+-- ---- some of the texts
+
+-- these stand side by side from i on
+pub record IsPart (ts part : List (List ℕ)) (i : ℕ) : Type 0 where
+  pub inside : i + length part ≤ length ts
+  pub each : (k : ℕ) → k < length part → text_at part k ≡ text_at ts (i + k)
+
+pub IsPart-range : (ts part : List (List ℕ)) (i m : ℕ) → i + m ≤ length ts → part ≡ take m (drop i ts) → IsPart ts part i
+IsPart-range ts part i m inside is =
+    let long : length part ≡ m = omega (arith, ap (λ (l : List (List ℕ)). length l) is, length-take m (drop i ts), length-drop i ts) in
+    record {
+      inside = omega (arith, long);
+      each = λ k within. rw (is, get_or-take m (drop i ts) k [] (omega (arith, length-take m (drop i ts), length-drop i ts, long)), get_or-drop) refl;
+    }
+
+-- a part of records that rise
+pub AreRisingRecords-part : (records part : List (List ℕ)) (n i : ℕ) → AreRisingRecords n records → IsPart records part i → AreRisingRecords n part
+AreRisingRecords-part records part n i h p = record {
+  each = λ k within. rw (p.each k within) (h.each (i + k) (omega (arith, p.inside)));
+  rising = λ k within.
+      let next : i + (k + 1) ≡ i + k + 1 = omega arith in
+      rw (p.each k (omega arith), p.each (k + 1) within, next) (h.rising (i + k) (omega (arith, p.inside)));
+}
+
+-- a place in a part, where those before the part are below the key and those behind it aren't
+pub IsFirstNotBelow-part : (ts part : List (List ℕ)) (key : List ℕ) (i m : ℕ) → IsRising ts → IsPart ts part i → ((k : ℕ) → k < i → order (text_at ts k) key ≡ Less)
+    → (i + length part < length ts → order (text_at ts (i + length part)) key ≢ Less) → IsFirstNotBelow key part m → IsFirstNotBelow key ts (i + m)
+IsFirstNotBelow-part ts part key i m up p before behind found =
+    let same : (k : ℕ) → i ≤ k → k < i + length part → order (text_at part (k - i)) key ≡ order (text_at ts k) key =
+    λ k from within.
+    let place : i + (k - i) ≡ k = omega arith in
+    ap (λ (t : List ℕ). order t key) (p.each (k - i) (omega arith) ∙ ap (λ (j : ℕ). text_at ts j) place) in
+    record {
+      inside = omega (arith, p.inside, found.inside);
+      below = λ k first. elim (cases_lt k i) [
+        | inl less ↦ before k less
+        | inr from ↦ sym (same k from (omega (arith, found.inside))) ∙ found.below (k - i) (omega arith)
+      ];
+      not_below = λ k from inside less. elim (cases_lt k (i + length part)) [
+        | inl within ↦ found.not_below (k - i) (omega arith) (omega arith) (same k (omega arith) within ∙ less)
+        | inr past ↦ behind (omega arith) (below_from_rising ts key (i + length part) k up past inside less)
+      ];
+    }

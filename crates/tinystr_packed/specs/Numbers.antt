@@ -27,3 +27,7 @@ pub record IsFirstNumberNotBelow (n i : ℕ) (records : List (List ℕ)) (place 
   pub inside : place ≤ length records
   pub below : (k : ℕ) → k < place → number_at i (text_at records k) < n
   pub not_below : (k : ℕ) → place ≤ k → k < length records → n ≤ number_at i (text_at records k)
+
+-- each record begins with the first bytes of the key
+pub record BeginAlike (n : ℕ) (key : List ℕ) (records : List (List ℕ)) : Type 0 where
+  pub each : (k : ℕ) → k < length records → take n (text_at records k) ≡ take n key

@@ -1,10 +1,11 @@
 //! The search among records that rise.
 
-ghost use Rattle.std.specs.Prelude.{◌≡◌, ◌≤◌, ◌-◌};
+ghost use Rattle.std.specs.Prelude.{◌≡◌, ◌<◌, ◌≤◌, ◌↔◌, ◌-◌, IsTrue, length};
 ghost use Rattle.std.specs.Cmp.Lexicographic.{slice_cmp};
 ghost use Rattle.std.specs.Ordering.{nat_cmp, is_lt};
-ghost use Rattle.tinystr_packed.specs.Numbers.{IsRecord, AreRisingRecords, RiseByNumber, IsFirstNumberNotBelow};
-ghost use Rattle.tinystr_packed.specs.Rising.{IsFirstNotBelow};
+ghost use Rattle.std.specs.declared.cmp.Ordering.TheVariants.{Less};
+ghost use Rattle.tinystr_packed.specs.Numbers.{IsRecord, AreRisingRecords, BeginAlike, RiseByNumber, IsFirstNumberNotBelow};
+ghost use Rattle.tinystr_packed.specs.Rising.{order, text_at, IsFirstNotBelow};
 
 use crate::record::{is_below, number_at};
 use std::hint::select_unpredictable;
@@ -19,11 +20,88 @@ pub fn first_not_below<const N: usize>(records: &[[u8; N]], key: &[u8; N]) -> us
     if N <= 8 {
         return first_number_not_below(records, 0, number_at(key, 0));
     }
+    // eight bytes tell most records apart, and those that they don't stand side by side
+    let start = shared_len(records, key);
+    let place = first_number_not_below(records, start, number_at(key, start));
+    place + first_not_below_near_start(&records[place..], key)
+}
+
+/// The same, for a place that is near the start: in time that grows as the logarithm of the place.
+#[inline(always)]
+pub fn first_not_below_near_start<const N: usize>(records: &[[u8; N]], key: &[u8; N]) -> usize
+    requires records { AreRisingRecords N records.now }
+    requires key { IsRecord N key.now }
+    ensures { IsFirstNotBelow key.now records.now result }
+{
+    let mut start: usize = 0;
+    while is_below_at(records, start.saturating_mul(2), key) {
+        start = 2 * start + 1;
+    }
+    let end = records.len().min(start.saturating_mul(2));
+    start + first_not_below_by_halves(&records[start..end], key)
+}
+
+// Whether there is a record at an index, and it is below a key.
+#[inline(always)]
+fn is_below_at<const N: usize>(records: &[[u8; N]], index: usize, key: &[u8; N]) -> bool
+    ensures { IsTrue result ↔ ((index < length records.now) × (order (text_at records.now index) key.now ≡ Less)) }
+{
+    index < records.len() && is_below(&records[index][..], &key[..])
+}
+
+// The same as above, by halves.
+fn first_not_below_by_halves<const N: usize>(records: &[[u8; N]], key: &[u8; N]) -> usize
+    requires records { AreRisingRecords N records.now }
+    ensures { IsFirstNotBelow key.now records.now result }
+{
     records.partition_point(
         |raw| -> bool
             ensures { result ≡ is_lt (slice_cmp nat_cmp raw.now key.entry.now) }
         { is_below(&raw[..], &key[..]) },
     )
+}
+
+// How many bytes all records and the key begin with, at most all but eight. It is 0 where the first eight differ.
+#[inline(always)]
+fn shared_len<const N: usize>(records: &[[u8; N]], key: &[u8; N]) -> usize
+    requires records { AreRisingRecords N records.now }
+    requires key { IsRecord N key.now }
+    ensures bound { result ≤ N - 8 }
+    ensures alike { BeginAlike result key.now records.now }
+{
+    if records.is_empty() {
+        return 0;
+    }
+    let first = &records[0];
+    let last = &records[records.len() - 1];
+    if number_at(first, 0) != number_at(last, 0) {
+        return 0;
+    }
+    let len = first_difference(first, last);
+    let first = &first[..];
+    let last = &last[..];
+    let key = &key[..];
+    if first[..len] == key[..len] && last[..len] == key[..len] {
+        len
+    } else {
+        0
+    }
+}
+
+// Where two records differ, or where their last eight bytes begin. It only guides: its caller compares what stands before.
+fn first_difference<const N: usize>(left: &[u8; N], right: &[u8; N]) -> usize
+    ensures { result ≤ N - 8 }
+{
+    let last = N.saturating_sub(8);
+    let mut start = 0;
+    while start < last {
+        let difference = number_at(left, start) ^ number_at(right, start);
+        if difference != 0 {
+            return last.min(start + difference.leading_zeros() as usize / 8);
+        }
+        start += 8;
+    }
+    last
 }
 
 // The index of the first record whose number from `start` on isn't below another. It is there for speed: no test is a
