@@ -178,9 +178,9 @@ pub fn pack_map<const N: usize, const M: usize>(
     ensures { IfOk result (λ made. ArePacked map.now.entries made.0.items made.1.items N M) }
 {
     // Its contract says that the keys rise.
-    let _ = map.len();
-    let mut keys = Vec::new(alloc);
-    let mut values = Vec::new(alloc);
+    let count = map.len();
+    let mut keys = Vec::with_capacity(alloc, count.saturating_mul(N))?;
+    let mut values = Vec::with_capacity(alloc, count.saturating_mul(M))?;
     for (key, value) in map {
         // Its contract says that the text fits.
         let _ = key.as_utf8();

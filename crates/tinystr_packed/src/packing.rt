@@ -20,7 +20,7 @@ pub fn pack<const N: usize>(alloc: Global, texts: &[TinyAsciiStr<N>]) -> Result<
     ensures each { IfOk result (λ _. All (λ t. IsStrictText t N) texts.now) }
     ensures bytes { IfOk result (λ made. made.items ≡ flat_map (λ t. pad t N) texts.now) }
 {
-    let mut bytes = Vec::new(alloc);
+    let mut bytes = Vec::with_capacity(alloc, texts.len() * N)?;
     for text in texts {
         // Its contract says that the text fits.
         let _ = text.as_utf8();
@@ -42,7 +42,7 @@ pub fn unpack<const N: usize>(
 ) -> Result<Vec<TinyAsciiStr<N>>, AllocError>
     ensures { IfOk result (λ made. made.items ≡ table.now) }
 {
-    let mut texts = Vec::new(alloc);
+    let mut texts = Vec::with_capacity(alloc, table.len())?;
     for text in table.iter() {
         texts.push(text)?;
     }

@@ -7,7 +7,7 @@ use Rattle.tinystr_packed.proofs.map.pack_map.Goals as goal
 pub loop-key-init : goal.loop-key-init
 loop-key-init g c =
     let start : c.into_iter-key-iterator.result ≡ c.args.map.now.entries = search rules in
-    rw (c.new-keys.ensures.items, c.new-values.ensures.items, start) (PacksFirst-none c.args.map.now.entries g.row.N g.row.M)
+    rw (c.in_ok-keys.ensures.items, c.in_ok-values.ensures.items, start) (PacksFirst-none c.args.map.now.entries g.row.N g.row.M)
 
 pub loop-key-preserved : goal.loop-key-preserved
 loop-key-preserved g c =
@@ -21,4 +21,4 @@ loop-key-preserved g c =
 pub returns : goal.returns
 returns g c =
     ArePacked-all c.args.map.now.entries c.loop-key.key-iterator c.loop-key.keys.items c.loop-key.values.items g.row.N g.row.M c.loop-key.invariant c.in-None.ensures.steps.0
-    (IsRising-keys (keys_of c.args.map.now.entries) c.len.ensures.ordered)
+    (IsRising-keys (keys_of c.args.map.now.entries) c.len-count.ensures.ordered)
