@@ -10,6 +10,10 @@ ghost use Rattle.tinystr_packed.specs.Rising.{order, text_at, IsFirstNotBelow};
 use crate::record::{is_below, number_at};
 use std::hint::select_unpredictable;
 
+// So many bytes stay near the processor. In more of them a search waits for memory alone, and branches serve better: where
+// they are guessed, the processor reads ahead.
+const CACHED: usize = 4 << 20;
+
 /// The index of the first record that isn't below a key, or the number of records.
 #[inline(always)]
 pub fn first_not_below<const N: usize>(records: &[[u8; N]], key: &[u8; N]) -> usize
@@ -17,6 +21,9 @@ pub fn first_not_below<const N: usize>(records: &[[u8; N]], key: &[u8; N]) -> us
     requires key { IsRecord N key.now }
     ensures { IsFirstNotBelow key.now records.now result }
 {
+    if records.len() > CACHED / N.max(1) {
+        return first_not_below_by_halves(records, key);
+    }
     if N <= 8 {
         return first_number_not_below(records, 0, number_at(key, 0));
     }
@@ -69,7 +76,8 @@ fn shared_len<const N: usize>(records: &[[u8; N]], key: &[u8; N]) -> usize
     ensures bound { result ≤ N - 8 }
     ensures alike { BeginAlike result key.now records.now }
 {
-    if records.is_empty() {
+    // of one record all bytes are shared, and nothing is gained
+    if records.len() < 2 {
         return 0;
     }
     let first = &records[0];
