@@ -2,7 +2,7 @@
 
 ghost use Rattle.std.specs.Prelude.{◌≡◌, ◌∷◌, ◌++◌, ◌+◌, ◌≤◌, SomeIff, length, take};
 ghost use Rattle.std.specs.List.{join_with_byte};
-ghost use Rattle.tinystr_words.specs.Text.{IsTextByte};
+ghost use Rattle.tinystr_words.specs.Text.{IsPadded, IsTextByte, text_of};
 
 use crate::ascii::TinyAsciiStr;
 use tinystr_words::padded;
@@ -99,7 +99,7 @@ impl<const N: usize> TinyAsciiStr<N> {
         }
     }
 
-    // A text, and behind it each of the others with the separator in front.
+    // A text, and behind it each of the others with the separator in front, all in the bytes of the first.
     #[tactic(auto, using(tinystr_words::proofs::Parts::joined_parts))]
     fn join_behind<const Q: usize>(
         first: TinyAsciiStr<Q>,
@@ -110,14 +110,36 @@ impl<const N: usize> TinyAsciiStr<N> {
         ensures { SomeIff result (length (join_with_byte separator (first.entry ∷ others.now)) ≤ Q) (join_with_byte separator (first.entry ∷ others.now)) }
     {
         let separator = TinyAsciiStr::<1>::from_utf8_unchecked([separator]);
-        let mut joined = first;
+        let mut len = first.len();
+        let mut bytes = first.bytes;
         for text in others {
-            joined = joined
-                .try_concat::<1, Q>(separator)?
-                .try_concat::<N, Q>(*text)?;
+            len = separator.put_behind(&mut bytes[..], len)?;
+            len = text.put_behind(&mut bytes[..], len)?;
         }
-        // Its contract says that the text fits.
-        let _ = joined.as_utf8();
-        Some(joined)
+        Some(TinyAsciiStr::from_utf8_unchecked(bytes))
+    }
+
+    // Puts the text behind another of `len` bytes, and tells how long both are, or `None` where there is no room. A short
+    // array is copied whole where it fits, with the NULs behind its text: a copy of a known length takes one or two moves.
+    #[inline(always)]
+    fn put_behind(&self, bytes: &mut [u8], len: usize) -> Option<usize>
+        requires padded { IsPadded bytes.old }
+        requires at_end { len ≡ length (text_of bytes.old) }
+        ensures len { length bytes.new ≡ length bytes.old }
+        ensures fits { SomeIff result (len + length self.now ≤ length bytes.old) (len + length self.now) }
+        ensures padded { IsPadded bytes.new }
+        ensures text { len + length self.now ≤ length bytes.old → text_of bytes.new ≡ text_of bytes.old ++ self.now }
+    {
+        let room = bytes.len() - len;
+        let text_len = self.len();
+        if text_len > room {
+            return None;
+        }
+        if N <= 16 && N <= room {
+            bytes[len..len + N].copy_from_slice(&self.bytes);
+        } else {
+            bytes[len..len + text_len].copy_from_slice(self.as_utf8());
+        }
+        Some(len + text_len)
     }
 }
