@@ -1,14 +1,17 @@
 //! Texts split at a byte.
 
-ghost use Rattle.std.specs.Prelude.{◌≡◌, ◌==◌, ◌∷◌, ◌≤◌, ◌+◌, ℕ, IfSome, length, position};
+ghost use Rattle.std.specs.Prelude.{◌≡◌, ◌==◌, ◌∷◌, ◌≤◌, ◌+◌, IfSome, length, position, take, option_map};
 ghost use Rattle.std.specs.Iterator.{YieldsFirst, item_count};
 ghost use Rattle.std.specs.List.{slice_split};
 ghost use Rattle.std.specs.Option.{option_copied};
-ghost use Rattle.tinystr_words.specs.Text.{IsStrictText};
+ghost use Rattle.tinystr_words.specs.Text.{IsPadded, text_of};
 ghost use Rattle.tinystr.specs.Splitting.{parts_left};
 
 use crate::ascii::TinyAsciiStr;
 use std::marker::Model;
+use std::simd::prelude::*;
+use tinystr_words::int_ops::Aligned16;
+use tinystr_words::padded::{cut, resize};
 
 /// The parts of a text, in order. A clause sees those that are left.
 ///
@@ -18,22 +21,22 @@ use std::marker::Model;
 /// ```
 #[derive(Clone, Drop)]
 pub struct Parts<'a, const N: usize> {
-    // what stands behind the parts that were handed out, if there is another
+    // what stands behind the parts that were handed out, if there is another, and the NULs behind the text
     rest: Option<&'a [u8]>,
     separator: u8,
 }
 
 impl<'a, const N: usize> Model for Parts<'a, N> {
-    ghost use Rattle.std.specs.Prelude.{List, ℕ, IfSome};
+    ghost use Rattle.std.specs.Prelude.{◌≤◌, List, ℕ, IfSome, length, option_map};
     ghost use Rattle.std.specs.Option.{option_copied};
-    ghost use Rattle.tinystr_words.specs.Text.{IsStrictText};
+    ghost use Rattle.tinystr_words.specs.Text.{IsPadded, text_of};
     ghost use Rattle.tinystr.specs.Splitting.{parts_left};
 
     ghost Value = { List (List ℕ) };
 
-    ghost view = { λ s. parts_left s.separator (option_copied s.rest) };
+    ghost view = { λ s. parts_left s.separator (option_map text_of (option_copied s.rest)) };
 
-    ghost invariant = { λ s. IfSome s.rest (λ rest. IsStrictText rest.now N) };
+    ghost invariant = { λ s. IfSome s.rest (λ rest. IsPadded rest.now × (length rest.now ≤ N)) };
 }
 
 impl<const N: usize> TinyAsciiStr<N> {
@@ -55,7 +58,7 @@ impl<const N: usize> TinyAsciiStr<N> {
         ensures bound { length result ≤ N + 1 }
     {
         Parts {
-            rest: Some(self.as_utf8()),
+            rest: Some(&self.bytes[..]),
             separator,
         }
     }
@@ -71,7 +74,7 @@ impl<'a, const N: usize> Iterator for Parts<'a, N> {
     fn next(&mut self) -> Option<TinyAsciiStr<N>> {
         let (part, rest) = split_first(self.rest?, self.separator);
         self.rest = rest;
-        Some(TinyAsciiStr::try_from_utf8(part).unwrap())
+        Some(part)
     }
 
     fn size_hint(&self) -> (usize, Option<usize>) {
@@ -79,23 +82,107 @@ impl<'a, const N: usize> Iterator for Parts<'a, N> {
     }
 }
 
-// Where the byte first stands.
-fn find(bytes: &[u8], byte: u8) -> Option<usize>
-    ensures { result ≡ position (λ b. b == byte) bytes.now }
+// The first part of padded bytes, and what stands behind its separator, if there is one. A part that ends in the first
+// sixteen bytes stays in a vector.
+#[inline(always)]
+fn split_first<const N: usize>(bytes: &[u8], separator: u8) -> (TinyAsciiStr<N>, Option<&[u8]>)
+    requires padded { IsPadded bytes.now }
+    requires fits { length bytes.now ≤ N }
+    ensures parts { slice_split (λ b. b == separator) (text_of bytes.now)
+        ≡ result.0 ∷ parts_left separator (option_map text_of (option_copied result.1)) }
+    ensures rest { IfSome result.1 (λ rest. IsPadded rest.now × (length rest.now ≤ N)) }
 {
-    bytes.iter().position(|b| *b == byte)
+    let lanes = first_sixteen(bytes);
+    match find_in_sixteen(lanes, separator) {
+        Some(at) => (text_of_lanes(kept(lanes, at)), Some(&bytes[at + 1..])),
+        None if bytes.len() <= 16 || bytes[16] == 0 => (text_of_lanes(lanes), None),
+        None => split_first_by_copy(bytes, separator),
+    }
 }
 
-// The part before the first separator, and what stands behind that, if there is one.
-#[tactic(auto, using(tinystr_words::proofs::Parts::first_parts))]
-fn split_first(bytes: &[u8], separator: u8) -> (&[u8], Option<&[u8]>)
-    ensures parts { slice_split (λ b. b == separator) bytes.now
-        ≡ result.0.now ∷ parts_left separator (option_copied result.1) }
-    ensures part { (n : ℕ) → IsStrictText bytes.now n → IsStrictText result.0.now n }
-    ensures rest { (n : ℕ) → IsStrictText bytes.now n → IfSome result.1 (λ rest. IsStrictText rest.now n) }
+// The same for a part of any length, which is copied.
+fn split_first_by_copy<const N: usize>(
+    bytes: &[u8],
+    separator: u8,
+) -> (TinyAsciiStr<N>, Option<&[u8]>)
+    requires padded { IsPadded bytes.now }
+    requires fits { length bytes.now ≤ N }
+    ensures parts { slice_split (λ b. b == separator) (text_of bytes.now)
+        ≡ result.0 ∷ parts_left separator (option_map text_of (option_copied result.1)) }
+    ensures rest { IfSome result.1 (λ rest. IsPadded rest.now × (length rest.now ≤ N)) }
 {
     match find(bytes, separator) {
-        Some(at) => (&bytes[..at], Some(&bytes[at + 1..])),
-        None => (bytes, None),
+        Some(at) => (
+            TinyAsciiStr::from_utf8_unchecked(cut(&bytes[..at])),
+            Some(&bytes[at + 1..]),
+        ),
+        None => (TinyAsciiStr::from_utf8_unchecked(cut(bytes)), None),
     }
+}
+
+// Where the byte first stands in the text, by sixteen bytes at once.
+fn find(bytes: &[u8], byte: u8) -> Option<usize>
+    requires { IsPadded bytes.now }
+    ensures { result ≡ position (λ b. b == byte) (text_of bytes.now) }
+{
+    let mut start = 0;
+    while start < bytes.len() {
+        if let Some(at) = find_in_sixteen(first_sixteen(&bytes[start..]), byte) {
+            return Some(start + at);
+        }
+        start += 16;
+    }
+    None
+}
+
+// The first sixteen bytes of the text, and then NULs.
+#[inline(always)]
+fn first_sixteen(bytes: &[u8]) -> u8x16
+    requires { IsPadded bytes.now }
+    ensures len { length result ≡ 16 }
+    ensures padded { IsPadded result }
+    ensures text { text_of result ≡ take 16 (text_of bytes.now) }
+{
+    match bytes.first_chunk::<16>() {
+        Some(sixteen) => u8x16::from_array(*sixteen),
+        None => Aligned16::from_padded(bytes).to_lanes(),
+    }
+}
+
+// Where the byte first stands in a text of at most sixteen bytes, all asked at once. A NUL stands behind it alone.
+#[inline(always)]
+fn find_in_sixteen(lanes: u8x16, byte: u8) -> Option<usize>
+    requires len { length lanes ≡ 16 }
+    requires padded { IsPadded lanes }
+    ensures { result ≡ position (λ b. b == byte) (text_of lanes) }
+{
+    let equal = lanes.simd_eq(u8x16::splat(byte)).to_bitmask();
+    if equal == 0 || byte == 0 {
+        return None;
+    }
+    Some(equal.trailing_zeros() as usize)
+}
+
+// So many of the first bytes of a text, and then NULs.
+#[inline(always)]
+fn kept(lanes: u8x16, count: usize) -> u8x16
+    requires len { length lanes ≡ 16 }
+    requires padded { IsPadded lanes }
+    requires count { count ≤ 16 }
+    ensures padded { IsPadded result }
+    ensures text { text_of result ≡ take count (text_of lanes) }
+{
+    let places = u8x16::from_array([0, 1, 2, 3, 4, 5, 6, 7, 8, 9, 10, 11, 12, 13, 14, 15]);
+    let is_kept = places.simd_lt(u8x16::splat(count as u8));
+    is_kept.select(lanes, u8x16::splat(0))
+}
+
+// The text in the lanes, which has to fit.
+#[inline(always)]
+fn text_of_lanes<const N: usize>(lanes: u8x16) -> TinyAsciiStr<N>
+    requires padded { IsPadded lanes }
+    requires fits { length (text_of lanes) ≤ N }
+    ensures { result ≡ text_of lanes }
+{
+    TinyAsciiStr::from_utf8_unchecked(resize(&lanes.to_array()[..]))
 }

@@ -1,11 +1,43 @@
-use Rattle.std.proofs.Common.{◌==◌, sym}
-use Rattle.std.proofs.lemmas.List.{take_rest}
-use Rattle.tinystr_words.proofs.Parts.{slice_split-found, slice_split-missed}
+use Rattle.std.proofs.Common.{ℕ, ◌==◌, ◌≡◌, ◌≤◌, ◌+◌, ◌∙◌, Some, ap, arith, length, position, sym, take, take_all, rules}
+use Rattle.std.proofs.lemmas.Bool.Decides.{nat_tests}
+use Rattle.std.proofs.lemmas.List.{length-drop, length-take, take_rest, take-take}
+use Rattle.std.proofs.lemmas.List.Quantifiers.{position-Some}
+use Rattle.tinystr_words.specs.Text.{text_of}
+use Rattle.tinystr_words.proofs.Texts.{length-text_of-le}
+use Rattle.tinystr.proofs.Splits.{IsPadded-rest, length-text_of-nul, position-front, slice_split-padded, slice_split-whole}
 use Rattle.tinystr.proofs.ascii.splitting.split_first.Goals as goal
+use Rattle.tinystr.proofs.ascii.splitting.split_first.Goals.{then-bytes-le16, else-bytes-le16}
+
+pub text_of_lanes-requires : goal.text_of_lanes-requires
+text_of_lanes-requires g c =
+    let t = text_of c.args.bytes.now in
+    let kept = c.kept.ensures.text ∙ ap (take c.in-Some.at) c.first_sixteen-lanes.ensures.text in
+    (search rules, (c.kept.ensures.padded, rw kept (omega (arith, length-take c.in-Some.at (take 16 t), length-take 16 t, length-text_of-le c.args.bytes.now))))
 
 pub returns-in-Some-clause-parts : goal.returns-in-Some-clause-parts
-returns-in-Some-clause-parts c =
-    rw take_rest (slice_split-found (λ b. b == c.args.separator) c.args.bytes.now c.in-Some.at (sym c.in-Some.ensures))
+returns-in-Some-clause-parts g c =
+    let bytes = c.args.bytes.now in
+    let p = λ (b : ℕ). b == c.args.separator in
+    let t = text_of bytes in
+    let at : position p (take 16 t) ≡ Some c.in-Some.at = rw c.first_sixteen-lanes.ensures.text at (sym c.in-Some.ensures) in
+    let inside = position-Some p (take 16 t) c.in-Some.at 0 at in
+    slice_split-padded p bytes c.text_of_lanes.result c.in-Some.at c.requires.padded (position-front p t 16 c.in-Some.at at)
+    (c.text_of_lanes.ensures ∙ c.kept.ensures.text ∙ ap (take c.in-Some.at) c.first_sixteen-lanes.ensures.text ∙ take-take c.in-Some.at 16 t (omega (arith, inside.0, length-take 16 t)))
+
+pub returns-in-Some-clause-rest : goal.returns-in-Some-clause-rest
+returns-in-Some-clause-rest g c =
+    let bytes = c.args.bytes.now in
+    let k = c.in-Some.at + 1 in
+    (IsPadded-rest bytes k c.requires.padded, rw take_rest (omega (arith, length-drop k bytes)))
 
 pub returns-in-None-clause-parts : goal.returns-in-None-clause-parts
-returns-in-None-clause-parts c = slice_split-missed (λ b. b == c.args.separator) c.args.bytes.now (sym c.in-None.ensures)
+returns-in-None-clause-parts g c =
+    let bytes = c.args.bytes.now in
+    let p = λ (b : ℕ). b == c.args.separator in
+    let t = text_of bytes in
+    let ends : length t ≤ 16 = elim c.if-bytes-le16.branch [
+      | then-bytes-le16 w ↦ omega (arith, length-text_of-le bytes)
+      | else-bytes-le16 w ↦ length-text_of-nul bytes 16 c.requires.padded (grind (arith, nat_tests))
+    ] in
+    let all : text_of c.first_sixteen-lanes.result ≡ t = c.first_sixteen-lanes.ensures.text ∙ take_all 16 t ends in
+    slice_split-whole p t c.text_of_lanes-in-None.result (rw all at (sym c.in-None.ensures)) (c.text_of_lanes-in-None.ensures ∙ all)

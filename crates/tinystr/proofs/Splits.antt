@@ -1,0 +1,190 @@
+-- The parts of a padded text, found and taken in vectors of sixteen bytes.
+use Rattle.std.proofs.Common.{◌≡◌, ◌+◌, ◌*◌, ◌%◌, ◌-◌, ◌<◌, ◌≤◌, ℕ, suc, inl, inr, Bool, true, false, not, Some, None, List, [], ◌∷◌, length, map, replicate, take, drop, get_or, cond, eqb, ap, ap₂, sym, ◌∙◌, w8, arith, refl, take_all, length-take, ltb, rules}
+use lib.Lanes.{zip2, mask_l, top, sel_l}
+use lib.Count.{count_trailing_zeros}
+use Rattle.std.specs.List.{position, position_or_len, range_with_len, slice_split}
+use Rattle.std.proofs.lemmas.Bool.{cases_lt}
+use Rattle.std.proofs.lemmas.Bool.Decides.{nat_tests}
+use Rattle.std.proofs.lemmas.List.{get_or-drop, get_or-take, length-drop, places, take_rest}
+use Rattle.std.proofs.lemmas.List.Elements.{All-take}
+use Rattle.std.proofs.lemmas.List.Quantifiers.{position-Some}
+use Rattle.std.proofs.lemmas.Simd.{bitmask_splat, leading_from_mask_l, trailing_mask_l, get_or-sel_l, get_or-zip2, get_or-replicate, length-sel_l, length-zip2, tops_compared}
+use Rattle.std.proofs.lemmas.List.FromFn.{get_or-range_with_len}
+use Rattle.std.proofs.lemmas.List.Sums.{fails_before_first, passes_at_first, position_or_len_is}
+use Rattle.tinystr_words.specs.Text.{IsPadded, IsText, IsTextByte, pad, text_of}
+use Rattle.tinystr_words.proofs.Parts.{slice_split-found, slice_split-missed}
+use Rattle.tinystr_words.proofs.Texts.{IsPaddedText-made, IsPaddedText-drop, IsPaddedText-places, IsPaddedText-take, get_or-text_of, length-pad, length-text_of-le, text_of-drop, text_of-made, text_of-take}
+
+-- ---- the first element that passes
+
+-- where none is first, none passes
+position-None-fails : (p : ℕ → Bool) (xs : List ℕ) → position p xs ≡ None → (k : ℕ) → k < length xs → p (get_or xs k 0) ≡ false
+position-None-fails p xs none k inside = elim (cases_lt (position_or_len p xs) (length xs)) [
+  | inl some ↦ absurd (grind (arith, nat_tests))
+  | inr outside ↦ fails_before_first p xs k 0 (omega arith)
+]
+
+-- where none passes, none is first
+position-None : (p : ℕ → Bool) (xs : List ℕ) → ((k : ℕ) → k < length xs → p (get_or xs k 0) ≡ false) → position p xs ≡ None
+position-None p xs fails =
+    let end : position_or_len p xs ≡ length xs = position_or_len_is p xs (length xs) 0 (omega arith) fails (λ inside. absurd (omega arith)) in
+    grind (arith, nat_tests)
+
+-- one that passes, behind others that do not
+position-at : (p : ℕ → Bool) (xs : List ℕ) (i : ℕ) → i < length xs → ((k : ℕ) → k < i → p (get_or xs k 0) ≡ false) → p (get_or xs i 0) ≡ true → position p xs ≡ Some i
+position-at p xs i inside before here =
+    let at : position_or_len p xs ≡ i = position_or_len_is p xs i 0 (omega arith) before (λ _. here) in
+    grind (arith, nat_tests)
+
+-- in a front of a list
+pub position-front : (p : ℕ → Bool) (t : List ℕ) (m i : ℕ) → position p (take m t) ≡ Some i → position p t ≡ Some i
+position-front p t m i at =
+    let is = position-Some p (take m t) i 0 at in
+    let inside : i < length (take m t) = is.0 in
+    position-at p t i (omega (arith, length-take m t))
+    (λ k below. rw (get_or-take m t k 0 (omega (arith, length-take m t))) at (is.2 k below))
+    (rw (get_or-take m t i 0 (omega (arith, length-take m t))) at is.1)
+
+-- behind n that do not pass
+pub position-behind : (p : ℕ → Bool) (t : List ℕ) (n i : ℕ) → position p (take n t) ≡ None → position p (take 16 (drop n t)) ≡ Some i → position p t ≡ Some (n + i)
+position-behind p t n i none at =
+    let is = position-Some p (drop n t) i 0 (position-front p (drop n t) 16 i at) in
+    let inside : i < length (drop n t) = is.0 in
+    position-at p t (n + i) (omega (arith, length-drop n t))
+    (λ k below. elim (cases_lt k n) [
+      | inl near ↦ rw (get_or-take n t k 0 near) at (position-None-fails p (take n t) none k (omega (arith, length-take n t, length-drop n t)))
+      | inr far ↦ (
+          let same : n + (k - n) ≡ k = omega arith in
+          rw (get_or-drop n t (k - n) 0, same) at (is.2 (k - n) (omega arith)))
+    ])
+    (rw (get_or-drop n t i 0) at is.1)
+
+-- and none behind n either
+pub position-none_behind : (p : ℕ → Bool) (t : List ℕ) (n : ℕ) → position p (take n t) ≡ None → position p (take 16 (drop n t)) ≡ None → position p (take (n + 16) t) ≡ None
+position-none_behind p t n none more =
+    position-None p (take (n + 16) t) (λ k inside. rw (get_or-take (n + 16) t k 0 (omega (arith, length-take (n + 16) t))) (elim (cases_lt k n) [
+      | inl near ↦ rw (get_or-take n t k 0 near) at (position-None-fails p (take n t) none k (omega (arith, length-take n t, length-take (n + 16) t)))
+      | inr far ↦ (
+          let same : n + (k - n) ≡ k = omega arith in
+          let small : k - n < 16 = omega (arith, length-take (n + 16) t) in
+          rw (get_or-take 16 (drop n t) (k - n) 0 small, get_or-drop n t (k - n) 0, same) at
+          (position-None-fails p (take 16 (drop n t)) more (k - n) (omega (arith, length-take 16 (drop n t), length-drop n t, length-take (n + 16) t))))
+    ]))
+
+-- ---- a byte of a padded text
+
+-- no byte of a text is NUL
+pub position-nul : (t : List ℕ) → IsText t → position (λ b. eqb b 0) t ≡ None
+position-nul t h = position-None (λ b. eqb b 0) t (λ k inside. let p = h k 0 inside in grind (arith, nat_tests))
+
+-- what isn't in padded bytes isn't in their text
+pub position-none_text : (p : ℕ → Bool) (l : List ℕ) → IsPadded l → position p l ≡ None → position p (text_of l) ≡ None
+position-none_text p l q none =
+    position-None p (text_of l) (λ k inside. rw (get_or-text_of l (length l) k q) at (position-None-fails p l none k (omega (arith, length-text_of-le l))))
+
+-- another byte stands in no padding
+pub position-text_of : (l : List ℕ) (byte : ℕ) → IsPadded l → 0 < byte → position (λ b. eqb b byte) l ≡ position (λ b. eqb b byte) (text_of l)
+position-text_of l byte q some =
+    let p : ℕ → Bool = λ b. eqb b byte in
+    let t = text_of l in
+    let i = position_or_len p t in
+    let le = length-text_of-le l in
+    elim (cases_lt i (length t)) [
+      | inl inside ↦
+          position-at p l i (omega arith)
+          (λ k below. rw (get_or-text_of l (length l) k q) (fails_before_first p t k 0 below))
+          (rw (get_or-text_of l (length l) i q) (passes_at_first p t 0 inside)) ∙ grind (arith, nat_tests)
+      | inr outside ↦
+          position-None p l (λ k inside. rw (get_or-text_of l (length l) k q) (elim (cases_lt k (length t)) [
+            | inl near ↦ fails_before_first p t k 0 (omega arith)
+            | inr far ↦ grind (arith, nat_tests, places)
+          ])) ∙ grind (arith, nat_tests)
+    ]
+
+-- ---- sixteen at once
+
+-- the marks of the lanes that are the byte
+abbrev pub marks : List ℕ → ℕ → ℕ
+marks lanes byte = mask_l (map (top 7) (zip2 (λ a b. cond (eqb a b) 255 0) lanes (replicate 16 byte))) % 18446744073709551616
+
+-- where a lane is marked, the first that passes is one of them
+position_or_len-lt : (p : ℕ → Bool) (xs : List ℕ) → 0 < mask_l (map p xs) → position_or_len p xs < length xs
+position_or_len-lt p [] some = absurd (omega arith)
+position_or_len-lt p (x ∷ xs) some = mark (p x) (mask_l (map p xs)) (position_or_len p xs) (length xs) some (position_or_len-lt p xs) where
+  mark : (b : Bool) (n m l : ℕ) → 0 < cond b 1 0 + 2 * n → (0 < n → m < l) → cond (not b) (1 + m) 0 < suc l
+  mark true n m l some f = omega arith
+  mark false n m l some f = omega (arith, f (omega arith))
+
+-- the lowest mark tells where the byte first stands
+pub position-marks : (lanes : List ℕ) (byte : ℕ) → length lanes ≡ 16
+    → (marks lanes byte ≡ 0 → position (λ b. eqb b byte) lanes ≡ None) × (0 < marks lanes byte → position (λ b. eqb b byte) lanes ≡ Some (count_trailing_zeros 64 (marks lanes byte)))
+position-marks lanes byte long =
+    let p : ℕ → Bool = λ b. eqb b byte in
+    let is : marks lanes byte ≡ mask_l (map p lanes) = bitmask_splat w8 eqb lanes 16 byte long (omega arith) in
+    rw is ((λ none. let end = leading_from_mask_l p lanes none in grind (arith, nat_tests)), (λ some. let inside = position_or_len-lt p lanes some in let at = trailing_mask_l p 64 lanes (omega arith) some in grind (arith, nat_tests)))
+
+-- ---- lanes up to a place
+
+-- so many lanes of another vector, and then NULs
+abbrev pub up_to : ℕ → List ℕ → List ℕ
+up_to count lanes = sel_l (map (top 7) (zip2 (λ a b. cond (ltb a b) 255 0) (range_with_len 0 16) (replicate 16 count))) lanes (replicate 16 0)
+
+pub IsPadded-up_to : (count : ℕ) (lanes : List ℕ) → length lanes ≡ 16 → IsPadded lanes → IsPadded (up_to count lanes) × (text_of (up_to count lanes) ≡ take count (text_of lanes))
+IsPadded-up_to count lanes long q =
+    let places_of = range_with_len 0 16 in
+    let tests = zip2 ltb places_of (replicate 16 count) in
+    let nuls : List ℕ = replicate 16 0 in
+    let t = text_of lanes in
+    let made = sel_l tests lanes nuls in
+    let tested : length tests ≡ 16 = length-zip2 ltb places_of (replicate 16 count) refl in
+    let size : length made ≡ 16 = length-sel_l tests lanes nuls (tested ∙ sym long) tested ∙ tested in
+    let is : up_to count lanes ≡ made = ap (λ ms. sel_l ms lanes nuls) (tops_compared w8 ltb places_of (replicate 16 count)) in
+    let h = IsPaddedText-places made (take count t) (length made) refl (All-take IsTextByte count t q.text) (λ k below.
+    let inside : k < 16 = omega (arith, size) in
+    let test : get_or tests k false ≡ ltb k count =
+    get_or-zip2 ltb places_of (replicate 16 count) k 0 0 false inside inside ∙ ap₂ ltb (get_or-range_with_len 0 16 k 0 inside ∙ omega arith) (get_or-replicate 16 k count 0 inside) in
+    get_or-sel_l tests lanes nuls k 0 (omega (arith, tested)) (omega (arith, long)) inside
+    ∙ rw (test, get_or-replicate {A = ℕ} 16 k 0 0 inside, get_or-text_of lanes (length lanes) k q) (grind (arith, nat_tests, places))) in
+    rw is (h.0, h.1 ∙ take_all (length made) (take count t) (omega (arith, length-take count t, length-text_of-le lanes)))
+
+-- ---- the first sixteen bytes
+
+-- of as many or more
+pub IsPadded-first_sixteen : (l r : List ℕ) → IsPadded l → 16 ≤ length l → r ≡ take 16 l → (length r ≡ 16) × (IsPadded r) × (text_of r ≡ take 16 (text_of l))
+IsPadded-first_sixteen l r q many is = rw is (search (rules, places), IsPaddedText-take l (length l) 16 q, text_of-take l (length l) 16 q)
+
+-- and of fewer, with NULs behind them
+pub IsPadded-fewer : (l r : List ℕ) → IsPadded l → length l ≤ 16 → r ≡ pad (text_of l) 16 → (length r ≡ 16) × (IsPadded r) × (text_of r ≡ take 16 (text_of l))
+IsPadded-fewer l r q few is =
+    let fits : length (text_of l) ≤ 16 = omega (arith, length-text_of-le l) in
+    let size : length r ≡ 16 = ap length is ∙ length-pad (text_of l) 16 fits in (
+      size,
+      rw size (IsPaddedText-made r (text_of l) 16 is (record { text = q.text; fits = fits })),
+      text_of-made r (text_of l) 16 is q.text ∙ sym (take_all 16 (text_of l) fits),
+    )
+
+-- ---- what stands behind a place
+
+-- where a byte is NUL the text has ended
+pub length-text_of-nul : (l : List ℕ) (n : ℕ) → IsPadded l → get_or l n 0 ≡ 0 → length (text_of l) ≤ n
+length-text_of-nul l n q nul = elim (cases_lt n (length (text_of l))) [
+  | inl inside ↦ (let some = q.text n 0 inside in absurd (omega (arith, get_or-text_of l (length l) n q)))
+  | inr outside ↦ outside
+]
+
+pub IsPadded-rest : (l : List ℕ) (k : ℕ) → IsPadded l → IsPadded (take (length l - k) (drop k l))
+IsPadded-rest l k q = rw take_rest (IsPaddedText-drop l (length l) k q)
+
+pub text_of-rest : (l : List ℕ) (k : ℕ) → IsPadded l → text_of (take (length l - k) (drop k l)) ≡ drop k (text_of l)
+text_of-rest l k q = rw take_rest (text_of-drop l (length l) k q)
+
+-- ---- the first part
+
+-- up to the first separator
+pub slice_split-padded : (p : ℕ → Bool) (l part : List ℕ) (i : ℕ) → IsPadded l → position p (text_of l) ≡ Some i → part ≡ take i (text_of l)
+    → slice_split p (text_of l) ≡ part ∷ slice_split p (text_of (take (length l - (i + 1)) (drop (i + 1) l)))
+slice_split-padded p l part i q at is = rw (is, text_of-rest l (i + 1) q) (slice_split-found p (text_of l) i at)
+
+-- all of a text without one
+pub slice_split-whole : (p : ℕ → Bool) (t part : List ℕ) → position p t ≡ None → part ≡ t → slice_split p t ≡ part ∷ []
+slice_split-whole p t part none is = rw is (slice_split-missed p t none)
