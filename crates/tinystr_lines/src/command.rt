@@ -1,6 +1,6 @@
 //! The commands of a line, and the fields that name them.
 
-ghost use Rattle.std.specs.Prelude.{◌≡◌, map};
+ghost use Rattle.std.specs.Prelude.{◌≡◌, length};
 ghost use Rattle.tinystr_lines.specs.Fields.{named, command_of};
 
 use self::Command::{Locale, Lossy, OnText, Records};
@@ -38,33 +38,52 @@ pub enum TextCall {
     Change(Case),
 }
 
-// Each field that names a command.
-const COMMANDS: [(&[u8], Command); 17] = [
-    (b"text", OnText(Text)),
-    (b"len", OnText(Len)),
-    (b"alphabetic", OnText(Ask(Alphabetic))),
-    (b"alphanumeric", OnText(Ask(Alphanumeric))),
-    (b"numeric", OnText(Ask(Numeric))),
-    (b"lowercase", OnText(Ask(Lowercase))),
-    (b"titlecase", OnText(Ask(Titlecase))),
-    (b"uppercase", OnText(Ask(Uppercase))),
-    (b"alphabetic_lowercase", OnText(Ask(AlphabeticLowercase))),
-    (b"alphabetic_titlecase", OnText(Ask(AlphabeticTitlecase))),
-    (b"alphabetic_uppercase", OnText(Ask(AlphabeticUppercase))),
-    (b"lower", OnText(Change(Lower))),
-    (b"title", OnText(Change(Title))),
-    (b"upper", OnText(Change(Upper))),
-    (b"lossy", Lossy),
-    (b"records", Records),
-    (b"locale", Locale),
+// The fields that name commands, by their length.
+const NAMES_OF_3: [([u8; 3], Command); 1] = [(*b"len", OnText(Len))];
+
+const NAMES_OF_4: [([u8; 4], Command); 1] = [(*b"text", OnText(Text))];
+
+const NAMES_OF_5: [([u8; 5], Command); 4] = [
+    (*b"lower", OnText(Change(Lower))),
+    (*b"title", OnText(Change(Title))),
+    (*b"upper", OnText(Change(Upper))),
+    (*b"lossy", Lossy),
 ];
 
-// The command that a field names in a table.
-fn named(mut table: &[(&[u8], Command)], field: &[u8]) -> Option<Command>
-    ensures { result ≡ named (map (λ row. (row.0.now, row.1)) table.entry.now) field.now }
+const NAMES_OF_6: [([u8; 6], Command); 1] = [(*b"locale", Locale)];
+
+const NAMES_OF_7: [([u8; 7], Command); 2] = [
+    (*b"numeric", OnText(Ask(Numeric))),
+    (*b"records", Records),
+];
+
+const NAMES_OF_9: [([u8; 9], Command); 3] = [
+    (*b"lowercase", OnText(Ask(Lowercase))),
+    (*b"titlecase", OnText(Ask(Titlecase))),
+    (*b"uppercase", OnText(Ask(Uppercase))),
+];
+
+const NAMES_OF_10: [([u8; 10], Command); 1] = [(*b"alphabetic", OnText(Ask(Alphabetic)))];
+
+const NAMES_OF_12: [([u8; 12], Command); 1] = [(*b"alphanumeric", OnText(Ask(Alphanumeric)))];
+
+const NAMES_OF_20: [([u8; 20], Command); 3] = [
+    (*b"alphabetic_lowercase", OnText(Ask(AlphabeticLowercase))),
+    (*b"alphabetic_titlecase", OnText(Ask(AlphabeticTitlecase))),
+    (*b"alphabetic_uppercase", OnText(Ask(AlphabeticUppercase))),
+];
+
+// The command that a field names in a table of names as long as the field, whose known length makes a comparison fast.
+#[inline(always)]
+fn named<const N: usize>(mut table: &[([u8; N], Command)], field: &[u8]) -> Option<Command>
+    requires { length field.now ≡ N }
+    ensures { result ≡ named table.entry.now field.now }
 {
+    let Some(field) = field.first_chunk::<N>() else {
+        return None;
+    };
     while let [row, rest @ ..] = table {
-        if field == row.0 {
+        if *field == row.0 {
             return Some(row.1);
         }
         table = rest;
@@ -78,6 +97,17 @@ impl Command {
     pub fn parse(field: &[u8]) -> Option<Command>
         ensures { result ≡ command_of field.now }
     {
-        named(&COMMANDS, field)
+        match field.len() {
+            3 => named(&NAMES_OF_3, field),
+            4 => named(&NAMES_OF_4, field),
+            5 => named(&NAMES_OF_5, field),
+            6 => named(&NAMES_OF_6, field),
+            7 => named(&NAMES_OF_7, field),
+            9 => named(&NAMES_OF_9, field),
+            10 => named(&NAMES_OF_10, field),
+            12 => named(&NAMES_OF_12, field),
+            20 => named(&NAMES_OF_20, field),
+            _ => None,
+        }
     }
 }
