@@ -1,6 +1,6 @@
 //! Reading the input, answering its lines, writing the output.
 
-ghost use Rattle.std.specs.Prelude.{◌≡◌, ◌++◌, ◌≢◌, OnOk, IfOk, OnErr, IfErr, IfSome, IsErrOf};
+ghost use Rattle.std.specs.Prelude.{◌≡◌, ◌++◌, ◌≢◌, OnOk, IfOk, OnErr, IfErr, IfSome, IsErrOf, length, take};
 ghost use Rattle.std.specs.Io.KnownBytes.{Keeps, Appends, Consumes, IsAtEnd};
 ghost use Rattle.tinystr_lines.specs.Output.{AppendsBeginning, reply_line, output_of};
 
@@ -51,12 +51,13 @@ fn read_input<R: Read>(alloc: Global, reader: &mut R) -> Result<Vec<u8>, RunErro
     }
 }
 
-// Appends the reply to a line and a line feed.
+// Appends the reply to a line with which `ahead` begins, and a line feed.
 #[tactic(auto, unfolding(crate::specs::Output::reply_line))]
-fn push_reply_line(out: &mut Vec<u8>, line: &[u8]) -> Result<(), AllocError>
+fn push_reply_line(out: &mut Vec<u8>, line: &[u8], ahead: &[u8]) -> Result<(), AllocError>
+    requires { line.now ≡ take (length line.now) ahead.now }
     ensures { OnOk result (out.new.items ≡ out.old.items ++ reply_line line.now) }
 {
-    push_reply(out, line)?;
+    push_reply(out, line, ahead)?;
     out.push(b'\n')?;
     Ok(())
 }
@@ -68,8 +69,8 @@ fn output(alloc: Global, input: &[u8]) -> Result<Vec<u8>, AllocError>
     let mut out = Vec::new(alloc);
     let mut rest = input;
     while !rest.is_empty() {
-        let (line, more) = split_at_first(rest, b'\n');
-        push_reply_line(&mut out, line)?;
+        let (line, more) = split_at_first(rest, rest, b'\n');
+        push_reply_line(&mut out, line, rest)?;
         rest = more;
     }
     Ok(out)

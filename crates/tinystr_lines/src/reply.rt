@@ -1,9 +1,13 @@
 //! What a line gets.
 
-ghost use Rattle.std.specs.Prelude.{◌≡◌, ◌<◌, ◌^◌, ◌++◌, codes, OnOk};
+ghost use Rattle.std.specs.Prelude.{◌≡◌, ◌<◌, ◌≤◌, ◌^◌, [], ◌++◌, codes, length, take, true, is_some, IfSome, OnOk};
+ghost use Rattle.std.specs.Option.{option_map_or};
 ghost use Rattle.std.specs.Fmt.{decimal};
 ghost use Rattle.tinystr.specs.Error.{fault_of};
-ghost use Rattle.tinystr_lines.specs.Reply.{fault_text, truth_text, bad_index_text, answer_of, call_reply, records_reply, locale_reply, reply_at, fields_reply, reply};
+ghost use Rattle.tinystr_words.specs.Reading.{lossy};
+ghost use Rattle.tinystr_words.specs.Reading.Fault.{too_long};
+ghost use Rattle.tinystr_lines.specs.Fields.{capacity_of};
+ghost use Rattle.tinystr_lines.specs.Reply.{replacement, fault_text, truth_text, bad_index_text, answer_of, call_reply, records_reply, locale_reply, reply_at, fields_reply, reply};
 
 use crate::command::{Command, TextCall};
 use crate::split::{split_at_first, split_once};
@@ -16,14 +20,30 @@ use tinystr::{ParseError, TinyAsciiStr};
 // What the lossy reader puts for a code unit that isn't a character.
 const REPLACEMENT: u8 = b'?';
 
+// Appends the first bytes of an array. All of it is copied and cut, since a copy of a known length is faster.
+fn push_beginning<const N: usize>(
+    out: &mut Vec<u8>,
+    bytes: &[u8; N],
+    len: usize,
+) -> Result<(), AllocError>
+    requires { len ≤ N }
+    ensures { OnOk result (out.new.items ≡ out.old.items ++ take len bytes.now) }
+{
+    let end = out.len() + len;
+    out.extend_from_slice(bytes)?;
+    out.truncate(end);
+    Ok(())
+}
+
 fn push_text<const N: usize>(out: &mut Vec<u8>, text: TinyAsciiStr<N>) -> Result<(), AllocError>
     ensures { OnOk result (out.new.items ≡ out.old.items ++ text.entry) }
 {
-    out.extend_from_slice(text.as_utf8())
+    push_beginning(out, text.all_bytes(), text.len())
 }
 
 // A number below 2^32 is made at once, without the steps of `write!`, since that is faster.
-fn push_number(out: &mut Vec<u8>, number: usize) -> Result<(), AllocError>
+#[inline(never)]
+fn push_large_number(out: &mut Vec<u8>, number: usize) -> Result<(), AllocError>
     ensures { OnOk result (out.new.items ≡ out.old.items ++ decimal number) }
 {
     if let Ok(small) = u32::try_from(number)
@@ -34,22 +54,40 @@ fn push_number(out: &mut Vec<u8>, number: usize) -> Result<(), AllocError>
     write!(out, "{number}").or(Err(AllocError))
 }
 
+// Most numbers are below a hundred, and their digits are appended at once.
+fn push_number(out: &mut Vec<u8>, number: usize) -> Result<(), AllocError>
+    ensures { OnOk result (out.new.items ≡ out.old.items ++ decimal number) }
+{
+    if number < 10 {
+        return out.extend_from_slice(&[b'0' + number as u8]);
+    }
+    if number < 100 {
+        return out.extend_from_slice(&[b'0' + (number / 10) as u8, b'0' + (number % 10) as u8]);
+    }
+    push_large_number(out, number)
+}
+
 fn push_truth(out: &mut Vec<u8>, truth: bool) -> Result<(), AllocError>
     ensures { OnOk result (out.new.items ≡ out.old.items ++ truth_text truth) }
 {
-    out.extend_from_slice(if truth { b"true" } else { b"false" })
+    let (padded, len) = if truth { (b"true ", 4) } else { (b"false", 5) };
+    push_beginning(out, padded, len)
+}
+
+fn push_too_long(out: &mut Vec<u8>, max: usize, len: usize) -> Result<(), AllocError>
+    ensures { OnOk result (out.new.items ≡ out.old.items ++ fault_text (too_long max len)) }
+{
+    out.extend_from_slice(b"too long ")?;
+    push_number(out, len)?;
+    out.extend_from_slice(b" > ")?;
+    push_number(out, max)
 }
 
 fn push_fault(out: &mut Vec<u8>, fault: ParseError) -> Result<(), AllocError>
     ensures { OnOk result (out.new.items ≡ out.old.items ++ fault_text (fault_of fault)) }
 {
     match fault {
-        ParseError::TooLong { max, len } => {
-            out.extend_from_slice(b"too long ")?;
-            push_number(out, len)?;
-            out.extend_from_slice(b" > ")?;
-            push_number(out, max)
-        }
+        ParseError::TooLong { max, len } => push_too_long(out, max, len),
         ParseError::ContainsNull => out.extend_from_slice(b"contains null"),
         ParseError::NonAscii => out.extend_from_slice(b"non ascii"),
     }
@@ -88,22 +126,57 @@ fn push_call_reply<const N: usize>(
     }
 }
 
+// Does the same at a capacity that no type tells. A text that isn't too long gets the same at each capacity that holds it,
+// so two stand for all: that is faster than a choice among all.
+fn push_call_reply_at(
+    out: &mut Vec<u8>,
+    capacity: usize,
+    call: TextCall,
+    units: &[u8],
+) -> Result<(), AllocError>
+    requires { capacity ≤ 32 }
+    ensures { OnOk result (out.new.items ≡ out.old.items ++ call_reply capacity call units.now) }
+{
+    let len = units.len();
+    if capacity < len {
+        return push_too_long(out, capacity, len);
+    }
+    if len <= 8 {
+        return push_call_reply::<8>(out, call, units);
+    }
+    push_call_reply::<32>(out, call, units)
+}
+
+// Appends the text that the lossy reader makes at a capacity.
+fn push_lossy_reply(out: &mut Vec<u8>, capacity: usize, units: &[u8]) -> Result<(), AllocError>
+    requires { capacity ≤ 32 }
+    ensures { OnOk result
+        (out.new.items ≡ out.old.items ++ lossy units.now replacement capacity) }
+{
+    let read = &units[..capacity.min(units.len())];
+    push_text(out, TinyAsciiStr::<32>::from_utf8_lossy(read, REPLACEMENT))
+}
+
 fn push_count(out: &mut Vec<u8>, count: usize) -> Result<(), AllocError>
     ensures { OnOk result (out.new.items ≡ out.old.items ++ (codes "ok " ++ decimal count)) }
 {
-    write!(out, "ok {count}").or(Err(AllocError))
+    out.extend_from_slice(b"ok ")?;
+    push_number(out, count)
 }
 
 fn push_bad_length(out: &mut Vec<u8>, len: usize) -> Result<(), AllocError>
     ensures { OnOk result (out.new.items ≡ out.old.items ++ (codes "bad length " ++ decimal len)) }
 {
-    write!(out, "bad length {len}").or(Err(AllocError))
+    out.extend_from_slice(b"bad length ")?;
+    push_number(out, len)
 }
 
 fn push_bad_index(out: &mut Vec<u8>, index: usize) -> Result<(), AllocError>
     ensures { OnOk result (out.new.items ≡ out.old.items ++ bad_index_text index) }
 {
-    write!(out, "bad record {index} ").or(Err(AllocError))
+    out.extend_from_slice(b"bad record ")?;
+    push_number(out, index)?;
+    out.extend_from_slice(b" ")
 }
 
 fn push_bad_record(out: &mut Vec<u8>, index: usize, fault: ParseError) -> Result<(), AllocError>
@@ -141,61 +214,82 @@ fn push_locale_reply(out: &mut Vec<u8>, units: &[u8]) -> Result<(), AllocError>
     }
 }
 
-// Appends the reply at the capacity `N` to a command's field and the code units.
-fn push_reply_at<const N: usize>(
+// Appends whether the bytes are packed records of as many bytes as a capacity that a field spells.
+#[tactic(auto, unfolding(crate::specs::Fields::capacity_of))]
+fn push_records_reply_at(out: &mut Vec<u8>, capacity: &[u8], bytes: &[u8]) -> Result<(), AllocError>
+    requires { is_some (capacity_of capacity.now) ≡ true }
+    ensures { OnOk result (out.new.items ≡ out.old.items
+        ++ option_map_or (λ n. records_reply n bytes.now) (capacity_of capacity.now) []) }
+{
+    match capacity {
+        b"1" => push_records_reply::<1>(out, bytes),
+        b"2" => push_records_reply::<2>(out, bytes),
+        b"3" => push_records_reply::<3>(out, bytes),
+        b"4" => push_records_reply::<4>(out, bytes),
+        b"5" => push_records_reply::<5>(out, bytes),
+        b"8" => push_records_reply::<8>(out, bytes),
+        b"9" => push_records_reply::<9>(out, bytes),
+        b"16" => push_records_reply::<16>(out, bytes),
+        b"17" => push_records_reply::<17>(out, bytes),
+        b"32" => push_records_reply::<32>(out, bytes),
+        _ => push_records_reply::<0>(out, bytes),
+    }
+}
+
+// The capacity that a field spells.
+#[tactic(auto, unfolding(crate::specs::Fields::capacity_of))]
+fn parse_capacity(field: &[u8]) -> Option<usize>
+    ensures value { result ≡ capacity_of field.now }
+    ensures bound { IfSome result (λ n. n ≤ 32) }
+{
+    match field {
+        b"0" => Some(0),
+        b"1" => Some(1),
+        b"2" => Some(2),
+        b"3" => Some(3),
+        b"4" => Some(4),
+        b"5" => Some(5),
+        b"8" => Some(8),
+        b"9" => Some(9),
+        b"16" => Some(16),
+        b"17" => Some(17),
+        b"32" => Some(32),
+        _ => None,
+    }
+}
+
+// Appends the reply to the fields of a line.
+#[tactic(auto, unfolding(crate::specs::Reply::fields_reply))]
+fn push_fields_reply(
     out: &mut Vec<u8>,
+    capacity_field: &[u8],
     field: &[u8],
     units: &[u8],
 ) -> Result<(), AllocError>
-    requires { N < 2 ^ 63 }
-    ensures { OnOk result (out.new.items ≡ out.old.items ++ reply_at N field.now units.now) }
+    ensures { OnOk result
+        (out.new.items ≡ out.old.items ++ fields_reply capacity_field.now field.now units.now) }
 {
+    let Some(capacity) = parse_capacity(capacity_field) else {
+        return out.extend_from_slice(b"bad capacity");
+    };
     match Command::parse(field) {
-        Some(Command::OnText(call)) => push_call_reply::<N>(out, call, units),
-        Some(Command::Lossy) => {
-            push_text(out, TinyAsciiStr::<N>::from_utf8_lossy(units, REPLACEMENT))
-        }
-        Some(Command::Records) => push_records_reply::<N>(out, units),
+        Some(Command::OnText(call)) => push_call_reply_at(out, capacity, call, units),
+        Some(Command::Lossy) => push_lossy_reply(out, capacity, units),
+        Some(Command::Records) => push_records_reply_at(out, capacity_field, units),
         Some(Command::Locale) => push_locale_reply(out, units),
         None => out.extend_from_slice(b"bad command"),
     }
 }
 
-// Appends the reply to the fields of a line.
-#[tactic(auto, unfolding(crate::specs::Reply::fields_reply, crate::specs::Fields::capacity_of))]
-fn push_fields_reply(
-    out: &mut Vec<u8>,
-    capacity: &[u8],
-    field: &[u8],
-    units: &[u8],
-) -> Result<(), AllocError>
-    ensures { OnOk result
-        (out.new.items ≡ out.old.items ++ fields_reply capacity.now field.now units.now) }
-{
-    match capacity {
-        b"0" => push_reply_at::<0>(out, field, units),
-        b"1" => push_reply_at::<1>(out, field, units),
-        b"2" => push_reply_at::<2>(out, field, units),
-        b"3" => push_reply_at::<3>(out, field, units),
-        b"4" => push_reply_at::<4>(out, field, units),
-        b"5" => push_reply_at::<5>(out, field, units),
-        b"8" => push_reply_at::<8>(out, field, units),
-        b"9" => push_reply_at::<9>(out, field, units),
-        b"16" => push_reply_at::<16>(out, field, units),
-        b"17" => push_reply_at::<17>(out, field, units),
-        b"32" => push_reply_at::<32>(out, field, units),
-        _ => out.extend_from_slice(b"bad capacity"),
-    }
-}
-
-/// Appends the reply to a line, given and answered without its line feed.
+/// Appends the reply to a line with which `ahead` begins, given and answered without its line feed.
 #[tactic(auto, unfolding(crate::specs::Reply::reply))]
-pub fn push_reply(out: &mut Vec<u8>, line: &[u8]) -> Result<(), AllocError>
+pub fn push_reply(out: &mut Vec<u8>, line: &[u8], ahead: &[u8]) -> Result<(), AllocError>
+    requires { line.now ≡ take (length line.now) ahead.now }
     ensures { OnOk result (out.new.items ≡ out.old.items ++ reply line.now) }
 {
-    let Some((capacity, rest)) = split_once(line, b' ') else {
+    let Some((capacity, rest, ahead)) = split_once(line, ahead, b' ') else {
         return out.extend_from_slice(b"bad line");
     };
-    let (field, units) = split_at_first(rest, b' ');
+    let (field, units) = split_at_first(rest, ahead, b' ');
     push_fields_reply(out, capacity, field, units)
 }

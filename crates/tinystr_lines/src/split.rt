@@ -1,22 +1,22 @@
 //! Bytes split at a byte.
 
-ghost use Rattle.std.specs.Prelude.{◌≡◌, ◌==◌, IfSome, is_some, position};
-ghost use Rattle.std.specs.List.{before_first, after_first, list_any};
+ghost use Rattle.std.specs.Prelude.{◌≡◌, ◌==◌, IfSome, is_some, length, position, take};
+ghost use Rattle.std.specs.List.{before_first, after_first, list_any, position_or_len};
 
 use std::simd::prelude::*;
 
-// Where the byte first stands among sixteen, all asked at once.
+// Where the byte first stands among thirty-two, all asked at once: 32 where it doesn't.
 #[inline(always)]
-fn find_in_sixteen(bytes: &[u8; 16], byte: u8) -> Option<usize>
-    ensures { result ≡ position (λ b. b == byte) bytes.now }
+fn place_in_lanes(lanes: &[u8; 32], byte: u8) -> usize
+    ensures { result ≡ position_or_len (λ b. b == byte) lanes.now }
 {
-    let equal = u8x16::from_array(*bytes)
-        .simd_eq(u8x16::splat(byte))
+    let equal = u8x32::from_array(*lanes)
+        .simd_eq(u8x32::splat(byte))
         .to_bitmask();
     if equal == 0 {
-        return None;
+        return 32;
     }
-    Some(equal.trailing_zeros() as usize)
+    equal.trailing_zeros() as usize
 }
 
 // Where the byte first stands, by one byte after another.
@@ -26,17 +26,19 @@ fn find_by_one(text: &[u8], byte: u8) -> Option<usize>
     text.iter().position(|b| *b == byte)
 }
 
-// Where the byte first stands, in sixteen bytes at once while there are as many.
+// Where the byte first stands, in thirty-two bytes at once while there are as many.
+#[inline(never)]
 fn find(text: &[u8], byte: u8) -> Option<usize>
     ensures { result ≡ position (λ b. b == byte) text.now }
 {
     let mut rest = text;
     let mut start = 0;
-    while let Some((sixteen, after)) = rest.split_first_chunk::<16>() {
-        if let Some(at) = find_in_sixteen(sixteen, byte) {
+    while let Some((lanes, after)) = rest.split_first_chunk::<32>() {
+        let at = place_in_lanes(lanes, byte);
+        if at < 32 {
             return Some(start + at);
         }
-        start += 16;
+        start += 32;
         rest = after;
     }
     match find_by_one(rest, byte) {
@@ -45,27 +47,60 @@ fn find(text: &[u8], byte: u8) -> Option<usize>
     }
 }
 
-/// What stands before the first such byte, and what stands after it, if there is one.
+// Where the byte first stands in a text with which `ahead` begins. What follows the text there lets thirty-two bytes be
+// asked at once where the text itself is shorter.
+#[inline(always)]
+fn find_ahead(text: &[u8], ahead: &[u8], byte: u8) -> Option<usize>
+    requires { text.now ≡ take (length text.now) ahead.now }
+    ensures { result ≡ position (λ b. b == byte) text.now }
+{
+    let Some(lanes) = ahead.first_chunk::<32>() else {
+        return find(text, byte);
+    };
+    let at = place_in_lanes(lanes, byte);
+    if text.len() <= at {
+        return None;
+    }
+    if at < 32 {
+        return Some(at);
+    }
+    find(text, byte)
+}
+
+/// What stands before the first such byte, and what stands after it, if there is one, in a text with which `ahead`
+/// begins; and with what stands after it begins the third.
+#[inline(always)]
 #[tactic(auto, using(crate::proofs::Splits::split_steps))]
-pub fn split_once(text: &[u8], byte: u8) -> Option<(&[u8], &[u8])>
+pub fn split_once<'a>(
+    text: &'a [u8],
+    ahead: &'a [u8],
+    byte: u8,
+) -> Option<(&'a [u8], &'a [u8], &'a [u8])>
+    requires { text.now ≡ take (length text.now) ahead.now }
     ensures found { is_some result ≡ list_any (λ b. b == byte) text.now }
     ensures before { IfSome result (λ parts. parts.0.now ≡ before_first (λ b. b == byte) text.now) }
     ensures after { IfSome result (λ parts. parts.1.now ≡ after_first (λ b. b == byte) text.now) }
+    ensures beginning { IfSome result
+        (λ parts. parts.1.now ≡ take (length parts.1.now) parts.2.now) }
 {
-    match find(text, byte) {
-        Some(end) => Some((&text[..end], &text[end + 1..])),
+    match find_ahead(text, ahead, byte) {
+        Some(end) => Some((&text[..end], &text[end + 1..], &ahead[end + 1..])),
         None => None,
     }
 }
 
-/// What stands before the first such byte, and what stands after it: all and nothing where no byte is.
+/// What stands before the first such byte, and what stands after it, in a text with which `ahead` begins: all and nothing
+/// where no byte is.
+#[inline(always)]
 #[tactic(auto, using(crate::proofs::Splits::split_steps))]
-pub fn split_at_first(text: &[u8], byte: u8) -> (&[u8], &[u8])
+pub fn split_at_first<'a>(text: &'a [u8], ahead: &'a [u8], byte: u8) -> (&'a [u8], &'a [u8])
+    requires { text.now ≡ take (length text.now) ahead.now }
     ensures before { result.0.now ≡ before_first (λ b. b == byte) text.now }
     ensures after { result.1.now ≡ after_first (λ b. b == byte) text.now }
+    ensures beginning { result.0.now ≡ take (length result.0.now) text.now }
 {
-    match split_once(text, byte) {
-        Some(parts) => parts,
+    match find_ahead(text, ahead, byte) {
+        Some(end) => (&text[..end], &text[end + 1..]),
         None => (text, &[]),
     }
 }
