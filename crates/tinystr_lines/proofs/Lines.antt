@@ -1,11 +1,13 @@
 -- The lines and the output of an input, from its first line on.
-use Rattle.std.proofs.Common.{◌≡◌, ℕ, inl, inr, List, [], ◌∷◌, ◌++◌, ◌<◌, length, refl, ap, arith, take_all, drop_of_length-le}
-use Rattle.std.specs.List.{before_first, after_first, position_or_len, flat_map}
+use Rattle.std.proofs.Common.{◌≡◌, ℕ, inl, inr, List, [], ◌∷◌, ◌++◌, ◌<◌, length, refl, ap, sym, ◌∙◌, arith, append-nil, append_assoc, length-append, take_all, drop_of_length-le}
+use Rattle.std.specs.List.{before_first, after_first, position_or_len, flat_map, slice_split}
 use Rattle.std.proofs.lemmas.Bool.{cases_lt}
 use Rattle.std.proofs.lemmas.Bool.Decides.{nat_tests}
 use Rattle.std.proofs.lemmas.List.Sums.{fails_before_first}
+use Rattle.std.proofs.lemmas.List.Concat.{flat_map-append}
 use Rattle.std.proofs.lemmas.List.Splits.{slice_split_first, slice_split_none, length-slice_split}
-use Rattle.tinystr_lines.specs.Output.{is_line_feed, lines_of, reply_line, output_of}
+use Rattle.tinystr_lines.specs.Reply.{reply}
+use Rattle.tinystr_lines.specs.Output.{is_line_feed, without_empty_last, lines_of, reply_line, output_of}
 
 -- the first line of an input, and those of what follows it
 lines_of-first : (input : List ℕ) → 0 < length input → lines_of input ≡ before_first is_line_feed input ∷ lines_of (after_first is_line_feed input)
@@ -30,3 +32,45 @@ pub output_of-none : (input : List ℕ) → length input ≡ 0 → output_of inp
 unfolding output_of
 output_of-none [] _ = refl
 output_of-none (b ∷ bs) none = absurd (omega arith)
+
+-- the pieces on both sides of a line feed
+slice_split-append : (xs more : List ℕ) → slice_split is_line_feed ((xs ++ 10 ∷ []) ++ more) ≡ slice_split is_line_feed xs ++ slice_split is_line_feed more
+slice_split-append [] more = refl
+slice_split-append (x ∷ xs) more =
+    let pieces = length-slice_split is_line_feed xs in
+    grind (arith, nat_tests, pieces, slice_split-append xs more)
+
+-- the last piece is the last of what follows
+without_empty_last-append : (a b : List (List ℕ)) → 0 < length b → without_empty_last (a ++ b) ≡ a ++ without_empty_last b
+without_empty_last-append [] b some = refl
+without_empty_last-append (x ∷ []) [] some = absurd (omega arith)
+without_empty_last-append (x ∷ []) (y ∷ b) some = refl
+without_empty_last-append (x ∷ y ∷ a) b some = ap (λ (l : List (List ℕ)). x ∷ l) (without_empty_last-append (y ∷ a) b some)
+
+-- the lines of what ends with a line feed, and then of what follows it
+lines_of-append : (xs more : List ℕ) → lines_of ((xs ++ 10 ∷ []) ++ more) ≡ slice_split is_line_feed xs ++ lines_of more
+lines_of-append xs more =
+    let pieces = length-slice_split is_line_feed more in
+    rw (slice_split-append xs more) (without_empty_last-append (slice_split is_line_feed xs) (slice_split is_line_feed more) (omega (arith, pieces)))
+
+-- what ends with a line feed, and what follows it
+pub output_of-append : (xs more : List ℕ) → output_of ((xs ++ 10 ∷ []) ++ more) ≡ output_of (xs ++ 10 ∷ []) ++ output_of more
+unfolding output_of
+output_of-append xs more =
+    let whole : lines_of (xs ++ 10 ∷ []) ≡ slice_split is_line_feed xs =
+    ap lines_of (sym (append-nil (xs ++ 10 ∷ []))) ∙ lines_of-append xs [] ∙ append-nil (slice_split is_line_feed xs) in
+    rw (lines_of-append xs more, flat_map-append reply_line (slice_split is_line_feed xs) (lines_of more), whole) refl
+
+-- the output of what was begun and of a piece, from the piece's last line on
+pub output_of-piece : (begun piece lines rest head more : List ℕ) → lines ≡ head ++ 10 ∷ [] → piece ≡ lines ++ rest
+    → output_of ((begun ++ piece) ++ more) ≡ output_of (begun ++ lines) ++ output_of (rest ++ more)
+output_of-piece begun piece lines rest head more ends parts =
+    let whole : (begun ++ ((head ++ 10 ∷ []) ++ rest)) ++ more ≡ ((begun ++ head) ++ 10 ∷ []) ++ (rest ++ more) = simp append_assoc in
+    let front : begun ++ (head ++ 10 ∷ []) ≡ (begun ++ head) ++ 10 ∷ [] = simp append_assoc in
+    rw (parts, ends, whole, front) (output_of-append (begun ++ head) (rest ++ more))
+
+-- an input that isn't empty has an output
+pub length-output_of : (input : List ℕ) → 0 < length input → 0 < length (output_of input)
+unfolding reply_line
+length-output_of input some =
+    rw (output_of-first input some, length-append (reply (before_first is_line_feed input) ++ 10 ∷ []) (output_of (after_first is_line_feed input)), length-append (reply (before_first is_line_feed input)) (10 ∷ [])) (omega arith)

@@ -1,6 +1,7 @@
 //! Reading the input, answering its lines, writing the output.
 
-ghost use Rattle.std.specs.Prelude.{◌≡◌, ◌++◌, ◌≢◌, OnOk, IfOk, OnErr, IfErr, IfSome, IsErrOf, length, take};
+ghost use Rattle.std.specs.Prelude.{◌≡◌, ◌+◌, ◌≤◌, ℕ, List, [], ◌∷◌, ◌++◌, ◌≢◌, OnOk, IfOk, OnErr, IfErr, IfSome, IsErrOf, length, take};
+ghost use Rattle.std.specs.Vec.{vec_len};
 ghost use Rattle.std.specs.Io.KnownBytes.{Keeps, Appends, Consumes, IsAtEnd};
 ghost use Rattle.tinystr_lines.specs.Output.{AppendsBeginning, reply_line, output_of};
 
@@ -33,24 +34,6 @@ impl From<AllocError> for RunError {
 // How many bytes a read takes at most.
 const PIECE: usize = 65536;
 
-// Reads all that the reader has.
-fn read_input<R: Read>(alloc: Global, reader: &mut R) -> Result<Vec<u8>, RunError>
-    ensures input { IfOk result
-        (λ input. Consumes (R.remaining reader.old) (R.remaining reader.new) input.items) }
-    ensures end { OnOk result (IsAtEnd (R.remaining reader.new)) }
-    ensures err { IfErr result (λ e. e ≢ RunError.Write) }
-{
-    let mut input = Vec::new(alloc);
-    let mut piece = [0u8; PIECE];
-    loop {
-        match reader.read(&mut piece) {
-            Ok(0) => return Ok(input),
-            Ok(count) => input.extend_from_slice(&piece[..count])?,
-            Err(_) => return Err(RunError::Read),
-        }
-    }
-}
-
 // Appends the reply to a line with which `ahead` begins, and a line feed.
 #[tactic(auto, unfolding(crate::specs::Output::reply_line))]
 fn push_reply_line(out: &mut Vec<u8>, line: &[u8], ahead: &[u8]) -> Result<(), AllocError>
@@ -62,18 +45,106 @@ fn push_reply_line(out: &mut Vec<u8>, line: &[u8], ahead: &[u8]) -> Result<(), A
     Ok(())
 }
 
-// The output of an input.
-fn output(alloc: Global, input: &[u8]) -> Result<Vec<u8>, AllocError>
-    ensures { IfOk result (λ out. out.items ≡ output_of input.now) }
+// Appends the output of an input.
+fn push_output(out: &mut Vec<u8>, input: &[u8]) -> Result<(), AllocError>
+    ensures { OnOk result (out.new.items ≡ out.old.items ++ output_of input.now) }
 {
-    let mut out = Vec::new(alloc);
     let mut rest = input;
     while !rest.is_empty() {
         let (line, more) = split_at_first(rest, rest, b'\n');
-        push_reply_line(&mut out, line, rest)?;
+        push_reply_line(out, line, rest)?;
         rest = more;
     }
-    Ok(out)
+    Ok(())
+}
+
+// What ends with the last line feed, and what follows it.
+fn split_behind_last_line(piece: &[u8]) -> Option<(&[u8], &[u8])>
+    ensures some { IfSome result (λ parts. (head : List ℕ)
+        × (parts.0.now ≡ head ++ 10 ∷ [])
+        × (piece.now ≡ parts.0.now ++ parts.1.now)) }
+{
+    let mut end = piece.len();
+    while end > 0 {
+        if piece[end - 1] == b'\n' {
+            return Some((&piece[..end], &piece[end..]));
+        }
+        end -= 1;
+    }
+    None
+}
+
+// Appends the output of what was begun and goes on with a piece, up to the piece's last line feed. What follows that is
+// begun then.
+fn push_piece(out: &mut Vec<u8>, begun: &mut Vec<u8>, piece: &[u8]) -> Result<(), AllocError>
+    ensures answered { OnOk result ((more : List ℕ)
+        → out.old.items ++ output_of ((begun.old.items ++ piece.now) ++ more)
+        ≡ out.new.items ++ output_of (begun.new.items ++ more)) }
+    // What is begun grows, or else the output.
+    ensures kept { OnOk result (vec_len out.old ≤ vec_len out.new) }
+    ensures grown { OnOk result (vec_len out.new ≡ vec_len out.old
+        → vec_len begun.new ≡ vec_len begun.old + length piece.now) }
+{
+    let Some((lines, rest)) = split_behind_last_line(piece) else {
+        return begun.extend_from_slice(piece);
+    };
+    begun.extend_from_slice(lines)?;
+    push_output(out, begun)?;
+    begun.clear();
+    begun.extend_from_slice(rest)?;
+    Ok(())
+}
+
+// Why a run fails where memory for what was read last was refused. The rest is read and kept first, so that a later read
+// that fails is told before what replies want.
+#[cold]
+fn read_on<R: Read>(alloc: Global, reader: &mut R, piece: &mut [u8], count: usize) -> RunError
+    requires { count ≤ length piece.old }
+    ensures { result ≢ RunError.Write }
+{
+    let Ok(mut input) = Vec::from_slice(alloc, &piece[..count]) else {
+        return RunError::Memory;
+    };
+    loop {
+        match reader.read(piece) {
+            Ok(0) => return RunError::Memory,
+            Ok(count) => match input.extend_from_slice(&piece[..count]) {
+                Ok(()) => {}
+                Err(_) => return RunError::Memory,
+            },
+            Err(_) => return RunError::Read,
+        }
+    }
+}
+
+// Reads all that the reader has, and gives its output.
+fn read_output<R: Read>(alloc: Global, reader: &mut R) -> Result<Vec<u8>, RunError>
+    ensures output { IfOk result (λ out. (input : List ℕ)
+        × Consumes (R.remaining reader.old) (R.remaining reader.new) input
+        × (out.items ≡ output_of input)) }
+    ensures end { OnOk result (IsAtEnd (R.remaining reader.new)) }
+    ensures err { IfErr result (λ e. e ≢ RunError.Write) }
+{
+    let mut out = Vec::new(alloc);
+    let mut begun = Vec::new(alloc);
+    let mut piece = [0u8; PIECE];
+    loop {
+        match reader.read(&mut piece) {
+            Ok(0) => {
+                push_output(&mut out, &begun)?;
+                return Ok(out);
+            }
+            Ok(count) => match push_piece(&mut out, &mut begun, &piece[..count]) {
+                Ok(()) => continue,
+                Err(_) => {
+                    drop(out);
+                    drop(begun);
+                    return Err(read_on(alloc, reader, &mut piece, count));
+                }
+            },
+            Err(_) => return Err(RunError::Read),
+        }
+    }
 }
 
 // Writes all the bytes and flushes.
@@ -94,8 +165,8 @@ fn write_output<W: Write>(writer: &mut W, output: &[u8]) -> Result<(), RunError>
 }
 
 /// Reads the reader to its end, then writes the replies to the lines read, each followed by a line feed, and flushes.
-/// Memory of `alloc` holds the whole input and all replies. A read or a write that was interrupted has failed, and isn't
-/// tried again.
+/// Memory of `alloc` holds all replies, and of the input no more than a line and what is read at once. A read or a write
+/// that was interrupted has failed, and isn't tried again.
 pub fn run<R: Read, W: Write>(alloc: Global, r: &mut R, w: &mut W) -> Result<(), RunError>
     // It reads to the end before it writes.
     ensures ended { OnOk result (IsAtEnd (R.remaining r.new)) }
@@ -109,7 +180,6 @@ pub fn run<R: Read, W: Write>(alloc: Global, r: &mut R, w: &mut W) -> Result<(),
     ensures no_memory { IsErrOf result RunError.Memory →
         Keeps (W.contents w.old) (W.contents w.new) }
 {
-    let input = read_input(alloc, r)?;
-    let out = output(alloc, &input)?;
+    let out = read_output(alloc, r)?;
     write_output(w, &out)
 }
