@@ -1,5 +1,6 @@
-//! `run` writes nothing where memory is refused.
+//! `run` writes nothing where memory is refused, and tells of a failed read first.
 
+use std::io::{self, ErrorKind, Read};
 use std::test::Fail;
 use tinystr_lines::engine::{RunError, run};
 use tinystr_lines_tests::{INPUT, OUTPUT};
@@ -21,5 +22,32 @@ fn a_refused_allocation_writes_nothing(rt: HostRuntime) -> Result<(), Fail> {
         }
     }
     assert_eq!(rt; &room[..], OUTPUT);
+    Ok(())
+}
+
+/// Gives its bytes, and then fails at each read.
+#[derive(Drop)]
+struct BrokenReader<'a> {
+    bytes: &'a [u8],
+}
+
+impl Read for BrokenReader<'_> {
+    fn read(&mut self, buf: &mut [u8]) -> io::Result<usize> {
+        if self.bytes.is_empty() {
+            return Err(ErrorKind::Other.into());
+        }
+        self.bytes.read(buf)
+    }
+}
+
+#[test]
+fn a_failed_read_is_told_before_a_refused_reply(rt: HostRuntime) -> Result<(), Fail> {
+    let mut room = [0u8; OUTPUT.len()];
+    let mut rest = &mut room[..];
+    let mut reader = BrokenReader { bytes: INPUT };
+    let outcome = run(rt.alloc(), &mut reader, &mut rest);
+    let left = rest.len();
+    assert!(rt; matches!(outcome, Err(RunError::Read)));
+    assert_eq!(rt; left, OUTPUT.len());
     Ok(())
 }
