@@ -5,7 +5,7 @@ ghost use Rattle.std.specs.Prelude.{◌<◌, ◌^◌};
 
 use crate::codes::long_codes;
 use crate::digest::Digest;
-use crate::random::Random;
+use crate::random::{MIXED, Random};
 use std::alloc::{AllocError, Global};
 use subtags::{LangId, LangIdError};
 use tinystr::ule::UleError;
@@ -45,11 +45,11 @@ fn texts_at<const N: usize>(
             digest.add(u64::from(left < right) ^ u64::from(left == right));
         }
     }
-    spoil(alloc, &codes, random, digest)?;
+    spoil(alloc, &codes, digest)?;
     read_units(alloc, &codes, random, digest)
 }
 
-// Keys that are there, below all others and above them, and all that begins with all but the last byte.
+// Keys that are there, others below and above all, and all that begins with all but the last byte.
 #[inline(never)]
 fn search<const N: usize>(
     sorted: &SortedTable<'_, N>,
@@ -59,15 +59,23 @@ fn search<const N: usize>(
     requires some { 0 < N }
     requires bound { N < 2 ^ 63 }
 {
-    let lowest = TinyAsciiStr::<N>::from_utf8_lossy(&[], b'?');
-    let highest = TinyAsciiStr::<N>::from_utf8_lossy(&[0; 264], 127);
     for code in codes {
         add_place(digest, sorted.binary_search(code));
-        add_place(digest, sorted.binary_search(&lowest));
-        add_place(digest, sorted.binary_search(&highest));
+        add_place(digest, sorted.binary_search(&begun_with(code, b'!')));
+        add_place(digest, sorted.binary_search(&begun_with(code, 127)));
         let beginning = TinyAsciiStr::<N>::from_utf8_lossy(&code.all_bytes()[..N - 1], b'~');
         digest.add(sorted.with_prefix(&beginning).table().len() as u64);
     }
+}
+
+// The code with another first byte.
+#[inline(always)]
+fn begun_with<const N: usize>(code: &TinyAsciiStr<N>, byte: u8) -> TinyAsciiStr<N>
+    requires { 0 < N }
+{
+    let mut raw = *code.all_bytes();
+    raw[0] = byte;
+    TinyAsciiStr::try_from_raw(raw).unwrap_or_default()
 }
 
 #[inline(always)]
@@ -83,21 +91,20 @@ fn add_place(digest: &mut Digest, place: Result<usize, usize>) {
 fn spoil<const N: usize>(
     alloc: Global,
     codes: &[TinyAsciiStr<N>],
-    random: &mut Random,
     digest: &mut Digest,
 ) -> Result<(), AllocError>
     requires some { 0 < N }
     requires bound { N < 2 ^ 63 }
 {
     let mut file = pack(alloc, codes)?;
-    for _ in 0..20 {
+    let len = file.len();
+    let short = file.as_slice().split_at(len - len.min(1)).0;
+    add_refusal(digest, Table::<N>::new(short).err());
+    for byte in 0x80..0x94u8 {
         if let Some(last) = file.as_mut_slice().last_mut() {
-            *last = 0x80 ^ (random.bits() % 128) as u8;
+            *last = byte;
         }
         add_refusal(digest, Table::<N>::new(&file).err());
-        let len = file.len();
-        let short = file.as_slice().split_at(len - len.min(1)).0;
-        add_refusal(digest, Table::<N>::new(short).err());
     }
     file.truncate(file.len() - file.len().min(N));
     if let Ok(table) = Table::<N>::new(&file) {
@@ -159,43 +166,41 @@ fn read_units<const N: usize>(
     Ok(())
 }
 
-// What is nearly an identifier, at its border.
-const NEARLY: [&[u8]; 16] = [
-    b"abcdefgh-Hant-419",
-    b"abcdefghi-Hant-419",
-    b"abcd-Hant-TW",
-    b"en-Hant-TW-",
-    b"en--TW",
-    b"en-Han-TW",
-    b"zh-Hant-T1",
-    b"zh-Han1-TW",
-    b"zh-TW-Hant",
-    b"-",
-    b"zh_Hant_4191",
-    b"z",
-    b"zh-Hant-TW-x-private-use-of-many-words",
-    b"abcdefgh",
-    b"zh\0Hant",
-    b"zh-H\xe4nt-TW",
-];
-
 #[inline(never)]
 fn near_identifiers(random: &mut Random, digest: &mut Digest) {
     for _ in 0..100_000 {
-        let mut bytes = [0; 48];
-        let nearly = random.one_of(&NEARLY);
-        let len = nearly.len().min(48);
-        bytes[..len].copy_from_slice(&nearly[..len]);
-        let at = random.below(48);
-        if random.chance(25) && bytes[at] > 64 {
-            bytes[at] ^= 0x20;
-        }
-        match LangId::try_from_utf8(&bytes[..len]) {
+        let (bytes, len) = near_identifier(random);
+        match LangId::try_from_utf8(&bytes[..len.min(48)]) {
             Ok(id) => digest.add_bytes(id.as_str().as_bytes()),
             Err(LangIdError::InvalidLanguage) => digest.add(1),
             Err(LangIdError::InvalidSubtag) => digest.add(2),
         }
     }
+}
+
+// At most three subtags, many of a length that is accepted, of letters and here and there a digit; and their length.
+#[inline(always)]
+fn near_identifier(random: &mut Random) -> ([u8; 48], usize) {
+    let letters = MIXED;
+    let mut bytes = [0; 48];
+    let mut end = 0usize;
+    for (accepted, most) in [(2, 9), (4, 5), (2, 4)] {
+        let start = end.min(32);
+        let from = random.below(48);
+        bytes[start..start + 16].copy_from_slice(&letters[from..from + 16]);
+        let len = if random.chance(60) {
+            accepted
+        } else {
+            1 + random.below(most)
+        };
+        end = start.saturating_add(len).min(46);
+        if random.chance(30) {
+            break;
+        }
+        bytes[end] = if random.chance(80) { b'-' } else { b'_' };
+        end += 1;
+    }
+    (bytes, end)
 }
 
 // Lines with nothing in them, a line that never ends, and lines of no command.
