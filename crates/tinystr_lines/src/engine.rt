@@ -6,7 +6,7 @@ ghost use Rattle.std.specs.Io.KnownBytes.{Keeps, Appends, Consumes, IsAtEnd};
 ghost use Rattle.tinystr_lines.specs.Output.{AppendsBeginning, reply_line, output_of};
 
 use crate::reply::push_reply;
-use crate::split::split_at_first;
+use crate::split::{place_in_lanes, split_at_first};
 use std::alloc::{AllocError, Global};
 use std::io::{Read, Write};
 
@@ -29,6 +29,15 @@ impl From<AllocError> for RunError {
     fn from(_error: AllocError) -> RunError {
         RunError::Memory
     }
+}
+
+// What memory was refused for.
+#[derive(Drop)]
+enum Refused {
+    /// What was read.
+    Input,
+    /// The reply to a line.
+    Reply,
 }
 
 // How many bytes a read takes at most.
@@ -58,13 +67,19 @@ fn push_output(out: &mut Vec<u8>, input: &[u8]) -> Result<(), AllocError>
     Ok(())
 }
 
-// What ends with the last line feed, and what follows it.
+// What ends with the last line feed, and what follows it. Thirty-two bytes without one are passed at once.
 fn split_behind_last_line(piece: &[u8]) -> Option<(&[u8], &[u8])>
     ensures some { IfSome result (λ parts. (head : List ℕ)
         × (parts.0.now ≡ head ++ 10 ∷ [])
         × (piece.now ≡ parts.0.now ++ parts.1.now)) }
 {
     let mut end = piece.len();
+    while let Some(lanes) = piece[..end].last_chunk::<32>() {
+        if place_in_lanes(lanes, b'\n') < 32 {
+            break;
+        }
+        end -= 32;
+    }
     while end > 0 {
         if piece[end - 1] == b'\n' {
             return Some((&piece[..end], &piece[end..]));
@@ -74,9 +89,17 @@ fn split_behind_last_line(piece: &[u8]) -> Option<(&[u8], &[u8])>
     None
 }
 
+// Appends bytes that were read to what was begun.
+fn keep(begun: &mut Vec<u8>, bytes: &[u8]) -> Result<(), Refused>
+    ensures items { OnOk result (begun.new.items ≡ begun.old.items ++ bytes.now) }
+    ensures len { OnOk result (vec_len begun.new ≡ vec_len begun.old + length bytes.now) }
+{
+    begun.extend_from_slice(bytes).or(Err(Refused::Input))
+}
+
 // Appends the output of what was begun and goes on with a piece, up to the piece's last line feed. What follows that is
 // begun then.
-fn push_piece(out: &mut Vec<u8>, begun: &mut Vec<u8>, piece: &[u8]) -> Result<(), AllocError>
+fn push_piece(out: &mut Vec<u8>, begun: &mut Vec<u8>, piece: &[u8]) -> Result<(), Refused>
     ensures answered { OnOk result ((more : List ℕ)
         → out.old.items ++ output_of ((begun.old.items ++ piece.now) ++ more)
         ≡ out.new.items ++ output_of (begun.new.items ++ more)) }
@@ -86,32 +109,32 @@ fn push_piece(out: &mut Vec<u8>, begun: &mut Vec<u8>, piece: &[u8]) -> Result<()
         → vec_len begun.new ≡ vec_len begun.old + length piece.now) }
 {
     let Some((lines, rest)) = split_behind_last_line(piece) else {
-        return begun.extend_from_slice(piece);
+        return keep(begun, piece);
     };
-    begun.extend_from_slice(lines)?;
-    push_output(out, begun)?;
+    keep(begun, lines)?;
+    if push_output(out, begun).is_err() {
+        return Err(Refused::Reply);
+    }
     begun.clear();
-    begun.extend_from_slice(rest)?;
+    keep(begun, rest)?;
     Ok(())
 }
 
-// Why a run fails where memory for what was read last was refused. The rest is read and kept first, so that a later read
-// that fails is told before what replies want.
+// Why a run fails where memory for a reply was refused. The rest is read and kept first, so that a read that fails is told
+// before.
 #[cold]
-fn read_on<R: Read>(alloc: Global, reader: &mut R, piece: &mut [u8], count: usize) -> RunError
-    requires { count ≤ length piece.old }
+fn read_on<R: Read>(reader: &mut R, begun: Vec<u8>, piece: &mut [u8]) -> RunError
     ensures { result ≢ RunError.Write }
 {
-    let Ok(mut input) = Vec::from_slice(alloc, &piece[..count]) else {
-        return RunError::Memory;
-    };
+    let mut kept = begun;
     loop {
         match reader.read(piece) {
             Ok(0) => return RunError::Memory,
-            Ok(count) => match input.extend_from_slice(&piece[..count]) {
-                Ok(()) => {}
-                Err(_) => return RunError::Memory,
-            },
+            Ok(count) => {
+                if kept.extend_from_slice(&piece[..count]).is_err() {
+                    return RunError::Memory;
+                }
+            }
             Err(_) => return RunError::Read,
         }
     }
@@ -136,10 +159,10 @@ fn read_output<R: Read>(alloc: Global, reader: &mut R) -> Result<Vec<u8>, RunErr
             }
             Ok(count) => match push_piece(&mut out, &mut begun, &piece[..count]) {
                 Ok(()) => continue,
-                Err(_) => {
+                Err(Refused::Input) => return Err(RunError::Memory),
+                Err(Refused::Reply) => {
                     drop(out);
-                    drop(begun);
-                    return Err(read_on(alloc, reader, &mut piece, count));
+                    return Err(read_on(reader, begun, &mut piece));
                 }
             },
             Err(_) => return Err(RunError::Read),
@@ -165,8 +188,8 @@ fn write_output<W: Write>(writer: &mut W, output: &[u8]) -> Result<(), RunError>
 }
 
 /// Reads the reader to its end, then writes the replies to the lines read, each followed by a line feed, and flushes.
-/// Memory of `alloc` holds all replies, and of the input no more than a line and what is read at once. A read or a write
-/// that was interrupted has failed, and isn't tried again.
+/// Memory of `alloc` holds all replies, and of the input no more than a line and what is read at once, or where memory for
+/// a reply was refused, what was left to read. A read or a write that was interrupted has failed, and isn't tried again.
 pub fn run<R: Read, W: Write>(alloc: Global, r: &mut R, w: &mut W) -> Result<(), RunError>
     // It reads to the end before it writes.
     ensures ended { OnOk result (IsAtEnd (R.remaining r.new)) }

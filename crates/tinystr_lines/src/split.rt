@@ -5,9 +5,9 @@ ghost use Rattle.std.specs.List.{before_first, after_first, list_any, position_o
 
 use std::simd::prelude::*;
 
-// Where the byte first stands among thirty-two, all asked at once: 32 where it doesn't.
+/// Where the byte first stands among thirty-two, all asked at once: 32 where it doesn't.
 #[inline(always)]
-fn place_in_lanes(lanes: &[u8; 32], byte: u8) -> usize
+pub fn place_in_lanes(lanes: &[u8; 32], byte: u8) -> usize
     ensures { result ≡ position_or_len (λ b. b == byte) lanes.now }
 {
     let equal = u8x32::from_array(*lanes)

@@ -6,3 +6,9 @@ invariant-loop-end l = l.end ≤ length l.piece
 
 abbrev pub decreases-loop-end : goal.decreases-loop-end
 decreases-loop-end l = l.end
+
+abbrev pub invariant-loop-lanes : goal.invariant-loop-lanes
+invariant-loop-lanes l = l.end ≤ length l.piece
+
+abbrev pub decreases-loop-lanes : goal.decreases-loop-lanes
+decreases-loop-lanes l = l.end
