@@ -14,6 +14,9 @@ use std::hint::select_unpredictable;
 // they are guessed, the processor reads ahead.
 const CACHED: usize = 4 << 20;
 
+// Fewer records of more than eight bytes are compared whole: what tells them apart takes longer to find.
+const SEVERAL: usize = 8;
+
 /// The index of the first record that isn't below a key, or the number of records.
 #[inline(always)]
 pub fn first_not_below<const N: usize>(records: &[[u8; N]], key: &[u8; N]) -> usize
@@ -21,7 +24,8 @@ pub fn first_not_below<const N: usize>(records: &[[u8; N]], key: &[u8; N]) -> us
     requires key { IsRecord N key.now }
     ensures { IsFirstNotBelow key.now records.now result }
 {
-    if records.len() > CACHED / N.max(1) {
+    let are_few = N > 8 && records.len() < SEVERAL;
+    if are_few || records.len() > CACHED / N.max(1) {
         return first_not_below_by_halves(records, key);
     }
     if N <= 8 {
@@ -33,9 +37,9 @@ pub fn first_not_below<const N: usize>(records: &[[u8; N]], key: &[u8; N]) -> us
     place + first_not_below_near_start(&records[place..], key)
 }
 
-/// The same, for a place that is near the start: in time that grows as the logarithm of the place.
+// The same, for a place that is near the start: in time that grows as the logarithm of the place.
 #[inline(always)]
-pub fn first_not_below_near_start<const N: usize>(records: &[[u8; N]], key: &[u8; N]) -> usize
+fn first_not_below_near_start<const N: usize>(records: &[[u8; N]], key: &[u8; N]) -> usize
     requires records { AreRisingRecords N records.now }
     requires key { IsRecord N key.now }
     ensures { IsFirstNotBelow key.now records.now result }
