@@ -37,7 +37,8 @@ pub fn first_not_below<const N: usize>(records: &[[u8; N]], key: &[u8; N]) -> us
     place + first_not_below_near_start(&records[place..], key)
 }
 
-// The same, for a place that is near the start: in time that grows as the logarithm of the place.
+// The same, for a place that is near the start: in time that grows as the logarithm of the place. By steps that grow eight
+// times, a place that is far takes a third more comparisons than halves would.
 #[inline(always)]
 fn first_not_below_near_start<const N: usize>(records: &[[u8; N]], key: &[u8; N]) -> usize
     requires records { AreRisingRecords N records.now }
@@ -45,10 +46,10 @@ fn first_not_below_near_start<const N: usize>(records: &[[u8; N]], key: &[u8; N]
     ensures { IsFirstNotBelow key.now records.now result }
 {
     let mut start: usize = 0;
-    while is_below_at(records, start.saturating_mul(2), key) {
-        start = 2 * start + 1;
+    while is_below_at(records, start.saturating_mul(8), key) {
+        start = 8 * start + 1;
     }
-    let end = records.len().min(start.saturating_mul(2));
+    let end = records.len().min(start.saturating_mul(8));
     start + first_not_below_by_halves(&records[start..end], key)
 }
 
