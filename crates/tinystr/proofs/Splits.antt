@@ -1,5 +1,5 @@
 -- The parts of a padded text, found and taken in vectors of sixteen bytes.
-use Rattle.std.proofs.Common.{◌≡◌, ◌+◌, ◌*◌, ◌%◌, ◌-◌, ◌<◌, ◌≤◌, ℕ, suc, inl, inr, Bool, true, false, not, Some, None, List, [], ◌∷◌, length, map, replicate, take, drop, get_or, cond, eqb, ap, ap₂, sym, ◌∙◌, w8, arith, refl, take_all, length-take, ltb, rules}
+use Rattle.std.proofs.Common.{◌≡◌, ◌+◌, ◌*◌, ◌%◌, ◌-◌, ◌<◌, ◌≤◌, ℕ, suc, inl, inr, Bool, true, false, not, Option, Some, None, List, [], ◌∷◌, length, map, replicate, take, drop, get_or, cond, eqb, ap, ap₂, sym, ◌∙◌, w8, arith, refl, take_all, length-take, ltb, rules}
 use lib.Lanes.{zip2, mask_l, top, sel_l}
 use lib.Count.{count_trailing_zeros}
 use Rattle.std.specs.List.{position, position_or_len, range_with_len, slice_split}
@@ -11,7 +11,7 @@ use Rattle.std.proofs.lemmas.List.Quantifiers.{position-Some}
 use Rattle.std.proofs.lemmas.Simd.{bitmask_splat, leading_from_mask_l, trailing_mask_l, get_or-sel_l, get_or-zip2, get_or-replicate, length-sel_l, length-zip2, tops_compared}
 use Rattle.std.proofs.lemmas.List.FromFn.{get_or-range_with_len}
 use Rattle.std.proofs.lemmas.List.Sums.{fails_before_first, passes_at_first, position_or_len_is}
-use Rattle.tinystr_words.specs.Text.{IsPadded, IsText, IsTextByte, pad, text_of}
+use Rattle.tinystr_words.specs.Text.{IsPadded, IsPaddedText, IsText, IsTextByte, pad, text_of}
 use Rattle.tinystr_words.proofs.Parts.{slice_split-found, slice_split-missed}
 use Rattle.tinystr_words.proofs.Texts.{IsPaddedText-made, IsPaddedText-drop, IsPaddedText-places, IsPaddedText-take, get_or-text_of, length-pad, length-text_of-le, text_of-drop, text_of-made, text_of-take}
 
@@ -44,6 +44,11 @@ position-front p t m i at =
     position-at p t i (omega (arith, length-take m t))
     (λ k below. rw (get_or-take m t k 0 (omega (arith, length-take m t))) at (is.2 k below))
     (rw (get_or-take m t i 0 (omega (arith, length-take m t))) at is.1)
+
+-- in a front that has it, or is all
+pub position-first : (p : ℕ → Bool) (t : List ℕ) (m : ℕ) (r : Option ℕ) → r ≡ position p (take m t) → (r ≡ None → length t ≤ m) → r ≡ position p t
+position-first p t m None at whole = rw (take_all m t (whole refl)) at at
+position-first p t m (Some i) at whole = sym (position-front p t m i (sym at))
 
 -- behind n that do not pass
 pub position-behind : (p : ℕ → Bool) (t : List ℕ) (n i : ℕ) → position p (take n t) ≡ None → position p (take 16 (drop n t)) ≡ Some i → position p t ≡ Some (n + i)
@@ -166,9 +171,9 @@ IsPadded-fewer l r q few is =
 -- ---- what stands behind a place
 
 -- where a byte is NUL the text has ended
-pub length-text_of-nul : (l : List ℕ) (n : ℕ) → IsPadded l → get_or l n 0 ≡ 0 → length (text_of l) ≤ n
-length-text_of-nul l n q nul = elim (cases_lt n (length (text_of l))) [
-  | inl inside ↦ (let some = q.text n 0 inside in absurd (omega (arith, get_or-text_of l (length l) n q)))
+pub length-text_of-nul : (l : List ℕ) (w n : ℕ) → IsPaddedText l w → get_or l n 0 ≡ 0 → length (text_of l) ≤ n
+length-text_of-nul l w n q nul = elim (cases_lt n (length (text_of l))) [
+  | inl inside ↦ (let some = q.text n 0 inside in absurd (omega (arith, get_or-text_of l w n q)))
   | inr outside ↦ outside
 ]
 

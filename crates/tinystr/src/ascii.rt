@@ -6,10 +6,13 @@ ghost use Rattle.tinystr.specs.Error.{fault_of};
 
 mod decimals;
 mod joining;
+mod lanes;
+mod letters;
 mod order;
 mod print;
 mod questions;
 mod readers;
+mod slicing;
 pub mod splitting;
 mod strict;
 mod views;

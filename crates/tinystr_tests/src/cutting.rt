@@ -1,9 +1,11 @@
-//! Values at another capacity, values joined, and decimal texts.
+//! Values at another capacity, parts of values, values joined, and decimal texts.
 
 mod concat;
 mod decimals;
+mod find;
 mod join;
 mod resize;
+mod slice;
 mod split;
 
 use tinystr::TinyAsciiStr;

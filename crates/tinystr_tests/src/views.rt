@@ -1,5 +1,7 @@
 //! Views of values.
 
+ghost use Rattle.std.specs.Prelude.{◌<◌, ◌^◌};
+
 use std::test::Fail;
 use tinystr::{TinyAsciiStr, TinyStr4, TinyStr8, TinyStr16};
 
@@ -47,4 +49,26 @@ fn views_show_the_text_and_its_padding(rt: HostRuntime) -> Result<(), Fail> {
     assert!(rt; shows(city, "New York", b"New York"));
     assert!(rt; shows(city.clone()?, "New York", b"New York"));
     Ok(())
+}
+
+// Whether each byte of the text, held at N, stands at its index, and none past its end.
+fn has_bytes<const N: usize>(text: &str) -> bool
+    requires { N < 2 ^ 62 }
+{
+    let Ok(value) = TinyAsciiStr::<N>::try_from_str(text) else {
+        return false;
+    };
+    for index in 0..N + 2 {
+        if value.get(index) != text.as_bytes().get(index).copied() {
+            return false;
+        }
+    }
+    value.get(usize::MAX).is_none()
+}
+
+#[test]
+fn the_byte_at_each_index(rt: HostRuntime) {
+    assert!(rt; has_bytes::<0>("") && has_bytes::<8>("") && has_bytes::<17>(""));
+    assert!(rt; has_bytes::<8>("en-US") && has_bytes::<8>("New York"));
+    assert!(rt; has_bytes::<17>("MacintoshOSX2019") && has_bytes::<16>("MacintoshOSX2019"));
 }

@@ -1,6 +1,6 @@
-//! Texts split at a byte.
+//! A byte found in a text, and texts split at it.
 
-ghost use Rattle.std.specs.Prelude.{◌≡◌, ◌==◌, ◌∷◌, ◌≤◌, ◌+◌, IfSome, length, position, take, option_map};
+ghost use Rattle.std.specs.Prelude.{◌≡◌, ◌==◌, ◌∷◌, ◌<◌, ◌≤◌, ◌+◌, IfSome, length, position, take, option_map};
 ghost use Rattle.std.specs.Iterator.{YieldsFirst, item_count};
 ghost use Rattle.std.specs.List.{slice_split};
 ghost use Rattle.std.specs.Option.{option_copied};
@@ -40,6 +40,26 @@ impl<'a, const N: usize> Model for Parts<'a, N> {
 }
 
 impl<const N: usize> TinyAsciiStr<N> {
+    /// The index of the first byte of the text that is `byte`, or `None` where none is.
+    ///
+    /// ```rust
+    /// let tag = tinystr!(16, "zh-Hant-TW")?;
+    /// assert_eq!(rt; tag.find(b'-'), Some(2));
+    /// assert_eq!(rt; tag.find(b'_'), None);
+    /// ```
+    #[inline]
+    pub fn find(&self, byte: u8) -> Option<usize>
+        ensures place { result ≡ position (λ b. b == byte) self.now }
+        ensures inside { IfSome result (λ at. at < N) }
+    {
+        let bytes = &self.bytes[..];
+        let found = find_in_sixteen(first_sixteen(bytes), byte);
+        if found.is_none() && N > 16 && bytes[16] != 0 {
+            return find(bytes, byte);
+        }
+        found
+    }
+
     /// The parts before, between and behind the bytes that are the separator, in order. A text without one is one part,
     /// and so is the empty text.
     ///

@@ -1,6 +1,6 @@
 //! What a value shows of its text.
 
-ghost use Rattle.std.specs.Prelude.{◌≡◌, ◌≤◌, [], length, ◌↔◌, IsTrue};
+ghost use Rattle.std.specs.Prelude.{◌≡◌, ◌≤◌, [], length, ◌↔◌, IsTrue, slice_get};
 ghost use Rattle.tinystr_words.specs.Text.{pad, text_of, IsText, IsStrictText, IsPaddedText};
 
 use crate::ascii::TinyAsciiStr;
@@ -27,6 +27,22 @@ impl<const N: usize> TinyAsciiStr<N> {
         ensures { IsTrue result ↔ (self.now ≡ []) }
     {
         N == 0 || self.bytes[0] == 0
+    }
+
+    /// The byte of the text at an index, counted from 0, or `None` past its end.
+    ///
+    /// ```rust
+    /// assert_eq!(rt; tinystr!(8, "en-US")?.get(2), Some(b'-'));
+    /// assert_eq!(rt; tinystr!(8, "en-US")?.get(5), None);
+    /// ```
+    #[inline]
+    pub fn get(&self, index: usize) -> Option<u8>
+        ensures { result ≡ slice_get self.now index }
+    {
+        if index >= N || self.bytes[index] == 0 {
+            return None;
+        }
+        Some(self.bytes[index])
     }
 
     /// Borrows the bytes of the text, without the NULs behind it.

@@ -37,7 +37,7 @@ returns-in-None-clause-parts g c =
     let t = text_of bytes in
     let ends : length t ≤ 16 = elim c.if-bytes-le16.branch [
       | then-bytes-le16 w ↦ omega (arith, length-text_of-le bytes)
-      | else-bytes-le16 w ↦ length-text_of-nul bytes 16 c.requires.padded (grind (arith, nat_tests))
+      | else-bytes-le16 w ↦ length-text_of-nul bytes (length bytes) 16 c.requires.padded (grind (arith, nat_tests))
     ] in
     let all : text_of c.first_sixteen-lanes.result ≡ t = c.first_sixteen-lanes.ensures.text ∙ take_all 16 t ends in
     slice_split-whole p t c.text_of_lanes-in-None.result (rw all at (sym c.in-None.ensures)) (c.text_of_lanes-in-None.ensures ∙ all)

@@ -1,0 +1,57 @@
+//! Parts of a text by their places.
+
+ghost use Rattle.std.specs.Prelude.{◌≡◌, ◌≤◌, ◌-◌, take, drop};
+
+use crate::ascii::TinyAsciiStr;
+use crate::ascii::lanes::first_lanes;
+use std::ops::Range;
+use std::simd::prelude::*;
+use tinystr_words::padded::{cut, resize};
+
+impl<const N: usize> TinyAsciiStr<N> {
+    /// The bytes of the text at a range of indices, at another capacity: as many as stand there, and at most `M`. The
+    /// range may end, or begin, past the text. It may not begin behind its end.
+    ///
+    /// ```rust
+    /// let tag = tinystr!(16, "zh-Hant-TW")?;
+    /// assert_eq!(rt; tag.slice::<4>(3..7).as_str(), "Hant");
+    /// assert_eq!(rt; tag.slice::<8>(8..16).as_str(), "TW");
+    /// assert_eq!(rt; tag.slice::<2>(3..7).as_str(), "Ha");
+    /// ```
+    #[inline]
+    pub fn slice<const M: usize>(&self, range: Range<usize>) -> TinyAsciiStr<M>
+        requires { range.start ≤ range.end }
+        ensures { result ≡ take M (take (range.end - range.start) (drop range.start self.now)) }
+    {
+        self.behind::<M>(range.start).front(range.end - range.start)
+    }
+
+    // What stands behind the first bytes, as much as there is room for. Where `M` bytes of the array stand there, they are
+    // copied at once.
+    #[inline(always)]
+    fn behind<const M: usize>(&self, start: usize) -> TinyAsciiStr<M>
+        ensures { result ≡ take M (drop start self.now) }
+    {
+        let bytes = &self.bytes[..];
+        if M <= N && start <= N - M {
+            return TinyAsciiStr::from_utf8_unchecked(cut(&bytes[start..start + M]));
+        }
+        TinyAsciiStr::from_utf8_unchecked(cut(&bytes[start.min(N)..]))
+    }
+
+    // The first bytes. Up to eight stay in a vector.
+    #[inline(always)]
+    fn front(self, len: usize) -> Self
+        ensures { result ≡ take len self.entry }
+    {
+        if len >= N {
+            return self;
+        }
+        let bytes = &self.bytes[..];
+        if N > 8 {
+            return TinyAsciiStr::from_utf8_unchecked(cut(&bytes[..len]));
+        }
+        let lanes = first_lanes(u8x8::from_array(resize(bytes)), len);
+        TinyAsciiStr::from_utf8_unchecked(resize(&lanes.to_array()[..]))
+    }
+}
