@@ -18,7 +18,7 @@ pub take_take_append : (l t : List ℕ) → length l + length t ≤ 16 → take 
 take_take_append l t h = let len = length-append l t in rw (take_all 16 (l ++ t) (omega arith), take_all 17 (l ++ t) (omega arith)) refl
 
 -- what stands behind the language and a dash
-abbrev pub tail_text : Option (List ℕ) → Option (List ℕ) → Option (List ℕ)
+abbrev tail_text : Option (List ℕ) → Option (List ℕ) → Option (List ℕ)
 tail_text None r = r
 tail_text (Some s) r = Some (s ++ after_dash r)
 

@@ -4,3 +4,4 @@ pub mod CanonLemmas
 pub mod ReadLemmas
 pub mod JoinLemmas
 pub mod PlaceLemmas
+pub mod HeadLemmas

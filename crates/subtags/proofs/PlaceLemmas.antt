@@ -1,99 +1,154 @@
 -- Where the subtags of a canonical text stand.
-use Rattle.std.proofs.Common.{◌≡◌, ◌<◌, ◌≤◌, ℕ, length, List, [], ◌∷◌, ◌++◌, take, Option, None, Some, Ok, refl, sym, ap, ap₂, ◌∙◌, arith}
+use Rattle.std.proofs.Common.{get_or, ◌≡◌, ◌+◌, ◌-◌, ◌<◌, ◌≤◌, ◌==◌, ℕ, suc, inl, inr, Bool, true, length, List, [], ◌∷◌, ◌++◌, take, drop, Option, None, Some, Ok, refl, sym, ap, ◌∙◌, arith}
+use Rattle.std.proofs.lemmas.Bool.{cases_lt}
 use Rattle.std.proofs.lemmas.Bool.Decides.{nat_tests}
-use Rattle.std.proofs.lemmas.List.{length-append, length-map}
+use Rattle.std.proofs.lemmas.List.{places, append-nil, take_all, get_or-take, length-append, length-take, take-take}
+use Rattle.std.proofs.lemmas.List.Sums.{position_or_len_is}
 use Rattle.std.proofs.Math.Seq.{drop-append-add, take-append_seam}
-use Rattle.std.specs.Option.{IfSome}
-use Rattle.tinystr_words.specs.Text.{IsStrictText}
-use Rattle.tinystr_words.specs.Case.{lower, lowercase, titlecase, uppercase}
+use Rattle.std.specs.List.{position, position_or_len}
+use Rattle.std.specs.Option.{IfSome, unwrap_or}
+use Rattle.tinystr_words.specs.Case.{lowercase, titlecase, uppercase}
 use Rattle.subtags.specs.Grammar.{dash, fold_text, subtags_of, is_language, is_script, is_region, IsCanonical}
 use Rattle.subtags.specs.Subtags.{IsCanonicalSubtag, language_of, script_of, region_of, after_dash, join_subtags}
-use Rattle.subtags.specs.FromFront.{behind, past_script, leading_script, behind_script, last_region}
-use Rattle.subtags.proofs.FoldLemmas.{IsStrictText-from_subtag, IsCanonicalSubtag-lowercase, IsCanonicalSubtag-titlecase, IsCanonicalSubtag-uppercase}
+use Rattle.subtags.specs.FromFront.{leading_script, behind_script, last_region, language_end, region_start}
+use Rattle.subtags.proofs.FoldLemmas.{alphanumeric-from_subtag, IsCanonicalSubtag-lowercase, IsCanonicalSubtag-titlecase, IsCanonicalSubtag-uppercase}
+use Rattle.subtags.proofs.SplitLemmas.{no_dash, subtags_at_first_separator}
 use Rattle.subtags.proofs.ReadLemmas.{read-IsCanonical, join_subtags-IsCanonical}
-use Rattle.subtags.proofs.JoinLemmas.{tail_text}
 
 -- a script that is read is canonical
 IsCanonicalSubtag-leading_script : (ps : List (List ℕ)) → IfSome (leading_script ps) (IsCanonicalSubtag is_script titlecase)
 IsCanonicalSubtag-leading_script [] = tt
 IsCanonicalSubtag-leading_script (p ∷ ps) = let canonical = IsCanonicalSubtag-titlecase p in grind arith
 
--- a region that is read is canonical, and a text of at most 3 bytes
-IsCanonicalSubtag-last_region : (ps : List (List ℕ)) (r : List ℕ) → last_region ps ≡ Ok (Some r) → IsCanonicalSubtag is_region uppercase r × IsStrictText r 3
-IsCanonicalSubtag-last_region [] r h = absurd (grind arith)
-IsCanonicalSubtag-last_region (p ∷ ps) r h =
-    let in_case = IsCanonicalSubtag-uppercase p in
-    let canonical : IsCanonicalSubtag is_region uppercase r = grind arith in
-    let form = canonical.well_formed in
-    (canonical, IsStrictText-from_subtag r 3 (grind arith) (grind (arith, nat_tests)))
+-- a region that is read is canonical
+IsCanonicalSubtag-last_region : (ps : List (List ℕ)) (r : Option (List ℕ)) → last_region ps ≡ Ok r → IfSome r (IsCanonicalSubtag is_region uppercase)
+IsCanonicalSubtag-last_region ps None h = tt
+IsCanonicalSubtag-last_region [] (Some r) h = absurd (grind arith)
+IsCanonicalSubtag-last_region (p ∷ ps) (Some r) h = let canonical = IsCanonicalSubtag-uppercase p in grind arith
 
--- the language stands in front
-pub language_in_place : (t p : List ℕ) (ps : List (List ℕ)) → IsCanonical t → subtags_of (fold_text t) ≡ fold_text p ∷ ps → p ≡ take (length p) t
-    → (p ≡ language_of t) × IsCanonicalSubtag is_language lowercase p
-language_in_place t p ps h split front =
-    let read = read-IsCanonical t p ps h split in
-    let l = language_of t in
-    let len : length p ≡ length l = sym (length-map p lower) ∙ ap length read.1 in
-    let same : p ≡ l = front ∙ ap₂ (λ (n : ℕ) (u : List ℕ). take n u) len (join_subtags-IsCanonical t h)
-    ∙ take-append_seam l (after_dash (script_of t) ++ after_dash (region_of t)) in
-    (same, rw (read.1 ∙ sym same) at (IsCanonicalSubtag-lowercase p read.0))
+-- a language has at most 8 letters
+length-language : (l : List ℕ) → is_language l ≡ true → length l ≤ 8
+length-language l h = grind (arith, nat_tests)
 
--- what stands behind a subtag, or behind nothing
-behind-append_after_dash : (p : List ℕ) (r : Option (List ℕ)) → behind (length p) (p ++ after_dash r) ≡ r
-behind-append_after_dash p None = grind (arith, nat_tests, length-append p [])
-behind-append_after_dash p (Some r) = let rest = drop-append-add p (dash ∷ r) 1 in grind (arith, nat_tests, length-append p (dash ∷ r))
+-- the first place that passes, or another where none does
+first_or : (p : ℕ → Bool) (xs : List ℕ) (n d : ℕ) → position_or_len p xs ≡ n → (length xs ≤ n → n ≡ d) → unwrap_or (position p xs) d ≡ n
+first_or p xs n d at past = elim (cases_lt (position_or_len p xs) (length xs)) [
+  | inl inside ↦ grind (arith, nat_tests)
+  | inr outside ↦ (let none : n ≡ d = past (omega arith) in grind (arith, nat_tests))
+]
 
--- of joined subtags that is the script and the region
-behind-join_subtags : (l : List ℕ) (s r : Option (List ℕ)) → behind (length l) (join_subtags l s r) ≡ tail_text s r
-behind-join_subtags l None r = behind-append_after_dash l r
-behind-join_subtags l (Some s) r = behind-append_after_dash l (Some (s ++ after_dash r))
+-- bytes, and a dash behind them
+get_or-front : (l w : List ℕ) (k : ℕ) → k < length l → get_or (l ++ dash ∷ w) k 0 ≡ get_or l k 0
+get_or-front l w k inside = grind (arith, places)
 
--- which bytes behind the language are the script s, and which the region r
-pub record HasTail (s r : Option (List ℕ)) (u : List ℕ) : Type 0 where
-  pub script : 4 ≤ length u → (s ≡ Some (take 4 u)) × IsCanonicalSubtag is_script titlecase (take 4 u) × IsStrictText (take 4 u) 4
-  pub no_script : length u < 4 → s ≡ None
-  pub region : r ≡ past_script u
-  pub canonical : (p : List ℕ) → r ≡ Some p → IsCanonicalSubtag is_region uppercase p × IsStrictText p 3
+get_or-dash : (l w : List ℕ) → get_or (l ++ dash ∷ w) (length l) 0 ≡ dash
+get_or-dash l w = grind (arith, places)
 
--- of a script and a region, each canonical, what they are joined to
-HasTail-from_tail_text : (s r : Option (List ℕ)) (u : List ℕ) → tail_text s r ≡ Some u → IfSome s (IsCanonicalSubtag is_script titlecase)
-    → ((p : List ℕ) → r ≡ Some p → IsCanonicalSubtag is_region uppercase p × IsStrictText p 3) → HasTail s r u
-HasTail-from_tail_text None None u e script region = absurd (grind arith)
-HasTail-from_tail_text None (Some r) u e script region =
-    let same : r ≡ u = cc in
-    rw (← same) record {
-      script = λ long. absurd (omega (arith, (region r refl).1.fits));
-      no_script = λ short. refl;
-      region = let short = (region r refl).1.fits in grind (arith, nat_tests);
-      canonical = region;
-    }
-HasTail-from_tail_text (Some s) r u e script region =
-    let same : s ++ after_dash r ≡ u = cc in
+-- where a dash stands behind a language, it ends there
+language_end-dash : (l w : List ℕ) → is_language l ≡ true → language_end (l ++ dash ∷ w) ≡ length l
+language_end-dash l w h =
+    let t = l ++ dash ∷ w in
+    let none = no_dash l (alphanumeric-from_subtag l (grind arith)) in
+    let few = length-language l h in
+    let len = length-append l (dash ∷ w) in
+    let front = length-take 8 t in
+    let at : position_or_len (λ b. b == dash) (take 8 t) ≡ length l = position_or_len_is (λ b. b == dash) (take 8 t) (length l) 0 (omega arith)
+    (λ k below. rw (get_or-take 8 t k 0 (omega arith), get_or-front l w k below) (none k 0 below))
+    (λ inside. rw (get_or-take 8 t (length l) 0 (omega arith), get_or-dash l w) refl) in
+    first_or (λ b. b == dash) (take 8 t) (length l) 8 at (λ all. omega arith)
+
+-- where nothing stands behind it, there is no dash
+language_end-whole : (l : List ℕ) → is_language l ≡ true → language_end l ≡ 8
+language_end-whole l h =
+    let none = no_dash l (alphanumeric-from_subtag l (grind arith)) in
+    let few = length-language l h in
+    let end : position_or_len (λ b. b == dash) l ≡ length l = position_or_len_is (λ b. b == dash) l (length l) 0 (omega arith) (λ k below. none k 0 below) (λ inside. absurd (omega arith)) in
+    rw (take_all 8 l few) (grind (arith, nat_tests))
+
+-- the text t has the subtag l up to a place, s behind it, and r from another place on
+pub record InPlace (t : List ℕ) (end start : ℕ) (l : List ℕ) (s r : Option (List ℕ)) : Type 0 where
+  pub language : take end t ≡ l
+  pub script : end + 4 < length t → s ≡ Some (take 4 (drop (end + 1) t))
+  pub no_script : length t ≤ end + 4 → s ≡ None
+  pub region : start < length t → r ≡ Some (take 3 (drop start t))
+  pub no_region : length t ≤ start → r ≡ None
+
+-- of a language and what stands behind its dash
+InPlace-dash : (l v : List ℕ) (s r : Option (List ℕ)) → is_language l ≡ true
+    → (3 < length v → (s ≡ Some (take 4 v)) × (5 < length v → r ≡ Some (take 3 (drop 5 v))) × (length v ≤ 5 → r ≡ None))
+    → (length v ≤ 3 → (s ≡ None) × (0 < length v) × (r ≡ Some (take 3 v))) → (let t = l ++ dash ∷ v in InPlace t (language_end t) (region_start t) l s r)
+InPlace-dash l v s r language long short =
+    let t = l ++ dash ∷ v in
+    let end = language_end-dash l v language in
+    let len = length-append l (dash ∷ v) in
+    let from : (k : ℕ) → drop (length l + suc k) t ≡ drop k v = λ k. drop-append-add l (dash ∷ v) (suc k) in
+    let front = take-append_seam l (dash ∷ v) in
+    elim (cases_lt 3 (length v)) [
+      | inl more ↦
+          let start : region_start t ≡ length l + 6 = grind (arith, nat_tests) in
+          rw (start, end) record { language = front; script = λ _. rw (from 0) (long more).0; no_script = λ few. absurd (omega arith); region = λ many. rw (from 5) ((long more).1 (omega arith)); no_region = λ none. (long more).2 (omega arith) }
+      | inr few ↦
+          let start : region_start t ≡ length l + 1 = grind (arith, nat_tests) in
+          rw (start, end) record { language = front; script = λ more. absurd (omega arith); no_script = λ _. (short few).0; region = λ _. rw (from 0) (short few).2; no_region = λ none. absurd (omega (arith, (short few).1)) }
+    ]
+
+-- a region, or nothing, behind its dash
+region-after_dash : (r : Option (List ℕ)) → IfSome r (IsCanonicalSubtag is_region uppercase)
+    → (1 < length (after_dash r) → r ≡ Some (take 3 (drop 1 (after_dash r)))) × (length (after_dash r) ≤ 1 → r ≡ None)
+region-after_dash None region = (λ more. absurd (omega arith), λ none. refl)
+region-after_dash (Some r) region =
+    let form = region.well_formed in
+    let two : 2 ≤ length r = grind (arith, nat_tests) in
+    let three : length r ≤ 3 = grind (arith, nat_tests) in
+    (λ more. ap (λ (p : List ℕ). Some p) (sym (take_all 3 r three)), λ none. absurd (omega arith))
+
+-- of joined subtags
+InPlace-join_subtags : (l : List ℕ) (s r : Option (List ℕ)) → is_language l ≡ true → IfSome s (IsCanonicalSubtag is_script titlecase) → IfSome r (IsCanonicalSubtag is_region uppercase) → (let t = join_subtags l s r in InPlace t (language_end t) (region_start t) l s r)
+InPlace-join_subtags l None None language script region =
+    let few = length-language l language in
+    let end = language_end-whole l language in
+    let start : region_start l ≡ 9 = grind (arith, nat_tests) in
+    rw (append-nil) (rw (start, end) record { language = take_all 8 l few; script = λ more. absurd (omega arith); no_script = λ _. refl; region = λ more. absurd (omega arith); no_region = λ _. refl })
+InPlace-join_subtags l None (Some r) language script region =
+    let form = region.well_formed in
+    let two : 2 ≤ length r = grind (arith, nat_tests) in
+    let three : length r ≤ 3 = grind (arith, nat_tests) in
+    let alone = region-after_dash (Some r) region in
+    InPlace-dash l r None (Some r) language (λ more. absurd (omega arith)) (λ few. (refl, omega arith, alone.0 (omega arith)))
+InPlace-join_subtags l (Some s) r language script region =
+    let form = script.well_formed in
     let four : length s ≡ 4 = grind (arith, nat_tests) in
-    let text = IsStrictText-from_subtag s 4 (grind arith) (omega arith) in
     let len = length-append s (after_dash r) in
-    rw (← same) record {
-      script = λ long. rw (rw four at (take-append_seam s (after_dash r))) (refl, script, text);
-      no_script = λ short. absurd (omega arith);
-      region = sym (rw four at (behind-append_after_dash s r)) ∙ grind (arith, nat_tests);
-      canonical = region;
-    }
+    let front = rw four at (take-append_seam s (after_dash r)) in
+    let last = region-after_dash r region in
+    let back = rw four at (drop-append-add s (after_dash r) 1) in
+    InPlace-dash l (s ++ after_dash r) (Some s) r language (λ more. (ap (λ (p : List ℕ). Some p) (sym front), λ many. rw back (last.0 (omega arith)), λ none. last.1 (omega arith))) (λ few. absurd (omega arith))
 
--- what stands behind the language of a canonical text
-behind-language : (t p : List ℕ) (ps : List (List ℕ)) → IsCanonical t → subtags_of (fold_text t) ≡ fold_text p ∷ ps → p ≡ take (length p) t
-    → behind (length p) t ≡ tail_text (script_of t) (region_of t)
-behind-language t p ps h split front =
-    ap₂ (λ (q u : List ℕ). behind (length q) u) (language_in_place t p ps h split front).0 (join_subtags-IsCanonical t h)
-    ∙ behind-join_subtags (language_of t) (script_of t) (region_of t)
-
--- of a canonical text that has something behind its language p
-pub HasTail-behind_language : (t p u : List ℕ) (ps : List (List ℕ)) → IsCanonical t → subtags_of (fold_text t) ≡ fold_text p ∷ ps → p ≡ take (length p) t
-    → behind (length p) t ≡ Some u → HasTail (script_of t) (region_of t) u
-HasTail-behind_language t p u ps h split front e =
+-- a canonical text that was split
+InPlace-split : (t p : List ℕ) (ps : List (List ℕ)) → IsCanonical t → subtags_of (fold_text t) ≡ fold_text p ∷ ps
+    → InPlace t (language_end t) (region_start t) (language_of t) (script_of t) (region_of t)
+    × IsCanonicalSubtag is_language lowercase (language_of t) × IfSome (script_of t) (IsCanonicalSubtag is_script titlecase) × IfSome (region_of t) (IsCanonicalSubtag is_region uppercase)
+InPlace-split t p ps h split =
     let read = read-IsCanonical t p ps h split in
-    HasTail-from_tail_text (script_of t) (region_of t) u (sym (behind-language t p ps h split front) ∙ e) (rw read.2 at (IsCanonicalSubtag-leading_script ps)) (λ r is. IsCanonicalSubtag-last_region (behind_script ps) r (read.3 ∙ ap (λ (o : Option (List ℕ)). Ok o) is))
+    let language = rw read.1 at (IsCanonicalSubtag-lowercase p read.0) in
+    let script = rw read.2 at (IsCanonicalSubtag-leading_script ps) in
+    let region = IsCanonicalSubtag-last_region (behind_script ps) (region_of t) read.3 in
+    let joined = InPlace-join_subtags (language_of t) (script_of t) (region_of t) language.well_formed script region in
+    (rw (← join_subtags-IsCanonical t h) at joined, language, script, region)
 
--- and of one that has nothing there
-pub no_tail_in_place : (t p : List ℕ) (ps : List (List ℕ)) → IsCanonical t → subtags_of (fold_text t) ≡ fold_text p ∷ ps → p ≡ take (length p) t
-    → behind (length p) t ≡ None → (script_of t ≡ None) × (region_of t ≡ None)
-no_tail_in_place t p ps h split front e = let tail = behind-language t p ps h split front in (grind arith, grind arith)
+-- a canonical text has its subtags in place, each of them canonical
+pub InPlace-canonical : (t : List ℕ) → IsCanonical t
+    → InPlace t (language_end t) (region_start t) (language_of t) (script_of t) (region_of t)
+    × IsCanonicalSubtag is_language lowercase (language_of t) × IfSome (script_of t) (IsCanonicalSubtag is_script titlecase) × IfSome (region_of t) (IsCanonicalSubtag is_region uppercase)
+InPlace-canonical t h = InPlace-split t _ _ h (subtags_at_first_separator t)
+
+-- the bytes up to its end are the language
+pub language-slice : (t : List ℕ) (end : ℕ) → IsCanonical t → end ≡ language_end t → take 8 (take (end - 0) (drop 0 t)) ≡ language_of t
+language-slice t end h is =
+    let place = InPlace-canonical t h in
+    let count : end - 0 ≡ language_end t = omega (arith, is) in
+    ap (take 8) (ap (λ n. take n t) count ∙ place.0.language) ∙ take_all 8 (language_of t) (length-language (language_of t) place.1.well_formed)
+
+-- as many bytes from a place on as there is room for
+pub slice-from : (t : List ℕ) (start most : ℕ) → take most (take (start + most - start) (drop start t)) ≡ take most (drop start t)
+slice-from t start most = let count : start + most - start ≡ most = omega arith in rw count (take-take most most (drop start t) (omega arith))

@@ -3,14 +3,14 @@ use Rattle.std.proofs.Common.{◌≡◌, ℕ, ◌+◌, ◌<◌, ◌≤◌, inl, 
 use Rattle.std.specs.List.{All, list_all, slice_split, slice_index, position_or_len}
 use Rattle.std.proofs.lemmas.Bool.{cases_lt, false_from_ne_true, false≢true}
 use Rattle.std.proofs.lemmas.Bool.Decides.{nat_tests}
-use Rattle.std.proofs.lemmas.List.{take_all, take_rest, length-take, get_or-take}
+use Rattle.std.proofs.lemmas.List.{take_all, length-take, get_or-take}
 use Rattle.std.proofs.lemmas.List.Splits.{slice_split_first, slice_split_none, slice_split_at}
 use Rattle.std.proofs.lemmas.List.Sums.{fails_before_first, passes_at_first, position_or_len_is, prefix_len-le-length}
 use Rattle.tinystr_words.specs.Classes.{is_alphanumeric}
 use Rattle.tinystr_words.specs.Case.{titlecase, uppercase}
 use Rattle.subtags.specs.declared.error.LangIdError.TheVariants.{InvalidSubtag}
 use Rattle.subtags.specs.Grammar.{dash, is_separator, fold_byte, fold_text, subtags_of, is_script, is_region}
-use Rattle.subtags.specs.FromFront.{behind, past_script, subtags_behind, ends_at_four, leading_script, behind_script, last_region}
+use Rattle.subtags.specs.FromFront.{behind, past_script, subtags_behind, ends_at, leading_script, behind_script, last_region}
 use Rattle.subtags.proofs.FoldLemmas.{All-from_list_all, is_script-fold_text, is_region-fold_text, alphanumeric-fold_text, alphanumeric-from_subtag, titlecase-fold_text, uppercase-fold_text}
 
 -- to change the bytes and then split is to split and then change the subtags
@@ -38,7 +38,7 @@ subtags_at_first_separator u = elim (cases_lt (position_or_len is_separator u) (
 ]
 
 -- no letter or digit is a dash
-no_dash : (p : List ℕ) → list_all is_alphanumeric p ≡ true → All (λ b. (b == dash) ≡ false) p
+pub no_dash : (p : List ℕ) → list_all is_alphanumeric p ≡ true → All (λ b. (b == dash) ≡ false) p
 no_dash p plain = All-from_list_all is_alphanumeric (λ b. (b == dash) ≡ false) (λ b a. grind (arith, nat_tests)) p plain
 
 -- letters and digits are one subtag
@@ -50,7 +50,7 @@ pub subtags_of-append_dash : (p u : List ℕ) → list_all is_alphanumeric p ≡
 subtags_of-append_dash p u h = slice_split_at (λ b. b == dash) p dash u (no_dash p h) refl
 
 -- a script in front that can be a subtag ends at the first separator
-position_or_len-script : (u : List ℕ) → ends_at_four u ≡ true → is_script (take 4 u) ≡ true → position_or_len is_separator u ≡ 4
+position_or_len-script : (u : List ℕ) → ends_at 4 u ≡ true → is_script (take 4 u) ≡ true → position_or_len is_separator u ≡ 4
 position_or_len-script u ends h =
     let len = length-take 4 u in
     let letters = All-from_list_all is_alphanumeric (λ b. is_separator b ≡ false) (λ b a. grind (arith, nat_tests)) (take 4 u) (alphanumeric-from_subtag (take 4 u) (grind arith)) in
@@ -58,7 +58,7 @@ position_or_len-script u ends h =
     position_or_len_is is_separator u 4 0 (grind (arith, nat_tests)) front (λ more. grind (arith, nat_tests))
 
 -- a script in front that can be a subtag is read in titlecase, and what stands behind it is left
-pub script_in_front : (u : List ℕ) → ends_at_four u ≡ true → is_script (take 4 u) ≡ true
+pub script_in_front : (u : List ℕ) → ends_at 4 u ≡ true → is_script (take 4 u) ≡ true
     → (leading_script (subtags_of (fold_text u)) ≡ Some (titlecase (take 4 u))) × (behind_script (subtags_of (fold_text u)) ≡ subtags_behind (past_script u))
 script_in_front u ends h =
     let len = length-take 4 u in
@@ -71,11 +71,11 @@ length-script : (p : List ℕ) → is_script p ≡ true → length p ≡ 4
 length-script p e = grind (arith, nat_tests)
 
 -- four bytes end where all do, or before a separator
-ends_at_four-from_separator : (u : List ℕ) → 4 ≤ length u → (4 < length u → is_separator (slice_index u 4) ≡ true) → ends_at_four u ≡ true
-ends_at_four-from_separator u long hit = grind (arith, nat_tests)
+ends_at_4-from_separator : (u : List ℕ) → 4 ≤ length u → (4 < length u → is_separator (slice_index u 4) ≡ true) → ends_at 4 u ≡ true
+ends_at_4-from_separator u long hit = grind (arith, nat_tests)
 
 -- where no script stands in front that can be a subtag, the first subtag isn't a script
-pub no_script_in_front : (u : List ℕ) → (ends_at_four u ≡ true → is_script (take 4 u) ≡ false) → (leading_script (subtags_of (fold_text u)) ≡ None) × (behind_script (subtags_of (fold_text u)) ≡ subtags_of (fold_text u))
+pub no_script_in_front : (u : List ℕ) → (ends_at 4 u ≡ true → is_script (take 4 u) ≡ false) → (leading_script (subtags_of (fold_text u)) ≡ None) × (behind_script (subtags_of (fold_text u)) ≡ subtags_of (fold_text u))
 no_script_in_front u h =
     let i = position_or_len is_separator u in
     let len = length-take i u in
@@ -83,7 +83,7 @@ no_script_in_front u h =
     let hit = passes_at_first is_separator u 0 in
     let none = false_from_ne_true (is_script (take i u)) (λ e.
     let four : i ≡ 4 = omega (arith, length-script (take i u) e) in
-    false≢true (sym (h (ends_at_four-from_separator u (rw four at inside) (rw four at hit))) ∙ rw four at e)) in
+    false≢true (sym (h (ends_at_4-from_separator u (rw four at inside) (rw four at hit))) ∙ rw four at e)) in
     rw (subtags_at_first_separator u, is_script-fold_text (take i u), none) (refl, refl)
 
 -- what isn't a region is refused as a last region
@@ -99,5 +99,3 @@ last_region_of_no_region r h =
 -- a region is read as a last region, in uppercase
 pub last_region_of_region : (r : List ℕ) → is_region r ≡ true → last_region (subtags_of (fold_text r)) ≡ Ok (Some (uppercase r))
 last_region_of_region r h = rw (subtags_of-alphanumeric (fold_text r) (alphanumeric-fold_text r ∙ alphanumeric-from_subtag r (grind arith)), is_region-fold_text r, h, uppercase-fold_text r h) refl
-
-pub ruleset split_steps = (nat_tests, subtags_at_first_separator, take_rest, take_all, length-take, prefix_len-le-length)

@@ -1,20 +1,21 @@
 //! Language identifiers.
 
-ghost use Rattle.std.specs.Prelude.{◌≡◌, ◌+◌, ◌≤◌, ◌∷◌, take, Some, IsTrue, IsOk, IfOk, IfErr, IfSome, ◌↔◌};
+ghost use Rattle.std.specs.Prelude.{◌≡◌, ◌+◌, ◌≤◌, ◌∷◌, Some, IsOk, IfOk, IfErr, IfSome, ◌↔◌};
 ghost use Rattle.std.specs.Fmt.{debug_str, styled_text};
 ghost use Rattle.std.specs.Result.{result_ok};
 ghost use Rattle.tinystr_words.specs.Case.{lowercase, titlecase, uppercase};
-ghost use Rattle.subtags.specs.Grammar.{dash, fold_text, is_language, is_language_length, is_script, is_region, IsLangId, IsCanonical, canonical_text, canonical_of};
+ghost use Rattle.subtags.specs.Grammar.{dash, fold_text, is_language, is_script, is_region, IsLangId, IsCanonical, canonical_text, canonical_of};
 ghost use Rattle.subtags.specs.Subtags.{IsCanonicalSubtag, language_of, script_of, region_of, join_subtags};
 ghost use Rattle.subtags.specs.Answers.{refusal_of, IsLangIdRead};
 
 use crate::error::LangIdError;
+use crate::head::take_language;
 use crate::language::Language;
+use crate::places::{has_byte_at, language_end, region_start};
 use crate::region::Region;
 use crate::script::Script;
-use crate::split::split_first;
 use crate::subtag::{Subtag, SubtagKind};
-use crate::tail::{last_region, past_script, take_script};
+use crate::tail::{last_region, take_script};
 use std::convert::{AsSlice, AsStr};
 use std::fmt;
 use std::marker::Model;
@@ -65,10 +66,10 @@ impl LangId {
         ensures refusal { IfErr result (λ e. e ≡ refusal_of code_units.now) }
         ensures value { result_ok result ≡ canonical_of code_units.now }
     {
-        let (first, rest) = split_first(code_units);
-        let Some(language) = Language::try_from_utf8(first) else {
+        let Some(parts) = take_language(code_units) else {
             return Err(LangIdError::InvalidLanguage);
         };
+        let (language, rest) = parts;
         let (script, rest) = take_script(rest);
         let region = last_region(rest)?;
         Ok(Self::from_parts(language, script, region))
@@ -116,8 +117,8 @@ impl LangId {
     pub fn language(&self) -> Language
         ensures { result ≡ language_of self.now }
     {
-        let (first, _) = split_first(self.text.as_utf8());
-        Language::from_canonical(front(self.text, first.len()))
+        let end = language_end(&self.text);
+        Language::from_canonical(self.text.slice(0..end))
     }
 
     /// The script, if the identifier has one.
@@ -130,15 +131,11 @@ impl LangId {
     pub fn script(&self) -> Option<Script>
         ensures { result ≡ script_of self.now }
     {
-        let (_, rest) = split_first(self.text.as_utf8());
-        let Some(rest) = rest else {
+        let start = language_end(&self.text) + 1;
+        if !has_byte_at(&self.text, start + 3) {
             return None;
-        };
-        let Some(script) = rest.first_chunk::<4>() else {
-            return None;
-        };
-        let text = TinyAsciiStr::try_from_utf8(script).unwrap();
-        Some(Script::from_canonical(text))
+        }
+        Some(Script::from_canonical(self.text.slice(start..start + 4)))
     }
 
     /// The region, if the identifier has one.
@@ -146,15 +143,11 @@ impl LangId {
     pub fn region(&self) -> Option<Region>
         ensures { result ≡ region_of self.now }
     {
-        let (_, rest) = split_first(self.text.as_utf8());
-        let Some(rest) = rest else {
+        let start = region_start(&self.text);
+        if !has_byte_at(&self.text, start) {
             return None;
-        };
-        let Some(region) = past_script(rest) else {
-            return None;
-        };
-        let text = TinyAsciiStr::try_from_utf8(region).unwrap();
-        Some(Region::from_canonical(text))
+        }
+        Some(Region::from_canonical(self.text.slice(start..start + 3)))
     }
 }
 
@@ -213,22 +206,6 @@ impl fmt::Debug for LangId {
 
     fn fmt<W: fmt::Write>(&self, f: &mut fmt::Formatter<W>) -> fmt::Result {
         fmt::Debug::fmt(&self.text, f)
-    }
-}
-
-// The first bytes of a text, as many as a language has: each number of them in a copy of known length.
-#[inline]
-fn front(text: TinyAsciiStr<17>, len: usize) -> TinyAsciiStr<8>
-    requires { IsTrue (is_language_length len) }
-    ensures { result ≡ take len text }
-{
-    match len {
-        2 => text.resize::<2>().resize(),
-        3 => text.resize::<3>().resize(),
-        5 => text.resize::<5>().resize(),
-        6 => text.resize::<6>().resize(),
-        7 => text.resize::<7>().resize(),
-        _ => text.resize(),
     }
 }
 

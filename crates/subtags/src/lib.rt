@@ -4,12 +4,13 @@
 #![tactic(auto)]
 
 pub mod error;
+mod head;
 pub mod lang_id;
 pub mod language;
 pub mod laws;
+mod places;
 pub mod region;
 pub mod script;
-mod split;
 pub mod subtag;
 mod tail;
 

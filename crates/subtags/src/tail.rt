@@ -2,30 +2,22 @@
 
 ghost use Rattle.std.specs.Prelude.{◌≡◌};
 ghost use Rattle.std.specs.Option.{option_copied};
-ghost use Rattle.subtags.specs.FromFront.{past_script, subtags_behind, ends_at_four, leading_script, behind_script, last_region};
+ghost use Rattle.subtags.specs.FromFront.{past_script, subtags_behind, leading_script, behind_script, last_region};
 
 use crate::error::LangIdError;
+use crate::head::{behind, ends_at};
 use crate::region::Region;
 use crate::script::Script;
-use crate::split::is_separator;
 
-// Whether a subtag may end behind the fourth byte, as a script does.
+// What stands behind a script and a separator, or all, where there is no room for a script.
 #[inline]
-fn ends_at_four(units: &[u8]) -> bool
-    ensures { result ≡ ends_at_four units.now }
-{
-    units.len() == 4 || units.len() > 4 && is_separator(units[4])
-}
-
-/// What stands behind a script and a separator, or all, where there is no room for a script.
-#[inline]
-pub fn past_script(units: &[u8]) -> Option<&[u8]>
+fn past_script(units: &[u8]) -> Option<&[u8]>
     ensures { option_copied result ≡ past_script units.now }
 {
     if units.len() < 4 {
         Some(units)
     } else {
-        units.get(5..)
+        behind(units, 4)
     }
 }
 
@@ -39,7 +31,7 @@ pub fn take_script(rest: Option<&[u8]>) -> (Option<Script>, Option<&[u8]>)
     let Some(units) = rest else {
         return (None, None);
     };
-    if !ends_at_four(units) {
+    if !ends_at(units, 4) {
         return (None, rest);
     }
     match Script::try_from_utf8(&units[..4]) {

@@ -1,38 +1,25 @@
-use Rattle.std.proofs.Common.{◌∙◌, ap, sym, lit<}
-use Rattle.std.specs.Option.{option_copied}
-use Rattle.subtags.proofs.PlaceLemmas.{HasTail-behind_language, no_tail_in_place}
+use Rattle.std.proofs.Common.{◌<◌, ◌≤◌, ◌∙◌, length, sym, lit<, arith}
+use Rattle.std.proofs.lemmas.Bool.Decides.{nat_tests}
+use Rattle.subtags.specs.FromFront.{region_start}
+use Rattle.subtags.proofs.PlaceLemmas.{InPlace-canonical, slice-from}
 use Rattle.subtags.proofs.lang_id.LangId.region.Goals as goal
 
-pub returns-in_default : goal.returns-in_default
-returns-in_default c =
-    let split = rw c.as_utf8.ensures.text at c.split_first.ensures in
-    let none = no_tail_in_place c.self.inside.text c.split_first.result.0.now _ c.self.invariant split.subtags split.front (sym split.behind ∙ ap option_copied c.in_default.is) in
-    rw (← c.self.view_is) (sym none.1)
-
-pub returns-in_default-past_script : goal.returns-in_default-past_script
-returns-in_default-past_script c =
-    let split = rw c.as_utf8.ensures.text at c.split_first.ensures in
-    let tail = HasTail-behind_language c.self.inside.text c.split_first.result.0.now c.in-Some.rest.now _ c.self.invariant split.subtags split.front (sym split.behind ∙ ap option_copied c.in-Some.is) in
-    rw (← c.self.view_is) (sym (tail.region ∙ sym c.past_script.ensures ∙ ap option_copied c.in_default-past_script.is))
-
-pub unwrap-text-requires : goal.unwrap-text-requires
-unwrap-text-requires c =
-    let split = rw c.as_utf8.ensures.text at c.split_first.ensures in
-    let tail = HasTail-behind_language c.self.inside.text c.split_first.result.0.now c.in-Some.rest.now _ c.self.invariant split.subtags split.front (sym split.behind ∙ ap option_copied c.in-Some.is) in
-    let region = tail.region ∙ sym c.past_script.ensures ∙ ap option_copied c.in-Some-past_script.is in
-    c.try_from_utf8.ensures.accepted.1 (tail.canonical c.in-Some-past_script.region.now region).1
+pub returns-then-not-has_byte_at : goal.returns-then-not-has_byte_at
+returns-then-not-has_byte_at c =
+    let t = c.self.inside.text in
+    let none : length t ≤ region_start t = grind (arith, nat_tests) in
+    rw (← c.self.view_is) (sym ((InPlace-canonical t c.self.invariant).0.no_region none))
 
 pub from_canonical-requires : goal.from_canonical-requires
 from_canonical-requires c =
-    let split = rw c.as_utf8.ensures.text at c.split_first.ensures in
-    let tail = HasTail-behind_language c.self.inside.text c.split_first.result.0.now c.in-Some.rest.now _ c.self.invariant split.subtags split.front (sym split.behind ∙ ap option_copied c.in-Some.is) in
-    let region = tail.region ∙ sym c.past_script.ensures ∙ ap option_copied c.in-Some-past_script.is in
-    let text = rw c.unwrap-text.ensures at c.try_from_utf8.ensures.text in
-    (lit< tt, (lit< tt, rw text (tail.canonical c.in-Some-past_script.region.now region).0))
+    let t = c.self.inside.text in
+    let place = InPlace-canonical t c.self.invariant in
+    let more : region_start t < length t = grind (arith, nat_tests) in
+    let canonical = rw (place.0.region more) at place.3 in
+    (lit< tt, (lit< tt, rw (c.slice.ensures ∙ slice-from t (c.region_start-start.result) 3, c.region_start-start.ensures.place) canonical))
 
 pub returns : goal.returns
 returns c =
-    let split = rw c.as_utf8.ensures.text at c.split_first.ensures in
-    let tail = HasTail-behind_language c.self.inside.text c.split_first.result.0.now c.in-Some.rest.now _ c.self.invariant split.subtags split.front (sym split.behind ∙ ap option_copied c.in-Some.is) in
-    let text = rw c.unwrap-text.ensures at c.try_from_utf8.ensures.text in
-    rw (← c.self.view_is, c.from_canonical.ensures, text) (sym (tail.region ∙ sym c.past_script.ensures ∙ ap option_copied c.in-Some-past_script.is))
+    let t = c.self.inside.text in
+    let more : region_start t < length t = grind (arith, nat_tests) in
+    rw (← c.self.view_is, c.from_canonical.ensures, c.slice.ensures ∙ slice-from t (c.region_start-start.result) 3, c.region_start-start.ensures.place) (sym ((InPlace-canonical t c.self.invariant).0.region more))

@@ -1,0 +1,58 @@
+//! What an input begins with: a language, and where a subtag ends.
+
+ghost use Rattle.std.specs.Prelude.{◌≡◌, ◌≤◌, IfSome, is_some, length};
+ghost use Rattle.std.specs.Option.{option_copied};
+ghost use Rattle.tinystr_words.specs.Case.{lowercase};
+ghost use Rattle.subtags.specs.Grammar.{is_separator, is_language, is_language_length};
+ghost use Rattle.subtags.specs.FromFront.{behind, ends_at, first_subtag};
+
+use crate::language::Language;
+use tinystr::TinyStr8;
+
+#[inline]
+fn is_separator(byte: u8) -> bool
+    ensures { result ≡ is_separator byte }
+{
+    byte == b'-' || byte == b'_'
+}
+
+/// Whether a subtag may end at a place: all ends there, or a separator stands there.
+#[inline]
+pub fn ends_at(units: &[u8], place: usize) -> bool
+    ensures { result ≡ ends_at place units.now }
+{
+    units.len() == place || units.len() > place && is_separator(units[place])
+}
+
+/// What stands behind a subtag that ends at a place, if anything stands there.
+#[inline]
+pub fn behind(units: &[u8], place: usize) -> Option<&[u8]>
+    requires { place ≤ length units.now }
+    ensures { option_copied result ≡ behind place units.now }
+{
+    units.get(place + 1..)
+}
+
+#[inline]
+fn is_language_length(len: usize) -> bool
+    ensures { result ≡ is_language_length len }
+{
+    len == 2 || len == 3 || 5 <= len && len <= 8
+}
+
+/// Takes the first subtag off, where it is a language: that and what stands behind its separator.
+#[inline]
+pub fn take_language(units: &[u8]) -> Option<(Language, Option<&[u8]>)>
+    ensures accepted { is_some result ≡ is_language (first_subtag units.now) }
+    ensures language { IfSome result (λ parts. parts.0 ≡ lowercase (first_subtag units.now)) }
+    ensures rest { IfSome result (λ parts. option_copied parts.1 ≡ behind (length (first_subtag units.now)) units.now) }
+{
+    let (text, len) = TinyStr8::read_letters(units);
+    if !is_language_length(len) {
+        return None;
+    }
+    if !ends_at(units, len) {
+        return None;
+    }
+    Some((Language::from_canonical(text), behind(units, len)))
+}

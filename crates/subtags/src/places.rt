@@ -1,0 +1,38 @@
+//! Where the subtags of a canonical text stand.
+
+ghost use Rattle.std.specs.Prelude.{◌≡◌, ◌≤◌, nat_lt, length};
+ghost use Rattle.subtags.specs.FromFront.{language_end, region_start};
+
+use tinystr::TinyAsciiStr;
+
+/// Where the language ends: at the first dash among eight bytes, or behind these, which may be past the text. The
+/// minimum is there for speed: by it the compiler leaves out the tests that the places below are inside.
+#[inline(always)]
+pub fn language_end(text: &TinyAsciiStr<17>) -> usize
+    ensures place { result ≡ language_end text.now }
+    ensures fits { result ≤ 8 }
+{
+    text.resize::<8>().find(b'-').unwrap_or(8).min(8)
+}
+
+/// Whether a byte of the text stands at a place.
+#[inline(always)]
+pub fn has_byte_at(text: &TinyAsciiStr<17>, place: usize) -> bool
+    ensures { result ≡ nat_lt place (length text.now) }
+{
+    text.get(place).is_some()
+}
+
+/// Where a region stands if there is one. What has a fourth byte behind the language has a script there.
+#[inline(always)]
+pub fn region_start(text: &TinyAsciiStr<17>) -> usize
+    ensures place { result ≡ region_start text.now }
+    ensures fits { result ≤ 14 }
+{
+    let start = language_end(text) + 1;
+    if has_byte_at(text, start + 3) {
+        start + 5
+    } else {
+        start
+    }
+}
