@@ -1,6 +1,6 @@
 //! A byte found in a text, and texts split at it.
 
-ghost use Rattle.std.specs.Prelude.{◌≡◌, ◌==◌, ◌∷◌, ◌<◌, ◌≤◌, ◌+◌, IfSome, length, position, take, option_map};
+ghost use Rattle.std.specs.Prelude.{◌≡◌, ◌==◌, ◌∷◌, ◌<◌, ◌≤◌, ◌+◌, IfSome, length, position, take, drop, option_map};
 ghost use Rattle.std.specs.Iterator.{YieldsFirst, item_count};
 ghost use Rattle.std.specs.List.{slice_split};
 ghost use Rattle.std.specs.Option.{option_copied};
@@ -10,8 +10,9 @@ ghost use Rattle.tinystr.specs.Splitting.{parts_left};
 use crate::ascii::TinyAsciiStr;
 use std::marker::Model;
 use std::simd::prelude::*;
-use tinystr_words::int_ops::Aligned16;
+use tinystr_words::int_ops::{Aligned8, Aligned16};
 use tinystr_words::padded::{cut, resize};
+use tinystr_words::word::Word;
 
 /// The parts of a text, in order. A clause sees those that are left.
 ///
@@ -21,22 +22,25 @@ use tinystr_words::padded::{cut, resize};
 /// ```
 #[derive(Clone, Drop)]
 pub struct Parts<'a, const N: usize> {
-    // what stands behind the parts that were handed out, if there is another, and the NULs behind the text
+    // what stands behind the parts that were handed out, if there is another: at capacities up to 8 the text itself, and
+    // else all bytes, with the NULs behind the text
+    short: Option<TinyAsciiStr<8>>,
     rest: Option<&'a [u8]>,
     separator: u8,
 }
 
 impl<'a, const N: usize> Model for Parts<'a, N> {
-    ghost use Rattle.std.specs.Prelude.{◌≤◌, List, ℕ, IfSome, length, option_map};
-    ghost use Rattle.std.specs.Option.{option_copied};
+    ghost use Rattle.std.specs.Prelude.{◌<◌, ◌≤◌, List, ℕ, IfSome, length, option_map};
+    ghost use Rattle.std.specs.Option.{option_copied, option_or};
     ghost use Rattle.tinystr_words.specs.Text.{IsPadded, text_of};
     ghost use Rattle.tinystr.specs.Splitting.{parts_left};
 
     ghost Value = { List (List ℕ) };
 
-    ghost view = { λ s. parts_left s.separator (option_map text_of (option_copied s.rest)) };
+    ghost view = { λ s. parts_left s.separator (option_or s.short (option_map text_of (option_copied s.rest))) };
 
-    ghost invariant = { λ s. IfSome s.rest (λ rest. IsPadded rest.now × (length rest.now ≤ N)) };
+    ghost invariant = { λ s. IfSome s.short (λ text. (N ≤ 8) × (length text ≤ N))
+        × IfSome s.rest (λ rest. (8 < N) × IsPadded rest.now × (length rest.now ≤ N)) };
 }
 
 impl<const N: usize> TinyAsciiStr<N> {
@@ -77,10 +81,18 @@ impl<const N: usize> TinyAsciiStr<N> {
         ensures parts { result ≡ slice_split (λ b. b == separator) self.now }
         ensures bound { length result ≤ N + 1 }
     {
-        Parts {
-            rest: Some(&self.bytes[..]),
+        let mut parts = Parts {
+            short: None,
+            rest: None,
             separator,
+        };
+        if N <= 8 {
+            let bytes = Aligned8::from_ascii_bytes(&self.bytes).to_bytes();
+            parts.short = Some(TinyAsciiStr::from_utf8_unchecked(bytes));
+        } else {
+            parts.rest = Some(&self.bytes[..]);
         }
+        parts
     }
 }
 
@@ -92,6 +104,11 @@ impl<'a, const N: usize> Iterator for Parts<'a, N> {
     ghost remaining = { item_count (λ rest. rest) };
 
     fn next(&mut self) -> Option<TinyAsciiStr<N>> {
+        if N <= 8 {
+            let (part, rest) = split_first_of_eight(self.short?, self.separator);
+            self.short = rest;
+            return Some(part.resize());
+        }
         let (part, rest) = split_first(self.rest?, self.separator);
         self.rest = rest;
         Some(part)
@@ -100,6 +117,56 @@ impl<'a, const N: usize> Iterator for Parts<'a, N> {
     fn size_hint(&self) -> (usize, Option<usize>) {
         (0, None)
     }
+}
+
+// The first part of a text of at most eight bytes, and what stands behind its separator, if there is one. Both stay in
+// registers: a short rest is dear to load.
+#[inline(always)]
+fn split_first_of_eight(
+    text: TinyAsciiStr<8>,
+    separator: u8,
+) -> (TinyAsciiStr<8>, Option<TinyAsciiStr<8>>)
+    ensures parts { slice_split (λ b. b == separator) text ≡ result.0 ∷ parts_left separator result.1 }
+    ensures part { length result.0 ≤ length text }
+    ensures rest { IfSome result.1 (λ rest. length rest ≤ length text) }
+{
+    match find_in_eight(text, separator) {
+        Some(at) => {
+            let (part, rest) = around(text, at);
+            (part, Some(rest))
+        }
+        None => (text, None),
+    }
+}
+
+// Where the byte first stands. The first byte is asked by itself, so that what stands behind an empty part waits for no
+// search.
+#[inline(always)]
+fn find_in_eight(text: TinyAsciiStr<8>, byte: u8) -> Option<usize>
+    ensures place { result ≡ position (λ b. b == byte) text }
+    ensures inside { IfSome result (λ at. at < 8) }
+{
+    match text.get(0) {
+        Some(first) if first == byte => Some(0),
+        _ => text.find(byte),
+    }
+}
+
+// What stands in front of a byte, and what stands behind it, by shifts of the word.
+#[inline(always)]
+fn around(text: TinyAsciiStr<8>, at: usize) -> (TinyAsciiStr<8>, TinyAsciiStr<8>)
+    requires { at < 8 }
+    ensures part { result.0 ≡ take at text }
+    ensures rest { result.1 ≡ drop (at + 1) text }
+{
+    let word = <u64 as Word<8>>::from_le_bytes(&text.bytes);
+    let bits = 8 * at;
+    let part = word % (1 << bits);
+    let rest = (word >> 8) >> bits;
+    (
+        TinyAsciiStr::from_utf8_unchecked(part.to_le_bytes()),
+        TinyAsciiStr::from_utf8_unchecked(rest.to_le_bytes()),
+    )
 }
 
 // The first part of padded bytes, and what stands behind its separator, if there is one. A part that ends in the first
@@ -183,7 +250,8 @@ fn find_in_sixteen(lanes: u8x16, byte: u8) -> Option<usize>
     Some(equal.trailing_zeros() as usize)
 }
 
-// So many of the first bytes of a text, and then NULs.
+// So many of the first bytes of a text, and then NULs. Sixteen lanes are compared with their places; for eight, `lanes` has
+// a table.
 #[inline(always)]
 fn kept(lanes: u8x16, count: usize) -> u8x16
     requires len { length lanes ≡ 16 }
