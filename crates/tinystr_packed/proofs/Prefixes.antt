@@ -1,7 +1,7 @@
 -- Texts that begin with a text.
 use Rattle.std.proofs.Common.{◌≡◌, ◌≢◌, ℕ, suc, zero, ◌+◌, ◌-◌, ◌<◌, ◌≤◌, Bool, true, false, ◌&&◌, List, [], ◌∷◌, ◌++◌, length, map, take, drop, get_or, refl, sym, ap, ◌∙◌, arith, nat_eq, inl, inr}
 use Rattle.std.specs.List.{starts_with, filter, All}
-use Rattle.std.specs.List.Sorted.{IsPartitionedBy, IsPartitionPoint}
+use Rattle.std.specs.List.Sorted.{IsPartitionPoint}
 use Rattle.std.specs.Ordering.{nat_cmp}
 use Rattle.std.specs.Str.{bytes_eq}
 use Rattle.std.proofs.lemmas.Slice.Eq.{bytes_eq-Decides}
@@ -11,11 +11,12 @@ use Rattle.std.proofs.lemmas.Bool.Decides.{nat_tests}
 use Rattle.std.proofs.lemmas.Cmp.{nat_list_cmp_total, tied_itself}
 use Rattle.std.proofs.lemmas.List.{get_or-drop, get_or-take, get_or_default, append-nil, length-drop, length-map, length-take, length-take-le, take-append-drop}
 use Rattle.std.proofs.lemmas.List.Elements.{filter-append, All-head, All-tail}
-use Rattle.tinystr_words.specs.Text.{IsTextByte, IsText, IsPaddedText, text_of}
-use Rattle.tinystr_words.proofs.Texts.{NULS}
-use Rattle.tinystr_packed.specs.Numbers.{BeginAlike}
+use Rattle.tinystr_words.specs.Text.{IsTextByte, IsText, IsStrictText, IsPaddedText, pad, text_of}
+use Rattle.tinystr_words.proofs.Order.{cmp-IsPaddedText}
+use Rattle.tinystr_words.proofs.Texts.{NULS, length-pad, text_of-pad, IsPaddedText-pad}
+use Rattle.tinystr_packed.specs.Numbers.{AreRisingRecords, BeginAlike}
 use Rattle.tinystr_packed.specs.Rising.{order, text_at, IsRising, IsFirstNotBelow}
-use Rattle.tinystr_packed.proofs.RisingTexts.{IsRecordOf-at, order-rising, below_from_rising}
+use Rattle.tinystr_packed.proofs.RisingTexts.{IsRecordOf-at, IsRecord-padded, raised, order-rising, below_from_rising}
 
 abbrev pub begins : List ℕ → List ℕ → Bool
 begins p t = starts_with nat_eq t p
@@ -49,6 +50,10 @@ not_below_beginning (x ∷ p) (y ∷ t) h less =
             not_below_beginning p t (rw (same, one) at h) (rw (same, tie) at less))
       ]
     ]
+
+is_false : (b : Bool) → b ≢ true → b ≡ false
+is_false true h = absurd (h refl)
+is_false false h = refl
 
 both_true : (a b : Bool) → (a && b) ≡ true → (a ≡ true) × (b ≡ true)
 both_true true b h = (refl, h)
@@ -86,14 +91,19 @@ not_above ts i j up le inside above =
     let no_more = rw (above, tied_itself nat_list_cmp_total (text_at ts j)) at (order-rising ts (text_at ts j) i j up le inside) in
     absurd (omega arith)
 
--- from the first text that isn't below p on, those that begin with p stand in front
-pub IsPartitionedBy-begins : (records rest ts : List (List ℕ)) (p : List ℕ) (n i : ℕ) → All (λ r. IsPaddedText r n) records → map text_of records ≡ ts → IsText p → IsRising ts → IsFirstNotBelow p ts i → rest ≡ drop i records → IsPartitionedBy (begins p) rest
-IsPartitionedBy-begins records rest ts p n i h view text up first cut j k d le inside here =
-    let long : length records ≡ length ts = rw (← view) (sym (length-map records text_of)) in
-    let within : i + k < length records = omega (arith, ap (λ (l : List (List ℕ)). length l) cut, length-drop i records) in
-    let far : begins p (text_at ts (i + k)) ≡ true = sym (begins-text records ts p d n (i + k) h view text within) ∙ (rw (cut, get_or-drop) at here) in
-    let near = begins-between p (text_at ts (i + j)) (text_at ts (i + k)) (first.not_below (i + j) (omega arith) (omega arith)) (not_above ts (i + j) (i + k) up (omega arith) (omega arith)) far in
-    rw (cut, get_or-drop) (begins-text records ts p d n (i + j) h view text (omega arith) ∙ near)
+-- no record is below the padded text from its place on
+pub IsFirstNotBelow-behind : (records rest ts : List (List ℕ)) (p : List ℕ) (n i : ℕ) → All (λ r. IsPaddedText r n) records → map text_of records ≡ ts → IsStrictText p n → IsFirstNotBelow p ts i → rest ≡ drop i records → IsFirstNotBelow (pad p n) rest 0
+IsFirstNotBelow-behind records rest ts p n i h view strict first cut = record {
+  inside = omega arith;
+  below = λ k before. absurd (omega arith);
+  not_below = λ k from inside.
+      let within : i + k < length records = omega (arith, ap (λ (l : List (List ℕ)). length l) cut, length-drop i records) in
+      let here = IsRecordOf-at records ts (text_at records (i + k)) n (i + k) h view within refl in
+      let padded = IsPaddedText-pad p n strict in
+      let same : order (text_at records (i + k)) (pad p n) ≡ order (text_at ts (i + k)) p =
+      cmp-IsPaddedText (text_at records (i + k)) (pad p n) n here.padded padded (IsRecord-padded (text_at records (i + k)) n here.padded).long (length-pad p n strict.fits) ∙ rw (here.text, text_of-pad p n strict.text) refl in
+      rw (cut, get_or-drop) (λ less. first.not_below (i + k) (omega arith) here.inside (sym same ∙ less));
+}
 
 -- what the first and the last begin with, all do
 pub BeginAlike-ends : (records : List (List ℕ)) (key first last : List ℕ) (n : ℕ) → IsRising records → n ≤ length key → 0 < length records
@@ -111,6 +121,75 @@ BeginAlike-ends records key first last n up fits some is_first is_last one other
       let all = begins-between p (text_at records k) (text_at records (length records - 1)) low high end in
       sym (rw long at ((bytes_eq-Decides p (take (length p) (text_at records k))).0 all));
 }
+
+-- ---- the record above all that begin with a text
+
+-- raised where a text has a byte, it is above what begins with the text
+below_raised : (p t : List ℕ) (k i : ℕ) → i < length p → begins p t ≡ true → order t (raised (p ++ NULS k) i) ≡ Less
+below_raised [] t k i inside h = absurd (omega arith)
+below_raised (x ∷ p) [] k i inside h = absurd (false≢true h)
+below_raised (x ∷ p) (y ∷ t) k zero inside h =
+    let parts = both_true (nat_eq x y) (begins p t) h in
+    let same : y ≡ x = grind (arith, nat_tests, parts.0) in
+    let less : nat_cmp y (x + 1) ≡ Less = grind (arith, nat_tests) in
+    rw less refl
+below_raised (x ∷ p) (y ∷ t) k (suc i) inside h =
+    let parts = both_true (nat_eq x y) (begins p t) h in
+    let same : y ≡ x = grind (arith, nat_tests, parts.0) in
+    let tie : nat_cmp x x ≡ Equal = grind (arith, nat_tests) in
+    rw (same, tie) (below_raised p t k i (omega arith) parts.1)
+
+-- no record is below NULs
+not_below_nuls : (t : List ℕ) (k : ℕ) → length t ≡ k → order t (NULS k) ≢ Less
+not_below_nuls [] zero long less = cc
+not_below_nuls [] (suc k) long less = absurd (omega arith)
+not_below_nuls (y ∷ t) zero long less = absurd (omega arith)
+not_below_nuls (y ∷ t) (suc k) long less = elim (cases_lt 0 y) [
+  | inl more ↦ (let e : nat_cmp y 0 ≡ Greater = grind (arith, nat_tests) in let no = rw e at less in cc)
+  | inr none ↦ (let same : y ≡ 0 = omega arith in not_below_nuls t k (omega arith) (rw same at less))
+]
+
+-- raised at the text's last byte, it is above nothing else that isn't below the text
+begins-below_raised : (p t : List ℕ) (k i : ℕ) → length p ≡ i + 1 → length t ≡ length p + k → order t (p ++ NULS k) ≢ Less → order t (raised (p ++ NULS k) i) ≡ Less → begins p t ≡ true
+begins-below_raised [] t k i last long low less = absurd (omega arith)
+begins-below_raised (x ∷ p) [] k i last long low less = absurd (omega arith)
+begins-below_raised (x ∷ y ∷ p) (z ∷ t) k zero last long low less = absurd (omega arith)
+begins-below_raised (x ∷ []) (z ∷ t) k zero last long low less =
+    elim (cases_lt z x) [
+      | inl fewer ↦ (let e : nat_cmp z x ≡ Less = grind (arith, nat_tests) in absurd (low (rw e refl)))
+      | inr others ↦ elim (cases_lt x z) [
+        | inl more ↦ elim (cases_lt (x + 1) z) [
+          | inl above ↦ (let e : nat_cmp z (x + 1) ≡ Greater = grind (arith, nat_tests) in let no = rw e at less in cc)
+          | inr rest ↦ (let next : z ≡ x + 1 = omega arith in
+              let tie : nat_cmp (x + 1) (x + 1) ≡ Equal = grind (arith, nat_tests) in
+              absurd (not_below_nuls t k (omega arith) (rw (next, tie) at less)))
+        ]
+        | inr rest ↦ (let same : nat_eq x z ≡ true = grind (arith, nat_tests) in rw same refl)
+      ]
+    ]
+begins-below_raised (x ∷ p) (z ∷ t) k (suc i) last long low less =
+    elim (cases_lt z x) [
+      | inl fewer ↦ (let e : nat_cmp z x ≡ Less = grind (arith, nat_tests) in absurd (low (rw e refl)))
+      | inr others ↦ elim (cases_lt x z) [
+        | inl more ↦ (let e : nat_cmp z x ≡ Greater = grind (arith, nat_tests) in let no = rw e at less in cc)
+        | inr rest ↦ (let same : z ≡ x = omega arith in
+            let tie : nat_cmp x x ≡ Equal = grind (arith, nat_tests) in
+            let one : nat_eq x x ≡ true = grind (arith, nat_tests) in
+            rw (same, one) (begins-below_raised p t k i (omega arith) (omega arith) (λ fewer. low (rw (same, tie) fewer)) (rw (same, tie) at less)))
+      ]
+    ]
+
+-- so its place is behind those that begin with the text
+pub IsPartitionPoint-raised : (records : List (List ℕ)) (p : List ℕ) (n i m : ℕ) → AreRisingRecords n records → IsFirstNotBelow (pad p n) records 0 → length p ≡ i + 1 → length p ≤ n
+    → IsFirstNotBelow (raised (pad p n) i) records m → IsPartitionPoint (λ r. begins p r ≡ true) (λ r. begins p r ≡ false) records m
+IsPartitionPoint-raised records p n i m h low last fits found =
+    let k = n - length p in (
+      λ j d from before.
+          let inside : j < length records = omega (arith, found.inside) in
+          rw (get_or_default records j d [] inside) (begins-below_raised p (text_at records j) k i last (omega (arith, (h.each j inside).long)) (low.not_below j (omega arith) inside) (found.below j before)),
+      λ j d behind inside.
+          rw (get_or_default records j d [] inside) (is_false (begins p (text_at records j)) (λ yes. found.not_below j behind inside (below_raised p (text_at records j) k i (omega arith) yes))),
+    )
 
 -- ---- what a filter keeps of a list of three parts
 
@@ -131,10 +210,6 @@ filter-middle f xs i m before inside behind =
     let back = filter-none f (drop m rest) (λ k below. rw (get_or-drop, get_or-drop) (behind (i + (m + k)) (omega arith) (omega (arith, length-drop m rest, length-drop i xs)))) in
     sym (ap (λ (l : List (List ℕ)). filter f l) (sym (take-append-drop i xs)) ∙ filter-append f (take i xs) rest
     ∙ rw front (ap (λ (l : List (List ℕ)). filter f l) (sym (take-append-drop m rest)) ∙ filter-append f (take m rest) (drop m rest) ∙ rw (middle, back) (append-nil (take m rest))))
-
-is_false : (b : Bool) → b ≢ true → b ≡ false
-is_false true h = absurd (h refl)
-is_false false h = refl
 
 -- the texts that begin with p
 pub filter-begins : (records rest ts : List (List ℕ)) (p : List ℕ) (n i m : ℕ) → All (λ r. IsPaddedText r n) records → map text_of records ≡ ts → IsText p → IsFirstNotBelow p ts i → rest ≡ drop i records

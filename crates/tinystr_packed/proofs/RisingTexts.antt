@@ -1,5 +1,5 @@
 -- Texts that rise.
-use Rattle.std.proofs.Common.{◌≡◌, ◌≢◌, ℕ, ◌+◌, ◌-◌, ◌<◌, ◌≤◌, List, [], ◌∷◌, length, map, take, drop, get_or, refl, ap, sym, ◌∙◌, arith, add-one, Bool, false, true, inl, inr}
+use Rattle.std.proofs.Common.{◌≡◌, ◌≢◌, ℕ, ◌+◌, ◌-◌, ◌<◌, ◌≤◌, List, [], ◌∷◌, length, map, take, drop, get_or, slice_set, refl, ap, sym, ◌∙◌, arith, add-one, Bool, false, true, inl, inr}
 use Rattle.std.specs.Cmp.Lexicographic.{slice_cmp}
 use Rattle.std.specs.Ordering.{nat_cmp, is_lt, ordering_index}
 use Rattle.std.specs.declared.cmp.Ordering.{Ordering}
@@ -12,7 +12,8 @@ use Rattle.std.specs.List.Sorted.{IsSortedBy, IsPartitionedBy, IsPartitionPoint}
 use Rattle.std.proofs.lemmas.Cmp.{nat_list_cmp_total, nat_list_eq_equiv, tied_itself}
 use Rattle.std.proofs.lemmas.List.Sorted.{searchable_from_sorted}
 use Rattle.std.proofs.lemmas.Bool.{cases_lt, false≢true}
-use Rattle.std.proofs.lemmas.List.{get_or_default, get_or_past, get_or-drop, get_or-map, get_or-take, length-drop, length-map, length-take}
+use Rattle.std.proofs.lemmas.Grind.{common_steps}
+use Rattle.std.proofs.lemmas.List.{get_or_default, get_or_past, get_or-drop, get_or-map, get_or-take, length-drop, length-map, length-set, length-take}
 use Rattle.tinystr_words.specs.Text.{IsPaddedText, text_of}
 use Rattle.tinystr_words.proofs.Texts.{get_or-pad, length-pad}
 use Rattle.tinystr_words.proofs.Before.{cmp_is_same}
@@ -103,14 +104,29 @@ not_below_later ts i j up le inside less =
 abbrev pub is_below_key : List ℕ → List ℕ → Bool
 is_below_key key raw = is_lt (slice_cmp nat_cmp raw key)
 
+-- no byte of a padded text is above 127
+ascii-padded : (raw : List ℕ) (n i : ℕ) → IsPaddedText raw n → get_or raw i 0 < 128
+ascii-padded raw n i h = rw (h.padded, get_or-pad (text_of raw) n i) (elim (cases_lt i (length (text_of raw))) [
+  | inl inside ↦ (let char = h.text i 0 inside in omega arith)
+  | inr past ↦ (let none = get_or_past (text_of raw) i 0 past in omega arith)
+])
+
 -- a padded text is a record
 pub IsRecord-padded : (raw : List ℕ) (n : ℕ) → IsPaddedText raw n → IsRecord n raw
 IsRecord-padded raw n h = record {
   long = length-padded raw n h;
-  bytes = λ i. rw (h.padded, get_or-pad (text_of raw) n i) (elim (cases_lt i (length (text_of raw))) [
-    | inl inside ↦ (let char = h.text i 0 inside in omega arith)
-    | inr past ↦ (let none = get_or_past (text_of raw) i 0 past in omega arith)
-  ]);
+  bytes = λ i. omega (arith, ascii-padded raw n i h);
+}
+
+-- a record with one byte raised by one
+abbrev pub raised : List ℕ → ℕ → List ℕ
+raised raw i = slice_set raw i (get_or raw i 0 + 1)
+
+-- a padded text stays a record
+pub IsRecord-raised : (raw : List ℕ) (n i : ℕ) → IsPaddedText raw n → IsRecord n (raised raw i)
+IsRecord-raised raw n i h = record {
+  long = length-set raw i (get_or raw i 0 + 1) ∙ length-padded raw n h;
+  bytes = λ j. let one = ascii-padded raw n i h in let other = ascii-padded raw n j h in grind (arith, common_steps);
 }
 
 -- records of rising texts rise
@@ -208,6 +224,13 @@ IsPart-range ts part i m inside is =
       each = λ k within. rw (is, get_or-take m (drop i ts) k [] (omega (arith, length-take m (drop i ts), length-drop i ts, long)), get_or-drop) refl;
     }
 
+-- as all from i on do
+pub IsPart-behind : (ts rest : List (List ℕ)) (i : ℕ) → i ≤ length ts → rest ≡ drop i ts → IsPart ts rest i
+IsPart-behind ts rest i inside is = record {
+  inside = rw is (omega (arith, length-drop i ts));
+  each = λ k within. rw (is, get_or-drop) refl;
+}
+
 -- a part of records that rise
 pub AreRisingRecords-part : (records part : List (List ℕ)) (n i : ℕ) → AreRisingRecords n records → IsPart records part i → AreRisingRecords n part
 AreRisingRecords-part records part n i h p = record {
@@ -236,3 +259,11 @@ IsFirstNotBelow-part ts part key i m up p before behind found =
         | inr past ↦ behind (omega arith) (below_from_rising ts key (i + length part) k up past inside less)
       ];
     }
+
+-- the same of a range
+pub IsFirstNotBelow-range : (ts : List (List ℕ)) (key : List ℕ) (i j m : ℕ) → IsRising ts → i ≤ j → j ≤ length ts → ((k : ℕ) → k < i → order (text_at ts k) key ≡ Less)
+    → (j < length ts → order (text_at ts j) key ≢ Less) → IsFirstNotBelow key (take (j - i) (drop i ts)) m → IsFirstNotBelow key ts (i + m)
+IsFirstNotBelow-range ts key i j m up le inside before behind found =
+    let part = take (j - i) (drop i ts) in
+    let long : i + length part ≡ j = omega (arith, length-take (j - i) (drop i ts), length-drop i ts) in
+    IsFirstNotBelow-part ts part key i m up (IsPart-range ts part i (j - i) (omega arith) refl) before (rw long behind) found

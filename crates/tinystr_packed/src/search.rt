@@ -1,14 +1,18 @@
 //! The search among records that rise.
 
-ghost use Rattle.std.specs.Prelude.{◌≡◌, ◌<◌, ◌≤◌, ◌↔◌, ◌-◌, IsTrue, length};
+ghost use Rattle.std.specs.Prelude.{◌≡◌, ◌<◌, ◌≤◌, ◌↔◌, ◌-◌, IsTrue, true, false, length, nat_eq};
 ghost use Rattle.std.specs.Cmp.Lexicographic.{slice_cmp};
+ghost use Rattle.std.specs.List.{starts_with};
+ghost use Rattle.std.specs.List.Sorted.{IsPartitionPoint};
 ghost use Rattle.std.specs.Ordering.{nat_cmp, is_lt};
 ghost use Rattle.std.specs.declared.cmp.Ordering.TheVariants.{Less};
+ghost use Rattle.tinystr_words.specs.Text.{pad};
 ghost use Rattle.tinystr_packed.specs.Numbers.{IsRecord, AreRisingRecords, BeginAlike, RiseByNumber, IsFirstNumberNotBelow};
 ghost use Rattle.tinystr_packed.specs.Rising.{order, text_at, IsFirstNotBelow};
 
 use crate::record::{is_below, number_at};
 use std::hint::select_unpredictable;
+use tinystr::TinyAsciiStr;
 
 // So many bytes stay near the processor. In more of them a search waits for memory alone, and branches serve better: where
 // they are guessed, the processor reads ahead.
@@ -35,6 +39,23 @@ pub fn first_not_below<const N: usize>(records: &[[u8; N]], key: &[u8; N]) -> us
     let start = shared_len(records, key);
     let place = first_number_not_below(records, start, number_at(key, start));
     place + first_not_below_near_start(&records[place..], key)
+}
+
+/// How many records begin with a text, where none is below it.
+// They are those below the text with its last byte raised by one, which is at most 128. Mostly they are few.
+#[inline(always)]
+pub fn count_with_prefix<const N: usize>(records: &[[u8; N]], beginning: &TinyAsciiStr<N>) -> usize
+    requires records { AreRisingRecords N records.now }
+    requires not_below { IsFirstNotBelow (pad beginning.now N) records.now 0 }
+    ensures bound { result ≤ length records.now }
+    ensures count { IsPartitionPoint (λ raw. starts_with nat_eq raw beginning.now ≡ true) (λ raw. starts_with nat_eq raw beginning.now ≡ false) records.now result }
+{
+    let Some(last) = beginning.len().checked_sub(1) else {
+        return records.len();
+    };
+    let mut above = *beginning.all_bytes();
+    above[last] += 1;
+    first_not_below_near_start(records, &above)
 }
 
 // The same, for a place that is near the start: in time that grows as the logarithm of the place. By steps that grow eight

@@ -2,9 +2,10 @@
 
 ghost use Rattle.std.specs.Prelude.{◌≡◌, ◌↔◌, IsOk, IsTrue, IfOk, IfErr, Some, Contains, filter, nat_eq, slice_get};
 ghost use Rattle.std.specs.List.{starts_with};
+ghost use Rattle.tinystr_words.specs.Text.{IsStrictText};
 ghost use Rattle.tinystr_packed.specs.Rising.{IsRising, IsFirstFall, IsPlaceFor, IsFirstNotBelow};
 
-use crate::search::first_not_below;
+use crate::search::{count_with_prefix, first_not_below};
 use crate::table::Table;
 use std::marker::Model;
 use tinystr::TinyAsciiStr;
@@ -104,12 +105,7 @@ impl<'a, const N: usize> SortedTable<'a, N> {
     {
         let start = self.first_not_below(beginning);
         let (_, rest) = self.table.records().split_at(start);
-        let beginning = beginning.as_utf8();
-        let len = rest.partition_point(
-            |raw| -> bool
-                ensures { result ≡ starts_with nat_eq raw.now beginning.entry.now }
-            { raw[..].starts_with(beginning) },
-        );
+        let len = count_with_prefix(rest, beginning);
         SortedTable {
             table: self.table.slice(start..start + len),
         }
@@ -117,7 +113,8 @@ impl<'a, const N: usize> SortedTable<'a, N> {
 
     // The index of the first text that isn't below a key, or the number of texts.
     fn first_not_below(&self, key: &TinyAsciiStr<N>) -> usize
-        ensures { IsFirstNotBelow key.now self.now result }
+        ensures place { IsFirstNotBelow key.now self.now result }
+        ensures strict { IsStrictText key.now N }
     {
         first_not_below(self.table.records(), key.all_bytes())
     }

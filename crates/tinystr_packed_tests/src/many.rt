@@ -3,7 +3,7 @@
 use std::alloc::{AllocError, Global};
 use std::collections::BTreeMap;
 use std::test::Fail;
-use tinystr::{TinyAsciiStr, tinystr};
+use tinystr::TinyAsciiStr;
 use tinystr_packed::{
     MapError, NotRising, PackedMap, SortedTable, Table, pack, pack_map, pack_sorted, unpack,
 };
@@ -62,7 +62,7 @@ fn many_texts_are_found(rt: HostRuntime) -> Result<(), Fail> {
     Ok(())
 }
 
-/// Whether each text is found at its index, the last one is the last, and 64 begin with `!`.
+/// Whether each text is found at its index, the last one is the last, and those that begin with a text are counted.
 fn are_found(file: &[u8], texts: &[Text]) -> bool {
     let Ok(table) = Table::<2>::new(file) else {
         return false;
@@ -70,17 +70,25 @@ fn are_found(file: &[u8], texts: &[Text]) -> bool {
     let Ok(sorted) = SortedTable::new(table) else {
         return false;
     };
-    let Ok(beginning) = tinystr!(2, "!") else {
-        return false;
-    };
     for (index, text) in texts.iter().enumerate() {
         if sorted.binary_search(text) != Ok(index) {
             return false;
         }
     }
-    sorted.table().len() == COUNT
-        && sorted.table().last() == texts.last().copied()
-        && sorted.with_prefix(&beginning).table().len() == 64
+    for (beginning, count) in [
+        ("", COUNT),
+        (" ", 0),
+        ("!", 64),
+        ("#", 64),
+        ("%", 64),
+        ("&", 0),
+    ] {
+        match Text::try_from_str(beginning) {
+            Ok(beginning) if sorted.with_prefix(&beginning).table().len() == count => {}
+            _ => return false,
+        }
+    }
+    sorted.table().len() == COUNT && sorted.table().last() == texts.last().copied()
 }
 
 #[test]

@@ -19,12 +19,18 @@ const FILES: &[(&[u8], &str)] = &[
         b"AbcdBcdeaaaaabczabdaacaaz\0\0\0",
         "Abcd\nBcde\naaaa\nabcz\nabda\nacaa\nz\n",
     ),
+    (
+        b"ab~\0ab\x7f\0ab\x7f\x7fac\0\0b\0\0\0\x7f\0\0\0\x7f\x7f\x7f\x7f",
+        "ab~\nab\x7f\nab\x7f\x7f\nac\nb\n\x7f\n\x7f\x7f\x7f\x7f\n",
+    ),
 ];
 
 #[test]
 fn texts_with_a_prefix_are_those_that_std_tells(rt: HostRuntime) {
+    let prefixes =
+        "|A|B|a|aa|ab|ab~|ab\x7f|ab\x7f\x7f|abc|abcd|abd|abe|ac|b|ba|bab|bb|c|cc|z|zz|~|\x7f|\x7f\x7f\x7f\x7f";
     for (file, words) in FILES {
-        for prefix in "|A|B|a|aa|ab|abc|abcd|abd|abe|ac|b|ba|bab|bb|c|cc|z|zz|~".split('|') {
+        for prefix in prefixes.split('|') {
             assert!(rt;
                 has_exactly_those::<4>(file, words, prefix),
                 "{prefix} in {words}"

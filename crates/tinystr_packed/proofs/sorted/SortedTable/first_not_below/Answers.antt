@@ -11,7 +11,7 @@ first_not_below-requires g c = (
   ),
 )
 
-pub returns : goal.returns
-returns g c =
+pub returns-clause-place : goal.returns-clause-place
+returns-clause-place g c =
     let key = c.all_bytes.ensures in
     IsFirstNotBelow-texts c.records.result.now c.args.self.now c.args.key.now c.all_bytes.result.now g.row.N c.first_not_below.result c.records.ensures.padded (c.records.ensures.texts ∙ c.self.view_is) key.padded key.text c.first_not_below.ensures

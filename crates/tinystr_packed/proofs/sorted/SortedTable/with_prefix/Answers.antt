@@ -1,21 +1,34 @@
-use Rattle.std.proofs.Common.{◌≡◌, ◌+◌, ◌-◌, ◌∙◌, ℕ, List, ap, arith, rules}
-use Rattle.std.specs.List.{filter}
-use Rattle.std.proofs.lemmas.List.Sorted.{IsPartitionPoint-from_clause}
-use Rattle.tinystr_packed.proofs.Prefixes.{begins, IsPartitionedBy-begins, filter-begins}
+use Rattle.std.proofs.Common.{◌≡◌, ◌≤◌, ◌+◌, ◌-◌, ◌∙◌, length, arith, rules}
+use Rattle.std.proofs.lemmas.List.{length-map}
+use Rattle.tinystr_packed.proofs.Prefixes.{IsFirstNotBelow-behind, filter-begins}
+use Rattle.tinystr_packed.proofs.RisingTexts.{AreRisingRecords-texts, AreRisingRecords-part, IsPart-behind}
 use Rattle.tinystr_packed.proofs.sorted.SortedTable.with_prefix.Goals as goal
+
+pub count_with_prefix-len-requires : goal.count_with_prefix-len-requires
+count_with_prefix-len-requires g c =
+    let records = c.records.result.now in
+    let rest = c.split_at.result.1.now in
+    let texts = c.records.ensures.texts ∙ c.self.view_is in
+    let start = c.first_not_below-start.result in
+    let first = c.first_not_below-start.ensures in
+    let all = AreRisingRecords-texts records c.args.self.now g.row.N c.records.ensures.padded texts (rw c.self.view_is at c.self.invariant) in
+    let inside : start ≤ length records = rw (← texts, length-map) at first.place.inside in (
+      search rules,
+      (
+        search rules,
+        (
+          AreRisingRecords-part records rest g.row.N start all (IsPart-behind records rest start inside c.split_at.ensures.back),
+          IsFirstNotBelow-behind records rest c.args.self.now c.args.beginning.now g.row.N start c.records.ensures.padded texts first.strict first.place c.split_at.ensures.back,
+        ),
+      ),
+    )
 
 pub returns : goal.returns
 returns g c =
-    let records = c.records.result.now in
-    let ts = c.args.self.now in
     let texts = c.records.ensures.texts ∙ c.self.view_is in
-    let p = c.as_utf8-beginning.result.now in
-    let rest = c.split_at.result.1.now in
     let start = c.first_not_below-start.result in
-    let len = c.partition_point-len.result in
-    let first = rw (← c.as_utf8-beginning.ensures.text) at c.first_not_below-start.ensures in
-    let parted = IsPartitionedBy-begins records rest ts p g.row.N start c.records.ensures.padded texts c.as_utf8-beginning.ensures.ascii (rw c.self.view_is at c.self.invariant) first c.split_at.ensures.back in
-    let cut = IsPartitionPoint-from_clause (begins p) rest len c.partition_point-len.ensures.partitioned parted (λ a r q k. search rules) in
-    let kept = filter-begins records rest ts p g.row.N start len c.records.ensures.padded texts c.as_utf8-beginning.ensures.ascii first c.split_at.ensures.back cut in
+    let len = c.count_with_prefix-len.result in
+    let first = c.first_not_below-start.ensures in
+    let kept = filter-begins c.records.result.now c.split_at.result.1.now c.args.self.now c.args.beginning.now g.row.N start len c.records.ensures.padded texts first.strict.text first.place c.split_at.ensures.back c.count_with_prefix-len.ensures.count in
     let short : start + len - start ≡ len = omega arith in
-    (rw short at (rw c.self.view_is at c.slice.ensures)) ∙ kept ∙ ap (λ (l : List ℕ). filter (begins l) ts) c.as_utf8-beginning.ensures.text
+    (rw short at (rw c.self.view_is at c.slice.ensures)) ∙ kept
