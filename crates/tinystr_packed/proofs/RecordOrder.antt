@@ -1,22 +1,23 @@
 -- Records of at most eight bytes are in the order of the numbers that they spell.
-use Rattle.std.proofs.Common.{◌≡◌, ℕ, zero, suc, ◌+◌, ◌-◌, ◌%◌, ◌<◌, ◌≤◌, List, [], ◌∷◌, length, map, take, drop, get_or, refl, sym, ap, ◌∙◌, arith, Bool, true, false, cond, nat_lt, nat_eq, Fits, w8, inl, inr}
+use Rattle.std.proofs.Common.{◌≡◌, ◌≢◌, ℕ, zero, suc, ◌+◌, ◌-◌, ◌%◌, ◌<◌, ◌≤◌, List, [], ◌∷◌, length, map, take, drop, get_or, refl, sym, ap, ◌∙◌, arith, Bool, true, false, cond, nat_lt, nat_eq, Fits, w8, inl, inr}
 use Rattle.std.specs.Cmp.Lexicographic.{slice_cmp}
-use Rattle.std.specs.Int.{from_be_bytes, from_le_bytes, to_le_bytes, swap_bytes, w64}
+use Rattle.std.specs.Int.{from_be_bytes, from_le_bytes, to_be_bytes, to_le_bytes, swap_bytes, w64}
 use Rattle.std.specs.Ordering.{nat_cmp, is_lt, ordering_then}
 use Rattle.std.specs.declared.cmp.Ordering.{Ordering}
 use Rattle.std.specs.declared.cmp.Ordering.TheVariants.{Less, Equal, Greater}
 use Rattle.std.proofs.lemmas.Bool.{cases_lt, lt-ltb, ltb-true}
-use Rattle.std.proofs.lemmas.List.{append-nil, take_all, drop_all, length-take, length-drop}
-use Rattle.std.proofs.lemmas.Cmp.{nat_cmp_total, tied_itself}
+use Rattle.std.proofs.lemmas.List.{append-nil, take_all, take-take, drop_all, length-take, length-drop, places}
+use Rattle.std.proofs.lemmas.Cmp.{nat_cmp_total, nat_list_cmp_total, tied_itself}
 use Rattle.std.specs.Cmp.{nat_cmp_is}
-use Rattle.std.proofs.lemmas.Nat.{le_bytes_8}
+use Rattle.std.proofs.lemmas.Nat.{be_bytes_8, le_bytes_8}
+use Rattle.std.proofs.Math.Seq.{take-add}
 use Rattle.std.proofs.Math.Facts.{Fits-lt-pow}
 use Rattle.tinystr_words.specs.Text.{pad}
 use Rattle.tinystr_words.specs.Words.{word}
 use Rattle.tinystr_packed.specs.Numbers.{number_at, IsRecord, AreRisingRecords, BeginAlike, RiseByNumber, IsFirstNumberNotBelow}
 use Rattle.tinystr_packed.specs.Rising.{order, text_at, IsFirstNotBelow}
 use Rattle.tinystr_packed.proofs.Numbers.{number_at-short, number_at-long}
-use Rattle.tinystr_packed.proofs.RisingTexts.{Less-from_is_lt, not_below_later, IsPart-range, IsFirstNotBelow-part}
+use Rattle.tinystr_packed.proofs.RisingTexts.{Less-from_is_lt, not_below_later, IsPart}
 use Rattle.tinystr_words.proofs.OrderByNumbers.{AreBytes, AreBytes-drop, slice_cmp-first_eight, slice_cmp-widened}
 use Rattle.tinystr_words.proofs.Texts.{get_or-pad, length-pad}
 use Rattle.tinystr_words.proofs.WordAsNumber.{word-nuls}
@@ -160,13 +161,55 @@ RiseByNumber-long records key n s fits h alike = record {
       ];
 }
 
--- the key's place is the number's, and as many more as are below the key from there on
-pub IsFirstNotBelow-long : (records : List (List ℕ)) (key : List ℕ) (n s number place more : ℕ) → s + 8 ≤ n → AreRisingRecords n records → IsRecord n key → BeginAlike s key records → number ≡ number_at s key
-    → IsFirstNumberNotBelow number s records place → IsFirstNotBelow key (take (length records - place) (drop place records)) more → IsFirstNotBelow key records (place + more)
-IsFirstNotBelow-long records key n s number place more fits h k alike is found near =
-    let rest = take (length records - place) (drop place records) in
-    let all : place + length rest ≡ length records = omega (arith, found.inside, length-take (length records - place) (drop place records), length-drop place records) in
-    IsFirstNotBelow-part records rest key place more h.rising (IsPart-range records rest place (length records - place) (omega (arith, found.inside)) refl)
-    (λ j before. Less-long (text_at records j) key n s fits (h.each j (omega (arith, found.inside))) k (alike.each j (omega (arith, found.inside))) (omega (arith, found.below j before)))
-    (λ inside. absurd (omega arith))
-    near
+-- so they do in a part
+pub RiseByNumber-part : (records part : List (List ℕ)) (s i : ℕ) → RiseByNumber s records → IsPart records part i → RiseByNumber s part
+RiseByNumber-part records part s i h p = record {
+  up = λ j k le inside. rw (p.each j (omega arith), p.each k inside) (h.up (i + j) (i + k) (omega arith) (omega (arith, p.inside)));
+}
+
+-- what stands before the number's place is below the key
+pub below-long : (records : List (List ℕ)) (key : List ℕ) (n s number place : ℕ) → s + 8 ≤ n → AreRisingRecords n records → IsRecord n key → BeginAlike s key records → number ≡ number_at s key
+    → IsFirstNumberNotBelow number s records place → (k : ℕ) → k < place → order (text_at records k) key ≡ Less
+below-long records key n s number place fits h is_record alike is found k before =
+    let inside : k < length records = omega (arith, found.inside) in
+    Less-long (text_at records k) key n s fits (h.each k inside) is_record (alike.each k inside) (omega (arith, found.below k before))
+
+-- and a record of a number above the key's isn't
+pub not_below-long : (records : List (List ℕ)) (key : List ℕ) (n s k : ℕ) → s + 8 ≤ n → AreRisingRecords n records → IsRecord n key → BeginAlike s key records → k < length records
+    → number_at s key < number_at s (text_at records k) → order (text_at records k) key ≢ Less
+not_below-long records key n s k fits h is_record alike inside more less =
+    let above = Less-long key (text_at records k) n s fits is_record (h.each k inside) (sym (alike.each k inside)) more in
+    let turned = nat_list_cmp_total.antisymm (text_at records k) key in
+    cc
+
+-- a number is one of 64 bits
+from_be_bytes-bound : (bs : List ℕ) → length bs ≡ 8 → AreBytes bs → from_be_bytes w64 bs < 18446744073709551616
+from_be_bytes-bound bs long bytes = omega (arith, bytes 0, bytes 1, bytes 2, bytes 3, bytes 4, bytes 5, bytes 6, bytes 7)
+
+AreBytes-eight : (raw : List ℕ) (s : ℕ) → AreBytes raw → AreBytes (take 8 (drop s raw))
+AreBytes-eight raw s h i = let within = AreBytes-drop s raw h i in grind (arith, places, within)
+
+pub number-bound : (raw : List ℕ) (n s : ℕ) → s + 8 ≤ n → IsRecord n raw → number_at s raw < 18446744073709551616
+number-bound raw n s fits h =
+    let eight = take 8 (drop s raw) in
+    rw (number_at-eight raw s (omega (arith, h.long))) (from_be_bytes-bound eight (omega (arith, length-take 8 (drop s raw), length-drop s raw, h.long)) (AreBytes-eight raw s h.bytes))
+
+-- records of one number have the same eight bytes
+alike-long : (xs ys : List ℕ) (n s : ℕ) → s + 8 ≤ n → IsRecord n xs → IsRecord n ys → take s xs ≡ take s ys → number_at s xs ≡ number_at s ys → take (s + 8) xs ≡ take (s + 8) ys
+alike-long xs ys n s fits x y same number =
+    let left = take 8 (drop s xs) in
+    let right = take 8 (drop s ys) in
+    let a = be_bytes_8 left (number_at s xs) (omega (arith, length-take 8 (drop s xs), length-drop s xs, x.long)) (AreBytes-eight xs s x.bytes) (number_at-eight xs s (omega (arith, x.long))) in
+    let b = be_bytes_8 right (number_at s ys) (omega (arith, length-take 8 (drop s ys), length-drop s ys, y.long)) (AreBytes-eight ys s y.bytes) (number_at-eight ys s (omega (arith, y.long))) in
+    let eight : left ≡ right = sym a ∙ ap (λ (m : ℕ). to_be_bytes w64 m) number ∙ b in
+    rw (take-add s 8 xs, take-add s 8 ys, same, eight) refl
+
+-- so they begin alike with more bytes, in a part
+pub BeginAlike-next : (records part : List (List ℕ)) (key : List ℕ) (n s next i : ℕ) → s + 8 ≤ n → next ≤ s + 8 → AreRisingRecords n records → IsRecord n key → BeginAlike s key records → IsPart records part i
+    → ((k : ℕ) → i ≤ k → k < i + length part → number_at s (text_at records k) ≡ number_at s key) → BeginAlike next key part
+BeginAlike-next records part key n s next i fits le h is_record alike p numbers = record {
+  each = λ k inside.
+      let within : i + k < length records = omega (arith, p.inside) in
+      let more = alike-long (text_at records (i + k)) key n s fits (h.each (i + k) within) is_record (alike.each (i + k) within) (numbers (i + k) (omega arith) (omega arith)) in
+      rw (p.each k inside, ← take-take next (s + 8) (text_at records (i + k)) le, ← take-take next (s + 8) key le, more) refl;
+}

@@ -1,13 +1,13 @@
 //! The search among records that rise.
 
-ghost use Rattle.std.specs.Prelude.{◌≡◌, ◌<◌, ◌≤◌, ◌↔◌, ◌-◌, IsTrue, true, false, length, nat_eq};
+ghost use Rattle.std.specs.Prelude.{◌≡◌, ◌≢◌, ◌<◌, ◌≤◌, ◌↔◌, ◌+◌, ◌-◌, ℕ, IsTrue, true, false, length, nat_eq};
 ghost use Rattle.std.specs.Cmp.Lexicographic.{slice_cmp};
 ghost use Rattle.std.specs.List.{starts_with};
 ghost use Rattle.std.specs.List.Sorted.{IsPartitionPoint};
 ghost use Rattle.std.specs.Ordering.{nat_cmp, is_lt};
 ghost use Rattle.std.specs.declared.cmp.Ordering.TheVariants.{Less};
 ghost use Rattle.tinystr_words.specs.Text.{pad};
-ghost use Rattle.tinystr_packed.specs.Numbers.{IsRecord, AreRisingRecords, BeginAlike, RiseByNumber, IsFirstNumberNotBelow};
+ghost use Rattle.tinystr_packed.specs.Numbers.{number_at, IsRecord, AreRisingRecords, BeginAlike, RiseByNumber, IsFirstNumberNotBelow};
 ghost use Rattle.tinystr_packed.specs.Rising.{order, text_at, IsFirstNotBelow};
 
 use crate::record::{is_below, number_at};
@@ -18,7 +18,8 @@ use tinystr::TinyAsciiStr;
 // they are guessed, the processor reads ahead.
 const CACHED: usize = 4 << 20;
 
-// Fewer records of more than eight bytes are compared whole: what tells them apart takes longer to find.
+// Fewer records of more than eight bytes are compared whole: what tells them apart takes longer to find. A range of a number
+// that isn't shorter has that number alone.
 const SEVERAL: usize = 8;
 
 /// The index of the first record that isn't below a key, or the number of records.
@@ -35,10 +36,88 @@ pub fn first_not_below<const N: usize>(records: &[[u8; N]], key: &[u8; N]) -> us
     if N <= 8 {
         return first_number_not_below(records, 0, number_at(key, 0));
     }
-    // eight bytes tell most records apart, and those that they don't stand side by side
+    // those that eight bytes don't tell apart stand side by side, and mostly the next eight tell them apart
     let start = shared_len(records, key);
-    let place = first_number_not_below(records, start, number_at(key, start));
-    place + first_not_below_near_start(&records[place..], key)
+    if are_neighbours_alike(records, start) {
+        return first_not_below_by_halves(records, key);
+    }
+    let (begin, end) = range_of_number(records, key, start);
+    let alike = &records[begin..end];
+    let next = (start + 8).min(N - 8);
+    if alike.len() < SEVERAL || are_neighbours_alike(alike, next) {
+        return begin + first_not_below_by_halves(alike, key);
+    }
+    let (first, last) = range_of_number(alike, key, next);
+    begin + first + first_not_below_by_halves(&alike[first..last], key)
+}
+
+// Whether eight bytes from `start` on don't tell a record at a quarter, a half or three quarters from the next. Where they
+// tell few apart, whole records are compared sooner. It only guides.
+#[inline(always)]
+fn are_neighbours_alike<const N: usize>(records: &[[u8; N]], start: usize) -> bool
+    requires several { 8 ≤ length records.now }
+    requires start { start ≤ N - 8 }
+{
+    let quarter = records.len() / 4;
+    is_next_alike(records, quarter, start)
+        || is_next_alike(records, 2 * quarter, start)
+        || is_next_alike(records, 3 * quarter, start)
+}
+
+// Whether a record and the next have one number from `start` on.
+#[inline(always)]
+fn is_next_alike<const N: usize>(records: &[[u8; N]], index: usize, start: usize) -> bool
+    requires inside { index + 1 < length records.now }
+    requires start { start ≤ N - 8 }
+    ensures { result ≡ nat_eq (number_at start (text_at records.now index)) (number_at start (text_at records.now (index + 1))) }
+{
+    number_at(&records[index], start) == number_at(&records[index + 1], start)
+}
+
+// A range where the first record that isn't below a key can be: those before it are below the key, and those behind it
+// aren't. If several are in it, they have the key's number from `start` on.
+#[inline(always)]
+fn range_of_number<const N: usize>(records: &[[u8; N]], key: &[u8; N], start: usize) -> (usize, usize)
+    requires long { 8 < N }
+    requires records { AreRisingRecords N records.now }
+    requires key { IsRecord N key.now }
+    requires start { start ≤ N - 8 }
+    requires alike { BeginAlike start key.now records.now }
+    ensures up { result.0 ≤ result.1 }
+    ensures inside { result.1 ≤ length records.now }
+    ensures below { (k : ℕ) → k < result.0 → order (text_at records.now k) key.now ≡ Less }
+    ensures not_below { result.1 < length records.now → order (text_at records.now result.1) key.now ≢ Less }
+    ensures number { result.0 + 8 ≤ result.1 → (k : ℕ) → result.0 ≤ k → k < result.1
+        → number_at start (text_at records.now k) ≡ number_at start key.now }
+{
+    let wanted = number_at(key, start);
+    let place = first_number_not_below(records, start, wanted);
+    if !is_below_at(records, place, key) {
+        return (place, place);
+    }
+    let near = place + SEVERAL;
+    if !is_below_at(records, near, key) {
+        return (place + 1, records.len().min(near));
+    }
+    let begin = near + 1;
+    (begin, begin + first_number_above(&records[begin..], start, wanted))
+}
+
+// The index of the first record whose number from `start` on is above another.
+#[inline(always)]
+fn first_number_above<const N: usize>(records: &[[u8; N]], start: usize, number: u64) -> usize
+    requires long { 8 < N }
+    requires records { AreRisingRecords N records.now }
+    requires start { start ≤ N - 8 }
+    requires up { RiseByNumber start records.now }
+    ensures inside { result ≤ length records.now }
+    ensures above { result < length records.now → number < number_at start (text_at records.now result) }
+    ensures not_above { (k : ℕ) → k < result → number_at start (text_at records.now k) ≤ number }
+{
+    match number.checked_add(1) {
+        Some(next) => first_number_not_below(records, start, next),
+        None => records.len(),
+    }
 }
 
 /// How many records begin with a text, where none is below it.
@@ -58,7 +137,7 @@ pub fn count_with_prefix<const N: usize>(records: &[[u8; N]], beginning: &TinyAs
     first_not_below_near_start(records, &above)
 }
 
-// The same, for a place that is near the start: in time that grows as the logarithm of the place. By steps that grow eight
+// The place of a key that is near the start, in time that grows as the logarithm of the place. By steps that grow eight
 // times, a place that is far takes a third more comparisons than halves would.
 #[inline(always)]
 fn first_not_below_near_start<const N: usize>(records: &[[u8; N]], key: &[u8; N]) -> usize
@@ -82,7 +161,7 @@ fn is_below_at<const N: usize>(records: &[[u8; N]], index: usize, key: &[u8; N])
     index < records.len() && is_below(&records[index][..], &key[..])
 }
 
-// The same as above, by halves.
+// The place of a key, by halves.
 fn first_not_below_by_halves<const N: usize>(records: &[[u8; N]], key: &[u8; N]) -> usize
     requires records { AreRisingRecords N records.now }
     ensures { IsFirstNotBelow key.now records.now result }
@@ -94,7 +173,8 @@ fn first_not_below_by_halves<const N: usize>(records: &[[u8; N]], key: &[u8; N])
     )
 }
 
-// How many bytes all records and the key begin with, at most all but eight. It is 0 where the first eight differ.
+// How many bytes all records and the key begin with, at most all but eight. It is 0 where the first eight differ. It only
+// guides: by a lower number the same place is found.
 #[inline(always)]
 fn shared_len<const N: usize>(records: &[[u8; N]], key: &[u8; N]) -> usize
     requires records { AreRisingRecords N records.now }
