@@ -1,11 +1,12 @@
 -- Whether there is a place to split at.
-use Rattle.std.proofs.Common.{◌≡◌, ◌+◌, ◌*◌, ◌%◌, ◌<◌, ◌≤◌, ℕ, zero, suc, inl, inr, Bool, true, false, not, Some, None, List, [], ◌∷◌, length, map, replicate, take, drop, min, cond, eqb, nat_lt, ap, sym, ◌∙◌, w8, arith, rules, take_all, drop_of_length-le}
+use Rattle.std.proofs.Common.{◌≡◌, ◌+◌, ◌-◌, ◌%◌, ◌≤◌, ℕ, zero, suc, inl, inr, Bool, false, List, [], ◌∷◌, length, map, replicate, take, drop, min, cond, eqb, nat_lt, ap, sym, ◌∙◌, w8, arith, rules, take_all, drop_of_length-le}
 use lib.Lanes.{zip2, mask_l, top}
 use lib.Count.{count_trailing_zeros}
 use Rattle.std.specs.List.{position_or_len, list_any}
 use Rattle.std.proofs.lemmas.Bool.{cases_lt}
 use Rattle.std.proofs.lemmas.Bool.Decides.{nat_tests}
-use Rattle.std.proofs.lemmas.List.Folds.{list_any_at, list_any_none}
+use Rattle.std.proofs.lemmas.List.{length-take, length-take-le, drop-take, drop-drop, take-append-drop}
+use Rattle.std.proofs.lemmas.List.Folds.{list_any_at, list_any_none, list_any-append}
 use Rattle.std.proofs.lemmas.Simd.{bitmask_splat, first_set_mask_l}
 use Rattle.std.proofs.lemmas.List.Sums.{fails_before_first, passes_at_first}
 
@@ -43,3 +44,15 @@ pub position_or_len-drop : (p : ℕ → Bool) (n : ℕ) (xs : List ℕ) → n �
 position_or_len-drop p zero xs le = search rules
 position_or_len-drop p (suc n) [] le = absurd (omega arith)
 position_or_len-drop p (suc n) (x ∷ xs) le = grind (arith, nat_tests, position_or_len-drop p n xs)
+
+-- where none of the 32 in front of a place passes, and none from there on, none passes from the first of these on
+pub none_from-lanes : (p : ℕ → Bool) (n end : ℕ) (xs lanes : List ℕ) → end ≡ n + 32 → end ≤ length xs → lanes ≡ drop (length (take end xs) - 32) (take end xs)
+    → 32 ≤ position_or_len p lanes → list_any p (drop end xs) ≡ false → list_any p (drop n xs) ≡ false
+none_from-lanes p n end xs lanes whole inside last none behind =
+    let long = length-take-le end xs inside in
+    let at : length (take end xs) - 32 ≡ n = omega (arith, long, whole) in
+    let front : lanes ≡ take 32 (drop n xs) = last ∙ ap (λ k. drop k (take end xs)) at ∙ ap (λ e. drop n (take e xs)) whole ∙ drop-take n 32 xs in
+    let rest : drop 32 (drop n xs) ≡ drop end xs = drop-drop 32 n xs ∙ ap (λ e. drop e xs) (sym whole) in
+    let short : length lanes ≤ 32 = rw (front, length-take 32 (drop n xs)) (omega arith) in
+    let unmet : list_any p lanes ≡ false = list_any-position_or_len p lanes ∙ grind (arith, nat_tests, none, short) in
+    ap (list_any p) (sym (take-append-drop 32 (drop n xs))) ∙ list_any-append p (take 32 (drop n xs)) (drop 32 (drop n xs)) ∙ rw (← front, rest, unmet) behind

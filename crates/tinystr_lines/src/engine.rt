@@ -1,9 +1,10 @@
 //! Reading the input, answering its lines, writing the output.
 
-ghost use Rattle.std.specs.Prelude.{◌≡◌, ◌+◌, ◌≤◌, ℕ, List, [], ◌∷◌, ◌++◌, ◌≢◌, OnOk, IfOk, OnErr, IfErr, IfSome, IsErrOf, length, take};
+ghost use Rattle.std.specs.Prelude.{◌≡◌, ◌+◌, ◌≤◌, ℕ, List, [], ◌∷◌, ◌++◌, ◌≢◌, OnOk, IfOk, OnErr, IfErr, IfSome, IsErrOf, false, is_some, length, take};
+ghost use Rattle.std.specs.List.{list_any};
 ghost use Rattle.std.specs.Vec.{vec_len};
 ghost use Rattle.std.specs.Io.KnownBytes.{Keeps, Appends, Consumes, IsAtEnd};
-ghost use Rattle.tinystr_lines.specs.Output.{AppendsBeginning, reply_line, output_of};
+ghost use Rattle.tinystr_lines.specs.Output.{AppendsBeginning, is_line_feed, reply_line, output_of};
 
 use crate::reply::push_reply;
 use crate::split::{place_in_lanes, split_at_first};
@@ -72,6 +73,8 @@ fn split_behind_last_line(piece: &[u8]) -> Option<(&[u8], &[u8])>
     ensures some { IfSome result (λ parts. (head : List ℕ)
         × (parts.0.now ≡ head ++ 10 ∷ [])
         × (piece.now ≡ parts.0.now ++ parts.1.now)) }
+    ensures rest { IfSome result (λ parts. list_any is_line_feed parts.1.now ≡ false) }
+    ensures found { is_some result ≡ list_any is_line_feed piece.now }
 {
     let mut end = piece.len();
     while let Some(lanes) = piece[..end].last_chunk::<32>() {
@@ -93,6 +96,7 @@ fn split_behind_last_line(piece: &[u8]) -> Option<(&[u8], &[u8])>
 fn keep(begun: &mut Vec<u8>, bytes: &[u8]) -> Result<(), Refused>
     ensures items { OnOk result (begun.new.items ≡ begun.old.items ++ bytes.now) }
     ensures len { OnOk result (vec_len begun.new ≡ vec_len begun.old + length bytes.now) }
+    ensures fault { IfErr result (λ e. e ≡ Refused.Input) }
 {
     begun.extend_from_slice(bytes).or(Err(Refused::Input))
 }
@@ -107,6 +111,9 @@ fn push_piece(out: &mut Vec<u8>, begun: &mut Vec<u8>, piece: &[u8]) -> Result<()
     ensures kept { OnOk result (vec_len out.old ≤ vec_len out.new) }
     ensures grown { OnOk result (vec_len out.new ≡ vec_len out.old
         → vec_len begun.new ≡ vec_len begun.old + length piece.now) }
+    // No more than a line is begun.
+    ensures line { OnOk result (list_any is_line_feed begun.old.items ≡ false
+        → list_any is_line_feed begun.new.items ≡ false) }
 {
     let Some((lines, rest)) = split_behind_last_line(piece) else {
         return keep(begun, piece);

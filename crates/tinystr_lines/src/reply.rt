@@ -7,7 +7,7 @@ ghost use Rattle.tinystr.specs.Error.{fault_of};
 ghost use Rattle.tinystr_words.specs.Reading.{lossy};
 ghost use Rattle.tinystr_words.specs.Reading.Fault.{too_long};
 ghost use Rattle.tinystr_lines.specs.Fields.{capacity_of};
-ghost use Rattle.tinystr_lines.specs.Reply.{replacement, fault_text, truth_text, bad_index_text, answer_of, call_reply, records_reply, locale_reply, reply_at, fields_reply, reply};
+ghost use Rattle.tinystr_lines.specs.Reply.{replacement, fault_text, truth_text, bad_index_text, answer_of, call_reply, records_reply, locale_reply, fields_reply, reply};
 
 use crate::command::{Command, TextCall};
 use crate::split::{split_at_first, split_once};
