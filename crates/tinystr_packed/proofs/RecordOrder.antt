@@ -1,5 +1,5 @@
--- Records of at most eight bytes are in the order of the numbers that they spell.
-use Rattle.std.proofs.Common.{◌≡◌, ◌≢◌, ℕ, zero, suc, ◌+◌, ◌-◌, ◌%◌, ◌<◌, ◌≤◌, List, [], ◌∷◌, length, map, take, drop, get_or, refl, sym, ap, ◌∙◌, arith, Bool, true, false, cond, nat_lt, nat_eq, Fits, w8, inl, inr}
+-- Records are in the order of the numbers that they spell.
+use Rattle.std.proofs.Common.{◌≡◌, ◌≢◌, ℕ, zero, suc, ◌+◌, ◌-◌, ◌*◌, ◌%◌, min, ◌<◌, ◌≤◌, List, [], ◌∷◌, length, map, take, drop, get_or, refl, sym, ap, ◌∙◌, arith, Bool, true, false, cond, nat_lt, nat_eq, Fits, w8, inl, inr}
 use Rattle.std.specs.Cmp.Lexicographic.{slice_cmp}
 use Rattle.std.specs.Int.{from_be_bytes, from_le_bytes, to_be_bytes, to_le_bytes, swap_bytes, w64}
 use Rattle.std.specs.Ordering.{nat_cmp, is_lt, ordering_then}
@@ -10,11 +10,12 @@ use Rattle.std.proofs.lemmas.List.{append-nil, take_all, take-take, drop_all, le
 use Rattle.std.proofs.lemmas.Cmp.{nat_cmp_total, nat_list_cmp_total, tied_itself}
 use Rattle.std.specs.Cmp.{nat_cmp_is}
 use Rattle.std.proofs.lemmas.Nat.{be_bytes_8, le_bytes_8}
+use Rattle.std.proofs.Math.Nat.{min-eq_right}
 use Rattle.std.proofs.Math.Seq.{take-add}
 use Rattle.std.proofs.Math.Facts.{Fits-lt-pow}
 use Rattle.tinystr_words.specs.Text.{pad}
 use Rattle.tinystr_words.specs.Words.{word}
-use Rattle.tinystr_packed.specs.Numbers.{number_at, IsRecord, AreRisingRecords, BeginAlike, RiseByNumber, IsFirstNumberNotBelow}
+use Rattle.tinystr_packed.specs.Numbers.{number_at, pair_at, IsRecord, AreRisingRecords, BeginAlike, RiseByNumber, IsFirstNumberNotBelow}
 use Rattle.tinystr_packed.specs.Rising.{order, text_at, IsFirstNotBelow}
 use Rattle.tinystr_packed.proofs.Numbers.{number_at-short, number_at-long}
 use Rattle.tinystr_packed.proofs.RisingTexts.{Less-from_is_lt, not_below_later, IsPart}
@@ -95,7 +96,7 @@ is_lt-short xs ys n short x y =
     rw (← slice_cmp-numbers xs ys (number_at 0 xs) (number_at 0 ys) (x.long ∙ sym y.long) (omega (arith, x.long)) x.bytes y.bytes (number_at-short xs (omega (arith, x.long))) (number_at-short ys (omega (arith, y.long)))) (sym (is_lt-nat_cmp (number_at 0 xs) (number_at 0 ys)))
 
 -- their numbers rise with them
-pub RiseByNumber-short : (records : List (List ℕ)) (n : ℕ) → n ≤ 8 → AreRisingRecords n records → RiseByNumber 0 records
+pub RiseByNumber-short : (records : List (List ℕ)) (n : ℕ) → n ≤ 8 → AreRisingRecords n records → RiseByNumber (number_at 0) records
 RiseByNumber-short records n short h = record {
   up = λ j k le inside.
       let falls = not_below_later records j k h.rising le inside in
@@ -107,7 +108,7 @@ RiseByNumber-short records n short h = record {
 }
 
 -- and find the place of a key
-pub IsFirstNotBelow-short : (records : List (List ℕ)) (key : List ℕ) (n number place : ℕ) → n ≤ 8 → AreRisingRecords n records → IsRecord n key → number ≡ number_at 0 key → IsFirstNumberNotBelow number 0 records place → IsFirstNotBelow key records place
+pub IsFirstNotBelow-short : (records : List (List ℕ)) (key : List ℕ) (n number place : ℕ) → n ≤ 8 → AreRisingRecords n records → IsRecord n key → number ≡ number_at 0 key → IsFirstNumberNotBelow number (number_at 0) records place → IsFirstNotBelow key records place
 IsFirstNotBelow-short records key n number place short h k is found = record {
   inside = found.inside;
   below = λ j before.
@@ -151,7 +152,7 @@ Less-long xs ys n s fits x y same less =
     slice_cmp-same_start s xs ys same ∙ cut ∙ ap (λ (o : Ordering). ordering_then o (slice_cmp nat_cmp (drop 8 (drop s xs)) (drop 8 (drop s ys)))) (sym (nat_cmp_is (number_at s xs) (number_at s ys) Less less))
 
 -- of records that begin alike, the numbers that follow rise
-pub RiseByNumber-long : (records : List (List ℕ)) (key : List ℕ) (n s : ℕ) → s + 8 ≤ n → AreRisingRecords n records → BeginAlike s key records → RiseByNumber s records
+pub RiseByNumber-long : (records : List (List ℕ)) (key : List ℕ) (n s : ℕ) → s + 8 ≤ n → AreRisingRecords n records → BeginAlike s key records → RiseByNumber (number_at s) records
 RiseByNumber-long records key n s fits h alike = record {
   up = λ j k le inside.
       let same : take s (text_at records k) ≡ take s (text_at records j) = alike.each k inside ∙ sym (alike.each j (omega arith)) in
@@ -162,14 +163,14 @@ RiseByNumber-long records key n s fits h alike = record {
 }
 
 -- so they do in a part
-pub RiseByNumber-part : (records part : List (List ℕ)) (s i : ℕ) → RiseByNumber s records → IsPart records part i → RiseByNumber s part
-RiseByNumber-part records part s i h p = record {
+pub RiseByNumber-part : (records part : List (List ℕ)) (number : List ℕ → ℕ) (i : ℕ) → RiseByNumber number records → IsPart records part i → RiseByNumber number part
+RiseByNumber-part records part number i h p = record {
   up = λ j k le inside. rw (p.each j (omega arith), p.each k inside) (h.up (i + j) (i + k) (omega arith) (omega (arith, p.inside)));
 }
 
 -- what stands before the number's place is below the key
 pub below-long : (records : List (List ℕ)) (key : List ℕ) (n s number place : ℕ) → s + 8 ≤ n → AreRisingRecords n records → IsRecord n key → BeginAlike s key records → number ≡ number_at s key
-    → IsFirstNumberNotBelow number s records place → (k : ℕ) → k < place → order (text_at records k) key ≡ Less
+    → IsFirstNumberNotBelow number (number_at s) records place → (k : ℕ) → k < place → order (text_at records k) key ≡ Less
 below-long records key n s number place fits h is_record alike is found k before =
     let inside : k < length records = omega (arith, found.inside) in
     Less-long (text_at records k) key n s fits (h.each k inside) is_record (alike.each k inside) (omega (arith, found.below k before))
@@ -212,4 +213,70 @@ BeginAlike-next records part key n s next i fits le h is_record alike p numbers 
       let within : i + k < length records = omega (arith, p.inside) in
       let more = alike-long (text_at records (i + k)) key n s fits (h.each (i + k) within) is_record (alike.each (i + k) within) (numbers (i + k) (omega arith) (omega arith)) in
       rw (p.each k inside, ← take-take next (s + 8) (text_at records (i + k)) le, ← take-take next (s + 8) key le, more) refl;
+}
+
+-- ---- records of nine to sixteen bytes
+
+-- of which two numbers are all
+pair_at-whole : (raw : List ℕ) (n : ℕ) → n ≤ 16 → IsRecord n raw → pair_at 0 raw ≡ number_at 0 raw * 18446744073709551616 + number_at (n - 8) raw
+unfolding pair_at
+pair_at-whole raw n short h =
+    let last : min 8 (length raw - 8) ≡ n - 8 = rw h.long (min-eq_right (omega arith)) in
+    rw last refl
+
+-- records of one first number begin alike up to the last
+begin_alike-pair : (xs ys : List ℕ) (n : ℕ) → 8 < n → n ≤ 16 → IsRecord n xs → IsRecord n ys → number_at 0 xs ≡ number_at 0 ys → take (n - 8) xs ≡ take (n - 8) ys
+begin_alike-pair xs ys n long short x y same =
+    let eight : take 8 xs ≡ take 8 ys = alike-long xs ys n 0 (omega arith) x y refl same in
+    rw (← take-take (n - 8) 8 xs (omega arith), ← take-take (n - 8) 8 ys (omega arith), eight) refl
+
+Less-pair : (xs ys : List ℕ) (n : ℕ) → 8 < n → n ≤ 16 → IsRecord n xs → IsRecord n ys → pair_at 0 xs < pair_at 0 ys → order xs ys ≡ Less
+Less-pair xs ys n long short x y less =
+    let left = pair_at-whole xs n short x in
+    let right = pair_at-whole ys n short y in
+    let low = number-bound xs n (n - 8) (omega arith) x in
+    let high = number-bound ys n (n - 8) (omega arith) y in
+    elim (cases_lt (number_at 0 xs) (number_at 0 ys)) [
+      | inl first ↦ Less-long xs ys n 0 (omega arith) x y refl first
+      | inr other ↦ (let same : number_at 0 xs ≡ number_at 0 ys = omega (arith, less, left, right, low, high) in
+          Less-long xs ys n (n - 8) (omega arith) x y (begin_alike-pair xs ys n long short x y same) (omega (arith, less, left, right, low, high, same)))
+    ]
+
+same-pair : (xs ys : List ℕ) (n : ℕ) → 8 < n → n ≤ 16 → IsRecord n xs → IsRecord n ys → pair_at 0 xs ≡ pair_at 0 ys → xs ≡ ys
+same-pair xs ys n long short x y is =
+    let left = pair_at-whole xs n short x in
+    let right = pair_at-whole ys n short y in
+    let low = number-bound xs n (n - 8) (omega arith) x in
+    let high = number-bound ys n (n - 8) (omega arith) y in
+    let first : number_at 0 xs ≡ number_at 0 ys = omega (arith, is, left, right, low, high) in
+    let last : number_at (n - 8) xs ≡ number_at (n - 8) ys = omega (arith, is, left, right, low, high) in
+    let all = alike-long xs ys n (n - 8) (omega arith) x y (begin_alike-pair xs ys n long short x y first) last in
+    sym (take_all (n - 8 + 8) xs (omega (arith, x.long))) ∙ all ∙ take_all (n - 8 + 8) ys (omega (arith, y.long))
+
+not_below-pair : (xs ys : List ℕ) (n : ℕ) → 8 < n → n ≤ 16 → IsRecord n xs → IsRecord n ys → pair_at 0 ys ≤ pair_at 0 xs → order xs ys ≢ Less
+not_below-pair xs ys n long short x y le less = elim (cases_lt (pair_at 0 ys) (pair_at 0 xs)) [
+  | inl above ↦ (let more = Less-pair ys xs n long short y x above in
+      let turned = nat_list_cmp_total.antisymm xs ys in
+      cc)
+  | inr other ↦ (let same = same-pair xs ys n long short x y (omega (arith, le, other)) in
+      let tied = tied_itself nat_list_cmp_total ys in
+      cc)
+]
+
+-- their numbers rise with them
+pub RiseByNumber-pair : (records : List (List ℕ)) (n : ℕ) → 8 < n → n ≤ 16 → AreRisingRecords n records → RiseByNumber (pair_at 0) records
+RiseByNumber-pair records n long short h = record {
+  up = λ j k le inside.
+      elim (cases_lt (pair_at 0 (text_at records k)) (pair_at 0 (text_at records j))) [
+        | inl less ↦ absurd (not_below_later records j k h.rising le inside (Less-pair (text_at records k) (text_at records j) n long short (h.each k inside) (h.each j (omega arith)) less))
+        | inr up ↦ up
+      ];
+}
+
+-- and find the place of a key
+pub IsFirstNotBelow-pair : (records : List (List ℕ)) (key : List ℕ) (n number place : ℕ) → 8 < n → n ≤ 16 → AreRisingRecords n records → IsRecord n key → number ≡ pair_at 0 key → IsFirstNumberNotBelow number (pair_at 0) records place → IsFirstNotBelow key records place
+IsFirstNotBelow-pair records key n number place long short h k is found = record {
+  inside = found.inside;
+  below = λ j before. Less-pair (text_at records j) key n long short (h.each j (omega (arith, found.inside))) k (omega (arith, is, found.below j before));
+  not_below = λ j behind inside. not_below-pair (text_at records j) key n long short (h.each j inside) k (omega (arith, is, found.not_below j behind inside));
 }

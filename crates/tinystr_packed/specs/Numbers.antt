@@ -1,5 +1,5 @@
 -- Records by numbers that their bytes spell.
-use Rattle.std.specs.Prelude.{◌≡◌, ℕ, ◌<◌, ◌≤◌, List, length, take, drop, slice_index_or}
+use Rattle.std.specs.Prelude.{◌≡◌, ℕ, ◌+◌, ◌-◌, ◌*◌, ◌^◌, ◌<◌, ◌≤◌, List, length, take, drop, min, slice_index_or}
 use Rattle.std.specs.Int.{from_be_bytes, w64}
 use Rattle.tinystr_words.specs.Text.{pad}
 use Rattle.tinystr_packed.specs.Rising.{text_at, IsRising}
@@ -18,15 +18,19 @@ pub record AreRisingRecords (n : ℕ) (records : List (List ℕ)) : Type 0 where
 unfoldable pub number_at : ℕ → List ℕ → ℕ
 number_at i raw = from_be_bytes w64 (pad (take 8 (drop i raw)) 8)
 
+-- the number of eight bytes and that of the next eight, or of the record's last eight, as one
+unfoldable pub pair_at : ℕ → List ℕ → ℕ
+pair_at i raw = number_at i raw * 2 ^ 64 + number_at (min (i + 8) (length raw - 8)) raw
+
 -- no record's number is below an earlier one's
-pub record RiseByNumber (i : ℕ) (records : List (List ℕ)) : Type 0 where
-  pub up : (j k : ℕ) → j ≤ k → k < length records → number_at i (text_at records j) ≤ number_at i (text_at records k)
+pub record RiseByNumber (number : List ℕ → ℕ) (records : List (List ℕ)) : Type 0 where
+  pub up : (j k : ℕ) → j ≤ k → k < length records → number (text_at records j) ≤ number (text_at records k)
 
 -- the numbers before the place are below n, and none from there on is
-pub record IsFirstNumberNotBelow (n i : ℕ) (records : List (List ℕ)) (place : ℕ) : Type 0 where
+pub record IsFirstNumberNotBelow (n : ℕ) (number : List ℕ → ℕ) (records : List (List ℕ)) (place : ℕ) : Type 0 where
   pub inside : place ≤ length records
-  pub below : (k : ℕ) → k < place → number_at i (text_at records k) < n
-  pub not_below : (k : ℕ) → place ≤ k → k < length records → n ≤ number_at i (text_at records k)
+  pub below : (k : ℕ) → k < place → number (text_at records k) < n
+  pub not_below : (k : ℕ) → place ≤ k → k < length records → n ≤ number (text_at records k)
 
 -- each record begins with the first bytes of the key
 pub record BeginAlike (n : ℕ) (key : List ℕ) (records : List (List ℕ)) : Type 0 where

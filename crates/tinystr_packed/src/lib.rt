@@ -4,6 +4,7 @@
 
 pub mod laws;
 mod map;
+mod number;
 mod packing;
 mod record;
 mod search;

@@ -10,6 +10,7 @@ ghost use Rattle.tinystr_words.specs.Text.{pad};
 ghost use Rattle.tinystr_packed.specs.Numbers.{number_at, IsRecord, AreRisingRecords, BeginAlike, RiseByNumber, IsFirstNumberNotBelow};
 ghost use Rattle.tinystr_packed.specs.Rising.{order, text_at, IsFirstNotBelow};
 
+use crate::number::Number;
 use crate::record::{is_below, number_at};
 use std::hint::select_unpredictable;
 use tinystr::TinyAsciiStr;
@@ -18,8 +19,10 @@ use tinystr::TinyAsciiStr;
 // they are guessed, the processor reads ahead.
 const CACHED: usize = 4 << 20;
 
-// Fewer records of more than eight bytes are compared whole: what tells them apart takes longer to find. A range of a number
-// that isn't shorter has that number alone.
+// Fewer records of more than eight bytes are compared whole: to look for what tells them apart takes longer.
+const FEW: usize = 128;
+
+// A range of at least so many records holds one number alone. A shorter one may hold others.
 const SEVERAL: usize = 8;
 
 /// The index of the first record that isn't below a key, or the number of records.
@@ -29,17 +32,19 @@ pub fn first_not_below<const N: usize>(records: &[[u8; N]], key: &[u8; N]) -> us
     requires key { IsRecord N key.now }
     ensures { IsFirstNotBelow key.now records.now result }
 {
-    let are_few = N > 8 && records.len() < SEVERAL;
-    if are_few || records.len() > CACHED / N.max(1) {
+    if records.len() > CACHED / N.max(1) {
         return first_not_below_by_halves(records, key);
     }
     if N <= 8 {
         return first_number_not_below(records, 0, number_at(key, 0));
     }
+    if records.len() < FEW {
+        return first_not_below_whole(records, key);
+    }
     // those that eight bytes don't tell apart stand side by side, and mostly the next eight tell them apart
     let start = shared_len(records, key);
     if are_neighbours_alike(records, start) {
-        return first_not_below_by_halves(records, key);
+        return first_not_below_whole(records, key);
     }
     let (begin, end) = range_of_number(records, key, start);
     let alike = &records[begin..end];
@@ -77,7 +82,11 @@ fn is_next_alike<const N: usize>(records: &[[u8; N]], index: usize, start: usize
 // A range where the first record that isn't below a key can be: those before it are below the key, and those behind it
 // aren't. If several are in it, they have the key's number from `start` on.
 #[inline(always)]
-fn range_of_number<const N: usize>(records: &[[u8; N]], key: &[u8; N], start: usize) -> (usize, usize)
+fn range_of_number<const N: usize>(
+    records: &[[u8; N]],
+    key: &[u8; N],
+    start: usize,
+) -> (usize, usize)
     requires long { 8 < N }
     requires records { AreRisingRecords N records.now }
     requires key { IsRecord N key.now }
@@ -100,7 +109,10 @@ fn range_of_number<const N: usize>(records: &[[u8; N]], key: &[u8; N], start: us
         return (place + 1, records.len().min(near));
     }
     let begin = near + 1;
-    (begin, begin + first_number_above(&records[begin..], start, wanted))
+    (
+        begin,
+        begin + first_number_above(&records[begin..], start, wanted),
+    )
 }
 
 // The index of the first record whose number from `start` on is above another.
@@ -109,7 +121,7 @@ fn first_number_above<const N: usize>(records: &[[u8; N]], start: usize, number:
     requires long { 8 < N }
     requires records { AreRisingRecords N records.now }
     requires start { start ≤ N - 8 }
-    requires up { RiseByNumber start records.now }
+    requires up { RiseByNumber (number_at start) records.now }
     ensures inside { result ≤ length records.now }
     ensures above { result < length records.now → number < number_at start (text_at records.now result) }
     ensures not_above { (k : ℕ) → k < result → number_at start (text_at records.now k) ≤ number }
@@ -161,6 +173,19 @@ fn is_below_at<const N: usize>(records: &[[u8; N]], index: usize, key: &[u8; N])
     index < records.len() && is_below(&records[index][..], &key[..])
 }
 
+// The place of a key, by whole records. Those of at most sixteen bytes are compared as one number.
+fn first_not_below_whole<const N: usize>(records: &[[u8; N]], key: &[u8; N]) -> usize
+    requires long { 8 < N }
+    requires records { AreRisingRecords N records.now }
+    requires key { IsRecord N key.now }
+    ensures { IsFirstNotBelow key.now records.now result }
+{
+    if N <= 16 {
+        return first_number_not_below(records, 0, u128::at(key, 0));
+    }
+    first_not_below_by_halves(records, key)
+}
+
 // The place of a key, by halves.
 fn first_not_below_by_halves<const N: usize>(records: &[[u8; N]], key: &[u8; N]) -> usize
     requires records { AreRisingRecords N records.now }
@@ -177,18 +202,16 @@ fn first_not_below_by_halves<const N: usize>(records: &[[u8; N]], key: &[u8; N])
 // guides: by a lower number the same place is found.
 #[inline(always)]
 fn shared_len<const N: usize>(records: &[[u8; N]], key: &[u8; N]) -> usize
+    requires several { 2 ≤ length records.now }
     requires records { AreRisingRecords N records.now }
     requires key { IsRecord N key.now }
     ensures bound { result ≤ N - 8 }
     ensures alike { BeginAlike result key.now records.now }
 {
-    // of one record all bytes are shared, and nothing is gained
-    if records.len() < 2 {
-        return 0;
-    }
     let first = &records[0];
     let last = &records[records.len() - 1];
-    if number_at(first, 0) != number_at(last, 0) {
+    let begun = number_at(first, 0);
+    if begun != number_at(last, 0) || begun != number_at(key, 0) {
         return 0;
     }
     let len = first_difference(first, last);
@@ -221,26 +244,30 @@ fn first_difference<const N: usize>(left: &[u8; N], right: &[u8; N]) -> usize
 // The index of the first record whose number from `start` on isn't below another. It is there for speed: no test is a
 // branch, and the two records that the next step may ask are read before this step's test is done.
 #[inline(always)]
-fn first_number_not_below<const N: usize>(records: &[[u8; N]], start: usize, wanted: u64) -> usize
+fn first_number_not_below<const N: usize, T: Number<N>>(
+    records: &[[u8; N]],
+    start: usize,
+    wanted: T,
+) -> usize
     requires start { start ≤ N - 8 }
-    requires up { RiseByNumber start records.now }
-    ensures { IsFirstNumberNotBelow wanted start records.now result }
+    requires up { RiseByNumber (T.spelled start) records.now }
+    ensures { IsFirstNumberNotBelow (T.value wanted) (T.spelled start) records.now result }
 {
     let mut size = records.len();
     if size == 0 {
         return 0;
     }
     let mut base = 0;
-    let mut number = number_at(&records[size / 2], start);
+    let mut number = T::at(&records[size / 2], start);
     while size > 1 {
         let half = size / 2;
         size -= half;
         let next = size / 2;
-        let low = number_at(&records[base + next], start);
-        let high = number_at(&records[base + half + next], start);
-        let is_below = number < wanted;
+        let low = T::at(&records[base + next], start);
+        let high = T::at(&records[base + half + next], start);
+        let is_below = number.is_below(wanted);
         base = select_unpredictable(is_below, base + half, base);
         number = select_unpredictable(is_below, high, low);
     }
-    base + usize::from(number < wanted)
+    base + usize::from(number.is_below(wanted))
 }

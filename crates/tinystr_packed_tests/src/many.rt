@@ -1,5 +1,7 @@
 //! Three hundred and twenty texts, more than a byte counts: packed, unpacked, sorted, found, and keys of a map.
 
+ghost use Rattle.std.specs.Prelude.{◌<◌, ◌^◌};
+
 use std::alloc::{AllocError, Global};
 use std::collections::BTreeMap;
 use std::test::Fail;
@@ -89,6 +91,66 @@ fn are_found(file: &[u8], texts: &[Text]) -> bool {
         }
     }
     sorted.table().len() == COUNT && sorted.table().last() == texts.last().copied()
+}
+
+#[test]
+fn many_longer_texts_are_found(rt: HostRuntime) -> Result<(), Fail> {
+    let texts = texts(rt.alloc())?;
+    assert!(rt; are_longer_found::<12>(rt.alloc(), &texts)?);
+    assert!(rt; are_longer_found::<16>(rt.alloc(), &texts)?);
+    assert!(rt; are_longer_found::<24>(rt.alloc(), &texts)?);
+    Ok(())
+}
+
+/// Whether the texts, each behind no byte, behind eight and behind sixteen that are the same, are found at N, and what has
+/// `~` behind one of them has its place.
+fn are_longer_found<const N: usize>(alloc: Global, texts: &[Text]) -> Result<bool, AllocError>
+    requires some { 0 < N }
+    requires bound { N < 2 ^ 62 }
+{
+    let mut longer: Vec<TinyAsciiStr<N>> = Vec::new(alloc);
+    for beginning in ["", "aaaaaaaa", "bbbbbbbbbbbbbbbb"] {
+        let beginning = TinyAsciiStr::<16>::from_utf8_lossy(beginning.as_bytes(), b'?');
+        for text in texts {
+            longer.push(beginning.concat::<2, N>(*text))?;
+        }
+    }
+    let file = pack_sorted(alloc, &longer)?;
+    let Ok(table) = Table::<N>::new(&file) else {
+        return Ok(false);
+    };
+    let Ok(sorted) = SortedTable::new(table) else {
+        return Ok(false);
+    };
+    for text in &longer {
+        let other = text.concat::<1, N>(TinyAsciiStr::from_utf8_lossy(b"~", b'?'));
+        if !is_found(&sorted, text) || !is_placed(&sorted, &other) {
+            return Ok(false);
+        }
+    }
+    Ok(true)
+}
+
+fn is_found<const N: usize>(sorted: &SortedTable<'_, N>, text: &TinyAsciiStr<N>) -> bool {
+    match sorted.binary_search(text) {
+        Ok(index) => sorted.table().get(index) == Some(*text),
+        Err(_) => false,
+    }
+}
+
+/// Whether a text has a place behind those that are below it and before the others.
+fn is_placed<const N: usize>(sorted: &SortedTable<'_, N>, text: &TinyAsciiStr<N>) -> bool {
+    let place = match sorted.binary_search(text) {
+        Ok(index) => index,
+        Err(place) => place,
+    };
+    let behind = sorted.table().get(place);
+    let before = match place.checked_sub(1) {
+        Some(last) => sorted.table().get(last),
+        None => None,
+    };
+    before.map_or(true, |one| one.as_str() < text.as_str())
+        && behind.map_or(true, |one| text.as_str() <= one.as_str())
 }
 
 #[test]

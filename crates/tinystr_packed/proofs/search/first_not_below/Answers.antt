@@ -1,4 +1,4 @@
-use Rattle.std.proofs.Common.{rules, ◌≡◌, ℕ, ◌+◌, ◌-◌, length, take, drop, arith, refl}
+use Rattle.std.proofs.Common.{rules, ◌≡◌, ◌+◌, ◌-◌, length, take, drop, arith, refl}
 use Rattle.std.proofs.lemmas.List.{length-take, length-drop}
 use Rattle.tinystr_packed.proofs.RecordOrder.{RiseByNumber-short, IsFirstNotBelow-short, BeginAlike-next}
 use Rattle.tinystr_packed.proofs.RisingTexts.{IsPart-range, AreRisingRecords-part, IsFirstNotBelow-range}

@@ -1,5 +1,6 @@
-use Rattle.std.proofs.Common.{rules, ap, ◌∙◌, ◌≡◌, ℕ, ◌+◌, ◌-◌, ◌<◌, length, take, drop, arith, refl}
+use Rattle.std.proofs.Common.{rules, ap, ◌∙◌, ◌≡◌, ℕ, ◌+◌, ◌-◌, length, take, drop, arith, refl}
 use Rattle.std.proofs.lemmas.List.{length-take, length-drop}
+use Rattle.tinystr_packed.specs.Numbers.{number_at}
 use Rattle.tinystr_packed.specs.Rising.{text_at}
 use Rattle.tinystr_packed.proofs.RisingTexts.{below_from_rising, IsPart-range, AreRisingRecords-part}
 use Rattle.tinystr_packed.proofs.RecordOrder.{RiseByNumber-long, RiseByNumber-part, below-long, not_below-long}
@@ -29,10 +30,9 @@ first_number_above-requires g c =
     let hit = c.is_below_at-2.ensures.0 c.if-not-is_below_at-2.false in
     let rest = take (length records - begin) (drop begin records) in
     let part = IsPart-range records rest begin (length records - begin) (omega (arith, hit.0)) refl in
-    let up = RiseByNumber-long records c.args.key.now g.row.N start (omega (arith, c.requires.start, c.requires.long)) c.requires.records c.requires.alike in
-    (
+    let up = RiseByNumber-long records c.args.key.now g.row.N start (omega (arith, c.requires.start, c.requires.long)) c.requires.records c.requires.alike in (
       search rules,
-      (c.requires.long, (AreRisingRecords-part records rest g.row.N begin c.requires.records part, (omega (arith, c.requires.start), RiseByNumber-part records rest start begin up part))),
+      (c.requires.long, (AreRisingRecords-part records rest g.row.N begin c.requires.records part, (omega (arith, c.requires.start), RiseByNumber-part records rest (number_at start) begin up part))),
     )
 
 pub returns-clause-below : goal.returns-clause-below
