@@ -1,6 +1,6 @@
 //! Whether bytes are a text and then NULs, sixteen at a time.
 
-ghost use Rattle.std.specs.Prelude.{◌≡◌, ◌+◌, ◌≤◌, ◌↔◌, length, IsTrue};
+ghost use Rattle.std.specs.Prelude.{◌+◌, ◌≤◌, ◌↔◌, length, IsTrue};
 ghost use Rattle.tinystr_words.specs.Text.{IsPadded};
 ghost use Rattle.tinystr_words.specs.Padded.{ArePaddedFrom};
 
