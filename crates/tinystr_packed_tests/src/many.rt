@@ -102,16 +102,16 @@ fn many_longer_texts_are_found(rt: HostRuntime) -> Result<(), Fail> {
     Ok(())
 }
 
-/// Whether the texts, each behind no byte, behind eight and behind sixteen that are the same, are found at N, and what has
+/// Whether the texts, and some of them behind eight bytes and behind sixteen that are the same, are found at N, and what has
 /// `~` behind one of them has its place.
 fn are_longer_found<const N: usize>(alloc: Global, texts: &[Text]) -> Result<bool, AllocError>
     requires some { 0 < N }
     requires bound { N < 2 ^ 62 }
 {
     let mut longer: Vec<TinyAsciiStr<N>> = Vec::new(alloc);
-    for beginning in ["", "aaaaaaaa", "bbbbbbbbbbbbbbbb"] {
+    for (beginning, count) in [("", COUNT), ("aaaaaaaa", 40), ("bbbbbbbbbbbbbbbb", 40)] {
         let beginning = TinyAsciiStr::<16>::from_utf8_lossy(beginning.as_bytes(), b'?');
-        for text in texts {
+        for text in texts.iter().take(count) {
             longer.push(beginning.concat::<2, N>(*text))?;
         }
     }
