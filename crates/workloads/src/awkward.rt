@@ -5,7 +5,7 @@ ghost use Rattle.std.specs.Prelude.{◌<◌, ◌^◌};
 
 use crate::codes::long_codes;
 use crate::digest::Digest;
-use crate::random::{MIXED, Random};
+use crate::random::{LOWERCASE, MIXED, Random, letters_of};
 use std::alloc::{AllocError, Global};
 use subtags::{LangId, LangIdError};
 use tinystr::ule::UleError;
@@ -13,15 +13,26 @@ use tinystr::{ParseError, TinyAsciiStr};
 use tinystr_lines::engine::{RunError, run as answer};
 use tinystr_packed::{SortedTable, Table, pack, pack_sorted};
 
-/// Texts at capacities of 1, 17, 31, 33 and 255, identifiers and lines.
+/// Files of texts of one byte; texts of at most 17, 31, 33 and 255 bytes, in files and alone; identifiers and lines.
 pub fn run(alloc: Global, random: &mut Random, digest: &mut Digest) -> Result<(), RunError> {
-    texts_at::<1>(alloc, random, digest, 20_000)?;
+    files_of_bytes(alloc, random, digest)?;
     texts_at::<17>(alloc, random, digest, 20_000)?;
     texts_at::<31>(alloc, random, digest, 20_000)?;
     texts_at::<33>(alloc, random, digest, 20_000)?;
     texts_at::<255>(alloc, random, digest, 4_000)?;
     near_identifiers(random, digest);
     lines(alloc, random, digest)
+}
+
+// Texts of one byte are too few to ask each alone more than once.
+fn files_of_bytes(
+    alloc: Global,
+    random: &mut Random,
+    digest: &mut Digest,
+) -> Result<(), AllocError> {
+    let codes = long_codes::<1>(alloc, random, 20_000)?;
+    digest.add_bytes(&pack_sorted(alloc, &codes)?);
+    spoil(alloc, &codes, digest)
 }
 
 fn texts_at<const N: usize>(
@@ -35,6 +46,7 @@ fn texts_at<const N: usize>(
 {
     let codes = long_codes::<N>(alloc, random, count)?;
     let file = pack_sorted(alloc, &codes)?;
+    digest.add_bytes(&file);
     if let Ok(table) = Table::<N>::new(&file) {
         if let Ok(sorted) = SortedTable::new(table) {
             search(&sorted, &codes, digest);
@@ -42,7 +54,7 @@ fn texts_at<const N: usize>(
     }
     for pair in codes.as_slice().windows(2) {
         if let [left, right] = pair {
-            digest.add(u64::from(left < right) ^ u64::from(left == right));
+            digest.add(u64::from(left < right) << 1 | u64::from(left == right));
         }
     }
     spoil(alloc, &codes, digest)?;
@@ -64,7 +76,7 @@ fn search<const N: usize>(
         add_place(digest, sorted.binary_search(&begun_with(code, b'!')));
         add_place(digest, sorted.binary_search(&begun_with(code, 127)));
         let beginning = TinyAsciiStr::<N>::from_utf8_lossy(&code.all_bytes()[..N - 1], b'~');
-        digest.add(sorted.with_prefix(&beginning).table().len() as u64);
+        digest.add_table(sorted.with_prefix(&beginning).table());
     }
 }
 
@@ -128,7 +140,7 @@ fn add_refusal(digest: &mut Digest, refusal: Option<UleError>) {
 
 fn add_fault(digest: &mut Digest, fault: ParseError) {
     digest.add(match fault {
-        ParseError::TooLong { len, .. } => len as u64,
+        ParseError::TooLong { max, len } => (max as u64).rotate_left(32) ^ len as u64,
         ParseError::ContainsNull => 1 << 32,
         ParseError::NonAscii => 1 << 33,
     });
@@ -157,11 +169,11 @@ fn read_units<const N: usize>(
             }
         }
         match TinyAsciiStr::<N>::try_from_utf16(&units) {
-            Ok(text) => digest.add(text.len() as u64),
+            Ok(text) => digest.add_text(&text),
             Err(fault) => add_fault(digest, fault),
         }
         let text = TinyAsciiStr::<N>::from_utf16_lossy(&units, b'?');
-        digest.add_bytes(text.to_ascii_lowercase().all_bytes());
+        digest.add_text(&text.to_ascii_lowercase());
     }
     Ok(())
 }
@@ -181,13 +193,11 @@ fn near_identifiers(random: &mut Random, digest: &mut Digest) {
 // At most three subtags, many of a length that is accepted, of letters and here and there a digit; and their length.
 #[inline(always)]
 fn near_identifier(random: &mut Random) -> ([u8; 48], usize) {
-    let letters = MIXED;
-    let mut bytes = [0; 48];
+    let mut bytes = [b'a'; 48];
     let mut end = 0usize;
     for (accepted, most) in [(2, 9), (4, 5), (2, 4)] {
         let start = end.min(32);
-        let from = random.below(48);
-        bytes[start..start + 16].copy_from_slice(&letters[from..from + 16]);
+        bytes[start..start + 8].copy_from_slice(&letters_of(random.bits(), MIXED));
         let len = if random.chance(60) {
             accepted
         } else {
@@ -210,13 +220,19 @@ fn lines(alloc: Global, random: &mut Random, digest: &mut Digest) -> Result<(), 
     for _ in 0..20_000 {
         match random.below(4) {
             0 => input.push(b'\n').map_err(AllocError::from)?,
-            1 => input.extend_from_slice(
-                b"32 alphabetic_titlecasf Abcdefghijklmnopqrstuvwxyzabcdef\n",
+            1 => push_line(
+                &mut input,
+                random,
+                b"32 alphabetic_titlecasf ",
+                b"qrstuvwxyzabcdef\n",
             )?,
-            2 => input.extend_from_slice(
-                b"17 records abcdefghijklmnopqabcdefghijklmn\0\0qabcdefghijklmnopq\n",
+            2 => push_line(
+                &mut input,
+                random,
+                b"17 records ",
+                b"qabcdefghijklmn\0\0qabcdefghijklmnopq\n",
             )?,
-            _ => input.extend_from_slice(b"32 upper abcdefghijklmnopqrstuvwxyzabcdefg\n")?,
+            _ => push_line(&mut input, random, b"32 upper ", b"qrstuvwxyzabcdefg\n")?,
         }
     }
     for _ in 0..100_000 {
@@ -226,4 +242,17 @@ fn lines(alloc: Global, random: &mut Random, digest: &mut Digest) -> Result<(), 
     answer(alloc, &mut input.as_slice(), &mut output)?;
     digest.add_bytes(output.as_slice());
     Ok(())
+}
+
+// A command, sixteen letters, and the end of the line.
+fn push_line(
+    input: &mut Vec<u8>,
+    random: &mut Random,
+    command: &[u8],
+    end: &[u8],
+) -> Result<(), AllocError> {
+    input.extend_from_slice(command)?;
+    input.extend_from_slice(&letters_of(random.bits(), LOWERCASE))?;
+    input.extend_from_slice(&letters_of(random.bits(), LOWERCASE))?;
+    input.extend_from_slice(end)
 }

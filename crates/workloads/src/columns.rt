@@ -106,7 +106,7 @@ fn read<const N: usize>(
 
 fn add_fault(digest: &mut Digest, fault: ParseError) {
     digest.add(match fault {
-        ParseError::TooLong { len, .. } => len as u64,
+        ParseError::TooLong { max, len } => (max as u64).rotate_left(32) ^ len as u64,
         ParseError::ContainsNull => 1 << 32,
         ParseError::NonAscii => 1 << 33,
     });
@@ -140,7 +140,7 @@ fn read_others<const N: usize>(
         }
     }
     for text in &texts {
-        digest.add(text.len() as u64);
+        digest.add_text(text);
     }
     Ok(())
 }
@@ -174,7 +174,7 @@ fn read_records<const N: usize>(
     let (records, _) = file.as_slice().as_chunks::<N>();
     for raw in records {
         match TinyAsciiStr::try_from_raw(*raw) {
-            Ok(text) => digest.add(text.len() as u64),
+            Ok(text) => digest.add_text(&text),
             Err(fault) => add_fault(digest, fault),
         }
     }
@@ -188,11 +188,12 @@ fn change<const N: usize>(
     digest: &mut Digest,
 ) -> Result<Vec<TinyAsciiStr<N>>, AllocError> {
     let mut changed = Vec::new(alloc);
-    let mut passed = 0u64;
     for text in texts {
-        passed = passed.wrapping_add(u64::from(text.is_ascii_alphabetic()));
-        passed = passed.wrapping_add(u64::from(text.is_ascii_alphanumeric()) << 20);
-        passed = passed.wrapping_add(u64::from(text.is_ascii_alphabetic_uppercase()) << 40);
+        digest.add(
+            u64::from(text.is_ascii_alphabetic())
+                | u64::from(text.is_ascii_alphanumeric()) << 1
+                | u64::from(text.is_ascii_alphabetic_uppercase()) << 2,
+        );
         let kept = if text.is_ascii_lowercase() {
             text.to_ascii_titlecase()
         } else {
@@ -200,7 +201,6 @@ fn change<const N: usize>(
         };
         changed.push(kept)?;
     }
-    digest.add(passed);
     Ok(changed)
 }
 
@@ -250,7 +250,7 @@ fn through_json<const N: usize>(
     }
     for value in &values {
         match TinyAsciiStr::<N>::from_json(value) {
-            Ok(text) => digest.add(text.len() as u64),
+            Ok(text) => digest.add_text(&text),
             Err(_) => digest.add(1 << 40),
         }
     }

@@ -1,5 +1,10 @@
 //! A digest of results.
 
+ghost use Rattle.std.specs.Prelude.{◌<◌, ◌^◌};
+
+use tinystr::TinyAsciiStr;
+use tinystr_packed::Table;
+
 /// A number that all results went into, by the step of FxHash.
 #[derive(Drop)]
 pub struct Digest {
@@ -28,6 +33,23 @@ impl Digest {
             last = (last << 8) ^ u64::from(*byte);
         }
         self.add(last);
+    }
+
+    /// A text with its padding.
+    #[inline(always)]
+    pub fn add_text<const N: usize>(&mut self, text: &TinyAsciiStr<N>) {
+        self.add_bytes(text.all_bytes());
+    }
+
+    /// The texts of a table, and how many there are.
+    #[inline(always)]
+    pub fn add_table<const N: usize>(&mut self, table: &Table<'_, N>)
+        requires { N < 2 ^ 63 }
+    {
+        self.add(table.len() as u64);
+        for text in table.iter() {
+            self.add_text(&text);
+        }
     }
 
     pub fn value(&self) -> u64 {

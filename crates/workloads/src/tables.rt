@@ -12,19 +12,22 @@ use tinystr_packed::{PackedMap, SortedTable, Table, pack, pack_map, pack_sorted,
 
 /// Makes a file of codes of 3, of 8 and of 16 bytes, and reads each.
 pub fn run(alloc: Global, random: &mut Random, digest: &mut Digest) -> Result<(), AllocError> {
-    run_at::<3>(alloc, random, digest, 100_000)?;
-    run_at::<8>(alloc, random, digest, 400_000)?;
-    run_at::<16>(alloc, random, digest, 200_000)
+    run_at::<3, 2>(alloc, random, digest, 100_000, 4_096)?;
+    run_at::<8, 3>(alloc, random, digest, 400_000, 50_000)?;
+    run_at::<16, 3>(alloc, random, digest, 200_000, 25_000)
 }
 
-fn run_at<const N: usize>(
+// So many codes, and so many of the beginnings of `B` characters, of which there are 64 ^ B.
+fn run_at<const N: usize, const B: usize>(
     alloc: Global,
     random: &mut Random,
     digest: &mut Digest,
     count: usize,
+    beginnings: usize,
 ) -> Result<(), AllocError>
     requires some { 0 < N }
     requires bound { N < 2 ^ 63 }
+    requires beginning { B < 2 ^ 63 }
 {
     let codes = short_codes::<N>(alloc, random, count)?;
     let records = pack(alloc, &codes)?;
@@ -35,8 +38,10 @@ fn run_at<const N: usize>(
         return Ok(());
     };
     search(&sorted, &codes, random, digest);
-    let texts = unpack(alloc, sorted.table())?;
-    digest.add(texts.len() as u64);
+    search_beginnings::<N, B>(&sorted, beginnings, random, digest);
+    for text in &unpack(alloc, sorted.table())? {
+        digest.add_text(text);
+    }
     map(alloc, &codes, random, digest)
 }
 
@@ -47,7 +52,7 @@ fn open<const N: usize>(file: &[u8]) -> Option<SortedTable<'_, N>>
     SortedTable::new(Table::<N>::new(file).ok()?).ok()
 }
 
-// Look-ups in order, of all codes as they came, of others, and of what begins with two characters.
+// Look-ups in order, of all codes as they came, and of others.
 #[inline(never)]
 fn search<const N: usize>(
     sorted: &SortedTable<'_, N>,
@@ -59,7 +64,7 @@ fn search<const N: usize>(
     requires bound { N < 2 ^ 63 }
 {
     for text in sorted.table().iter() {
-        digest.add(text.len() as u64);
+        digest.add_text(&text);
         digest.add(u64::from(sorted.contains(&text)));
     }
     for code in codes {
@@ -68,10 +73,22 @@ fn search<const N: usize>(
     for _ in 0..codes.len() {
         add_place(digest, sorted.binary_search(&short_code(random)));
     }
-    for _ in 0..codes.len() / 8 {
-        let beginning = short_code::<N>(random).resize::<2>().resize::<N>();
-        let found = sorted.with_prefix(&beginning);
-        digest.add(found.table().len() as u64);
+}
+
+#[inline(never)]
+fn search_beginnings<const N: usize, const B: usize>(
+    sorted: &SortedTable<'_, N>,
+    count: usize,
+    random: &mut Random,
+    digest: &mut Digest,
+)
+    requires some { 0 < N }
+    requires bound { N < 2 ^ 63 }
+    requires beginning { B < 2 ^ 63 }
+{
+    for _ in 0..count {
+        let beginning = short_code::<N>(random).resize::<B>().resize::<N>();
+        digest.add_table(sorted.with_prefix(&beginning).table());
     }
 }
 
@@ -112,7 +129,8 @@ fn map<const N: usize>(
         );
     }
     for (key, value) in map.iter() {
-        digest.add(key.len() as u64 ^ u64::from(u32::from_le_bytes(*value)));
+        digest.add_text(&key);
+        digest.add(u64::from(u32::from_le_bytes(*value)));
     }
     Ok(())
 }
