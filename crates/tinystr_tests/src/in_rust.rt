@@ -13,7 +13,8 @@ fn a_text_is_asked_as_a_string(rt: HostRuntime) {
     let text = eur();
     assert!(rt; text.as_str() == "EUR" && text.as_str() != "EU");
     assert!(rt; text.as_str().chars().count() == 3);
-    assert!(rt; text.as_utf8().first() == Some(&b'E'));
+    assert!(rt; text.get(0) == Some(b'E') && text.get(3).is_none());
+    assert!(rt; text.slice::<2>(1..3).as_str() == "UR");
     assert!(rt; text.as_str().starts_with("EU") && !text.as_str().starts_with("U"));
 }
 
