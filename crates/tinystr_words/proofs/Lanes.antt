@@ -1,5 +1,5 @@
 -- Sums, masks and shifts of words, lane by lane.
-use Rattle.std.proofs.Common.{ℕ, zero, suc, ◌+◌, ◌-◌, ◌*◌, ◌/◌, ◌%◌, ◌^◌, ◌<◌, ◌≡◌, Bool, true, false, ◌&&◌, List, [], ◌∷◌, length, get_or, refl, sym, ap, ◌∙◌, arith, bit_and, bit_or, nat_eq, Fits, w8}
+use Rattle.std.proofs.Common.{ℕ, zero, suc, ◌+◌, ◌-◌, ◌*◌, ◌/◌, ◌%◌, ◌^◌, ◌<◌, ◌≡◌, Bool, true, false, ◌&&◌, List, [], ◌∷◌, ◌++◌, length, get_or, refl, sym, ap, ◌∙◌, arith, bit_and, bit_or, nat_eq, Fits, w8}
 use Rattle.std.proofs.Math.Nat.{pow-suc}
 use Rattle.std.proofs.Math.Facts.{Fits-lt-pow}
 use Rattle.std.proofs.lemmas.Bool.Decides.{Decides-below_and, nat_tests}
@@ -55,6 +55,11 @@ IsBytes-from_Fits l f = Each1-from_get_or (λ b. b < 256) l 0 (λ i h. Fits-lt-p
 -- and those of a text
 pub IsBytes-from_IsText : (t : List ℕ) → IsText t → IsBytes t
 IsBytes-from_IsText t x = Each1-from_get_or (λ b. b < 256) t 0 (λ i h. omega (arith, (x i 0 h).1))
+
+-- bytes joined with bytes are bytes
+pub IsBytes-append : (l m : List ℕ) → IsBytes l → IsBytes m → IsBytes (l ++ m)
+IsBytes-append [] m a d = d
+IsBytes-append (b ∷ l) m a d = (a.0, IsBytes-append l m a.1 d)
 
 -- a word of n bytes is below 256 ^ n
 pub word-lt : (l : List ℕ) → IsBytes l → word l < 256 ^ length l

@@ -11,7 +11,7 @@ use Rattle.std.proofs.lemmas.Nat.{and_le_r, le_or_l, le_or_r}
 use Rattle.std.proofs.lemmas.Simd.{Each1-replicate}
 use Rattle.tinystr_words.specs.Text.{IsTextByte, IsPadded, text_of}
 use Rattle.tinystr_words.specs.Words.{word, first_then}
-use Rattle.tinystr_words.proofs.Lanes.{below_at, IsBytes, word-lt, and_step}
+use Rattle.tinystr_words.proofs.Lanes.{below_at, IsBytes, IsBytes-append, word-lt, and_step}
 use Rattle.tinystr_words.proofs.Texts.{NULS, get_or-text_of, IsPaddedText-drop, IsPaddedText-places, IsPaddedText-take, IsPaddedText-whole}
 use Rattle.tinystr_words.proofs.Copying.{IsPadded-append, IsPadded-nuls}
 use Rattle.tinystr_words.proofs.Formulas.{same_from_nat_eq}
@@ -24,11 +24,6 @@ word_of_each n c = word (first_then n c c)
 word_of_each-replicate : (n c : ℕ) → word_of_each n c ≡ word (replicate n c)
 word_of_each-replicate zero c = refl
 word_of_each-replicate (suc n) c = refl
-
--- bytes joined with bytes are bytes
-IsBytes-append : (l m : List ℕ) → IsBytes l → IsBytes m → IsBytes (l ++ m)
-IsBytes-append [] m a d = d
-IsBytes-append (b ∷ l) m a d = (a.0, IsBytes-append l m a.1 d)
 
 -- ---- the high bit of each lane that isn't NUL, apart from its own high bit
 

@@ -1,16 +1,19 @@
 -- Bytes are a text and then NULs where each is below 128 and behind each NUL stands another.
-use Rattle.std.proofs.Common.{Bool, List, [], ap, ap₂, arith, Fits, bit_and, bit_or, cond, drop, eqb, false, inl, inr, map, not, get_or, length, nat_eq, nat_lt, refl, replicate, sym, take, true, w8, zero, suc, ℕ, ◌&&◌, ◌||◌, ◌+◌, ◌-◌, ◌<◌, ◌∙◌, ◌∷◌, ◌≡◌, ◌≤◌, ◌↔◌, ◌%◌, ◌^◌}
+use Rattle.std.proofs.Common.{Bool, List, [], ap, ap₂, arith, Fits, bit_and, bit_or, cond, drop, eqb, false, inl, inr, map, not, get_or, length, nat_eq, nat_lt, refl, replicate, subst, sym, take, true, w8, zero, suc, ℕ, ◌&&◌, ◌||◌, ◌+◌, ◌++◌, ◌-◌, ◌<◌, ◌∙◌, ◌∷◌, ◌≡◌, ◌≤◌, ◌↔◌, ◌%◌, ◌^◌}
+use Rattle.std.proofs.Math.Facts.{Fits-lt-pow}
 use Rattle.std.proofs.lemmas.Bool.{cases_lt}
-use Rattle.std.proofs.lemmas.List.{get_or-drop, get_or-take, get_or_past, length-drop, length-take}
-use Rattle.std.proofs.lemmas.Simd.{length-sel_l, length-zip2, tops_compared}
+use Rattle.std.proofs.lemmas.List.{length-append, length-drop, length-take, places}
+use Rattle.std.proofs.lemmas.Simd.{get_or-chunk, length-chunk, length-sel_l, length-zip2, pick_l-range_with_len, tops_compared, Each1-from_get_or}
 use Rattle.std.proofs.lemmas.List.Elements.{All-nil}
 use Rattle.tinystr_words.specs.Padded.{ArePaddedFrom}
 use Rattle.tinystr_words.specs.Text.{IsPadded, IsTextByte}
 use Rattle.std.proofs.lemmas.Bool.Decides.{nat_tests}
 use Rattle.std.specs.Int.Bits.{or_zero_r}
-use Rattle.std.specs.Simd.Lanes.{mask_l, sel_l, top, zip2}
+use Rattle.std.specs.List.{range_with_len}
+use Rattle.std.specs.Simd.Lanes.{mask_l, pick_l, sel_l, top, zip2}
 use Rattle.std.specs.Str.{bytes_eq}
-use Rattle.tinystr_words.proofs.Lanes.{IsBytes}
+use Rattle.tinystr_words.proofs.ConcatInVectors.{HasLanes, HasLanes-sixteen_from}
+use Rattle.tinystr_words.proofs.Lanes.{IsBytes, IsBytes-from_Fits, word-lt}
 use Rattle.tinystr_words.proofs.PaddedTest.{IsPadded-cons, high_bit-is}
 use Rattle.tinystr_words.proofs.Texts.{IsPaddedText-whole}
 use Rattle.tinystr_words.proofs.Vectors.{vectors_same}
@@ -36,19 +39,9 @@ ArePaddedFrom-more bytes start before more = λ k _ inside. elim (cases_lt k sta
   | inr from ↦ more k (omega arith) (omega arith)
 ]
 
--- the sixteen that follow, and those in front of the last byte
-pub IsPadded-by_ends : (bytes : List ℕ) (start last : ℕ) → ArePaddedFrom bytes start 16 → ArePaddedFrom bytes 0 start → ArePaddedFrom bytes (last - 16) 16
-    → length bytes ≡ last + 1 → last ≤ start + 32 → get_or bytes last 0 < 128 → IsPadded bytes
-IsPadded-by_ends bytes start last here before ends long near low = IsPadded-from_places bytes (λ k _ inside. elim (cases_lt k start) [
-  | inl below ↦ before k (omega arith) (omega arith)
-  | inr from ↦ elim (cases_lt k (start + 16)) [
-    | inl below ↦ here k (omega arith) (omega arith)
-    | inr past ↦ elim (cases_lt k last) [
-      | inl below ↦ ends k (omega arith) (omega arith)
-      | inr at ↦ let is : k ≡ last = omega arith in rw is (low, λ _. get_or_past bytes (suc last) 0 (omega arith))
-    ]
-  ]
-])
+-- all of them
+pub IsPadded-whole : (bytes : List ℕ) (count : ℕ) → ArePaddedFrom bytes 0 count → length bytes ≤ count → IsPadded bytes
+IsPadded-whole bytes count all most = IsPadded-from_places bytes (λ k from inside. all k from (omega arith))
 
 -- ---- sixteen of them in vectors, with the bytes behind them
 
@@ -115,30 +108,37 @@ sixteen_fine xs ys a e f =
     ∙ vectors_same (zip2 bit_or late high) (replicate 16 0) long (omega (arith, long))
     ∙ late_lanes xs ys 16 a e f
 
--- the test of sixteen bytes, and of the bytes behind them, as they are loaded
-pub ArePaddedFrom-tested : (bytes : List ℕ) (start : ℕ) (passed : Bool) → ((k : ℕ) → Fits w8 (get_or bytes k 0)) → start + 17 ≤ length bytes
-    → passed ≡ are_fine (take 16 (drop start bytes)) (take 16 (drop (start + 1) bytes)) → (passed ≡ true) ↔ ArePaddedFrom bytes start 16
-ArePaddedFrom-tested bytes start passed fits inside is =
-    let xs = take 16 (drop start bytes) in
-    let ys = take 16 (drop (start + 1) bytes) in
-    let xs_long : length xs ≡ 16 = omega (arith, length-take {A = ℕ}, length-drop {A = ℕ}) in
-    let ys_long : length ys ≡ 16 = omega (arith, length-take {A = ℕ}, length-drop {A = ℕ}) in
-    let x_at : (k : ℕ) → k < 16 → get_or xs k 0 ≡ get_or bytes (start + k) 0 = λ k less. get_or-take 16 (drop start bytes) k 0 less ∙ get_or-drop start bytes k 0 in
-    let y_at : (k : ℕ) → k < 16 → get_or ys k 0 ≡ get_or bytes (start + 1 + k) 0 = λ k less. get_or-take 16 (drop (start + 1) bytes) k 0 less ∙ get_or-drop (start + 1) bytes k 0 in (
-      λ t k from below.
-          let j = k - start in
-          let here : start + j ≡ k = omega arith in
-          let next : start + 1 + j ≡ suc k = omega arith in
-          let fine = are_fine-at xs ys j (xs_long ∙ sym ys_long) (sym is ∙ t) (omega arith) in
-          let x : get_or xs j 0 ≡ get_or bytes k 0 = x_at j (omega arith) ∙ ap (λ i. get_or bytes i 0) here in
-          let y : get_or ys j 0 ≡ get_or bytes (suc k) 0 = y_at j (omega arith) ∙ ap (λ i. get_or bytes i 0) next in
-          (omega (arith, fine.0), λ nul. sym y ∙ fine.1 (x ∙ nul)),
-      λ h. is ∙ are_fine-from xs ys (xs_long ∙ sym ys_long) (λ k less.
-          let small : k < 16 = omega arith in
-          let at = h (start + k) (omega arith) (omega arith) in
-          let x = x_at k small in
-          let y : get_or ys k 0 ≡ get_or bytes (suc (start + k)) 0 = y_at k small ∙ ap (λ i. get_or bytes i 0) (omega arith) in
-          (omega (arith, at.0), λ nul. y ∙ at.1 (sym x ∙ nul))),
+-- the bytes behind those of a vector, of which the last is in the vector that follows
+pub HasLanes-next : (xs ys bytes : List ℕ) (start : ℕ) → HasLanes xs bytes start → HasLanes ys bytes (start + 16) → HasLanes (pick_l 0 (xs ++ ys) (range_with_len 1 16)) bytes (start + 1)
+HasLanes-next xs ys bytes start x y =
+    let long : 1 + 16 ≤ length (xs ++ ys) = omega (arith, length-append xs ys, x.0, y.0) in
+    subst (λ l. HasLanes l bytes (start + 1)) (sym (pick_l-range_with_len 0 (xs ++ ys) 1 16 long)) (
+      length-chunk 1 16 (xs ++ ys) long,
+      λ k less. get_or-chunk 1 16 (xs ++ ys) k 0 less ∙ grind (arith, places, x.0, x.1 (1 + k), y.1 0),
     )
 
-pub ruleset padding = (ArePaddedFrom-padded, ArePaddedFrom-more, IsPadded-by_ends)
+-- the lanes of bytes are bytes
+pub IsBytes-HasLanes : (xs bytes : List ℕ) (start : ℕ) → HasLanes xs bytes start → ((k : ℕ) → Fits w8 (get_or bytes k 0)) → IsBytes xs
+IsBytes-HasLanes xs bytes start x fits = Each1-from_get_or (λ b. b < 256) xs 0 (λ k inside. rw (x.1 k (omega (arith, x.0))) (Fits-lt-pow (fits (start + k))))
+
+-- the test of sixteen bytes, and of the bytes behind them
+pub ArePaddedFrom-tested : (bytes xs ys : List ℕ) (start : ℕ) (passed : Bool) → HasLanes xs bytes start → HasLanes ys bytes (start + 1)
+    → passed ≡ are_fine xs ys → (passed ≡ true) ↔ ArePaddedFrom bytes start 16
+ArePaddedFrom-tested bytes xs ys start passed x y is = (
+  λ t k from below.
+      let j = k - start in
+      let here : start + j ≡ k = omega arith in
+      let next : start + 1 + j ≡ suc k = omega arith in
+      let fine = are_fine-at xs ys j (x.0 ∙ sym y.0) (sym is ∙ t) (omega (arith, x.0)) in
+      let given : get_or xs j 0 ≡ get_or bytes k 0 = x.1 j (omega arith) ∙ ap (λ i. get_or bytes i 0) here in
+      let behind : get_or ys j 0 ≡ get_or bytes (suc k) 0 = y.1 j (omega arith) ∙ ap (λ i. get_or bytes i 0) next in
+      (omega (arith, fine.0), λ nul. sym behind ∙ fine.1 (given ∙ nul)),
+  λ h. is ∙ are_fine-from xs ys (x.0 ∙ sym y.0) (λ k less.
+      let small : k < 16 = omega (arith, x.0) in
+      let at = h (start + k) (omega arith) (omega arith) in
+      let given = x.1 k small in
+      let behind : get_or ys k 0 ≡ get_or bytes (suc (start + k)) 0 = y.1 k small ∙ ap (λ i. get_or bytes i 0) (omega arith) in
+      (omega (arith, at.0), λ nul. behind ∙ at.1 (sym given ∙ nul))),
+)
+
+pub ruleset padding = (ArePaddedFrom-padded, ArePaddedFrom-more, IsPadded-whole)

@@ -10,7 +10,8 @@ use Rattle.std.specs.Int.Count.{count_leading_zeros, leading_of_zero, leading_un
 use Rattle.tinystr_words.specs.Text.{IsTextByte, IsText, pad}
 use Rattle.tinystr_words.specs.Words.{word, lanes_of}
 use Rattle.tinystr_words.proofs.Texts.{NULS, length-pad}
-use Rattle.tinystr_words.proofs.Lanes.{IsBytes, IsBytes-from_Ascii}
+use Rattle.std.proofs.lemmas.Simd.{Each1-replicate}
+use Rattle.tinystr_words.proofs.Lanes.{IsBytes, IsBytes-append, IsBytes-from_Ascii}
 use Rattle.tinystr_words.proofs.Formulas.{Ascii-padded}
 
 -- ---- the bytes of a word
@@ -98,6 +99,12 @@ pub word-nuls : (t : List ℕ) (k : ℕ) → word (t ++ NULS k) ≡ word t
 word-nuls [] zero = refl
 word-nuls [] (suc k) = let e : word (NULS k) ≡ 0 = word-nuls [] k in omega arith
 word-nuls (b ∷ t) k = ap (λ n. b + 256 * n) (word-nuls t k)
+
+-- so a word has more lanes than bytes, with NULs above these
+pub lanes_of-word_bytes : (n : ℕ) (l : List ℕ) → IsBytes l → length l ≤ n → lanes_of n (word l) ≡ pad l n
+lanes_of-word_bytes n l a le =
+    subst (λ m. lanes_of m (word l) ≡ pad l n) (length-pad l n le)
+    (ap (lanes_of (length (pad l n))) (sym (word-nuls l (n - length l))) ∙ lanes_of-word (pad l n) (IsBytes-append l (NULS (n - length l)) a (Each1-replicate (λ b. b < 256) (n - length l) 0 (lit< tt))))
 
 -- ---- the length of a text, by the leading zeros of its word
 

@@ -1,8 +1,9 @@
 -- The word of some bytes is made of the words of their pieces, which may overlap.
-use Rattle.std.proofs.Common.{ℕ, zero, suc, ◌+◌, ◌-◌, ◌*◌, ◌/◌, ◌%◌, ◌^◌, ◌<◌, ◌≤◌, ◌≡◌, List, [], ◌∷◌, length, get_or, take, drop, map, refl, sym, ap, ap₂, ◌∙◌, subst, arith, bit_or, Fits, w8, w16, lit<}
+use Rattle.std.proofs.Common.{ℕ, zero, suc, ◌+◌, ◌-◌, ◌*◌, ◌/◌, ◌%◌, ◌^◌, ◌<◌, ◌≤◌, ◌≡◌, List, [], ◌∷◌, length, get_or, take, drop, map, refl, sym, ap, ap₂, ◌∙◌, subst, arith, bit_or, Fits, w8, w16, lit<, min, inl, inr}
 use lib.Lanes.{number_l}
+use Rattle.std.proofs.lemmas.Bool.{cases_lt}
 use Rattle.std.proofs.Math.Nat.{pow-suc, mul_comm, mul_assoc, pow-le-pow_right}
-use Rattle.std.proofs.lemmas.List.{map-id, drop-drop, length-map, take-map, drop-map, length-drop, length-take, take_all}
+use Rattle.std.proofs.lemmas.List.{map-id, drop-drop, length-map, take-map, drop-map, length-drop, length-take, take_all, drop_all}
 use Rattle.std.proofs.lemmas.Nat.{and_or_self, div-mul-add, mod-mul-add}
 use Rattle.std.specs.Int.Bits.{or_self, or_add_and}
 use Rattle.tinystr_words.specs.Text.{IsText}
@@ -22,6 +23,13 @@ word_split (suc n) (b ∷ l) h =
     let e = word_split n l (omega arith) in
     let k : 256 ^ suc n * word (drop n l) ≡ 256 * (256 ^ n * word (drop n l)) = ap (λ p. p * word (drop n l)) (pow-suc 256 n ∙ mul_comm (256 ^ n) 256) ∙ mul_assoc 256 (256 ^ n) (word (drop n l)) in
     omega arith
+
+-- cut at a place, or whole where it ends before that
+pub word_cut : (m n : ℕ) (l : List ℕ) → n ≡ min (length l) m → word (take n l) + 256 ^ m * word (drop n l) ≡ word l
+word_cut m n l cut = elim (cases_lt (length l) m) [
+  | inl short ↦ (let end : n ≡ length l = omega (arith, cut) in rw (end, take_all (length l) l (omega arith), drop_all (length l) l (omega arith)) (omega arith))
+  | inr long ↦ (let at : n ≡ m = omega (arith, cut) in rw at (sym (word_split m l long)))
+]
 
 -- ---- the pieces that a word is loaded by
 

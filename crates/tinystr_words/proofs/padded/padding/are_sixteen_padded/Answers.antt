@@ -1,16 +1,15 @@
-use Rattle.std.proofs.Common.{arith, drop, take, ◌+◌, ◌<◌}
-use Rattle.std.proofs.lemmas.List.{length-drop, length-take}
-use Rattle.std.proofs.lemmas.Simd.{Each1-chunk}
-use Rattle.tinystr_words.proofs.Lanes.{IsBytes-from_Fits}
-use Rattle.tinystr_words.proofs.Padding.{ArePaddedFrom-tested, sixteen_fine}
+use Rattle.std.proofs.Common.{◌+◌}
+use Rattle.tinystr_words.proofs.ConcatInVectors.{HasLanes-sixteen_from}
+use Rattle.tinystr_words.proofs.Padding.{ArePaddedFrom-tested, HasLanes-next, IsBytes-HasLanes, sixteen_fine}
 use Rattle.tinystr_words.proofs.padded.padding.are_sixteen_padded.Goals as goal
 
 pub returns : goal.returns
 returns c =
     let bytes = c.args.bytes.now in
-    let given = take 16 (drop c.args.start bytes) in
-    let next = take 16 (drop (c.args.start + 1) bytes) in
-    ArePaddedFrom-tested bytes c.args.start _ c.type_inv.bytes c.requires
-    (sixteen_fine given next (Each1-chunk (λ b. b < 256) c.args.start 16 bytes (IsBytes-from_Fits bytes c.type_inv.bytes))
-    (omega (arith, length-take 16 (drop c.args.start bytes), length-drop c.args.start bytes))
-    (omega (arith, length-take 16 (drop (c.args.start + 1) bytes), length-drop (c.args.start + 1) bytes)))
+    let start = c.args.start in
+    let xs = c.sixteen_at-given.result in
+    let ys = c.sixteen_at-following.result in
+    let given = HasLanes-sixteen_from xs bytes start c.sixteen_at-given.ensures in
+    let following = HasLanes-sixteen_from ys bytes (start + 16) c.sixteen_at-following.ensures in
+    let next = HasLanes-next xs ys bytes start given following in
+    ArePaddedFrom-tested bytes xs _ start _ given next (sixteen_fine xs _ (IsBytes-HasLanes xs bytes start given c.type_inv.bytes) given.0 next.0)

@@ -1,20 +1,22 @@
-use Rattle.std.proofs.Common.{arith, length, true, ◌≡◌, ◌-◌}
+use Rattle.std.proofs.Common.{arith, true, ◌≡◌, ◌+◌}
 use Rattle.std.proofs.lemmas.Bool.Decides.{nat_tests}
-use Rattle.tinystr_words.proofs.Padding.{ArePaddedFrom-padded, IsPadded-by_ends, padded_at}
+use Rattle.tinystr_words.specs.Padded.{ArePaddedFrom}
+use Rattle.tinystr_words.proofs.Padding.{ArePaddedFrom-more, ArePaddedFrom-padded, IsPadded-whole}
 use Rattle.tinystr_words.proofs.padded.padding.is_padded.Goals as goal
 
 pub returns : goal.returns
 returns c =
     let bytes = c.args.bytes.now in
-    let last = length bytes - 1 in
     let start = c.loop-start.start in
-    let here = c.are_sixteen_padded-2 in
-    let ends = c.are_sixteen_padded-3 in (
-      λ t. IsPadded-by_ends bytes start last (here.ensures.0 (grind (arith, nat_tests))) c.loop-start.invariant.passed (ends.ensures.0 (grind (arith, nat_tests)))
-          (omega arith) (omega arith) (grind (arith, nat_tests)),
+    let passed = c.loop-start.invariant.passed in
+    let here = c.are_sixteen_padded.ensures in
+    let ends = c.are_sixteen_padded-2.ensures in (
+      λ t. IsPadded-whole bytes (start + 16 + 16)
+          (ArePaddedFrom-more bytes (start + 16) (ArePaddedFrom-more bytes start (passed.0 (grind (arith, nat_tests))) (here.0 (grind (arith, nat_tests)))) (ends.0 (grind (arith, nat_tests))))
+          (omega arith),
       λ p.
-          let first : here.result ≡ true = here.ensures.1 (ArePaddedFrom-padded bytes start 16 p) in
-          let second : ends.result ≡ true = ends.ensures.1 (ArePaddedFrom-padded bytes (last - 16) 16 p) in
-          let low = (padded_at bytes last p).0 in
-          grind (arith, nat_tests),
+          let a = passed.1 (ArePaddedFrom-padded bytes 0 start p) in
+          let b = here.1 (ArePaddedFrom-padded bytes start 16 p) in
+          let d = ends.1 (ArePaddedFrom-padded bytes (start + 16) 16 p) in
+          grind (arith, nat_tests, a, b, d),
     )

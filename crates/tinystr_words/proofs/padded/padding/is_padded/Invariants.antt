@@ -1,12 +1,12 @@
-use Rattle.std.proofs.Common.{◌+◌, ◌-◌, ◌≤◌, length}
+use Rattle.std.proofs.Common.{◌+◌, ◌-◌, ◌≤◌, ◌↔◌, length, IsTrue}
 use Rattle.tinystr_words.specs.Padded.{ArePaddedFrom}
 use Rattle.tinystr_words.proofs.padded.padding.is_padded.Given as goal
 
 -- what was tested
 abbrev pub invariant-loop-start : goal.invariant-loop-start
 invariant-loop-start l = record {
-  inside : l.start + 17 ≤ length l.bytes;
-  passed : ArePaddedFrom l.bytes 0 l.start;
+  inside : l.start + 16 ≤ length l.bytes;
+  passed : IsTrue l.is_padded ↔ ArePaddedFrom l.bytes 0 l.start;
 }
 
 abbrev pub decreases-loop-start : goal.decreases-loop-start
