@@ -1,8 +1,8 @@
 -- Bytes are a text and then NULs where each is below 128 and behind each NUL stands another.
-use Rattle.std.proofs.Common.{Bool, List, [], ap, ap₂, arith, Fits, bit_and, bit_or, cond, drop, eqb, false, inl, inr, map, not, get_or, length, nat_eq, nat_lt, refl, replicate, subst, sym, take, true, w8, zero, suc, ℕ, ◌&&◌, ◌||◌, ◌+◌, ◌++◌, ◌-◌, ◌<◌, ◌∙◌, ◌∷◌, ◌≡◌, ◌≤◌, ◌↔◌, ◌%◌, ◌^◌}
+use Rattle.std.proofs.Common.{Bool, List, [], ap, ap₂, arith, Fits, bit_and, bit_or, cond, eqb, false, inl, inr, map, not, get_or, length, nat_eq, nat_lt, refl, replicate, subst, sym, true, w8, zero, suc, ℕ, ◌&&◌, ◌||◌, ◌+◌, ◌++◌, ◌-◌, ◌<◌, ◌∙◌, ◌∷◌, ◌≡◌, ◌≤◌, ◌↔◌, ◌%◌, ◌^◌}
 use Rattle.std.proofs.Math.Facts.{Fits-lt-pow}
 use Rattle.std.proofs.lemmas.Bool.{cases_lt}
-use Rattle.std.proofs.lemmas.List.{length-append, length-drop, length-take, places}
+use Rattle.std.proofs.lemmas.List.{length-append, places}
 use Rattle.std.proofs.lemmas.Simd.{get_or-chunk, length-chunk, length-sel_l, length-zip2, pick_l-range_with_len, tops_compared, Each1-from_get_or}
 use Rattle.std.proofs.lemmas.List.Elements.{All-nil}
 use Rattle.tinystr_words.specs.Padded.{ArePaddedFrom}
@@ -12,8 +12,8 @@ use Rattle.std.specs.Int.Bits.{or_zero_r}
 use Rattle.std.specs.List.{range_with_len}
 use Rattle.std.specs.Simd.Lanes.{mask_l, pick_l, sel_l, top, zip2}
 use Rattle.std.specs.Str.{bytes_eq}
-use Rattle.tinystr_words.proofs.ConcatInVectors.{HasLanes, HasLanes-sixteen_from}
-use Rattle.tinystr_words.proofs.Lanes.{IsBytes, IsBytes-from_Fits, word-lt}
+use Rattle.tinystr_words.proofs.ConcatInVectors.{HasLanes}
+use Rattle.tinystr_words.proofs.Lanes.{IsBytes}
 use Rattle.tinystr_words.proofs.PaddedTest.{IsPadded-cons, high_bit-is}
 use Rattle.tinystr_words.proofs.Texts.{IsPaddedText-whole}
 use Rattle.tinystr_words.proofs.Vectors.{vectors_same}

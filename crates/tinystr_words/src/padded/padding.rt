@@ -34,7 +34,10 @@ fn are_sixteen_padded(bytes: &[u8], start: usize) -> bool
     let nuls = u8x16::splat(0);
     let given = sixteen_at(bytes, start);
     let following = sixteen_at(bytes, start + 16);
-    let next = given.shuffle(following, [1, 2, 3, 4, 5, 6, 7, 8, 9, 10, 11, 12, 13, 14, 15, 16]);
+    let next = given.shuffle(
+        following,
+        [1, 2, 3, 4, 5, 6, 7, 8, 9, 10, 11, 12, 13, 14, 15, 16],
+    );
     let late = given.simd_eq(nuls).select(next, nuls);
     let high = given & u8x16::splat(0x80);
     (late | high) == nuls
