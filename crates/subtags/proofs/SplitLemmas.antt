@@ -10,7 +10,7 @@ use Rattle.tinystr_words.specs.Classes.{is_alphanumeric}
 use Rattle.tinystr_words.specs.Case.{titlecase, uppercase}
 use Rattle.subtags.specs.declared.error.LangIdError.TheVariants.{InvalidSubtag}
 use Rattle.subtags.specs.Grammar.{dash, is_separator, fold_byte, fold_text, subtags_of, is_script, is_region}
-use Rattle.subtags.specs.FromFront.{behind, past_script, subtags_behind, ends_at, leading_script, behind_script, last_region}
+use Rattle.subtags.specs.FromFront.{behind, subtags_behind, ends_at, leading_script, behind_script, last_region}
 use Rattle.subtags.proofs.FoldLemmas.{All-from_list_all, is_script-fold_text, is_region-fold_text, alphanumeric-fold_text, alphanumeric-from_subtag, titlecase-fold_text, uppercase-fold_text}
 
 -- to change the bytes and then split is to split and then change the subtags
@@ -59,12 +59,11 @@ position_or_len-script u ends h =
 
 -- a script in front that can be a subtag is read in titlecase, and what stands behind it is left
 pub script_in_front : (u : List ℕ) → ends_at 4 u ≡ true → is_script (take 4 u) ≡ true
-    → (leading_script (subtags_of (fold_text u)) ≡ Some (titlecase (take 4 u))) × (behind_script (subtags_of (fold_text u)) ≡ subtags_behind (past_script u))
+    → (leading_script (subtags_of (fold_text u)) ≡ Some (titlecase (take 4 u))) × (behind_script (subtags_of (fold_text u)) ≡ subtags_behind (behind 4 u))
 script_in_front u ends h =
     let len = length-take 4 u in
-    let past : past_script u ≡ behind 4 u = grind (arith, nat_tests) in
     let title = titlecase-fold_text (take 4 u) h in
-    rw (past, rw (position_or_len-script u ends h) at (subtags_at_first_separator u), is_script-fold_text (take 4 u), h, title) (refl, refl)
+    rw (rw (position_or_len-script u ends h) at (subtags_at_first_separator u), is_script-fold_text (take 4 u), h, title) (refl, refl)
 
 -- a script has four bytes
 length-script : (p : List ℕ) → is_script p ≡ true → length p ≡ 4

@@ -20,10 +20,6 @@ behind n u = if n == length u then None else Some (drop (n + 1) u)
 abbrev pub first_subtag : List ℕ → List ℕ
 first_subtag u = take (position_or_len is_separator u) u
 
--- what stands behind a script and a separator, or all, where there is no room for a script
-abbrev pub past_script : List ℕ → Option (List ℕ)
-past_script u = if nat_lt (length u) 4 then Some u else behind 4 u
-
 -- whether a subtag can end behind n bytes: nothing stands there, or a separator. Past the end a byte counts as 0
 abbrev pub ends_at : ℕ → List ℕ → Bool
 ends_at n u = length u == n || is_separator (slice_index u n)

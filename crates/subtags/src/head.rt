@@ -3,10 +3,10 @@
 ghost use Rattle.std.specs.Prelude.{◌≡◌, ◌≤◌, IfSome, is_some, length};
 ghost use Rattle.std.specs.Option.{option_copied};
 ghost use Rattle.tinystr_words.specs.Case.{lowercase};
-ghost use Rattle.subtags.specs.Grammar.{is_separator, is_language, is_language_length};
+ghost use Rattle.subtags.specs.Grammar.{is_separator, is_language};
 ghost use Rattle.subtags.specs.FromFront.{behind, ends_at, first_subtag};
 
-use crate::language::Language;
+use crate::language::{Language, is_language_length};
 use tinystr::TinyStr8;
 
 #[inline]
@@ -31,13 +31,6 @@ pub fn behind(units: &[u8], place: usize) -> Option<&[u8]>
     ensures { option_copied result ≡ behind place units.now }
 {
     units.get(place + 1..)
-}
-
-#[inline]
-fn is_language_length(len: usize) -> bool
-    ensures { result ≡ is_language_length len }
-{
-    len == 2 || len == 3 || 5 <= len && len <= 8
 }
 
 /// Takes the first subtag off, where it is a language: that and what stands behind its separator.

@@ -1,7 +1,8 @@
 //! Languages.
 
+ghost use Rattle.std.specs.Prelude.{◌≡◌};
 ghost use Rattle.tinystr_words.specs.Case.{lowercase};
-ghost use Rattle.subtags.specs.Grammar.{is_language};
+ghost use Rattle.subtags.specs.Grammar.{is_language, is_language_length};
 ghost use Rattle.subtags.specs.declared.error.LangIdError.TheVariants.{InvalidLanguage};
 
 use crate::error::LangIdError;
@@ -34,7 +35,7 @@ impl SubtagKind<8> for LanguageKind {
     #[inline]
     #[tactic(auto, using(crate::proofs::FoldLemmas::subtag_steps))]
     fn read(code_units: &[u8]) -> Option<TinyAsciiStr<8>> {
-        if !matches!(code_units.len(), 2 | 3 | 5..=8) {
+        if !is_language_length(code_units.len()) {
             return None;
         }
         let Ok(text) = TinyAsciiStr::try_from_utf8(code_units) else {
@@ -50,4 +51,12 @@ impl SubtagKind<8> for LanguageKind {
     fn refusal() -> LangIdError {
         LangIdError::InvalidLanguage
     }
+}
+
+/// Whether a language may have so many letters.
+#[inline]
+pub(crate) fn is_language_length(len: usize) -> bool
+    ensures { result ≡ is_language_length len }
+{
+    len == 2 || len == 3 || 5 <= len && len <= 8
 }

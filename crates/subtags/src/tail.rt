@@ -2,24 +2,12 @@
 
 ghost use Rattle.std.specs.Prelude.{◌≡◌};
 ghost use Rattle.std.specs.Option.{option_copied};
-ghost use Rattle.subtags.specs.FromFront.{past_script, subtags_behind, leading_script, behind_script, last_region};
+ghost use Rattle.subtags.specs.FromFront.{subtags_behind, leading_script, behind_script, last_region};
 
 use crate::error::LangIdError;
 use crate::head::{behind, ends_at};
 use crate::region::Region;
 use crate::script::Script;
-
-// What stands behind a script and a separator, or all, where there is no room for a script.
-#[inline]
-fn past_script(units: &[u8]) -> Option<&[u8]>
-    ensures { option_copied result ≡ past_script units.now }
-{
-    if units.len() < 4 {
-        Some(units)
-    } else {
-        behind(units, 4)
-    }
-}
 
 /// Takes the first subtag off, where it is a script.
 #[inline]
@@ -35,7 +23,7 @@ pub fn take_script(rest: Option<&[u8]>) -> (Option<Script>, Option<&[u8]>)
         return (None, rest);
     }
     match Script::try_from_utf8(&units[..4]) {
-        Some(script) => (Some(script), past_script(units)),
+        Some(script) => (Some(script), behind(units, 4)),
         None => (None, rest),
     }
 }
