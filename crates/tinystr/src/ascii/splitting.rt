@@ -1,6 +1,6 @@
 //! A byte found in a text, and texts split at it.
 
-ghost use Rattle.std.specs.Prelude.{◌≡◌, ◌==◌, ◌∷◌, ◌<◌, ◌≤◌, ◌+◌, IfSome, length, position, take, drop, option_map};
+ghost use Rattle.std.specs.Prelude.{◌≡◌, ◌==◌, ◌∷◌, ◌<◌, ◌≤◌, ◌+◌, IfSome, None, length, position, take, drop, option_map};
 ghost use Rattle.std.specs.Iterator.{YieldsFirst, item_count};
 ghost use Rattle.std.specs.List.{slice_split};
 ghost use Rattle.std.specs.Option.{option_copied};
@@ -187,13 +187,14 @@ fn split_first<const N: usize>(bytes: &[u8], separator: u8) -> (TinyAsciiStr<N>,
     }
 }
 
-// The same for a part of any length, which is copied.
+// The same where the first sixteen bytes have no separator: the part is copied.
 fn split_first_by_copy<const N: usize>(
     bytes: &[u8],
     separator: u8,
 ) -> (TinyAsciiStr<N>, Option<&[u8]>)
     requires padded { IsPadded bytes.now }
     requires fits { length bytes.now ≤ N }
+    requires missed { position (λ b. b == separator) (take 16 (text_of bytes.now)) ≡ None }
     ensures parts { slice_split (λ b. b == separator) (text_of bytes.now)
         ≡ result.0 ∷ parts_left separator (option_map text_of (option_copied result.1)) }
     ensures rest { IfSome result.1 (λ rest. IsPadded rest.now × (length rest.now ≤ N)) }
@@ -207,13 +208,14 @@ fn split_first_by_copy<const N: usize>(
     }
 }
 
-// Where the byte first stands in the text, by sixteen bytes at once.
+// Where the byte first stands in the text, by sixteen bytes at once. The first sixteen were asked already.
 fn find(bytes: &[u8], byte: u8) -> Option<usize>
-    requires { IsPadded bytes.now }
+    requires padded { IsPadded bytes.now }
+    requires missed { position (λ b. b == byte) (take 16 (text_of bytes.now)) ≡ None }
     ensures { result ≡ position (λ b. b == byte) (text_of bytes.now) }
 {
-    let mut start = 0;
-    while start < bytes.len() {
+    let mut start = 16;
+    while start < bytes.len() && bytes[start] != 0 {
         if let Some(at) = find_in_sixteen(first_sixteen(&bytes[start..]), byte) {
             return Some(start + at);
         }
