@@ -184,7 +184,7 @@ impl<T: Word<LEN>, const LEN: usize> Aligned<T, LEN> {
     }
 }
 
-// What stands from here on is there for `padded` and for the strict readers of `tinystr`.
+// What stands from here on is there for `padded`, and for the strict readers, `split` and `find` of `tinystr`.
 impl<T: Word<LEN>, const LEN: usize> Aligned<T, LEN> {
     /// Reads a padded text of at most `LEN` bytes, which have to be one.
     #[inline(always)]

@@ -315,6 +315,46 @@ fn padded_bytes_are_refused_for_a_bad_byte_at_each_position(rt: HostRuntime) {
     assert!(rt; are_refused_at_each_position(TinyAsciiStr::<100>::default()));
 }
 
+// Whether the raw reader takes letters of each number with NULs behind them.
+fn are_read_at_each_length<const N: usize>(_like: TinyAsciiStr<N>) -> bool {
+    let mut raw = [0; N];
+    for len in 0..N {
+        match TinyAsciiStr::try_from_raw(raw) {
+            Ok(text) if text.len() == len => raw[len] = b'a',
+            _ => return false,
+        }
+    }
+    matches!(TinyAsciiStr::try_from_raw(raw), Ok(text) if text.len() == N)
+}
+
+fn are_read_by_their_padding<const N: usize>(like: TinyAsciiStr<N>) -> bool {
+    are_read_at_each_length(like) && are_refused_at_each_position(like)
+}
+
+#[test]
+fn padding_is_tested_with_each_number_of_bytes_behind_the_last_sixteen(rt: HostRuntime) {
+    assert!(rt; are_read_by_their_padding(TinyAsciiStr::<17>::default()));
+    assert!(rt; are_read_by_their_padding(TinyAsciiStr::<18>::default()));
+    assert!(rt; are_read_by_their_padding(TinyAsciiStr::<19>::default()));
+    assert!(rt; are_read_by_their_padding(TinyAsciiStr::<20>::default()));
+    assert!(rt; are_read_by_their_padding(TinyAsciiStr::<21>::default()));
+    assert!(rt; are_read_by_their_padding(TinyAsciiStr::<22>::default()));
+    assert!(rt; are_read_by_their_padding(TinyAsciiStr::<23>::default()));
+    assert!(rt; are_read_by_their_padding(TinyAsciiStr::<24>::default()));
+    assert!(rt; are_read_by_their_padding(TinyAsciiStr::<25>::default()));
+    assert!(rt; are_read_by_their_padding(TinyAsciiStr::<26>::default()));
+    assert!(rt; are_read_by_their_padding(TinyAsciiStr::<27>::default()));
+    assert!(rt; are_read_by_their_padding(TinyAsciiStr::<28>::default()));
+    assert!(rt; are_read_by_their_padding(TinyAsciiStr::<29>::default()));
+    assert!(rt; are_read_by_their_padding(TinyAsciiStr::<30>::default()));
+    assert!(rt; are_read_by_their_padding(TinyAsciiStr::<31>::default()));
+    assert!(rt; are_read_by_their_padding(TinyAsciiStr::<32>::default()));
+    assert!(rt; are_read_by_their_padding(TinyAsciiStr::<33>::default()));
+    assert!(rt; are_read_by_their_padding(TinyAsciiStr::<47>::default()));
+    assert!(rt; are_read_by_their_padding(TinyAsciiStr::<48>::default()));
+    assert!(rt; are_read_by_their_padding(TinyAsciiStr::<64>::default()));
+}
+
 #[test]
 fn lossy_readers_replace_each_bad_unit(rt: HostRuntime) {
     for (bytes, text) in [
