@@ -215,7 +215,7 @@ fn find(bytes: &[u8], byte: u8) -> Option<usize>
     ensures { result ≡ position (λ b. b == byte) (text_of bytes.now) }
 {
     let mut start = 16;
-    while start < bytes.len() && bytes[start] != 0 {
+    while start < bytes.len() {
         if let Some(at) = find_in_sixteen(first_sixteen(&bytes[start..]), byte) {
             return Some(start + at);
         }
