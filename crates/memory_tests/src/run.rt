@@ -25,7 +25,7 @@ fn a_refused_allocation_writes_nothing(rt: HostRuntime) -> Result<(), Fail> {
     Ok(())
 }
 
-/// Gives its bytes, and then fails at each read.
+/// Gives all its bytes but one, and that one, and then fails at each read.
 #[derive(Drop)]
 struct BrokenReader<'a> {
     bytes: &'a [u8],
@@ -36,7 +36,8 @@ impl Read for BrokenReader<'_> {
         if self.bytes.is_empty() {
             return Err(ErrorKind::Other.into());
         }
-        self.bytes.read(buf)
+        let room = (self.bytes.len() - 1).max(1).min(buf.len());
+        self.bytes.read(&mut buf[..room])
     }
 }
 

@@ -3,5 +3,6 @@
 
 mod command;
 pub mod engine;
-mod reply;
+#[doc(hidden)]
+pub mod reply;
 mod split;

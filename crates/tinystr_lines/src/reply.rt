@@ -41,9 +41,9 @@ fn push_text<const N: usize>(out: &mut Vec<u8>, text: TinyAsciiStr<N>) -> Result
     push_beginning(out, text.all_bytes(), text.len())
 }
 
-// A number below 2^32 is made at once, without the steps of `write!`, since that is faster.
+/// Appends the digits of a number. One below 2^32 is made at once, without the steps of `write!`, since that is faster.
 #[inline(never)]
-fn push_large_number(out: &mut Vec<u8>, number: usize) -> Result<(), AllocError>
+pub fn push_large_number(out: &mut Vec<u8>, number: usize) -> Result<(), AllocError>
     ensures { OnOk result (out.new.items ≡ out.old.items ++ decimal number) }
 {
     if let Ok(small) = u32::try_from(number)

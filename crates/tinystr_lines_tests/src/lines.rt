@@ -5,6 +5,7 @@ use std::alloc::{AllocError, Global};
 use std::process::Abort;
 use std::test::Fail;
 use tinystr_lines::engine::{RunError, run};
+use tinystr_lines::reply::push_large_number;
 
 // What `run` writes for an input.
 fn output(alloc: Global, input: &[u8]) -> Result<Vec<u8>, RunError> {
@@ -86,6 +87,22 @@ fn a_text_longer_than_a_read_has_its_length_told(rt: HostRuntime) -> Result<(), 
     let mut input = b"32 len ".to_vec(rt.alloc())?;
     input.resize(7 + 100_000, b'a')?;
     assert!(rt; output(rt.alloc(), &input)?.as_slice() == b"too long 100000 > 32\n".as_slice());
+    Ok(())
+}
+
+// Past 2^32 only a line of as many bytes has such a number in its reply.
+#[test]
+fn a_number_has_all_its_digits(rt: HostRuntime) -> Result<(), Fail> {
+    for (number, digits) in [
+        (100, &b"100"[..]),
+        ((1 << 32) - 1, b"4294967295"),
+        (1 << 32, b"4294967296"),
+        (usize::MAX, b"18446744073709551615"),
+    ] {
+        let mut out = Vec::new(rt.alloc());
+        push_large_number(&mut out, number)?;
+        assert!(rt; out.as_slice() == digits, "{number}");
+    }
     Ok(())
 }
 
