@@ -1,4 +1,4 @@
-use Rattle.std.proofs.Common.{List, ℕ, ◌≡◌, ◌≤◌, ◌++◌, ◌+◌, ◌-◌, ◌∙◌, length, refl, sym, subst, arith, inl}
+use Rattle.std.proofs.Common.{List, ℕ, ◌≡◌, ◌≤◌, ◌++◌, ◌+◌, ◌-◌, ◌∙◌, length, refl, sym, subst, arith, inl, rules}
 use Rattle.std.proofs.lemmas.List.{length-append, take_all}
 use borrow.Rule.Slice.PartMut.{put_mid}
 use Rattle.tinystr_words.specs.Text.{IsPadded, IsPaddedText, IsText, text_of}
@@ -21,22 +21,18 @@ text_alone t h =
     let made = IsPaddedText-places t t (length t) refl h (λ k below. refl) in
     (made.0, made.1 ∙ take_all (length t) t (omega arith))
 
-made : (g : _) (c : goal.Joined-this-le16 g) → IsPadded c.if-this-le16.bytes × (text_of c.if-this-le16.bytes ≡ text_of c.args.bytes.now ++ c.args.self.now)
-made g c = elim c.if-this-le16.branch [
-  | then-this-le16+then-room w ↦ (
-      let bytes = c.self.inside.bytes in
-      let all : length bytes ≡ g.row.N = c.self.told in
-      put_whole c.args.bytes.now bytes w.copy_from_slice.new.self c.args.self.now c.if-this-le16.bytes c.args.len (c.args.len + g.row.N - c.args.len) c.requires.padded c.requires.at_end
-      (subst (λ n. IsPaddedText bytes n) (sym all) c.self.invariant) c.self.view_is w.copy_from_slice.ensures.after (omega arith) (omega arith) w.bytes-is)
-  | else-this-le16 w ↦ (
-      let alone = text_alone c.args.self.now (rw w.as_utf8.ensures.text at w.as_utf8.ensures.ascii) in
-      let count = c.args.len + c.len-text_len.result - c.args.len in
-      put_whole c.args.bytes.now c.args.self.now w.copy_from_slice-else-this-le16.new.self c.args.self.now c.if-this-le16.bytes c.args.len count c.requires.padded c.requires.at_end
-      alone.0 alone.1 (w.copy_from_slice-else-this-le16.ensures.after ∙ w.as_utf8.ensures.text) (omega (arith, c.len-text_len.ensures.len)) (omega arith) w.bytes-is)
-]
-
-pub returns-clause-padded : goal.returns-clause-padded
-returns-clause-padded g c = (made g c).0
-
-pub returns-clause-text : goal.returns-clause-text
-returns-clause-text g c = λ fits. (made g c).1
+pub returns : goal.returns
+returns g c =
+    let made : IsPadded c.if-this-le16.bytes × (text_of c.if-this-le16.bytes ≡ text_of c.args.bytes.now ++ c.args.self.now) = elim c.if-this-le16.branch [
+      | then-this-le16+then-room w ↦ (
+          let bytes = c.self.inside.bytes in
+          let all : length bytes ≡ g.row.N = c.self.told in
+          put_whole c.args.bytes.now bytes w.copy_from_slice.new.self c.args.self.now c.if-this-le16.bytes c.args.len (c.args.len + g.row.N - c.args.len) c.requires.padded c.requires.at_end
+          (subst (λ n. IsPaddedText bytes n) (sym all) c.self.invariant) c.self.view_is w.copy_from_slice.ensures.after (omega arith) (omega arith) w.bytes-is)
+      | else-this-le16 w ↦ (
+          let alone = text_alone c.args.self.now (rw w.as_utf8.ensures.text at w.as_utf8.ensures.ascii) in
+          let count = c.args.len + c.len-text_len.result - c.args.len in
+          put_whole c.args.bytes.now c.args.self.now w.copy_from_slice-else-this-le16.new.self c.args.self.now c.if-this-le16.bytes c.args.len count c.requires.padded c.requires.at_end
+          alone.0 alone.1 (w.copy_from_slice-else-this-le16.ensures.after ∙ w.as_utf8.ensures.text) (omega (arith, c.len-text_len.ensures.len)) (omega arith) w.bytes-is)
+    ] in
+    record { len = search rules; fits = search rules; padded = made.0; text = λ fits. made.1 }
