@@ -106,16 +106,14 @@ IsFirstNotBelow-behind records rest ts p n i h view strict first cut = record {
 }
 
 -- what the first and the last begin with, all do
-pub BeginAlike-ends : (records : List (List ℕ)) (key first last : List ℕ) (n : ℕ) → IsRising records → n ≤ length key → 0 < length records
-    → first ≡ get_or records 0 first → last ≡ get_or records (length records - 1) last → bytes_eq (take n first) (take n key) ≡ true → bytes_eq (take n last) (take n key) ≡ true → BeginAlike n key records
-BeginAlike-ends records key first last n up fits some is_first is_last one other = record {
+pub BeginAlike-ends : (records : List (List ℕ)) (key : List ℕ) (n : ℕ) → IsRising records → n ≤ length key → 0 < length records
+    → take n (text_at records 0) ≡ take n key → take n (text_at records (length records - 1)) ≡ take n key → BeginAlike n key records
+BeginAlike-ends records key n up fits some first last = record {
   each = λ k inside.
       let p = take n key in
       let long : length p ≡ n = length-take-le n key fits in
-      let head : begins p (text_at records 0) ≡ true =
-      rw (long, ← get_or_default records 0 first [] some, ← is_first) ((bytes_eq-Decides p (take n first)).1 (sym ((bytes_eq-Decides (take n first) p).0 one))) in
-      let end : begins p (text_at records (length records - 1)) ≡ true =
-      rw (long, ← get_or_default records (length records - 1) last [] (omega arith), ← is_last) ((bytes_eq-Decides p (take n last)).1 (sym ((bytes_eq-Decides (take n last) p).0 other))) in
+      let head : begins p (text_at records 0) ≡ true = (bytes_eq-Decides p (take (length p) (text_at records 0))).1 (rw long (sym first)) in
+      let end : begins p (text_at records (length records - 1)) ≡ true = (bytes_eq-Decides p (take (length p) (text_at records (length records - 1)))).1 (rw long (sym last)) in
       let low : order (text_at records k) p ≢ Less = λ less. not_below_beginning p (text_at records 0) head (below_from_rising records p 0 k up (omega arith) inside less) in
       let high = not_above records k (length records - 1) up (omega arith) (omega arith) in
       let all = begins-between p (text_at records k) (text_at records (length records - 1)) low high end in

@@ -10,15 +10,14 @@ use Rattle.std.proofs.lemmas.List.{append-nil, take_all, take-take, drop_all, le
 use Rattle.std.proofs.lemmas.Cmp.{nat_cmp_total, nat_list_cmp_total, tied_itself}
 use Rattle.std.specs.Cmp.{nat_cmp_is}
 use Rattle.std.proofs.lemmas.Nat.{be_bytes_8, le_bytes_8}
-use Rattle.std.proofs.Math.Nat.{min-eq_right}
 use Rattle.std.proofs.Math.Seq.{take-add}
 use Rattle.std.proofs.Math.Facts.{Fits-lt-pow}
 use Rattle.tinystr_words.specs.Text.{pad}
 use Rattle.tinystr_words.specs.Words.{word}
-use Rattle.tinystr_packed.specs.Numbers.{number_at, pair_at, IsRecord, AreRisingRecords, BeginAlike, RiseByNumber, IsFirstNumberNotBelow}
-use Rattle.tinystr_packed.specs.Rising.{order, text_at, IsFirstNotBelow}
+use Rattle.tinystr_packed.specs.Numbers.{number_at, pair_at, IsRecord, AreRisingRecords, BeginAlike, Tells}
+use Rattle.tinystr_packed.specs.Rising.{order, text_at}
 use Rattle.tinystr_packed.proofs.Numbers.{number_at-short, number_at-long}
-use Rattle.tinystr_packed.proofs.RisingTexts.{Less-from_is_lt, not_below_later, IsPart}
+use Rattle.tinystr_packed.proofs.RisingTexts.{Less-from_is_lt}
 use Rattle.tinystr_words.proofs.OrderByNumbers.{AreBytes, AreBytes-drop, slice_cmp-first_eight, slice_cmp-widened}
 use Rattle.tinystr_words.proofs.Texts.{get_or-pad, length-pad}
 use Rattle.tinystr_words.proofs.WordAsNumber.{word-nuls}
@@ -95,31 +94,24 @@ is_lt-short : (xs ys : List ℕ) (n : ℕ) → n ≤ 8 → IsRecord n xs → IsR
 is_lt-short xs ys n short x y =
     rw (← slice_cmp-numbers xs ys (number_at 0 xs) (number_at 0 ys) (x.long ∙ sym y.long) (omega (arith, x.long)) x.bytes y.bytes (number_at-short xs (omega (arith, x.long))) (number_at-short ys (omega (arith, y.long)))) (sym (is_lt-nat_cmp (number_at 0 xs) (number_at 0 ys)))
 
--- their numbers rise with them
-pub RiseByNumber-short : (records : List (List ℕ)) (n : ℕ) → n ≤ 8 → AreRisingRecords n records → RiseByNumber (number_at 0) records
-RiseByNumber-short records n short h = record {
-  up = λ j k le inside.
-      let falls = not_below_later records j k h.rising le inside in
-      let test = is_lt-short (text_at records k) (text_at records j) n short (h.each k inside) (h.each j (omega arith)) in
-      elim (cases_lt (number_at 0 (text_at records k)) (number_at 0 (text_at records j))) [
-        | inl less ↦ absurd (falls (Less-from_is_lt (order (text_at records k) (text_at records j)) (sym test ∙ lt-ltb (number_at 0 (text_at records k)) (number_at 0 (text_at records j)) less)))
-        | inr up ↦ up
-      ];
+not_below-short : (xs ys : List ℕ) (n : ℕ) → n ≤ 8 → IsRecord n xs → IsRecord n ys → number_at 0 ys ≤ number_at 0 xs → order xs ys ≢ Less
+not_below-short xs ys n short x y le less =
+    let test = is_lt-short xs ys n short x y in
+    let fewer = ltb-true (number_at 0 xs) (number_at 0 ys) (test ∙ rw less refl) in
+    absurd (omega (arith, fewer, le))
+
+-- their numbers tell them apart
+pub Tells-short : (records : List (List ℕ)) (key : List ℕ) (n : ℕ) → n ≤ 8 → AreRisingRecords n records → IsRecord n key → Tells (number_at 0) key records
+Tells-short records key n short h is_record = record {
+  below = λ k inside less.
+      let test = is_lt-short (text_at records k) key n short (h.each k inside) is_record in
+      Less-from_is_lt (order (text_at records k) key) (sym test ∙ lt-ltb (number_at 0 (text_at records k)) (number_at 0 key) less);
+  above = λ k inside more. not_below-short (text_at records k) key n short (h.each k inside) is_record (omega (arith, more));
 }
 
--- and find the place of a key
-pub IsFirstNotBelow-short : (records : List (List ℕ)) (key : List ℕ) (n number place : ℕ) → n ≤ 8 → AreRisingRecords n records → IsRecord n key → number ≡ number_at 0 key → IsFirstNumberNotBelow number (number_at 0) records place → IsFirstNotBelow key records place
-IsFirstNotBelow-short records key n number place short h k is found = record {
-  inside = found.inside;
-  below = λ j before.
-      let test = is_lt-short (text_at records j) key n short (h.each j (omega (arith, found.inside))) k in
-      let less : number_at 0 (text_at records j) < number_at 0 key = omega (arith, found.below j before) in
-      Less-from_is_lt (order (text_at records j) key) (sym test ∙ lt-ltb (number_at 0 (text_at records j)) (number_at 0 key) less);
-  not_below = λ j behind inside less.
-      let test = is_lt-short (text_at records j) key n short (h.each j inside) k in
-      let fewer = ltb-true (number_at 0 (text_at records j)) (number_at 0 key) (test ∙ rw less refl) in
-      absurd (omega (arith, found.not_below j behind inside));
-}
+-- and are all of them
+pub not_below_same-short : (records : List (List ℕ)) (key : List ℕ) (n : ℕ) → n ≤ 8 → AreRisingRecords n records → IsRecord n key → (k : ℕ) → k < length records → number_at 0 (text_at records k) ≡ number_at 0 key → order (text_at records k) key ≢ Less
+not_below_same-short records key n short h is_record k inside same = not_below-short (text_at records k) key n short (h.each k inside) is_record (omega (arith, same))
 
 -- ---- records that eight bytes tell apart
 
@@ -151,37 +143,18 @@ Less-long xs ys n s fits x y same less =
     (number_at-eight xs s (omega (arith, x.long))) (number_at-eight ys s (omega (arith, y.long))) refl in
     slice_cmp-same_start s xs ys same ∙ cut ∙ ap (λ (o : Ordering). ordering_then o (slice_cmp nat_cmp (drop 8 (drop s xs)) (drop 8 (drop s ys)))) (sym (nat_cmp_is (number_at s xs) (number_at s ys) Less less))
 
--- of records that begin alike, the numbers that follow rise
-pub RiseByNumber-long : (records : List (List ℕ)) (key : List ℕ) (n s : ℕ) → s + 8 ≤ n → AreRisingRecords n records → BeginAlike s key records → RiseByNumber (number_at s) records
-RiseByNumber-long records key n s fits h alike = record {
-  up = λ j k le inside.
-      let same : take s (text_at records k) ≡ take s (text_at records j) = alike.each k inside ∙ sym (alike.each j (omega arith)) in
-      elim (cases_lt (number_at s (text_at records k)) (number_at s (text_at records j))) [
-        | inl less ↦ absurd (not_below_later records j k h.rising le inside (Less-long (text_at records k) (text_at records j) n s fits (h.each k inside) (h.each j (omega arith)) same less))
-        | inr up ↦ up
-      ];
-}
-
--- so they do in a part
-pub RiseByNumber-part : (records part : List (List ℕ)) (number : List ℕ → ℕ) (i : ℕ) → RiseByNumber number records → IsPart records part i → RiseByNumber number part
-RiseByNumber-part records part number i h p = record {
-  up = λ j k le inside. rw (p.each j (omega arith), p.each k inside) (h.up (i + j) (i + k) (omega arith) (omega (arith, p.inside)));
-}
-
--- what stands before the number's place is below the key
-pub below-long : (records : List (List ℕ)) (key : List ℕ) (n s number place : ℕ) → s + 8 ≤ n → AreRisingRecords n records → IsRecord n key → BeginAlike s key records → number ≡ number_at s key
-    → IsFirstNumberNotBelow number (number_at s) records place → (k : ℕ) → k < place → order (text_at records k) key ≡ Less
-below-long records key n s number place fits h is_record alike is found k before =
-    let inside : k < length records = omega (arith, found.inside) in
-    Less-long (text_at records k) key n s fits (h.each k inside) is_record (alike.each k inside) (omega (arith, found.below k before))
-
--- and a record of a number above the key's isn't
-pub not_below-long : (records : List (List ℕ)) (key : List ℕ) (n s k : ℕ) → s + 8 ≤ n → AreRisingRecords n records → IsRecord n key → BeginAlike s key records → k < length records
-    → number_at s key < number_at s (text_at records k) → order (text_at records k) key ≢ Less
-not_below-long records key n s k fits h is_record alike inside more less =
-    let above = Less-long key (text_at records k) n s fits is_record (h.each k inside) (sym (alike.each k inside)) more in
-    let turned = nat_list_cmp_total.antisymm (text_at records k) key in
+-- what is above isn't below
+turned : (xs ys : List ℕ) → order ys xs ≡ Less → order xs ys ≢ Less
+turned xs ys above less =
+    let other = nat_list_cmp_total.antisymm xs ys in
     cc
+
+-- of records that begin alike, the numbers that follow tell them apart
+pub Tells-long : (records : List (List ℕ)) (key : List ℕ) (n s : ℕ) → s + 8 ≤ n → AreRisingRecords n records → IsRecord n key → BeginAlike s key records → Tells (number_at s) key records
+Tells-long records key n s fits h is_record alike = record {
+  below = λ k inside less. Less-long (text_at records k) key n s fits (h.each k inside) is_record (alike.each k inside) less;
+  above = λ k inside more. turned (text_at records k) key (Less-long key (text_at records k) n s fits is_record (h.each k inside) (sym (alike.each k inside)) more);
+}
 
 -- a number is one of 64 bits
 from_be_bytes-bound : (bs : List ℕ) → length bs ≡ 8 → AreBytes bs → from_be_bytes w64 bs < 18446744073709551616
@@ -196,7 +169,7 @@ number-bound raw n s fits h =
     rw (number_at-eight raw s (omega (arith, h.long))) (from_be_bytes-bound eight (omega (arith, length-take 8 (drop s raw), length-drop s raw, h.long)) (AreBytes-eight raw s h.bytes))
 
 -- records of one number have the same eight bytes
-alike-long : (xs ys : List ℕ) (n s : ℕ) → s + 8 ≤ n → IsRecord n xs → IsRecord n ys → take s xs ≡ take s ys → number_at s xs ≡ number_at s ys → take (s + 8) xs ≡ take (s + 8) ys
+pub alike-long : (xs ys : List ℕ) (n s : ℕ) → s + 8 ≤ n → IsRecord n xs → IsRecord n ys → take s xs ≡ take s ys → number_at s xs ≡ number_at s ys → take (s + 8) xs ≡ take (s + 8) ys
 alike-long xs ys n s fits x y same number =
     let left = take 8 (drop s xs) in
     let right = take 8 (drop s ys) in
@@ -205,78 +178,54 @@ alike-long xs ys n s fits x y same number =
     let eight : left ≡ right = sym a ∙ ap (λ (m : ℕ). to_be_bytes w64 m) number ∙ b in
     rw (take-add s 8 xs, take-add s 8 ys, same, eight) refl
 
--- so they begin alike with more bytes, in a part
-pub BeginAlike-next : (records part : List (List ℕ)) (key : List ℕ) (n s next i : ℕ) → s + 8 ≤ n → next ≤ s + 8 → AreRisingRecords n records → IsRecord n key → BeginAlike s key records → IsPart records part i
-    → ((k : ℕ) → i ≤ k → k < i + length part → number_at s (text_at records k) ≡ number_at s key) → BeginAlike next key part
-BeginAlike-next records part key n s next i fits le h is_record alike p numbers = record {
-  each = λ k inside.
-      let within : i + k < length records = omega (arith, p.inside) in
-      let more = alike-long (text_at records (i + k)) key n s fits (h.each (i + k) within) is_record (alike.each (i + k) within) (numbers (i + k) (omega arith) (omega arith)) in
-      rw (p.each k inside, ← take-take next (s + 8) (text_at records (i + k)) le, ← take-take next (s + 8) key le, more) refl;
-}
+-- so they begin alike up to any place among these
+begin_alike-next : (xs ys : List ℕ) (n s next : ℕ) → s + 8 ≤ n → next ≤ s + 8 → IsRecord n xs → IsRecord n ys → take s xs ≡ take s ys → number_at s xs ≡ number_at s ys → take next xs ≡ take next ys
+begin_alike-next xs ys n s next fits le x y same number =
+    let more = alike-long xs ys n s fits x y same number in
+    rw (← take-take next (s + 8) xs le, ← take-take next (s + 8) ys le, more) refl
 
--- ---- records of nine to sixteen bytes
+-- ---- records that sixteen bytes tell apart
 
--- of which two numbers are all
-pair_at-whole : (raw : List ℕ) (n : ℕ) → n ≤ 16 → IsRecord n raw → pair_at 0 raw ≡ number_at 0 raw * 18446744073709551616 + number_at (n - 8) raw
+pair_at-parts : (raw : List ℕ) (n s : ℕ) → IsRecord n raw → pair_at s raw ≡ number_at s raw * 18446744073709551616 + number_at (min (s + 8) (n - 8)) raw
 unfolding pair_at
-pair_at-whole raw n short h =
-    let last : min 8 (length raw - 8) ≡ n - 8 = rw h.long (min-eq_right (omega arith)) in
-    rw last refl
+pair_at-parts raw n s h = rw h.long refl
 
--- records of one first number begin alike up to the last
-begin_alike-pair : (xs ys : List ℕ) (n : ℕ) → 8 < n → n ≤ 16 → IsRecord n xs → IsRecord n ys → number_at 0 xs ≡ number_at 0 ys → take (n - 8) xs ≡ take (n - 8) ys
-begin_alike-pair xs ys n long short x y same =
-    let eight : take 8 xs ≡ take 8 ys = alike-long xs ys n 0 (omega arith) x y refl same in
-    rw (← take-take (n - 8) 8 xs (omega arith), ← take-take (n - 8) 8 ys (omega arith), eight) refl
-
-Less-pair : (xs ys : List ℕ) (n : ℕ) → 8 < n → n ≤ 16 → IsRecord n xs → IsRecord n ys → pair_at 0 xs < pair_at 0 ys → order xs ys ≡ Less
-Less-pair xs ys n long short x y less =
-    let left = pair_at-whole xs n short x in
-    let right = pair_at-whole ys n short y in
-    let low = number-bound xs n (n - 8) (omega arith) x in
-    let high = number-bound ys n (n - 8) (omega arith) y in
-    elim (cases_lt (number_at 0 xs) (number_at 0 ys)) [
-      | inl first ↦ Less-long xs ys n 0 (omega arith) x y refl first
-      | inr other ↦ (let same : number_at 0 xs ≡ number_at 0 ys = omega (arith, less, left, right, low, high) in
-          Less-long xs ys n (n - 8) (omega arith) x y (begin_alike-pair xs ys n long short x y same) (omega (arith, less, left, right, low, high, same)))
+Less-pair : (xs ys : List ℕ) (n s : ℕ) → s + 8 ≤ n → IsRecord n xs → IsRecord n ys → take s xs ≡ take s ys → pair_at s xs < pair_at s ys → order xs ys ≡ Less
+Less-pair xs ys n s fits x y same less =
+    let next = min (s + 8) (n - 8) in
+    let inside : next + 8 ≤ n = omega arith in
+    let left = pair_at-parts xs n s x in
+    let right = pair_at-parts ys n s y in
+    let low = number-bound xs n next inside x in
+    let high = number-bound ys n next inside y in
+    elim (cases_lt (number_at s xs) (number_at s ys)) [
+      | inl first ↦ Less-long xs ys n s fits x y same first
+      | inr other ↦ (let tied : number_at s xs ≡ number_at s ys = omega (arith, less, left, right, low, high) in
+          Less-long xs ys n next inside x y (begin_alike-next xs ys n s next fits (omega arith) x y same tied) (omega (arith, less, left, right, tied)))
     ]
 
+pub Tells-pair : (records : List (List ℕ)) (key : List ℕ) (n s : ℕ) → s + 8 ≤ n → AreRisingRecords n records → IsRecord n key → BeginAlike s key records → Tells (pair_at s) key records
+Tells-pair records key n s fits h is_record alike = record {
+  below = λ k inside less. Less-pair (text_at records k) key n s fits (h.each k inside) is_record (alike.each k inside) less;
+  above = λ k inside more. turned (text_at records k) key (Less-pair key (text_at records k) n s fits is_record (h.each k inside) (sym (alike.each k inside)) more);
+}
+
+-- which are all of a record of nine to sixteen
 same-pair : (xs ys : List ℕ) (n : ℕ) → 8 < n → n ≤ 16 → IsRecord n xs → IsRecord n ys → pair_at 0 xs ≡ pair_at 0 ys → xs ≡ ys
 same-pair xs ys n long short x y is =
-    let left = pair_at-whole xs n short x in
-    let right = pair_at-whole ys n short y in
-    let low = number-bound xs n (n - 8) (omega arith) x in
-    let high = number-bound ys n (n - 8) (omega arith) y in
+    let next = min (0 + 8) (n - 8) in
+    let inside : next + 8 ≡ n = omega arith in
+    let left = pair_at-parts xs n 0 x in
+    let right = pair_at-parts ys n 0 y in
+    let low = number-bound xs n next (omega (arith, inside)) x in
+    let high = number-bound ys n next (omega (arith, inside)) y in
     let first : number_at 0 xs ≡ number_at 0 ys = omega (arith, is, left, right, low, high) in
-    let last : number_at (n - 8) xs ≡ number_at (n - 8) ys = omega (arith, is, left, right, low, high) in
-    let all = alike-long xs ys n (n - 8) (omega arith) x y (begin_alike-pair xs ys n long short x y first) last in
-    sym (take_all (n - 8 + 8) xs (omega (arith, x.long))) ∙ all ∙ take_all (n - 8 + 8) ys (omega (arith, y.long))
+    let last : number_at next xs ≡ number_at next ys = omega (arith, is, left, right, low, high) in
+    let all = alike-long xs ys n next (omega (arith, inside)) x y (begin_alike-next xs ys n 0 next (omega arith) (omega arith) x y refl first) last in
+    sym (take_all (next + 8) xs (omega (arith, x.long, inside))) ∙ all ∙ take_all (next + 8) ys (omega (arith, y.long, inside))
 
-not_below-pair : (xs ys : List ℕ) (n : ℕ) → 8 < n → n ≤ 16 → IsRecord n xs → IsRecord n ys → pair_at 0 ys ≤ pair_at 0 xs → order xs ys ≢ Less
-not_below-pair xs ys n long short x y le less = elim (cases_lt (pair_at 0 ys) (pair_at 0 xs)) [
-  | inl above ↦ (let more = Less-pair ys xs n long short y x above in
-      let turned = nat_list_cmp_total.antisymm xs ys in
-      cc)
-  | inr other ↦ (let same = same-pair xs ys n long short x y (omega (arith, le, other)) in
-      let tied = tied_itself nat_list_cmp_total ys in
-      cc)
-]
-
--- their numbers rise with them
-pub RiseByNumber-pair : (records : List (List ℕ)) (n : ℕ) → 8 < n → n ≤ 16 → AreRisingRecords n records → RiseByNumber (pair_at 0) records
-RiseByNumber-pair records n long short h = record {
-  up = λ j k le inside.
-      elim (cases_lt (pair_at 0 (text_at records k)) (pair_at 0 (text_at records j))) [
-        | inl less ↦ absurd (not_below_later records j k h.rising le inside (Less-pair (text_at records k) (text_at records j) n long short (h.each k inside) (h.each j (omega arith)) less))
-        | inr up ↦ up
-      ];
-}
-
--- and find the place of a key
-pub IsFirstNotBelow-pair : (records : List (List ℕ)) (key : List ℕ) (n number place : ℕ) → 8 < n → n ≤ 16 → AreRisingRecords n records → IsRecord n key → number ≡ pair_at 0 key → IsFirstNumberNotBelow number (pair_at 0) records place → IsFirstNotBelow key records place
-IsFirstNotBelow-pair records key n number place long short h k is found = record {
-  inside = found.inside;
-  below = λ j before. Less-pair (text_at records j) key n long short (h.each j (omega (arith, found.inside))) k (omega (arith, is, found.below j before));
-  not_below = λ j behind inside. not_below-pair (text_at records j) key n long short (h.each j inside) k (omega (arith, is, found.not_below j behind inside));
-}
+pub not_below_same-pair : (records : List (List ℕ)) (key : List ℕ) (n : ℕ) → 8 < n → n ≤ 16 → AreRisingRecords n records → IsRecord n key → (k : ℕ) → k < length records → pair_at 0 (text_at records k) ≡ pair_at 0 key → order (text_at records k) key ≢ Less
+not_below_same-pair records key n long short h is_record k inside is less =
+    let same = same-pair (text_at records k) key n long short (h.each k inside) is_record is in
+    let tied = tied_itself nat_list_cmp_total key in
+    cc

@@ -19,7 +19,7 @@ use Rattle.tinystr_words.proofs.Texts.{get_or-pad, length-pad}
 use Rattle.tinystr_words.proofs.Before.{cmp_is_same}
 use Rattle.tinystr_words.proofs.Order.{cmp-IsPaddedText}
 use Rattle.tinystr_packed.specs.Numbers.{IsRecord, AreRisingRecords}
-use Rattle.tinystr_packed.specs.Rising.{order, text_at, IsRising, IsFirstFall, IsPlaceFor, IsFirstNotBelow}
+use Rattle.tinystr_packed.specs.Rising.{order, text_at, IsRising, IsFirstFall, IsPlaceFor, IsFirstNotBelow, IsFirstNotBelowWithin}
 
 -- a padded text has n bytes
 length-padded : (xs : List ℕ) (n : ℕ) → IsPaddedText xs n → length xs ≡ n
@@ -267,3 +267,55 @@ IsFirstNotBelow-range ts key i j m up le inside before behind found =
     let part = take (j - i) (drop i ts) in
     let long : i + length part ≡ j = omega (arith, length-take (j - i) (drop i ts), length-drop i ts) in
     IsFirstNotBelow-part ts part key i m up (IsPart-range ts part i (j - i) (omega arith) refl) before (rw long behind) found
+
+-- ---- a range that holds a place
+
+-- of which the front goes where a text is below
+pub IsFirstNotBelowWithin-from : (ts : List (List ℕ)) (key : List ℕ) (i j m n : ℕ) → IsRising ts → IsFirstNotBelowWithin key ts i j → m < length ts → order (text_at ts m) key ≡ Less → n ≤ m + 1 → n ≤ j → IsFirstNotBelowWithin key ts n j
+IsFirstNotBelowWithin-from ts key i j m n up h inside less before within = record {
+  ordered = within;
+  inside = h.inside;
+  below = λ k first. below_from_rising ts key k m up (omega arith) inside less;
+  not_below = h.not_below;
+}
+
+-- and what is behind where one isn't
+pub IsFirstNotBelowWithin-to : (ts : List (List ℕ)) (key : List ℕ) (i j m n : ℕ) → IsRising ts → IsFirstNotBelowWithin key ts i j → order (text_at ts m) key ≢ Less → m ≤ n → i ≤ n → n ≤ length ts → IsFirstNotBelowWithin key ts i n
+IsFirstNotBelowWithin-to ts key i j m n up h other behind within inside = record {
+  ordered = within;
+  inside = inside;
+  below = h.below;
+  not_below = λ k from last less. other (below_from_rising ts key m k up (omega arith) last less);
+}
+
+-- an empty one is the place
+pub IsFirstNotBelow-empty : (ts : List (List ℕ)) (key : List ℕ) (i j : ℕ) → IsFirstNotBelowWithin key ts i j → i ≡ j → IsFirstNotBelow key ts i
+IsFirstNotBelow-empty ts key i j h empty = record {
+  inside = omega (arith, h.ordered, h.inside);
+  below = h.below;
+  not_below = λ k from inside. h.not_below k (omega arith) inside;
+}
+
+-- what is left of a range whose text at m is below the key
+pub IsFirstNotBelow-behind_middle : (ts : List (List ℕ)) (key : List ℕ) (i j m n : ℕ) → IsRising ts → IsFirstNotBelowWithin key ts i j → m < j → order (text_at ts m) key ≡ Less → IsFirstNotBelow key (take (j - (m + 1)) (drop (m + 1) ts)) n → IsFirstNotBelow key ts (m + 1 + n)
+IsFirstNotBelow-behind_middle ts key i j m n up h inside less found =
+    let left = IsFirstNotBelowWithin-from ts key i j m (m + 1) up h (omega (arith, h.inside)) less (omega arith) (omega arith) in
+    IsFirstNotBelow-range ts key (m + 1) j n up left.ordered left.inside left.below (λ within. left.not_below j (omega arith) within) found
+
+-- or isn't
+pub IsFirstNotBelow-before_middle : (ts : List (List ℕ)) (key : List ℕ) (i j m n : ℕ) → IsRising ts → IsFirstNotBelowWithin key ts i j → i ≤ m → m < j → order (text_at ts m) key ≢ Less → IsFirstNotBelow key (take (m - i) (drop i ts)) n → IsFirstNotBelow key ts (i + n)
+IsFirstNotBelow-before_middle ts key i j m n up h from inside other found =
+    let left = IsFirstNotBelowWithin-to ts key i j m m up h other (omega arith) from (omega (arith, h.inside)) in
+    IsFirstNotBelow-range ts key i m n up left.ordered left.inside left.below (λ within. left.not_below m (omega arith) within) found
+
+-- the key itself is in its place
+pub IsFirstNotBelow-same : (ts : List (List ℕ)) (key : List ℕ) (m : ℕ) → IsRising ts → m < length ts → order (text_at ts m) key ≡ Equal → IsFirstNotBelow key ts m
+IsFirstNotBelow-same ts key m up inside same =
+    let is : text_at ts m ≡ key = (cmp_is_same (text_at ts m) key).0 same in
+    record {
+      inside = omega arith;
+      below = λ k before.
+          let place : m - 1 + 1 ≡ m = omega arith in
+          below_from_rising ts key k (m - 1) up (omega arith) (omega arith) (rw (place, is) at (up (m - 1) (omega arith)));
+      not_below = λ k from within less. let no = below_from_rising ts key m k up from within less in cc;
+    }

@@ -1,8 +1,9 @@
 -- Records by numbers that their bytes spell.
-use Rattle.std.specs.Prelude.{◌≡◌, ℕ, ◌+◌, ◌-◌, ◌*◌, ◌^◌, ◌<◌, ◌≤◌, List, length, take, drop, min, slice_index_or}
+use Rattle.std.specs.Prelude.{◌≡◌, ◌≢◌, ℕ, ◌+◌, ◌-◌, ◌*◌, ◌^◌, ◌<◌, ◌≤◌, List, length, take, drop, min, slice_index_or}
 use Rattle.std.specs.Int.{from_be_bytes, w64}
 use Rattle.tinystr_words.specs.Text.{pad}
-use Rattle.tinystr_packed.specs.Rising.{text_at, IsRising}
+use Rattle.std.specs.declared.cmp.Ordering.TheVariants.{Less}
+use Rattle.tinystr_packed.specs.Rising.{order, text_at, IsRising}
 
 -- so many bytes
 pub record IsRecord (n : ℕ) (raw : List ℕ) : Type 0 where
@@ -22,15 +23,10 @@ number_at i raw = from_be_bytes w64 (pad (take 8 (drop i raw)) 8)
 unfoldable pub pair_at : ℕ → List ℕ → ℕ
 pair_at i raw = number_at i raw * 2 ^ 64 + number_at (min (i + 8) (length raw - 8)) raw
 
--- no record's number is below an earlier one's
-pub record RiseByNumber (number : List ℕ → ℕ) (records : List (List ℕ)) : Type 0 where
-  pub up : (j k : ℕ) → j ≤ k → k < length records → number (text_at records j) ≤ number (text_at records k)
-
--- the numbers before the place are below n, and none from there on is
-pub record IsFirstNumberNotBelow (n : ℕ) (number : List ℕ → ℕ) (records : List (List ℕ)) (place : ℕ) : Type 0 where
-  pub inside : place ≤ length records
-  pub below : (k : ℕ) → k < place → number (text_at records k) < n
-  pub not_below : (k : ℕ) → place ≤ k → k < length records → n ≤ number (text_at records k)
+-- a record of a lesser number than the key's is below the key, and one of a greater isn't
+pub record Tells (number : List ℕ → ℕ) (key : List ℕ) (records : List (List ℕ)) : Type 0 where
+  pub below : (k : ℕ) → k < length records → number (text_at records k) < number key → order (text_at records k) key ≡ Less
+  pub above : (k : ℕ) → k < length records → number key < number (text_at records k) → order (text_at records k) key ≢ Less
 
 -- each record begins with the first bytes of the key
 pub record BeginAlike (n : ℕ) (key : List ℕ) (records : List (List ℕ)) : Type 0 where

@@ -35,3 +35,10 @@ pub record IsFirstNotBelow (t : List ℕ) (texts : List (List ℕ)) (i : ℕ) : 
   pub inside : i ≤ length texts
   pub below : (k : ℕ) → k < i → order (text_at texts k) t ≡ Less
   pub not_below : (k : ℕ) → i ≤ k → k < length texts → order (text_at texts k) t ≢ Less
+
+-- the first text that isn't below t stands from i to j, where j may be past all
+pub record IsFirstNotBelowWithin (t : List ℕ) (texts : List (List ℕ)) (i j : ℕ) : Type 0 where
+  pub ordered : i ≤ j
+  pub inside : j ≤ length texts
+  pub below : (k : ℕ) → k < i → order (text_at texts k) t ≡ Less
+  pub not_below : (k : ℕ) → j ≤ k → k < length texts → order (text_at texts k) t ≢ Less

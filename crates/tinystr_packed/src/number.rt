@@ -1,6 +1,6 @@
 //! Numbers that bytes of a record spell.
 
-ghost use Rattle.std.specs.Prelude.{◌≡◌, ◌≤◌, ◌-◌, ℕ, List, nat_lt};
+ghost use Rattle.std.specs.Prelude.{◌≡◌, ◌≤◌, ◌-◌, ℕ, List, nat_eq, nat_lt};
 ghost use Rattle.tinystr_packed.specs.Numbers.{number_at, pair_at};
 
 use crate::record::number_at;
@@ -20,6 +20,10 @@ pub trait Number<const N: usize>: Copy + Drop {
     /// Whether it is below another.
     fn is_below(self, other: Self) -> bool
         ensures { result ≡ nat_lt (value self) (value other) };
+
+    /// Whether it is another.
+    fn is_same(self, other: Self) -> bool
+        ensures { result ≡ nat_eq (value self) (value other) };
 }
 
 impl<const N: usize> Number<N> for u64 {
@@ -35,6 +39,11 @@ impl<const N: usize> Number<N> for u64 {
     #[inline(always)]
     fn is_below(self, other: u64) -> bool {
         self < other
+    }
+
+    #[inline(always)]
+    fn is_same(self, other: u64) -> bool {
+        self == other
     }
 }
 
@@ -52,5 +61,10 @@ impl<const N: usize> Number<N> for u128 {
     #[inline(always)]
     fn is_below(self, other: u128) -> bool {
         self < other
+    }
+
+    #[inline(always)]
+    fn is_same(self, other: u128) -> bool {
+        self == other
     }
 }

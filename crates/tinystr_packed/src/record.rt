@@ -7,6 +7,7 @@ ghost use Rattle.std.specs.Ordering.{nat_cmp, is_lt};
 ghost use Rattle.tinystr_words.specs.Text.{pad};
 ghost use Rattle.tinystr_packed.specs.Numbers.{number_at};
 
+use std::cmp::Ordering;
 use tinystr_words::padded;
 use tinystr_words::word::Word;
 
@@ -20,8 +21,17 @@ pub fn is_below(left: &[u8], right: &[u8]) -> bool
     if left.len() <= 8 {
         number(left) < number(right)
     } else {
-        padded::compare(left, right).is_lt()
+        compare(left, right).is_lt()
     }
+}
+
+/// The order of two records, which are equally long.
+#[inline(always)]
+pub fn compare(left: &[u8], right: &[u8]) -> Ordering
+    requires { length left.now ≡ length right.now }
+    ensures { result ≡ slice_cmp nat_cmp left.now right.now }
+{
+    padded::compare(left, right)
 }
 
 /// The number that eight bytes of a record spell from `start` on, or all of a record of at most eight.

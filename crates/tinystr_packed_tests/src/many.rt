@@ -93,25 +93,48 @@ fn are_found(file: &[u8], texts: &[Text]) -> bool {
     sorted.table().len() == COUNT && sorted.table().last() == texts.last().copied()
 }
 
+// How many of the texts a file has as they are, behind eight bytes that are the same, and behind sixteen: each way of the
+// search, and either side of its border at 32 records.
+const COUNTS: &[[usize; 3]] = &[
+    [1, 0, 0],
+    [31, 0, 0],
+    [32, 0, 0],
+    [0, 31, 0],
+    [0, 32, 0],
+    [0, 0, 32],
+    [10, 11, 12],
+    [1, 80, 0],
+    [1, 0, 80],
+    [100, 40, 40],
+];
+
 #[test]
-fn many_longer_texts_are_found(rt: HostRuntime) -> Result<(), Fail> {
+fn longer_texts_are_found_in_each_way(rt: HostRuntime) -> Result<(), Fail> {
     let texts = texts(rt.alloc())?;
-    assert!(rt; are_longer_found::<12>(rt.alloc(), &texts)?);
-    assert!(rt; are_longer_found::<16>(rt.alloc(), &texts)?);
-    assert!(rt; are_longer_found::<24>(rt.alloc(), &texts)?);
+    for counts in COUNTS {
+        assert!(rt; are_longer_found::<10>(rt.alloc(), &texts, counts)?);
+        assert!(rt; are_longer_found::<16>(rt.alloc(), &texts, counts)?);
+        assert!(rt; are_longer_found::<17>(rt.alloc(), &texts, counts)?);
+        assert!(rt; are_longer_found::<24>(rt.alloc(), &texts, counts)?);
+        assert!(rt; are_longer_found::<40>(rt.alloc(), &texts, counts)?);
+    }
     Ok(())
 }
 
-/// Whether the texts, and some of them behind eight bytes and behind sixteen that are the same, are found at N, and what has
-/// `~` behind one of them has its place.
-fn are_longer_found<const N: usize>(alloc: Global, texts: &[Text]) -> Result<bool, AllocError>
+/// Whether the texts of a file at N are found, so many of each kind, what has `~` behind one of them has its place, and
+/// those that begin as one of them does are told.
+fn are_longer_found<const N: usize>(
+    alloc: Global,
+    texts: &[Text],
+    counts: &[usize; 3],
+) -> Result<bool, AllocError>
     requires some { 0 < N }
     requires bound { N < 2 ^ 62 }
 {
     let mut longer: Vec<TinyAsciiStr<N>> = Vec::new(alloc);
-    for (beginning, count) in [("", COUNT), ("aaaaaaaa", 40), ("bbbbbbbbbbbbbbbb", 40)] {
+    for (beginning, count) in ["", "aaaaaaaa", "bbbbbbbbbbbbbbbb"].iter().zip(counts) {
         let beginning = TinyAsciiStr::<16>::from_utf8_lossy(beginning.as_bytes(), b'?');
-        for text in texts.iter().take(count) {
+        for text in texts.iter().take(*count) {
             longer.push(beginning.concat::<2, N>(*text))?;
         }
     }
@@ -128,7 +151,33 @@ fn are_longer_found<const N: usize>(alloc: Global, texts: &[Text]) -> Result<boo
             return Ok(false);
         }
     }
+    for text in longer.iter().step_by(17) {
+        if !is_told(&sorted, text) {
+            return Ok(false);
+        }
+    }
     Ok(true)
+}
+
+/// Whether the texts that begin with the first of a text's bytes are as many as std counts, with none, one, two, nine and all
+/// of these.
+fn is_told<const N: usize>(sorted: &SortedTable<'_, N>, text: &TinyAsciiStr<N>) -> bool
+    requires { N < 2 ^ 62 }
+{
+    for len in [0, 1, 2, 9, N] {
+        let bytes = text.as_utf8();
+        let beginning = TinyAsciiStr::<N>::from_utf8_lossy(&bytes[..len.min(bytes.len())], b'?');
+        let mut count = 0usize;
+        for one in sorted.table().iter() {
+            if one.as_str().starts_with(beginning.as_str()) {
+                count = count.saturating_add(1);
+            }
+        }
+        if sorted.with_prefix(&beginning).table().len() != count {
+            return false;
+        }
+    }
+    true
 }
 
 fn is_found<const N: usize>(sorted: &SortedTable<'_, N>, text: &TinyAsciiStr<N>) -> bool {

@@ -18,8 +18,8 @@ returns g c =
     let end = c.min-end.result in
     let part = take (end - start) (drop start records) in
     let long : start + length part ≡ end = omega (arith, length-take (end - start) (drop start records), length-drop start records) in
-    IsFirstNotBelow-part records part c.args.key.now start c.first_not_below_by_halves.result c.requires.records.rising (IsPart-range records part start (end - start) (omega arith) refl) c.loop-start.invariant.below
+    IsFirstNotBelow-part records part c.args.key.now start c.first_not_below.result c.requires.records.rising (IsPart-range records part start (end - start) (omega arith) refl) c.loop-start.invariant.below
     (λ inside less.
     let here : end ≡ c.saturating_mul.result = omega arith in
     true≢false (sym (c.is_below_at.ensures.1 (rw (← here) (omega arith), rw (← here, ← long) less)) ∙ c.loop-start-test.false))
-    c.first_not_below_by_halves.ensures
+    c.first_not_below.ensures
