@@ -1,55 +1,22 @@
 -- Records are in the order of the numbers that they spell.
-use Rattle.std.proofs.Common.{◌≡◌, ◌≢◌, ℕ, zero, suc, ◌+◌, ◌-◌, ◌*◌, ◌%◌, min, ◌<◌, ◌≤◌, List, [], ◌∷◌, length, map, take, drop, get_or, refl, sym, ap, ◌∙◌, arith, Bool, true, false, cond, nat_lt, nat_eq, Fits, w8, inl, inr}
+use Rattle.std.proofs.Common.{◌≡◌, ◌≢◌, ℕ, zero, suc, ◌+◌, ◌-◌, ◌*◌, min, ◌<◌, ◌≤◌, List, [], ◌∷◌, length, take, drop, refl, sym, ap, ◌∙◌, arith, Bool, true, false, cond, nat_lt, nat_eq, inl, inr}
 use Rattle.std.specs.Cmp.Lexicographic.{slice_cmp}
-use Rattle.std.specs.Int.{from_be_bytes, from_le_bytes, to_be_bytes, to_le_bytes, swap_bytes, w64}
+use Rattle.std.specs.Int.{from_be_bytes, to_be_bytes, w64}
 use Rattle.std.specs.Ordering.{nat_cmp, is_lt, ordering_then}
 use Rattle.std.specs.declared.cmp.Ordering.{Ordering}
 use Rattle.std.specs.declared.cmp.Ordering.TheVariants.{Less, Equal, Greater}
 use Rattle.std.proofs.lemmas.Bool.{cases_lt, lt-ltb, ltb-true}
-use Rattle.std.proofs.lemmas.List.{append-nil, take_all, take-take, drop_all, length-take, length-drop, places}
+use Rattle.std.proofs.lemmas.List.{take_all, take-take, drop_all, length-take, length-drop, places}
 use Rattle.std.proofs.lemmas.Cmp.{nat_cmp_total, nat_list_cmp_total, tied_itself}
 use Rattle.std.specs.Cmp.{nat_cmp_is}
-use Rattle.std.proofs.lemmas.Nat.{be_bytes_8, le_bytes_8}
+use Rattle.std.proofs.lemmas.Nat.{be_bytes_8}
 use Rattle.std.proofs.Math.Seq.{take-add}
-use Rattle.std.proofs.Math.Facts.{Fits-lt-pow}
 use Rattle.tinystr_words.specs.Text.{pad}
-use Rattle.tinystr_words.specs.Words.{word}
 use Rattle.tinystr_packed.specs.Numbers.{number_at, pair_at, IsRecord, AreRisingRecords, BeginAlike, Tells}
 use Rattle.tinystr_packed.specs.Rising.{order, text_at}
 use Rattle.tinystr_packed.proofs.Numbers.{number_at-short, number_at-long}
 use Rattle.tinystr_packed.proofs.RisingTexts.{Less-from_is_lt}
-use Rattle.tinystr_words.proofs.OrderByNumbers.{AreBytes, AreBytes-drop, slice_cmp-first_eight, slice_cmp-widened}
-use Rattle.tinystr_words.proofs.Texts.{get_or-pad, length-pad}
-use Rattle.tinystr_words.proofs.WordAsNumber.{word-nuls}
-use Rattle.tinystr_words.proofs.WordFromPieces.{map-mod_bytes}
-
--- what the type of bytes says
-abbrev pub AllFit : List ℕ → Type 0
-AllFit bs = (i : ℕ) → Fits w8 (get_or bs i 0)
-
-AreBytes-from_type : (bs : List ℕ) → AllFit bs → AreBytes bs
-AreBytes-from_type bs h i = Fits-lt-pow (h i)
-
--- eight lanes are what `from_le_bytes` reads
-from_le_bytes-word : (bs : List ℕ) → length bs ≡ 8 → word bs ≡ from_le_bytes w64 bs
-from_le_bytes-word (a ∷ b ∷ c ∷ d ∷ e ∷ f ∷ g ∷ h ∷ []) l = omega arith
-from_le_bytes-word (a ∷ b ∷ c ∷ d ∷ e ∷ f ∷ g ∷ h ∷ i ∷ more) l = absurd (omega arith)
-from_le_bytes-word [] l = absurd (omega arith)
-from_le_bytes-word (a ∷ []) l = absurd (omega arith)
-from_le_bytes-word (a ∷ b ∷ []) l = absurd (omega arith)
-from_le_bytes-word (a ∷ b ∷ c ∷ []) l = absurd (omega arith)
-from_le_bytes-word (a ∷ b ∷ c ∷ d ∷ []) l = absurd (omega arith)
-from_le_bytes-word (a ∷ b ∷ c ∷ d ∷ e ∷ []) l = absurd (omega arith)
-from_le_bytes-word (a ∷ b ∷ c ∷ d ∷ e ∷ f ∷ []) l = absurd (omega arith)
-from_le_bytes-word (a ∷ b ∷ c ∷ d ∷ e ∷ f ∷ g ∷ []) l = absurd (omega arith)
-
--- the number of at most eight bytes
-pub number-loaded : (bs : List ℕ) (w r : ℕ) → length bs ≤ 8 → AllFit bs → w ≡ word (map (λ u. u % 256) bs) → r ≡ swap_bytes w64 w → r ≡ from_be_bytes w64 (pad bs 8)
-number-loaded bs w r fits bytes loaded swapped =
-    let same : w ≡ word (pad bs 8) = loaded ∙ ap word (map-mod_bytes bs bytes) ∙ sym (word-nuls bs (8 - length bs)) in
-    let long = length-pad bs 8 fits in
-    let back : to_le_bytes w64 (word (pad bs 8)) ≡ pad bs 8 = le_bytes_8 (pad bs 8) (word (pad bs 8)) long (λ i. rw (get_or-pad bs 8 i) (AreBytes-from_type bs bytes i)) (from_le_bytes-word (pad bs 8) long) in
-    swapped ∙ rw same (ap (λ (l : List ℕ). from_be_bytes w64 l) back)
+use Rattle.tinystr_words.proofs.OrderByNumbers.{AllFit, AreBytes, AreBytes-drop, AreBytes-from_type, pad-full, slice_cmp-first_eight, slice_cmp-widened}
 
 -- a comparison of numbers is below where the number is
 is_lt-chosen : (b c : Bool) → is_lt (cond b Less (cond c Equal Greater)) ≡ b
@@ -64,12 +31,6 @@ ordering_then-Equal : (o : Ordering) → ordering_then o Equal ≡ o
 ordering_then-Equal Less = refl
 ordering_then-Equal Equal = refl
 ordering_then-Equal Greater = refl
-
--- eight bytes have nothing behind them
-pad-full : (xs : List ℕ) → length xs ≡ 8 → pad xs 8 ≡ xs
-pad-full xs long =
-    let none : 8 - length xs ≡ 0 = omega arith in
-    rw none (append-nil xs)
 
 -- the order of at most eight bytes is that of their numbers
 slice_cmp-numbers : (xs ys : List ℕ) (x y : ℕ) → length xs ≡ length ys → length xs ≤ 8 → AreBytes xs → AreBytes ys

@@ -6,14 +6,16 @@ use Rattle.std.specs.declared.cmp.Ordering.{Ordering}
 use Rattle.std.specs.declared.cmp.Ordering.TheVariants.{Less, Equal, Greater}
 use Rattle.std.specs.List.{All, Contains, slice_get}
 use Rattle.std.specs.Str.{bytes_eq}
-use Rattle.std.specs.declared.option.Option.TheVariants.{Some, None}
+use Rattle.std.specs.declared.option.Option.TheVariants.{Some}
 use Rattle.std.proofs.lemmas.Option.{slice_get-get_or, slice_get_within, get_or_from_slice_get}
 use Rattle.std.specs.List.Sorted.{IsSortedBy, IsPartitionedBy, IsPartitionPoint}
-use Rattle.std.proofs.lemmas.Cmp.{nat_list_cmp_total, nat_list_eq_equiv, tied_itself}
+use Rattle.std.proofs.lemmas.Cmp.{nat_list_cmp_total, tied_itself}
 use Rattle.std.proofs.lemmas.List.Sorted.{searchable_from_sorted}
 use Rattle.std.proofs.lemmas.Bool.{cases_lt, false≢true}
 use Rattle.std.proofs.lemmas.Grind.{common_steps}
 use Rattle.std.proofs.lemmas.List.{get_or_default, get_or_past, get_or-drop, get_or-map, get_or-take, length-drop, length-map, length-set, length-take}
+use Rattle.std.specs.Prelude.{IsTrue}
+use Rattle.std.proofs.lemmas.Slice.Eq.{bytes_eq-Decides}
 use Rattle.tinystr_words.specs.Text.{IsPaddedText, text_of}
 use Rattle.tinystr_words.proofs.Texts.{get_or-pad, length-pad}
 use Rattle.tinystr_words.proofs.Before.{cmp_is_same}
@@ -37,6 +39,15 @@ IsRecordOf-at records ts raw n i h view inside is = record {
   padded = rw (← is) at (h i [] inside);
   text = rw (← view) (ap text_of is ∙ sym (get_or-map text_of records i [] [] inside));
 }
+
+-- what a record at an index holds is the text there
+pub has_text : (records ts : List (List ℕ)) (raw key : List ℕ) (n i : ℕ) (b : Bool) → All (λ r. IsPaddedText r n) records → map text_of records ≡ ts → i < length records → raw ≡ get_or records i []
+    → b ≡ bytes_eq (text_of raw) key → (IsTrue b → slice_get ts i ≡ Some key) × (slice_get ts i ≡ Some key → IsTrue b)
+has_text records ts raw key n i b h view inside is test =
+    let here = IsRecordOf-at records ts raw n i h view inside is in (
+      λ yes. slice_get-get_or ts i [] here.inside ∙ ap Some (sym here.text ∙ (bytes_eq-Decides (text_of raw) key).0 (sym test ∙ yes)),
+      λ found. test ∙ (bytes_eq-Decides (text_of raw) key).1 (here.text ∙ get_or_from_slice_get ts i key [] found),
+    )
 
 -- a record behind the first
 pub IsRecordOf-behind : (records rest ts : List (List ℕ)) (first raw : List ℕ) (n i : ℕ) → All (λ r. IsPaddedText r n) records → map text_of records ≡ ts → records ≡ first ∷ rest → i < length rest → raw ≡ get_or rest i raw → IsRecordOf raw ts n (i + 1)
@@ -92,13 +103,6 @@ pub below_from_rising : (ts : List (List ℕ)) (key : List ℕ) (i j : ℕ) → 
 below_from_rising ts key i j up le inside less =
     let no_more = rw less at (order-rising ts key i j up le inside) in
     grind arith
-
--- and no text is below an earlier one
-pub not_below_later : (ts : List (List ℕ)) (i j : ℕ) → IsRising ts → i ≤ j → j < length ts → order (text_at ts j) (text_at ts i) ≢ Less
-not_below_later ts i j up le inside less =
-    let same : order (text_at ts i) (text_at ts i) ≡ Less = below_from_rising ts (text_at ts i) i j up le inside less in
-    let tied = tied_itself nat_list_cmp_total (text_at ts i) in
-    cc
 
 -- the test of a record beside the bytes of a key
 abbrev pub is_below_key : List ℕ → List ℕ → Bool
@@ -199,16 +203,6 @@ not_contained ts key i h found =
 pub Contains-read : (ts : List (List ℕ)) (key : List ℕ) (i : ℕ) → slice_get ts i ≡ Some key → Contains ts key
 Contains-read ts key i at = (i, slice_get_within ts i key at, get_or_from_slice_get ts i key key at)
 
--- past the end the key isn't
-pub missed_past : (ts : List (List ℕ)) (key : List ℕ) (i : ℕ) → slice_get ts i ≡ None → i < length ts → text_at ts i ≢ key
-missed_past ts key i none inside is = let at = slice_get-get_or ts i [] inside in cc
-
--- nor where another text is
-pub missed_other : (ts : List (List ℕ)) (key text : List ℕ) (i : ℕ) → slice_get ts i ≡ Some text → bytes_eq text key ≡ false → i < length ts → text_at ts i ≢ key
-missed_other ts key text i at differs inside is =
-    let same : text ≡ key = sym (get_or_from_slice_get ts i text [] at) ∙ is in
-    absurd (false≢true (sym differs ∙ rw same (nat_list_eq_equiv.refl key)))
-
 -- ---- some of the texts
 
 -- these stand side by side from i on
@@ -286,14 +280,6 @@ IsFirstNotBelowWithin-to ts key i j m n up h other behind within inside = record
   inside = inside;
   below = h.below;
   not_below = λ k from last less. other (below_from_rising ts key m k up (omega arith) last less);
-}
-
--- an empty one is the place
-pub IsFirstNotBelow-empty : (ts : List (List ℕ)) (key : List ℕ) (i j : ℕ) → IsFirstNotBelowWithin key ts i j → i ≡ j → IsFirstNotBelow key ts i
-IsFirstNotBelow-empty ts key i j h empty = record {
-  inside = omega (arith, h.ordered, h.inside);
-  below = h.below;
-  not_below = λ k from inside. h.not_below k (omega arith) inside;
 }
 
 -- what is left of a range whose text at m is below the key

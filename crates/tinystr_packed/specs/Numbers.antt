@@ -1,5 +1,5 @@
 -- Records by numbers that their bytes spell.
-use Rattle.std.specs.Prelude.{◌≡◌, ◌≢◌, ℕ, ◌+◌, ◌-◌, ◌*◌, ◌^◌, ◌<◌, ◌≤◌, List, length, take, drop, min, slice_index_or}
+use Rattle.std.specs.Prelude.{◌≡◌, ◌≢◌, ℕ, ◌+◌, ◌-◌, ◌*◌, ◌^◌, ◌<◌, List, length, take, drop, min, slice_index_or}
 use Rattle.std.specs.Int.{from_be_bytes, w64}
 use Rattle.tinystr_words.specs.Text.{pad}
 use Rattle.std.specs.declared.cmp.Ordering.TheVariants.{Less}

@@ -4,12 +4,12 @@ ghost use Rattle.std.specs.Prelude.{◌≡◌, ◌≤◌, ◌-◌, length};
 ghost use Rattle.std.specs.Cmp.Lexicographic.{slice_cmp};
 ghost use Rattle.std.specs.Int.{from_be_bytes, w64};
 ghost use Rattle.std.specs.Ordering.{nat_cmp, is_lt};
-ghost use Rattle.tinystr_words.specs.Text.{pad};
+ghost use Rattle.tinystr_words.specs.Text.{IsPaddedText, text_of};
+ghost use Rattle.std.specs.Str.{bytes_eq};
 ghost use Rattle.tinystr_packed.specs.Numbers.{number_at};
 
 use std::cmp::Ordering;
 use tinystr_words::padded;
-use tinystr_words::word::Word;
 
 /// Whether a record is below another, which is equally long.
 // At most eight bytes are compared as one number, so that a search takes no branch within a record.
@@ -19,7 +19,7 @@ pub fn is_below(left: &[u8], right: &[u8]) -> bool
     ensures { result ≡ is_lt (slice_cmp nat_cmp left.now right.now) }
 {
     if left.len() <= 8 {
-        number(left) < number(right)
+        padded::number(left) < padded::number(right)
     } else {
         compare(left, right).is_lt()
     }
@@ -34,6 +34,16 @@ pub fn compare(left: &[u8], right: &[u8]) -> Ordering
     padded::compare(left, right)
 }
 
+/// Whether two records hold one text.
+#[inline(always)]
+pub fn holds_same_text<const N: usize>(left: &[u8; N], right: &[u8; N]) -> bool
+    requires left { IsPaddedText left.now N }
+    requires right { IsPaddedText right.now N }
+    ensures { result ≡ bytes_eq (text_of left.now) (text_of right.now) }
+{
+    padded::equals(left, right)
+}
+
 /// The number that eight bytes of a record spell from `start` on, or all of a record of at most eight.
 #[inline(always)]
 pub fn number_at<const N: usize>(raw: &[u8; N], start: usize) -> u64
@@ -42,18 +52,8 @@ pub fn number_at<const N: usize>(raw: &[u8; N], start: usize) -> u64
 {
     let bytes = &raw[..];
     if N <= 8 {
-        number(bytes)
+        padded::number(bytes)
     } else {
-        number(&bytes[start..start + 8])
+        padded::number(&bytes[start..start + 8])
     }
-}
-
-// The number that at most eight bytes spell with NULs behind them, the first the most significant.
-#[inline(always)]
-fn number(bytes: &[u8]) -> u64
-    requires { length bytes.now ≤ 8 }
-    ensures { result ≡ from_be_bytes w64 (pad bytes.now 8) }
-{
-    let word: u64 = Word::<8>::load(bytes);
-    word.swap_bytes()
 }

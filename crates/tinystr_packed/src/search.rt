@@ -39,8 +39,20 @@ pub fn first_not_below<const N: usize>(records: &[[u8; N]], key: &[u8; N]) -> us
     if records.len() < FEW {
         return first_not_below_by_halves(records, key);
     }
+    first_not_below_of_many(records, key)
+}
+
+// The place of a key among many records of more than sixteen bytes. It is there for speed: a search among few doesn't save
+// the registers that only this one takes.
+#[inline(never)]
+fn first_not_below_of_many<const N: usize>(records: &[[u8; N]], key: &[u8; N]) -> usize
+    requires long { 16 < N }
+    requires records { AreRisingRecords N records.now }
+    requires key { IsRecord N key.now }
+    ensures { IsFirstNotBelow key.now records.now result }
+{
     let start = shared_len(records, key);
-    let range = narrow::<N, u64>(records, key, start, all);
+    let range = narrow::<N, u64>(records, key, start, 0..records.len());
     let range = narrow::<N, u128>(records, key, start, range);
     first_not_below_within(records, key, range)
 }

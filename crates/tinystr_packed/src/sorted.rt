@@ -79,10 +79,11 @@ impl<'a, const N: usize> SortedTable<'a, N> {
         ensures rising { IsRising self.now }
     {
         let place = self.first_not_below(key);
-        let Some(text) = self.table.get(place) else {
-            return Err(place);
-        };
-        if text == *key { Ok(place) } else { Err(place) }
+        if self.table.has_text_at(place, key) {
+            Ok(place)
+        } else {
+            Err(place)
+        }
     }
 
     /// Whether a text is one of them.

@@ -1,6 +1,6 @@
 //! Tables of packed records, and the iterator over their texts.
 
-ghost use Rattle.std.specs.Prelude.{◌≡◌, ◌<◌, ◌≤◌, ◌↔◌, ◌^◌, ◌-◌, [], length, map, take, drop, All, IsOk, IsNone, IfSome, IsTrue, IfOk, IfErr, slice_get, slice_index_or};
+ghost use Rattle.std.specs.Prelude.{◌≡◌, ◌<◌, ◌≤◌, ◌↔◌, ◌^◌, ◌-◌, [], length, map, take, drop, All, IsOk, IsNone, IfSome, IsTrue, IfOk, IfErr, Some, slice_get, slice_index_or};
 ghost use Rattle.std.specs.Iterator.{YieldsFirst, item_count};
 ghost use Rattle.std.specs.List.{flat_map};
 ghost use Rattle.tinystr_words.specs.Packed.{IsPacked};
@@ -8,7 +8,7 @@ ghost use Rattle.tinystr_words.specs.Text.{IsStrictText, IsPaddedText, pad, text
 ghost use Rattle.tinystr.specs.Records.{RefusesRecords};
 ghost use Rattle.tinystr_packed.specs.Rising.{IsRising, IsFirstFall};
 
-use crate::record::is_below;
+use crate::record::{holds_same_text, is_below};
 use std::marker::Model;
 use std::ops::Range;
 use tinystr::TinyAsciiStr;
@@ -161,6 +161,17 @@ impl<'a, const N: usize> Table<'a, N> {
             before = raw;
         }
         None
+    }
+
+    // Whether the text at an index is another. It is compared in place, since a copy would wait for its bytes to be stored.
+    #[inline(always)]
+    pub(crate) fn has_text_at(&self, index: usize, text: &TinyAsciiStr<N>) -> bool
+        ensures { IsTrue result ↔ (slice_get self.now index ≡ Some text.now) }
+    {
+        match self.records.get(index) {
+            Some(raw) => holds_same_text(raw, text.all_bytes()),
+            None => false,
+        }
     }
 
     // The records themselves.

@@ -1,5 +1,5 @@
 -- Bytes in order are the digits of a number, the greatest first: equally long lists compare as their numbers.
-use Rattle.std.proofs.Common.{List, [], ap, arith, drop, get_or, inl, inr, length, refl, suc, sym, take, ℕ, ◌*◌, ◌++◌, ◌+◌, ◌-◌, ◌<◌, ◌∙◌, ◌∷◌, ◌≡◌, ◌≤◌}
+use Rattle.std.proofs.Common.{Fits, map, ◌%◌, w8, List, [], ap, arith, drop, get_or, inl, inr, length, refl, suc, sym, take, ℕ, ◌*◌, ◌++◌, ◌+◌, ◌-◌, ◌<◌, ◌∙◌, ◌∷◌, ◌≡◌, ◌≤◌}
 use Rattle.std.proofs.lemmas.Bool.{cases_lt}
 use Rattle.std.proofs.lemmas.List.{append-nil, get_or-drop, length-take-le, places, take-append-drop}
 use Rattle.std.proofs.lemmas.Cmp.{nat_cmp_total, nat_list_cmp_total, tied_itself}
@@ -9,7 +9,12 @@ use Rattle.std.specs.Ordering.{nat_cmp, ordering_index, ordering_then}
 use Rattle.std.specs.Prelude.{false, not, true, ◌==◌}
 use Rattle.std.specs.declared.cmp.Ordering.{Ordering}
 use Rattle.std.specs.declared.cmp.Ordering.TheVariants.{Equal, Greater, Less}
-use Rattle.std.specs.Int.{from_be_bytes, w64}
+use Rattle.std.specs.Int.{from_be_bytes, from_le_bytes, swap_bytes, to_le_bytes, w64}
+use Rattle.std.proofs.lemmas.Nat.{le_bytes_8}
+use Rattle.std.proofs.Math.Facts.{Fits-lt-pow}
+use Rattle.tinystr_words.specs.Words.{word}
+use Rattle.tinystr_words.proofs.WordAsNumber.{word-nuls}
+use Rattle.tinystr_words.proofs.WordFromPieces.{map-mod_bytes}
 use Rattle.tinystr_words.specs.Text.{pad}
 use Rattle.tinystr_words.proofs.Texts.{NULS, get_or-pad, length-pad}
 
@@ -116,3 +121,39 @@ pub ordering_then-rest : (o rest : Ordering) → false ≡ not (ordering_index o
 ordering_then-rest Less rest h = grind arith
 ordering_then-rest Equal rest h = refl
 ordering_then-rest Greater rest h = grind arith
+
+-- ---- numbers of at most eight bytes
+
+-- what the type of bytes says
+abbrev pub AllFit : List ℕ → Type 0
+AllFit bs = (i : ℕ) → Fits w8 (get_or bs i 0)
+
+pub AreBytes-from_type : (bs : List ℕ) → AllFit bs → AreBytes bs
+AreBytes-from_type bs h i = Fits-lt-pow (h i)
+
+-- eight lanes are what `from_le_bytes` reads
+from_le_bytes-word : (bs : List ℕ) → length bs ≡ 8 → word bs ≡ from_le_bytes w64 bs
+from_le_bytes-word (a ∷ b ∷ c ∷ d ∷ e ∷ f ∷ g ∷ h ∷ []) l = omega arith
+from_le_bytes-word (a ∷ b ∷ c ∷ d ∷ e ∷ f ∷ g ∷ h ∷ i ∷ more) l = absurd (omega arith)
+from_le_bytes-word [] l = absurd (omega arith)
+from_le_bytes-word (a ∷ []) l = absurd (omega arith)
+from_le_bytes-word (a ∷ b ∷ []) l = absurd (omega arith)
+from_le_bytes-word (a ∷ b ∷ c ∷ []) l = absurd (omega arith)
+from_le_bytes-word (a ∷ b ∷ c ∷ d ∷ []) l = absurd (omega arith)
+from_le_bytes-word (a ∷ b ∷ c ∷ d ∷ e ∷ []) l = absurd (omega arith)
+from_le_bytes-word (a ∷ b ∷ c ∷ d ∷ e ∷ f ∷ []) l = absurd (omega arith)
+from_le_bytes-word (a ∷ b ∷ c ∷ d ∷ e ∷ f ∷ g ∷ []) l = absurd (omega arith)
+
+-- the number of at most eight bytes
+pub number-loaded : (bs : List ℕ) (w r : ℕ) → length bs ≤ 8 → AllFit bs → w ≡ word (map (λ u. u % 256) bs) → r ≡ swap_bytes w64 w → r ≡ from_be_bytes w64 (pad bs 8)
+number-loaded bs w r fits bytes loaded swapped =
+    let same : w ≡ word (pad bs 8) = loaded ∙ ap word (map-mod_bytes bs bytes) ∙ sym (word-nuls bs (8 - length bs)) in
+    let long = length-pad bs 8 fits in
+    let back : to_le_bytes w64 (word (pad bs 8)) ≡ pad bs 8 = le_bytes_8 (pad bs 8) (word (pad bs 8)) long (λ i. rw (get_or-pad bs 8 i) (AreBytes-from_type bs bytes i)) (from_le_bytes-word (pad bs 8) long) in
+    swapped ∙ rw same (ap (λ (l : List ℕ). from_be_bytes w64 l) back)
+
+-- eight bytes have nothing behind them
+pub pad-full : (xs : List ℕ) → length xs ≡ 8 → pad xs 8 ≡ xs
+pad-full xs long =
+    let none : 8 - length xs ≡ 0 = omega arith in
+    rw none (append-nil xs)

@@ -25,7 +25,7 @@ use crate::{Case, Question};
 pub use code_units::{lossy, low_bytes, read_all};
 use concatenation::{LONGEST, concat_in_memory, concat_in_vectors, concat_in_word};
 pub use copying::{cut, resize};
-pub use order::compare;
+pub use order::{compare, number};
 
 /// The words that take padded bytes: the narrowest that holds all, since it is loaded and asked in the fewest steps.
 #[derive(Clone, Copy)]

@@ -1,6 +1,5 @@
-use Rattle.std.proofs.Common.{◌≡◌, ◌≢◌, ◌<◌, [], ◌+◌, ◌-◌, ◌/◌, arith, rules, ap, ◌∙◌, sym, refl}
+use Rattle.std.proofs.Common.{◌≡◌, ◌≢◌, ◌<◌, [], ◌+◌, ◌-◌, ◌/◌, arith, ◌∙◌, sym}
 use Rattle.std.proofs.lemmas.List.{get_or_default}
-use Rattle.std.specs.declared.cmp.Ordering.{Ordering}
 use Rattle.std.specs.declared.cmp.Ordering.TheVariants.{Less, Equal, Greater}
 use Rattle.tinystr_packed.specs.Rising.{order, text_at}
 use Rattle.tinystr_packed.proofs.RisingTexts.{IsFirstNotBelow-behind_middle, IsFirstNotBelow-same, IsFirstNotBelow-before_middle}

@@ -1,8 +1,7 @@
-use Rattle.std.proofs.Common.{◌≡◌, ◌≤◌, ◌<◌, ◌+◌, ◌-◌, ℕ, List, [], refl, take, length, arith, rules, sym, ap, ◌∙◌}
+use Rattle.std.proofs.Common.{◌≡◌, ◌-◌, ℕ, List, [], refl, take, length, arith, sym, ◌∙◌}
 use Rattle.std.proofs.lemmas.List.{take-take}
 use Rattle.tinystr_packed.proofs.Prefixes.{BeginAlike-ends}
 use Rattle.tinystr_packed.proofs.RecordOrder.{alike-long}
-use Rattle.tinystr_packed.specs.Rising.{text_at}
 use Rattle.tinystr_packed.specs.Numbers.{IsRecord}
 use Rattle.tinystr_packed.proofs.search.shared_len.Goals as goal
 

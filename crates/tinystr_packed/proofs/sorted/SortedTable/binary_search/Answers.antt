@@ -1,26 +1,24 @@
-use Rattle.std.proofs.Common.{◌≡◌, ◌∙◌, sym, refl, rules}
+use Rattle.std.proofs.Common.{◌≡◌, ◌≢◌, ◌<◌, ◌∙◌, [], length, ap, sym, refl}
 use Rattle.std.specs.List.{slice_get}
 use Rattle.std.specs.declared.option.Option.TheVariants.{Some}
 use Rattle.std.proofs.lemmas.Bool.{false≢true}
-use Rattle.tinystr_packed.proofs.RisingTexts.{IsPlaceFor-missed, not_contained, Contains-read, missed_past, missed_other}
+use Rattle.std.proofs.lemmas.Option.{slice_get-get_or}
+use Rattle.tinystr_packed.specs.Rising.{text_at}
+use Rattle.tinystr_packed.proofs.RisingTexts.{IsPlaceFor-missed, not_contained, Contains-read}
 use Rattle.tinystr_packed.proofs.sorted.SortedTable.binary_search.Goals as goal
 
-pub returns-then-eq-clause-exact : goal.returns-then-eq-clause-exact
-returns-then-eq-clause-exact g c =
-    let read = rw c.self.view_is at c.get.ensures.text in
-    let at : slice_get c.args.self.now c.first_not_below-place.result ≡ Some c.args.key.now = search rules in
+pub returns-then-has_text_at-clause-exact : goal.returns-then-has_text_at-clause-exact
+returns-then-has_text_at-clause-exact g c =
+    let at : slice_get c.args.self.now c.first_not_below-place.result ≡ Some c.args.key.now = rw c.self.view_is at (c.has_text_at.ensures.0 c.if-has_text_at.true) in
     (λ _. Contains-read c.args.self.now c.args.key.now c.first_not_below-place.result at, λ _. refl)
 
-pub returns-else-eq : goal.returns-else-eq
-returns-else-eq g c =
-    let read = rw c.self.view_is at c.get.ensures.text in
-    let other = missed_other c.args.self.now c.args.key.now c.in-Some.text c.first_not_below-place.result (sym read ∙ c.in-Some.is) (sym c.eq.ensures ∙ c.if-eq.false) in
-    let place = IsPlaceFor-missed c.args.self.now c.args.key.now c.first_not_below-place.result (rw c.self.view_is at c.self.invariant) c.first_not_below-place.ensures.place other in
-    record { found = tt; place = place; rising = rw c.self.view_is at c.self.invariant; exact = (λ no. absurd (false≢true no), λ found. absurd (not_contained c.args.self.now c.args.key.now c.first_not_below-place.result place found)) }
-
-pub returns-in_default : goal.returns-in_default
-returns-in_default g c =
-    let read = rw c.self.view_is at c.get.ensures.text in
-    let past = missed_past c.args.self.now c.args.key.now c.first_not_below-place.result (sym read ∙ c.in_default.is) in
-    let place = IsPlaceFor-missed c.args.self.now c.args.key.now c.first_not_below-place.result (rw c.self.view_is at c.self.invariant) c.first_not_below-place.ensures.place past in
-    record { found = tt; place = place; rising = rw c.self.view_is at c.self.invariant; exact = (λ no. absurd (false≢true no), λ found. absurd (not_contained c.args.self.now c.args.key.now c.first_not_below-place.result place found)) }
+pub returns-else-has_text_at : goal.returns-else-has_text_at
+returns-else-has_text_at g c =
+    let texts = c.args.self.now in
+    let key = c.args.key.now in
+    let i = c.first_not_below-place.result in
+    let rising = rw c.self.view_is at c.self.invariant in
+    let other : i < length texts → text_at texts i ≢ key =
+    λ inside is. absurd (false≢true (sym c.if-has_text_at.false ∙ c.has_text_at.ensures.1 (rw c.self.view_is (slice_get-get_or texts i [] inside ∙ ap Some is)))) in
+    let place = IsPlaceFor-missed texts key i rising c.first_not_below-place.ensures.place other in
+    record { found = tt; place = place; rising = rising; exact = (λ no. absurd (false≢true no), λ found. absurd (not_contained texts key i place found)) }
