@@ -16,13 +16,14 @@ pub fn is_padded(bytes: &[u8]) -> bool
     requires { 17 ≤ length bytes.now }
     ensures { IsTrue result ↔ IsPadded bytes.now }
 {
-    let mut is_padded = true;
     let mut start = 0;
     while bytes.len() - start >= 32 {
-        is_padded &= are_sixteen_padded(bytes, start);
+        if !are_sixteen_padded(bytes, start) {
+            return false;
+        }
         start += 16;
     }
-    is_padded & are_sixteen_padded(bytes, start) & are_sixteen_padded(bytes, start + 16)
+    are_sixteen_padded(bytes, start) & are_sixteen_padded(bytes, start + 16)
 }
 
 // Whether sixteen bytes are below 128, and behind each NUL among them stands another. Bytes past the last are NULs.

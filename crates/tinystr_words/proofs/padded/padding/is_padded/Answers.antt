@@ -8,14 +8,13 @@ returns c =
     let bytes = c.args.bytes.now in
     let start = c.loop-start.start in
     let passed = c.loop-start.invariant.passed in
-    let here = c.are_sixteen_padded.ensures in
-    let ends = c.are_sixteen_padded-2.ensures in (
+    let here = c.are_sixteen_padded-2.ensures in
+    let ends = c.are_sixteen_padded-3.ensures in (
       λ t. IsPadded-whole bytes (start + 16 + 16)
-          (ArePaddedFrom-more bytes (start + 16) (ArePaddedFrom-more bytes start (passed.0 (grind (arith, nat_tests))) (here.0 (grind (arith, nat_tests)))) (ends.0 (grind (arith, nat_tests))))
+          (ArePaddedFrom-more bytes (start + 16) (ArePaddedFrom-more bytes start passed (here.0 (grind (arith, nat_tests)))) (ends.0 (grind (arith, nat_tests))))
           (omega arith),
       λ p.
-          let a = passed.1 (ArePaddedFrom-padded bytes 0 start p) in
           let b = here.1 (ArePaddedFrom-padded bytes start 16 p) in
           let d = ends.1 (ArePaddedFrom-padded bytes (start + 16) 16 p) in
-          grind (arith, nat_tests, a, b, d),
+          grind (arith, nat_tests, b, d),
     )

@@ -1,4 +1,4 @@
-use Rattle.std.proofs.Common.{◌+◌, ◌-◌, ◌≤◌, ◌↔◌, length, IsTrue}
+use Rattle.std.proofs.Common.{◌+◌, ◌-◌, ◌≤◌, length}
 use Rattle.tinystr_words.specs.Padded.{ArePaddedFrom}
 use Rattle.tinystr_words.proofs.padded.padding.is_padded.Given as goal
 
@@ -6,7 +6,7 @@ use Rattle.tinystr_words.proofs.padded.padding.is_padded.Given as goal
 abbrev pub invariant-loop-start : goal.invariant-loop-start
 invariant-loop-start l = record {
   inside : l.start + 16 ≤ length l.bytes;
-  passed : IsTrue l.is_padded ↔ ArePaddedFrom l.bytes 0 l.start;
+  passed : ArePaddedFrom l.bytes 0 l.start;
 }
 
 abbrev pub decreases-loop-start : goal.decreases-loop-start
