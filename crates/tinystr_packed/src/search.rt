@@ -74,19 +74,23 @@ pub fn count_with_prefix<const N: usize>(records: &[[u8; N]], beginning: &TinyAs
     first_not_below_near_start(records, &above)
 }
 
-// The place of a key that is near the start, in time that grows as the logarithm of the place: by steps that grow eight
-// times, and then among the records that the last of them passed.
+// The place of a key that is near the start, in time that grows as the logarithm of the place, or behind all: by steps that
+// grow eight times, and then among the records that the last of them passed.
 #[inline(always)]
 fn first_not_below_near_start<const N: usize>(records: &[[u8; N]], key: &[u8; N]) -> usize
     requires records { AreRisingRecords N records.now }
     requires key { IsRecord N key.now }
     ensures { IsFirstNotBelow key.now records.now result }
 {
+    let len = records.len();
+    if len > 0 && is_below_at(records, len - 1, key) {
+        return len;
+    }
     let mut start: usize = 0;
     while is_below_at(records, start.saturating_mul(8), key) {
         start = 8 * start + 1;
     }
-    let end = records.len().min(start.saturating_mul(8));
+    let end = len.min(start.saturating_mul(8));
     start + first_not_below(&records[start..end], key)
 }
 
