@@ -25,7 +25,7 @@ fn a_refused_allocation_writes_nothing(rt: HostRuntime) -> Result<(), Fail> {
     Ok(())
 }
 
-/// Gives all its bytes but one, and that one, and then fails at each read.
+/// Gives its bytes, the last by itself, and then fails at each read.
 #[derive(Drop)]
 struct BrokenReader<'a> {
     bytes: &'a [u8],

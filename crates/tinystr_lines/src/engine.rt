@@ -125,8 +125,8 @@ fn push_piece(out: &mut Vec<u8>, begun: &mut Vec<u8>, piece: &[u8]) -> Result<()
     Ok(())
 }
 
-// Why a run fails where memory for a reply was refused. The rest is read and kept first, so that what is told is what a
-// run that holds its whole input before it answers a line meets first: a failed read, or want of memory.
+// Why a run fails where memory for a reply was refused. The rest is read and kept first, so that a read that fails then is
+// told before the want of memory.
 #[cold]
 fn read_on<R: Read>(reader: &mut R, begun: Vec<u8>, piece: &mut [u8]) -> RunError
     ensures { result ≢ RunError.Write }

@@ -5,8 +5,8 @@ ghost use Rattle.tinystr_packed.specs.Numbers.{number_at, pair_at};
 
 use crate::record::number_at;
 
-/// The number that bytes of a record spell from a place on, the first the most significant: eight bytes in 64 bits. In 128
-/// bits that of eight more bytes follows: of those behind them, or of the record's last eight.
+/// The number that bytes of a record spell from a place on, the first the most significant. In 64 bits these are eight bytes,
+/// with NULs past the end. In 128 bits the next eight follow, or the record's last eight where fewer are left.
 pub trait Number<const N: usize>: Copy + Drop {
     ghost value: { Self → ℕ };
 
@@ -21,7 +21,7 @@ pub trait Number<const N: usize>: Copy + Drop {
     fn is_below(self, other: Self) -> bool
         ensures { result ≡ nat_lt (value self) (value other) };
 
-    /// Whether it is another.
+    /// Whether both are the same number.
     fn is_same(self, other: Self) -> bool
         ensures { result ≡ nat_eq (value self) (value other) };
 }

@@ -2,7 +2,6 @@
 
 ghost use Rattle.std.specs.Prelude.{◌≡◌, ◌≤◌, ◌-◌, length};
 ghost use Rattle.std.specs.Cmp.Lexicographic.{slice_cmp};
-ghost use Rattle.std.specs.Int.{from_be_bytes, w64};
 ghost use Rattle.std.specs.Ordering.{nat_cmp, is_lt};
 ghost use Rattle.tinystr_words.specs.Text.{IsPaddedText, text_of};
 ghost use Rattle.std.specs.Str.{bytes_eq};
@@ -12,7 +11,7 @@ use std::cmp::Ordering;
 use tinystr_words::padded;
 
 /// Whether a record is below another, which is equally long.
-// At most eight bytes are compared as one number, so that a search takes no branch within a record.
+// At most eight bytes are compared as one number, so that no branch is taken within a record.
 #[inline(always)]
 pub fn is_below(left: &[u8], right: &[u8]) -> bool
     requires { length left.now ≡ length right.now }

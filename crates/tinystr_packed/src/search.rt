@@ -17,7 +17,7 @@ use std::hint::select_unpredictable;
 use std::ops::Range;
 use tinystr::TinyAsciiStr;
 
-// Fewer records of more than sixteen bytes are compared whole: to narrow their range first takes longer.
+// Below this number, records of more than sixteen bytes are compared whole: to narrow their range first takes longer.
 const FEW: usize = 32;
 
 /// The index of the first record that isn't below a key, or the number of records.
@@ -42,7 +42,7 @@ pub fn first_not_below<const N: usize>(records: &[[u8; N]], key: &[u8; N]) -> us
     first_not_below_of_many(records, key)
 }
 
-// The place of a key among many records of more than sixteen bytes. It is there for speed: a search among few doesn't save
+// The place of a key among many records of more than sixteen bytes. It isn't inlined, so that a search among few doesn't save
 // the registers that only this one takes.
 #[inline(never)]
 fn first_not_below_of_many<const N: usize>(records: &[[u8; N]], key: &[u8; N]) -> usize
@@ -74,8 +74,8 @@ pub fn count_with_prefix<const N: usize>(records: &[[u8; N]], beginning: &TinyAs
     first_not_below_near_start(records, &above)
 }
 
-// The place of a key that is near the start, in time that grows as the logarithm of the place, or behind all: by steps that
-// grow eight times, and then among the records that the last of them passed.
+// The place of a key: behind all where the last record is below the key, and else in time that grows as the logarithm of the
+// place. Steps that grow eight times pass the place, and the records that the last step passed are searched.
 #[inline(always)]
 fn first_not_below_near_start<const N: usize>(records: &[[u8; N]], key: &[u8; N]) -> usize
     requires records { AreRisingRecords N records.now }
@@ -102,9 +102,9 @@ fn is_below_at<const N: usize>(records: &[[u8; N]], index: usize, key: &[u8; N])
     index < records.len() && is_below(&records[index][..], &key[..])
 }
 
-// Narrows a range that holds a key's place, by the numbers of its records from `start` on. It ends at the place or, past
-// sixteen bytes, at a record that has the key's number and may still be another. It is there for speed: no test for the
-// order is a branch, and the two records that the next step may ask are read before this step's test is done.
+// Narrows a range that holds a key's place, by the numbers of its records from `start` on: to nothing at the place or, past
+// sixteen bytes, to a range whose middle has the key's number and may still differ from the key. For speed, no test for the
+// order is a branch, and both records that the next step may ask are read before this step's test is done.
 #[inline(always)]
 fn narrow<const N: usize, T: Number<N>>(
     records: &[[u8; N]],
@@ -149,7 +149,8 @@ fn narrow<const N: usize, T: Number<N>>(
     place..place
 }
 
-// The place of a key within a range that holds it, by whole records.
+// The place of a key within a range that holds the place, by whole records. The middle is first: where `narrow` ends, it is
+// mostly the key.
 #[inline(always)]
 fn first_not_below_within<const N: usize>(
     records: &[[u8; N]],
@@ -185,8 +186,8 @@ fn first_not_below_by_halves<const N: usize>(records: &[[u8; N]], key: &[u8; N])
     )
 }
 
-// How many bytes all records and the key begin with, by eights, and at most all but eight. It only guides: by a lower
-// number the same place is found.
+// How many bytes the key and all records share in front, counted by eights, and at most all but the last eight. It only
+// guides: by a lower number the same place is found.
 #[inline(always)]
 fn shared_len<const N: usize>(records: &[[u8; N]], key: &[u8; N]) -> usize
     requires long { 8 < N }

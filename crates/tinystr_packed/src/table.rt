@@ -163,7 +163,8 @@ impl<'a, const N: usize> Table<'a, N> {
         None
     }
 
-    // Whether the text at an index is another. It is compared in place, since a copy would wait for its bytes to be stored.
+    // Whether a text stands at an index. It is compared in place: a copy would be stored first, and its loads would wait for
+    // that.
     #[inline(always)]
     pub(crate) fn has_text_at(&self, index: usize, text: &TinyAsciiStr<N>) -> bool
         ensures { IsTrue result ↔ (slice_get self.now index ≡ Some text.now) }

@@ -94,7 +94,8 @@ fn are_found(file: &[u8], texts: &[Text]) -> bool {
 }
 
 // How many of the texts a file has as they are, behind eight bytes that are the same, and behind sixteen: each way of the
-// search, and either side of its border at 32 records.
+// search, and either side of its border at 32 records. At 24 and 40 all are different. Below, those behind sixteen bytes are
+// cut to one or two.
 const COUNTS: &[[usize; 3]] = &[
     [1, 0, 0],
     [31, 0, 0],
@@ -159,8 +160,7 @@ fn are_longer_found<const N: usize>(
     Ok(true)
 }
 
-/// Whether the texts that begin with the first of a text's bytes are as many as std counts, with none, one, two, nine and all
-/// of these.
+/// Whether as many texts begin with the first bytes of a text as std counts: with none of them, one, two, nine and all.
 fn is_told<const N: usize>(sorted: &SortedTable<'_, N>, text: &TinyAsciiStr<N>) -> bool
     requires { N < 2 ^ 62 }
 {

@@ -24,7 +24,7 @@ pub fn run(alloc: Global, random: &mut Random, digest: &mut Digest) -> Result<()
     lines(alloc, random, digest)
 }
 
-// Texts of one byte are too few to ask each alone more than once.
+// There are only 127 texts of one byte, so they are packed and spoiled, and not searched.
 fn files_of_bytes(
     alloc: Global,
     random: &mut Random,

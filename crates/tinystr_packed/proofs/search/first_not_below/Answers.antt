@@ -1,6 +1,6 @@
 use Rattle.std.proofs.Common.{arith, rules, refl}
 use Rattle.tinystr_packed.specs.Numbers.{BeginAlike}
-use Rattle.tinystr_packed.proofs.RecordOrder.{Tells-short, not_below_same-short, Tells-long, Tells-pair, not_below_same-pair}
+use Rattle.tinystr_packed.proofs.RecordOrder.{Tells-short, not_below_same-short, Tells-pair, not_below_same-pair}
 use Rattle.tinystr_packed.proofs.search.first_not_below.Goals as goal
 
 pub narrow-requires : goal.narrow-requires
