@@ -131,13 +131,13 @@ fn narrow<const N: usize, T: Number<N>>(
     let mut number = T::at(&records[base + size / 2], start);
     while size > 1 {
         let half = size / 2;
-        let next = (size - half) / 2;
+        size -= half;
+        let next = size / 2;
         let low = T::at(&records[base + next], start);
         let high = T::at(&records[base + half + next], start);
         if N > 16 && number.is_same(wanted) {
-            return base..base + size;
+            return base..base + half + size;
         }
-        size -= half;
         let is_below = number.is_below(wanted);
         base = select_unpredictable(is_below, base + half, base);
         number = select_unpredictable(is_below, high, low);
