@@ -9,7 +9,7 @@ use crate::random::{LOWERCASE, MIXED, Random, letters_of};
 use std::alloc::{AllocError, Global};
 use subtags::{LangId, LangIdError};
 use tinystr::ule::UleError;
-use tinystr::{ParseError, TinyAsciiStr};
+use tinystr::TinyAsciiStr;
 use tinystr_lines::engine::{RunError, run as answer};
 use tinystr_packed::{SortedTable, Table, pack, pack_sorted};
 
@@ -72,9 +72,9 @@ fn search<const N: usize>(
     requires bound { N < 2 ^ 63 }
 {
     for code in codes {
-        add_place(digest, sorted.binary_search(code));
-        add_place(digest, sorted.binary_search(&begun_with(code, b'!')));
-        add_place(digest, sorted.binary_search(&begun_with(code, 127)));
+        digest.add_place(sorted.binary_search(code));
+        digest.add_place(sorted.binary_search(&begun_with(code, b'!')));
+        digest.add_place(sorted.binary_search(&begun_with(code, 127)));
         let beginning = TinyAsciiStr::<N>::from_utf8_lossy(&code.all_bytes()[..N - 1], b'~');
         digest.add_table(sorted.with_prefix(&beginning).table());
     }
@@ -88,14 +88,6 @@ fn begun_with<const N: usize>(code: &TinyAsciiStr<N>, byte: u8) -> TinyAsciiStr<
     let mut raw = *code.all_bytes();
     raw[0] = byte;
     TinyAsciiStr::try_from_raw(raw).unwrap_or_default()
-}
-
-#[inline(always)]
-fn add_place(digest: &mut Digest, place: Result<usize, usize>) {
-    match place {
-        Ok(index) => digest.add(index as u64),
-        Err(index) => digest.add(!(index as u64)),
-    }
 }
 
 // Files whose last record is bad, whose length is wrong, or whose records are in no order.
@@ -132,18 +124,10 @@ fn add_refusal(digest: &mut Digest, refusal: Option<UleError>) {
         Some(UleError::Length { len }) => digest.add(len as u64),
         Some(UleError::Parse { index, fault }) => {
             digest.add(index as u64);
-            add_fault(digest, fault);
+            digest.add_fault(fault);
         }
         None => digest.add(0),
     }
-}
-
-fn add_fault(digest: &mut Digest, fault: ParseError) {
-    digest.add(match fault {
-        ParseError::TooLong { max, len } => (max as u64).rotate_left(32) ^ len as u64,
-        ParseError::ContainsNull => 1 << 32,
-        ParseError::NonAscii => 1 << 33,
-    });
 }
 
 // The texts as numbers of 16 bits whose last is half of a pair, or a character.
@@ -170,7 +154,7 @@ fn read_units<const N: usize>(
         }
         match TinyAsciiStr::<N>::try_from_utf16(&units) {
             Ok(text) => digest.add_text(&text),
-            Err(fault) => add_fault(digest, fault),
+            Err(fault) => digest.add_fault(fault),
         }
         let text = TinyAsciiStr::<N>::from_utf16_lossy(&units, b'?');
         digest.add_text(&text.to_ascii_lowercase());

@@ -8,7 +8,7 @@ use crate::digest::Digest;
 use crate::random::{LOWERCASE, MIXED, Random, UPPERCASE, push_word};
 use std::alloc::{AllocError, Global};
 use std::collections::BTreeMap;
-use tinystr::{ParseError, TinyAsciiStr};
+use tinystr::TinyAsciiStr;
 
 const COUNT: usize = 50_000;
 
@@ -98,18 +98,10 @@ fn read<const N: usize>(
     for index in 0..cells.len() {
         match TinyAsciiStr::<N>::try_from_utf8(cells.get(index)) {
             Ok(text) => texts.push(text)?,
-            Err(fault) => add_fault(digest, fault),
+            Err(fault) => digest.add_fault(fault),
         }
     }
     Ok(texts)
-}
-
-fn add_fault(digest: &mut Digest, fault: ParseError) {
-    digest.add(match fault {
-        ParseError::TooLong { max, len } => (max as u64).rotate_left(32) ^ len as u64,
-        ParseError::ContainsNull => 1 << 32,
-        ParseError::NonAscii => 1 << 33,
-    });
 }
 
 // The same cells by the lossy reader, and as numbers of 16 bits by both.
@@ -133,7 +125,7 @@ fn read_others<const N: usize>(
         if index % 2 == 0 {
             match TinyAsciiStr::<N>::try_from_utf16(&units) {
                 Ok(text) => texts.push(text)?,
-                Err(fault) => add_fault(digest, fault),
+                Err(fault) => digest.add_fault(fault),
             }
         } else {
             texts.push(TinyAsciiStr::<N>::from_utf16_lossy(&units, b'?'))?;
@@ -175,7 +167,7 @@ fn read_records<const N: usize>(
     for raw in records {
         match TinyAsciiStr::try_from_raw(*raw) {
             Ok(text) => digest.add_text(&text),
-            Err(fault) => add_fault(digest, fault),
+            Err(fault) => digest.add_fault(fault),
         }
     }
     Ok(())

@@ -2,7 +2,7 @@
 
 ghost use Rattle.std.specs.Prelude.{◌<◌, ◌^◌};
 
-use tinystr::TinyAsciiStr;
+use tinystr::{ParseError, TinyAsciiStr};
 use tinystr_packed::Table;
 
 /// A number that all results went into, by the step of FxHash.
@@ -50,6 +50,23 @@ impl Digest {
         for text in table.iter() {
             self.add_text(&text);
         }
+    }
+
+    /// Where a text is, or would be.
+    #[inline(always)]
+    pub fn add_place(&mut self, place: Result<usize, usize>) {
+        match place {
+            Ok(index) => self.add(index as u64),
+            Err(index) => self.add(!(index as u64)),
+        }
+    }
+
+    pub fn add_fault(&mut self, fault: ParseError) {
+        self.add(match fault {
+            ParseError::TooLong { max, len } => (max as u64).rotate_left(32) ^ len as u64,
+            ParseError::ContainsNull => 1 << 32,
+            ParseError::NonAscii => 1 << 33,
+        });
     }
 
     pub fn value(&self) -> u64 {

@@ -68,10 +68,10 @@ fn search<const N: usize>(
         digest.add(u64::from(sorted.contains(&text)));
     }
     for code in codes {
-        add_place(digest, sorted.binary_search(code));
+        digest.add_place(sorted.binary_search(code));
     }
     for _ in 0..codes.len() {
-        add_place(digest, sorted.binary_search(&short_code(random)));
+        digest.add_place(sorted.binary_search(&short_code(random)));
     }
 }
 
@@ -89,14 +89,6 @@ fn search_beginnings<const N: usize, const B: usize>(
     for _ in 0..count {
         let beginning = short_code::<N>(random).resize::<B>().resize::<N>();
         digest.add_table(sorted.with_prefix(&beginning).table());
-    }
-}
-
-#[inline(always)]
-fn add_place(digest: &mut Digest, place: Result<usize, usize>) {
-    match place {
-        Ok(index) => digest.add(index as u64),
-        Err(index) => digest.add(!(index as u64)),
     }
 }
 
