@@ -109,14 +109,14 @@ impl<const N: usize> TinyAsciiStr<N> {
         requires { IsTextByte separator }
         ensures { SomeIff result (length (join_with_byte separator (first.entry ∷ others.now)) ≤ Q) (join_with_byte separator (first.entry ∷ others.now)) }
     {
-        let separator = TinyAsciiStr::<1>::from_utf8_unchecked([separator]);
+        let separator = TinyAsciiStr::<1>::from_padded([separator]);
         let mut len = first.len();
         let mut bytes = first.bytes;
         for text in others {
             len = separator.put_behind(&mut bytes[..], len)?;
             len = text.put_behind(&mut bytes[..], len)?;
         }
-        Some(TinyAsciiStr::from_utf8_unchecked(bytes))
+        Some(TinyAsciiStr::from_padded(bytes))
     }
 
     // Puts the text behind another of `len` bytes, and tells how long both are, or `None` where there is no room. A short

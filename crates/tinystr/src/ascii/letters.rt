@@ -29,7 +29,7 @@ impl TinyAsciiStr<8> {
         let lowered = front_lanes(code_units) | u8x8::splat(0x20);
         let len = lowercase_lanes(lowered);
         let letters = first_lanes(lowered, len).to_array();
-        (TinyAsciiStr::from_utf8_unchecked(letters), len)
+        (TinyAsciiStr::from_padded(letters), len)
     }
 }
 

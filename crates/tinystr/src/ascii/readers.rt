@@ -137,4 +137,13 @@ impl<const N: usize> TinyAsciiStr<N> {
     {
         TinyAsciiStr { bytes: code_units }
     }
+
+    // `from_utf8_unchecked` for this crate, whose Rust is no `unsafe fn`: it keeps the type's invariant by its own proofs.
+    #[inline]
+    pub(crate) fn from_padded(bytes: [u8; N]) -> Self
+        requires { IsPaddedText bytes N }
+        ensures { result ≡ text_of bytes.entry }
+    {
+        TinyAsciiStr { bytes }
+    }
 }

@@ -34,9 +34,9 @@ impl<const N: usize> TinyAsciiStr<N> {
     {
         let bytes = &self.bytes[..];
         if M <= N && start <= N - M {
-            return TinyAsciiStr::from_utf8_unchecked(cut(&bytes[start..start + M]));
+            return TinyAsciiStr::from_padded(cut(&bytes[start..start + M]));
         }
-        TinyAsciiStr::from_utf8_unchecked(cut(&bytes[start.min(N)..]))
+        TinyAsciiStr::from_padded(cut(&bytes[start.min(N)..]))
     }
 
     // The first bytes. Up to eight stay in a vector.
@@ -49,9 +49,9 @@ impl<const N: usize> TinyAsciiStr<N> {
         }
         let bytes = &self.bytes[..];
         if N > 8 {
-            return TinyAsciiStr::from_utf8_unchecked(cut(&bytes[..len]));
+            return TinyAsciiStr::from_padded(cut(&bytes[..len]));
         }
         let lanes = first_lanes(u8x8::from_array(resize(bytes)), len);
-        TinyAsciiStr::from_utf8_unchecked(resize(&lanes.to_array()[..]))
+        TinyAsciiStr::from_padded(resize(&lanes.to_array()[..]))
     }
 }

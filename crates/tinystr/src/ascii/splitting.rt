@@ -88,7 +88,7 @@ impl<const N: usize> TinyAsciiStr<N> {
         };
         if N <= 8 {
             let bytes = Aligned8::from_ascii_bytes(&self.bytes).to_bytes();
-            parts.short = Some(TinyAsciiStr::from_utf8_unchecked(bytes));
+            parts.short = Some(TinyAsciiStr::from_padded(bytes));
         } else {
             parts.rest = Some(&self.bytes[..]);
         }
@@ -164,8 +164,8 @@ fn around(text: TinyAsciiStr<8>, at: usize) -> (TinyAsciiStr<8>, TinyAsciiStr<8>
     let part = word % (1 << bits);
     let rest = (word >> 8) >> bits;
     (
-        TinyAsciiStr::from_utf8_unchecked(part.to_le_bytes()),
-        TinyAsciiStr::from_utf8_unchecked(rest.to_le_bytes()),
+        TinyAsciiStr::from_padded(part.to_le_bytes()),
+        TinyAsciiStr::from_padded(rest.to_le_bytes()),
     )
 }
 
@@ -201,10 +201,10 @@ fn split_first_by_copy<const N: usize>(
 {
     match find(bytes, separator) {
         Some(at) => (
-            TinyAsciiStr::from_utf8_unchecked(cut(&bytes[..at])),
+            TinyAsciiStr::from_padded(cut(&bytes[..at])),
             Some(&bytes[at + 1..]),
         ),
-        None => (TinyAsciiStr::from_utf8_unchecked(cut(bytes)), None),
+        None => (TinyAsciiStr::from_padded(cut(bytes)), None),
     }
 }
 
@@ -274,5 +274,5 @@ fn text_of_lanes<const N: usize>(lanes: u8x16) -> TinyAsciiStr<N>
     requires fits { length (text_of lanes) ≤ N }
     ensures { result ≡ text_of lanes }
 {
-    TinyAsciiStr::from_utf8_unchecked(resize(&lanes.to_array()[..]))
+    TinyAsciiStr::from_padded(resize(&lanes.to_array()[..]))
 }

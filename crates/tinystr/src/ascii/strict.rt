@@ -27,13 +27,13 @@ pub fn read<U: CodeUnit, const N: usize>(units: &[U]) -> Result<TinyAsciiStr<N>,
             // up to 8 code units: one register
             Width::Four | Width::Eight => {
                 if let Some(text) = Aligned8::try_from_text(units) {
-                    return Ok(TinyAsciiStr::from_utf8_unchecked(cut(&text.to_bytes())));
+                    return Ok(TinyAsciiStr::from_padded(cut(&text.to_bytes())));
                 }
             }
             // up to 16, at larger capacities too: more are read by pieces
             Width::Sixteen | Width::Many => {
                 if let Some(text) = Aligned16::try_from_text(units) {
-                    return Ok(TinyAsciiStr::from_utf8_unchecked(cut(&text.to_bytes())));
+                    return Ok(TinyAsciiStr::from_padded(cut(&text.to_bytes())));
                 }
             }
         }
@@ -52,13 +52,13 @@ pub fn read_padded<const N: usize>(raw: [u8; N]) -> Result<TinyAsciiStr<N>, Pars
         // 9 to 16 bytes: the word's own, since the array would be moved in pieces that fit no register
         Width::Sixteen => {
             if let Some(text) = Aligned16::try_from_padded(&raw[..]) {
-                return Ok(TinyAsciiStr::from_utf8_unchecked(cut(&text.to_bytes())));
+                return Ok(TinyAsciiStr::from_padded(cut(&text.to_bytes())));
             }
         }
         // the array as it was given, in one register, or in memory
         Width::Four | Width::Eight | Width::Many => {
             if padded::is_padded(&raw) {
-                return Ok(TinyAsciiStr::from_utf8_unchecked(raw));
+                return Ok(TinyAsciiStr::from_padded(raw));
             }
         }
     }
@@ -92,13 +92,13 @@ fn read_pieces<U: CodeUnit, const N: usize>(units: &[U]) -> Result<TinyAsciiStr<
         if !are_characters(units) {
             return Err(fault::<U, N>(units));
         }
-        return Ok(TinyAsciiStr::from_utf8_unchecked(padded::low_bytes(units)));
+        return Ok(TinyAsciiStr::from_padded(padded::low_bytes(units)));
     }
     let mut bytes = [0; N];
     if padded::read_all(&mut bytes[..], units, 0) {
         return Err(fault::<U, N>(units));
     }
-    Ok(TinyAsciiStr::from_utf8_unchecked(bytes))
+    Ok(TinyAsciiStr::from_padded(bytes))
 }
 
 // The fault at the first position whose code unit is above 127, or is a character after a NUL. Where a code unit is

@@ -17,7 +17,7 @@ returns-then-start g c =
     let bytes = c.self.inside.bytes in
     let count : c.args.start + m - c.args.start ≡ m = omega arith in
     let back = IsPaddedText-drop bytes g.row.N c.args.start c.self.invariant in
-    c.from_utf8_unchecked.ensures ∙ c.cut.ensures.text
+    c.from_padded.ensures ∙ c.cut.ensures.text
     ∙ ap (take m) (text_of-take (drop c.args.start bytes) _ _ back ∙ ap (take _) (text_of-drop bytes g.row.N c.args.start c.self.invariant))
     ∙ rw (count, take-take m m _ (omega arith), c.self.view_is) refl
 
@@ -28,7 +28,7 @@ pub returns : goal.returns
 returns g c =
     let bytes = c.self.inside.bytes in
     let back = IsPaddedText-drop bytes g.row.N c.min.result c.self.invariant in
-    c.from_utf8_unchecked-2.ensures ∙ c.cut-2.ensures.text
+    c.from_padded-2.ensures ∙ c.cut-2.ensures.text
     ∙ ap (take g.row.M) (text_of-take (drop c.min.result bytes) _ _ back ∙ ap (take _) (text_of-drop bytes g.row.N c.min.result c.self.invariant))
     ∙ all_behind (text_of bytes) (length bytes) c.min.result c.args.start g.row.M (length-text_of-le bytes) (omega (arith, c.min.ensures))
     ∙ ap (λ (t : List ℕ). take g.row.M (drop c.args.start t)) c.self.view_is

@@ -14,12 +14,12 @@ text_of-byte b h = text_of-pad (b ∷ []) 1 (All-cons IsTextByte b [] h (All-nil
 pub returns-in_err-len : goal.returns-in_err-len
 returns-in_err-len g c =
     let more = length-joined_more c.args.separator c.args.first c.args.others.now c.loop-text.text-index [] c.loop-text-test.true in
-    let one = ap (λ (t : List ℕ). length t) (c.from_utf8_unchecked-separator.ensures ∙ text_of-byte c.args.separator c.requires) in
+    let one = ap (λ (t : List ℕ). length t) (c.from_padded-separator.ensures ∙ text_of-byte c.args.separator c.requires) in
     let joined = ap (λ (t : List ℕ). length t) c.loop-text.invariant.joined in
     grind (arith, common_steps)
 
 pub loop-text-preserved : goal.loop-text-preserved
 loop-text-preserved g c =
-    let sep = c.from_utf8_unchecked-separator.ensures ∙ text_of-byte c.args.separator c.requires in
+    let sep = c.from_padded-separator.ensures ∙ text_of-byte c.args.separator c.requires in
     let more = joined-more c.args.separator c.args.first c.args.others.now c.loop-text.text-index c.text-item.result c.loop-text-test.true in
     grind (arith, common_steps, append_assoc, length-append)

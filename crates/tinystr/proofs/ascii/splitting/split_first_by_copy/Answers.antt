@@ -13,8 +13,8 @@ returns-in-Some-clause-parts g c =
     let bytes = c.args.bytes.now in
     let t = text_of bytes in
     let front = text_of-take bytes _ c.in-Some.at c.requires.padded in
-    slice_split-padded (λ b. b == c.args.separator) bytes c.from_utf8_unchecked.result c.in-Some.at c.requires.padded (sym c.in-Some.ensures)
-    (c.from_utf8_unchecked.ensures ∙ c.cut.ensures.text ∙ ap (take g.row.N) front ∙ take_all g.row.N (take c.in-Some.at t) (omega (arith, length-take c.in-Some.at t, length-text_of-le bytes)))
+    slice_split-padded (λ b. b == c.args.separator) bytes c.from_padded.result c.in-Some.at c.requires.padded (sym c.in-Some.ensures)
+    (c.from_padded.ensures ∙ c.cut.ensures.text ∙ ap (take g.row.N) front ∙ take_all g.row.N (take c.in-Some.at t) (omega (arith, length-take c.in-Some.at t, length-text_of-le bytes)))
 
 pub returns-in-Some-clause-rest : goal.returns-in-Some-clause-rest
 returns-in-Some-clause-rest g c =
@@ -25,5 +25,5 @@ returns-in-Some-clause-rest g c =
 pub returns-in-None-clause-parts : goal.returns-in-None-clause-parts
 returns-in-None-clause-parts g c =
     let bytes = c.args.bytes.now in
-    slice_split-whole (λ b. b == c.args.separator) (text_of bytes) c.from_utf8_unchecked-in-None.result (sym c.in-None.ensures)
-    (c.from_utf8_unchecked-in-None.ensures ∙ c.cut-in-None.ensures.text ∙ take_all g.row.N (text_of bytes) (omega (arith, length-text_of-le bytes)))
+    slice_split-whole (λ b. b == c.args.separator) (text_of bytes) c.from_padded-in-None.result (sym c.in-None.ensures)
+    (c.from_padded-in-None.ensures ∙ c.cut-in-None.ensures.text ∙ take_all g.row.N (text_of bytes) (omega (arith, length-text_of-le bytes)))

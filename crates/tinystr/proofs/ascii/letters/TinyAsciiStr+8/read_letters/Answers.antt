@@ -4,8 +4,8 @@ use Rattle.tinystr_words.proofs.Texts.{IsPaddedText-made, text_of-made}
 use Rattle.tinystr.proofs.Letters.{letters-read}
 use Rattle.tinystr.proofs.ascii.letters.TinyAsciiStr+8.read_letters.Goals as goal
 
-pub from_utf8_unchecked-requires : goal.from_utf8_unchecked-requires
-from_utf8_unchecked-requires c =
+pub from_padded-requires : goal.from_padded-requires
+from_padded-requires c =
     let read = letters-read c.args.code_units.now c.front_lanes.result c.lowercase_lanes-len.result c.type_inv.code_units c.front_lanes.ensures c.lowercase_lanes-len.ensures.len in
     (lit< tt, (lit< tt, IsPaddedText-made _ _ 8 (c.first_lanes-letters.ensures ∙ ap (λ t. pad t 8) read.1) read.2))
 
@@ -15,4 +15,4 @@ returns-clause-len c = (letters-read c.args.code_units.now c.front_lanes.result 
 pub returns-clause-text : goal.returns-clause-text
 returns-clause-text c =
     let read = letters-read c.args.code_units.now c.front_lanes.result c.lowercase_lanes-len.result c.type_inv.code_units c.front_lanes.ensures c.lowercase_lanes-len.ensures.len in
-    c.from_utf8_unchecked.ensures ∙ text_of-made _ _ 8 (c.first_lanes-letters.ensures ∙ ap (λ t. pad t 8) read.1) read.2.text
+    c.from_padded.ensures ∙ text_of-made _ _ 8 (c.first_lanes-letters.ensures ∙ ap (λ t. pad t 8) read.1) read.2.text
