@@ -23,7 +23,7 @@ use crate::decimal::decimal_fits;
 use crate::int_ops::{Aligned4, Aligned8, Aligned16};
 use crate::{Case, Question};
 pub use code_units::{lossy, low_bytes, read_all};
-use concatenation::{LONGEST, concat_in_memory, concat_in_vectors, concat_in_word};
+use concatenation::{concat_in_memory, concat_in_vectors, concat_in_word, fit_vectors};
 pub use copying::{cut, resize};
 pub use order::{compare, number};
 
@@ -171,7 +171,7 @@ pub fn concat<const N: usize, const M: usize, const Q: usize>(
     let second = &back[..M.min(Q)];
     match width_of(Q) {
         // short arrays to more than 8 bytes, as `concat::<8, 16>` of a text of at most 8
-        Width::Sixteen | Width::Many if first.len() <= LONGEST && second.len() <= LONGEST => {
+        Width::Sixteen | Width::Many if fit_vectors(first.len(), second.len()) => {
             concat_in_vectors(first, second)
         }
         // a first text that fills the result is copied as it is

@@ -1,6 +1,6 @@
 //! The ways in which two texts are joined in an array, the first one of `padded::concat` that serves.
 
-ghost use Rattle.std.specs.Prelude.{◌≡◌, ◌≤◌, ◌*◌, ◌++◌, length, replicate, take, drop};
+ghost use Rattle.std.specs.Prelude.{◌≡◌, ◌≤◌, ◌*◌, ◌++◌, length, replicate, take, drop, IsTrue};
 ghost use Rattle.tinystr_words.specs.Text.{IsPadded, IsPaddedText, text_of};
 ghost use Rattle.tinystr_words.specs.Padded.{sixteen_from};
 
@@ -14,7 +14,7 @@ const LANES: usize = 16;
 
 /// The bytes of the longest array that `concat_in_vectors` takes: past two vectors its shuffles take as long as the wait
 /// for what is stored.
-pub const LONGEST: usize = 2 * LANES;
+const LONGEST: usize = 2 * LANES;
 
 // What stands in the table before the lanes' own places: as many as `moved` looks back over.
 const NULS_IN_FRONT: usize = 3 * LANES;
@@ -30,11 +30,20 @@ static TAKEN_LANES: [u8; 7 * LANES] = [
     128, 128, 128, 128, 128, 128, 128, 128, 128, 128, 128, 128, 128, 128, 128, 128, //
 ];
 
+/// Whether `concat_in_vectors` takes arrays of so many bytes. Where it doesn't, another way gives the same text.
+#[inline(always)]
+pub(crate) fn fit_vectors(front_len: usize, back_len: usize) -> bool
+    ensures front { IsTrue result → front_len ≤ LONGEST }
+    ensures back { IsTrue result → back_len ≤ LONGEST }
+{
+    front_len <= LONGEST && back_len <= LONGEST
+}
+
 /// The first `Q` bytes of two texts joined, in one word of eight bytes, which a register holds: for results of at most
 /// eight.
 #[inline(always)]
 #[tactic(auto, using(crate::proofs::Cutting::fronts_joined))]
-pub fn concat_in_word<const Q: usize>(front: &[u8], back: &[u8]) -> [u8; Q]
+pub(crate) fn concat_in_word<const Q: usize>(front: &[u8], back: &[u8]) -> [u8; Q]
     requires result_fits { Q ≤ 8 }
     requires front { IsPadded front.now }
     requires front_fits { length front.now ≤ 8 }
@@ -51,7 +60,7 @@ pub fn concat_in_word<const Q: usize>(front: &[u8], back: &[u8]) -> [u8; Q]
 /// second text to its place, and each vector is stored at a place known at compile time, since a load of bytes stored
 /// elsewhere would wait for them.
 #[inline(always)]
-pub fn concat_in_vectors<const Q: usize>(front: &[u8], back: &[u8]) -> [u8; Q]
+pub(crate) fn concat_in_vectors<const Q: usize>(front: &[u8], back: &[u8]) -> [u8; Q]
     requires front { IsPadded front.now }
     requires front_fits { length front.now ≤ LONGEST }
     requires back { IsPadded back.now }
@@ -119,7 +128,7 @@ fn moved(lanes: u8x16, start: usize) -> u8x16
 /// The first `Q` bytes of the two texts joined, the second stored behind the first: for an array of more than `LONGEST`
 /// bytes.
 #[inline(always)]
-pub fn concat_in_memory<const N: usize, const M: usize, const Q: usize>(
+pub(crate) fn concat_in_memory<const N: usize, const M: usize, const Q: usize>(
     front: [u8; N],
     front_len: usize,
     back: &[u8; M],
