@@ -18,7 +18,7 @@ fn is_separator(byte: u8) -> bool
 
 /// Whether a subtag may end at a place: all ends there, or a separator stands there.
 #[inline]
-pub fn ends_at(units: &[u8], place: usize) -> bool
+pub(crate) fn ends_at(units: &[u8], place: usize) -> bool
     ensures { result ≡ ends_at place units.now }
 {
     units.len() == place || units.len() > place && is_separator(units[place])
@@ -26,7 +26,7 @@ pub fn ends_at(units: &[u8], place: usize) -> bool
 
 /// What stands behind a subtag that ends at a place, if anything stands there.
 #[inline]
-pub fn behind(units: &[u8], place: usize) -> Option<&[u8]>
+pub(crate) fn behind(units: &[u8], place: usize) -> Option<&[u8]>
     requires { place ≤ length units.now }
     ensures { option_copied result ≡ behind place units.now }
 {
@@ -35,7 +35,7 @@ pub fn behind(units: &[u8], place: usize) -> Option<&[u8]>
 
 /// Takes the first subtag off, where it is a language: that and what stands behind its separator.
 #[inline]
-pub fn take_language(units: &[u8]) -> Option<(Language, Option<&[u8]>)>
+pub(crate) fn take_language(units: &[u8]) -> Option<(Language, Option<&[u8]>)>
     ensures accepted { is_some result ≡ is_language (first_subtag units.now) }
     ensures language { IfSome result (λ parts. parts.0 ≡ lowercase (first_subtag units.now)) }
     ensures rest { IfSome result (λ parts. option_copied parts.1 ≡ behind (length (first_subtag units.now)) units.now) }

@@ -8,7 +8,7 @@ use tinystr::TinyAsciiStr;
 /// Where the language ends: at the first dash among eight bytes, or behind these, which may be past the text. The
 /// minimum is there for speed: by it the compiler leaves out the tests that the places below are inside.
 #[inline(always)]
-pub fn language_end(text: &TinyAsciiStr<17>) -> usize
+pub(crate) fn language_end(text: &TinyAsciiStr<17>) -> usize
     ensures place { result ≡ language_end text.now }
     ensures fits { result ≤ 8 }
 {
@@ -17,7 +17,7 @@ pub fn language_end(text: &TinyAsciiStr<17>) -> usize
 
 /// Whether a byte of the text stands at a place.
 #[inline(always)]
-pub fn has_byte_at(text: &TinyAsciiStr<17>, place: usize) -> bool
+pub(crate) fn has_byte_at(text: &TinyAsciiStr<17>, place: usize) -> bool
     ensures { result ≡ nat_lt place (length text.now) }
 {
     text.get(place).is_some()
@@ -25,7 +25,7 @@ pub fn has_byte_at(text: &TinyAsciiStr<17>, place: usize) -> bool
 
 /// Where a region stands if there is one. What has a fourth byte behind the language has a script there.
 #[inline(always)]
-pub fn region_start(text: &TinyAsciiStr<17>) -> usize
+pub(crate) fn region_start(text: &TinyAsciiStr<17>) -> usize
     ensures place { result ≡ region_start text.now }
     ensures fits { result ≤ 14 }
 {

@@ -11,7 +11,7 @@ use crate::script::Script;
 
 /// Takes the first subtag off, where it is a script.
 #[inline]
-pub fn take_script(rest: Option<&[u8]>) -> (Option<Script>, Option<&[u8]>)
+pub(crate) fn take_script(rest: Option<&[u8]>) -> (Option<Script>, Option<&[u8]>)
     ensures script { result.0 ≡ leading_script (subtags_behind (option_copied rest.entry)) }
     ensures rest { subtags_behind (option_copied result.1)
         ≡ behind_script (subtags_behind (option_copied rest.entry)) }
@@ -31,7 +31,7 @@ pub fn take_script(rest: Option<&[u8]>) -> (Option<Script>, Option<&[u8]>)
 /// Reads what is left: a region, or nothing.
 #[inline]
 #[tactic(auto, using(crate::proofs::SplitLemmas::last_region_of_region, crate::proofs::SplitLemmas::last_region_of_no_region))]
-pub fn last_region(rest: Option<&[u8]>) -> Result<Option<Region>, LangIdError>
+pub(crate) fn last_region(rest: Option<&[u8]>) -> Result<Option<Region>, LangIdError>
     ensures { result ≡ last_region (subtags_behind (option_copied rest.entry)) }
 {
     let Some(units) = rest else {

@@ -7,7 +7,7 @@ use crate::record::number_at;
 
 /// The number that bytes of a record spell from a place on, the first the most significant. In 64 bits these are eight bytes,
 /// with NULs past the end. In 128 bits the next eight follow, or the record's last eight where fewer are left.
-pub trait Number<const N: usize>: Copy + Drop {
+pub(crate) trait Number<const N: usize>: Copy + Drop {
     ghost value: { Self → ℕ };
 
     ghost spelled: { ℕ → List ℕ → ℕ };

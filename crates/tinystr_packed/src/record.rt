@@ -13,7 +13,7 @@ use tinystr_words::padded;
 /// Whether a record is below another, which is equally long.
 // At most eight bytes are compared as one number, so that no branch is taken within a record.
 #[inline(always)]
-pub fn is_below(left: &[u8], right: &[u8]) -> bool
+pub(crate) fn is_below(left: &[u8], right: &[u8]) -> bool
     requires { length left.now ≡ length right.now }
     ensures { result ≡ is_lt (slice_cmp nat_cmp left.now right.now) }
 {
@@ -26,7 +26,7 @@ pub fn is_below(left: &[u8], right: &[u8]) -> bool
 
 /// The order of two records, which are equally long.
 #[inline(always)]
-pub fn compare(left: &[u8], right: &[u8]) -> Ordering
+pub(crate) fn compare(left: &[u8], right: &[u8]) -> Ordering
     requires { length left.now ≡ length right.now }
     ensures { result ≡ slice_cmp nat_cmp left.now right.now }
 {
@@ -35,7 +35,7 @@ pub fn compare(left: &[u8], right: &[u8]) -> Ordering
 
 /// Whether two records hold one text.
 #[inline(always)]
-pub fn holds_same_text<const N: usize>(left: &[u8; N], right: &[u8; N]) -> bool
+pub(crate) fn holds_same_text<const N: usize>(left: &[u8; N], right: &[u8; N]) -> bool
     requires left { IsPaddedText left.now N }
     requires right { IsPaddedText right.now N }
     ensures { result ≡ bytes_eq (text_of left.now) (text_of right.now) }
@@ -45,7 +45,7 @@ pub fn holds_same_text<const N: usize>(left: &[u8; N], right: &[u8; N]) -> bool
 
 /// The number that eight bytes of a record spell from `start` on, or all of a record of at most eight.
 #[inline(always)]
-pub fn number_at<const N: usize>(raw: &[u8; N], start: usize) -> u64
+pub(crate) fn number_at<const N: usize>(raw: &[u8; N], start: usize) -> u64
     requires { start ≤ N - 8 }
     ensures { result ≡ number_at start raw.now }
 {

@@ -24,7 +24,7 @@ const FEW: usize = 32;
 // One number is all of a record of at most sixteen bytes. A longer one is told from most others by eight bytes behind those
 // that all records share, from most of the rest by sixteen, and from the last few by all.
 #[inline(always)]
-pub fn first_not_below<const N: usize>(records: &[[u8; N]], key: &[u8; N]) -> usize
+pub(crate) fn first_not_below<const N: usize>(records: &[[u8; N]], key: &[u8; N]) -> usize
     requires records { AreRisingRecords N records.now }
     requires key { IsRecord N key.now }
     ensures { IsFirstNotBelow key.now records.now result }
@@ -60,7 +60,10 @@ fn first_not_below_of_many<const N: usize>(records: &[[u8; N]], key: &[u8; N]) -
 /// How many records begin with a text, where none is below it.
 // They are those below the text with its last byte raised by one, which is at most 128. Mostly they are few.
 #[inline(always)]
-pub fn count_with_prefix<const N: usize>(records: &[[u8; N]], beginning: &TinyAsciiStr<N>) -> usize
+pub(crate) fn count_with_prefix<const N: usize>(
+    records: &[[u8; N]],
+    beginning: &TinyAsciiStr<N>,
+) -> usize
     requires records { AreRisingRecords N records.now }
     requires not_below { IsFirstNotBelow (pad beginning.now N) records.now 0 }
     ensures bound { result ≤ length records.now }

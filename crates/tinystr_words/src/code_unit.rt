@@ -44,7 +44,7 @@ pub trait CodeUnit: Copy {
 }
 
 /// How many code units from 1 on are characters.
-pub const CHARACTERS: u8 = 0x7f;
+pub(crate) const CHARACTERS: u8 = 0x7f;
 
 impl CodeUnit for u8 {
     ghost number = { λ unit. unit };
@@ -146,7 +146,7 @@ fn is_text_by_ends<U: CodeUnit>(units: &[U], count: usize) -> bool
 
 /// Whether at most sixteen code units are a text.
 #[inline(always)]
-pub fn is_text<U: CodeUnit>(units: &[U]) -> bool
+pub(crate) fn is_text<U: CodeUnit>(units: &[U]) -> bool
     requires { length units.now ≤ 16 }
     ensures { IsTrue result ↔ IsText (map U.number units.now) }
 {

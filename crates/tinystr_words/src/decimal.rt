@@ -29,7 +29,7 @@ fn two_digits(number: u32) -> u32
 /// The shortest decimal text of a number, its first digit in the lowest lane. Four steps at most leave a number below
 /// 100.
 #[inline(always)]
-pub fn decimal_word(number: u32) -> u128
+pub(crate) fn decimal_word(number: u32) -> u128
     ensures { result ≡ word (decimal number) }
 {
     let mut last = 0u64;
@@ -69,7 +69,7 @@ fn four_pairs(number: u32) -> u64
 /// Eight digits, zeros in front among them, the first in the lowest lane; to each 0x30 is to be added. The tens of all
 /// pairs are made at once: below 100 a tenth is 103 parts of 1024, and no product leaves its lane.
 #[inline(always)]
-pub fn eight_digits(number: u32) -> u64
+pub(crate) fn eight_digits(number: u32) -> u64
     requires { number < 10 ^ 8 }
     ensures { result + 0x3030303030303030 ≡ word (decimal (10 ^ 8 + number)) / 256 }
 {

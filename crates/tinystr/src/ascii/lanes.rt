@@ -13,7 +13,7 @@ static KEPT_LANES: [u8; 16] = [
 
 /// The lanes up to a place, and NULs after them.
 #[inline(always)]
-pub fn first_lanes(lanes: u8x8, len: usize) -> u8x8
+pub(crate) fn first_lanes(lanes: u8x8, len: usize) -> u8x8
     requires { len ≤ 8 }
     ensures { result ≡ pad (take len lanes) 8 }
 {

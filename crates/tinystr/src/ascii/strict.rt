@@ -14,7 +14,7 @@ use tinystr_words::{CodeUnit, are_characters};
 /// The text of the code units, or its fault. The value is made where its bytes are: an array in an `Option` or a
 /// `Result` of its own would be moved once more.
 #[inline(always)]
-pub fn read<U: CodeUnit, const N: usize>(units: &[U]) -> Result<TinyAsciiStr<N>, ParseError>
+pub(crate) fn read<U: CodeUnit, const N: usize>(units: &[U]) -> Result<TinyAsciiStr<N>, ParseError>
     ensures accepted { IsOk result ↔ IsStrictText (map U.number units.now) N }
     ensures text { IfOk result (λ t. t ≡ map U.number units.now) }
     ensures fault { IfErr result (λ e. fault_of e ≡ fault_in N (map U.number units.now)) }
@@ -43,7 +43,7 @@ pub fn read<U: CodeUnit, const N: usize>(units: &[U]) -> Result<TinyAsciiStr<N>,
 
 /// The text of bytes, or why they aren't padded. The value is made where its bytes are, as in `read`.
 #[inline(always)]
-pub fn read_padded<const N: usize>(raw: [u8; N]) -> Result<TinyAsciiStr<N>, ParseError>
+pub(crate) fn read_padded<const N: usize>(raw: [u8; N]) -> Result<TinyAsciiStr<N>, ParseError>
     ensures accepted { IsOk result ↔ IsPaddedText raw.entry N }
     ensures text { IfOk result (λ t. t ≡ text_of raw.entry) }
     ensures fault { IfErr result (λ e. fault_of e ≡ fault_in N raw.entry) }
@@ -67,7 +67,7 @@ pub fn read_padded<const N: usize>(raw: [u8; N]) -> Result<TinyAsciiStr<N>, Pars
 
 /// Whether all records are padded texts. There is no early exit, so that the compiler asks several at once.
 #[inline(always)]
-pub fn are_padded<const N: usize>(records: &[[u8; N]]) -> bool
+pub(crate) fn are_padded<const N: usize>(records: &[[u8; N]]) -> bool
     ensures { IsTrue result ↔ All (λ bytes. IsPaddedText bytes N) records.now }
 {
     let mut are_padded = true;

@@ -7,7 +7,7 @@ ghost use Rattle.tinystr_words.specs.Text.{IsPadded, IsPaddedText, pad, text_of}
 /// Copies the bytes that both have, eight at a time: where their number is known at compile time they go through
 /// registers, and a copy of all at once would keep the value in memory.
 #[inline(always)]
-pub fn put(bytes: &mut [u8], src: &[u8])
+pub(crate) fn put(bytes: &mut [u8], src: &[u8])
     ensures { bytes.new ≡ take (length bytes.old) src.now ++ drop (length src.now) bytes.old }
 {
     let len = bytes.len().min(src.len());
@@ -48,7 +48,7 @@ pub fn cut<const M: usize>(padded: &[u8]) -> [u8; M]
 /// Appends as much of a padded text as fits. The place is known only at run time, and a copy of all at once is faster
 /// there than `put`.
 #[inline(always)]
-pub fn append(bytes: &mut [u8], len: usize, padded: &[u8])
+pub(crate) fn append(bytes: &mut [u8], len: usize, padded: &[u8])
     requires padded { IsPadded bytes.old }
     requires at_end { len ≡ length (text_of bytes.old) }
     requires padded_text { IsPadded padded.now }

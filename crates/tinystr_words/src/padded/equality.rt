@@ -10,7 +10,7 @@ use std::simd::prelude::*;
 // those before them, so all bytes are tested in vectors, and up to 32 without a branch.
 #[inline(always)]
 #[tactic(auto, using(crate::proofs::Equality::windows))]
-pub fn equal(left: &[u8], right: &[u8]) -> bool
+pub(crate) fn equal(left: &[u8], right: &[u8]) -> bool
     requires lengths { length left.now ≡ length right.now }
     requires sixteen { 16 ≤ length left.now }
     ensures { result ≡ bytes_eq left.now right.now }

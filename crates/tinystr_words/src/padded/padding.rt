@@ -12,7 +12,7 @@ use std::simd::prelude::*;
 /// sixteen: behind a copy such a load would lie across two stores, and wait for both.
 #[inline(always)]
 #[tactic(auto, using(crate::proofs::Padding::padding))]
-pub fn is_padded(bytes: &[u8]) -> bool
+pub(crate) fn is_padded(bytes: &[u8]) -> bool
     requires { 17 ≤ length bytes.now }
     ensures { IsTrue result ↔ IsPadded bytes.now }
 {

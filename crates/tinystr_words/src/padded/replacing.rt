@@ -18,7 +18,7 @@ static KEPT_LANES: [u8; 32] = [
 
 /// At most sixteen bytes, with the replacement for each that isn't a character, and then NULs.
 #[inline(always)]
-pub fn lossy_word<const N: usize>(bytes: &[u8], replacement: u8) -> [u8; N]
+pub(crate) fn lossy_word<const N: usize>(bytes: &[u8], replacement: u8) -> [u8; N]
     requires one_word { length bytes.now ≤ 16 }
     requires fits { length bytes.now ≤ N }
     ensures { result ≡ pad (map (lossy_byte replacement) bytes.now) N }

@@ -21,7 +21,7 @@ fn split_word(bytes: &[u8]) -> Option<(Aligned16, &[u8])>
 /// The length of the text in bytes: the sum over its words.
 #[inline(always)]
 #[tactic(auto, using(crate::proofs::PaddedWords::len_step))]
-pub fn len(bytes: &[u8]) -> usize
+pub(crate) fn len(bytes: &[u8]) -> usize
     requires { IsPadded bytes.now }
     ensures { result ≡ length (text_of bytes.now) }
 {
@@ -36,7 +36,7 @@ pub fn len(bytes: &[u8]) -> usize
 
 /// Whether each word passes, the later ones without a first character.
 #[inline(always)]
-pub fn ask(bytes: &[u8], question: Question) -> bool
+pub(crate) fn ask(bytes: &[u8], question: Question) -> bool
     requires { IsPadded bytes.now }
     ensures { result ≡ ask_question question (text_of bytes.now) }
 {
@@ -54,7 +54,7 @@ pub fn ask(bytes: &[u8], question: Question) -> bool
 
 /// Changes each word in place, the later ones without a first character. The NULs behind the text stay.
 #[inline(always)]
-pub fn put_in_case(bytes: &mut [u8], case: Case)
+pub(crate) fn put_in_case(bytes: &mut [u8], case: Case)
     requires { IsPadded bytes.old }
     ensures { bytes.new ≡ pad (in_case case (text_of bytes.old)) (length bytes.old) }
 {
