@@ -1,16 +1,15 @@
-//! Texts as JSON values and as `N` bytes, and back.
+//! Texts as JSON values and as `N` bytes, and back: the errors, and the bytes. Values stand in `json`.
 
-ghost use Rattle.std.specs.Prelude.{◌≡◌, ◌++◌, ◌≤◌, ◌↔◌, Some, None, option_map, length, take, drop, IsOk, IfOk, IfErr, IsSomeAnd};
-ghost use Rattle.serde_json.specs.View.{view};
-ghost use Rattle.serde_json.specs.Find.{as_str};
-ghost use Rattle.tinystr_words.specs.Text.{pad, text_of, IsStrictText, IsPaddedText};
+ghost use Rattle.std.specs.Prelude.{◌≡◌, ◌++◌, ◌≤◌, ◌↔◌, Some, None, option_map, length, take, drop, IsOk, IfOk, IfErr};
+ghost use Rattle.tinystr_words.specs.Text.{pad, text_of, IsPaddedText};
 ghost use Rattle.tinystr_words.specs.ByteForm.{byte_fault};
-ghost use Rattle.tinystr.specs.Forms.{json_form, byte_fault_of, RefusesJson, RefusesWrite};
+ghost use Rattle.tinystr.specs.Forms.{byte_fault_of};
+
+mod json;
 
 use crate::ascii::TinyAsciiStr;
 use crate::unvalidated::UnvalidatedTinyAsciiStr;
-use serde_json::Value;
-use std::alloc::{AllocError, Global};
+use std::alloc::AllocError;
 
 /// Why a JSON value gives no text.
 ///
@@ -56,38 +55,6 @@ pub enum FormWriteError {
 }
 
 impl<const N: usize> TinyAsciiStr<N> {
-    /// The JSON string of the text. It allocates a copy of the text from `alloc`, and the error is that it failed.
-    ///
-    /// ```rust
-    /// let value = tinystr!(3, "EUR")?.to_json(rt.alloc())?;
-    /// assert_eq!(rt; value.as_str(), Some("EUR"));
-    /// ```
-    #[inline]
-    pub fn to_json(&self, alloc: Global) -> Result<Value, AllocError>
-        ensures { IfOk result (λ value. view value ≡ json_form self.now) }
-    {
-        Ok(Value::String(String::from_str(alloc, self.as_str())?))
-    }
-
-    /// The text of a JSON string. The error is `NotText` where the value isn't a string, and `InvalidText` where the
-    /// string has more than `N` bytes, a NUL or a byte above 127.
-    ///
-    /// ```rust
-    /// let value = Value::String(String::from_str(rt.alloc(), "EUR")?);
-    /// assert_eq!(rt; TinyAsciiStr::from_json(&value), Ok(tinystr!(3, "EUR")?));
-    /// assert_eq!(rt; TinyAsciiStr::<2>::from_json(&value), Err(JsonReadError::InvalidText));
-    /// assert_eq!(rt; TinyAsciiStr::<2>::from_json(&Value::Null), Err(JsonReadError::NotText));
-    /// ```
-    pub fn from_json(value: &Value) -> Result<Self, JsonReadError>
-        ensures accepted { IsOk result
-            ↔ IsSomeAnd (as_str (view value.now)) (λ t. IsStrictText t N) }
-        ensures text { IfOk result (λ t. view value.now ≡ json_form t) }
-        ensures fault { IfErr result (λ e. RefusesJson e (view value.now) N) }
-    {
-        let text = value.as_str().ok_or(JsonReadError::NotText)?;
-        Self::try_from_str(text).or(Err(JsonReadError::InvalidText))
-    }
-
     /// All `N` bytes: the text and then NULs.
     ///
     /// ```rust
@@ -151,29 +118,6 @@ impl<const N: usize> TinyAsciiStr<N> {
 }
 
 impl<const N: usize> UnvalidatedTinyAsciiStr<N> {
-    /// The JSON string of the text, where the bytes are a text and then NULs, and else `NotAscii`. They are tested
-    /// before memory is asked of `alloc`. Want of it is `Memory`.
-    pub fn to_json(&self, alloc: Global) -> Result<Value, FormWriteError>
-        ensures padded { IfOk result (λ _. IsPaddedText self.now N) }
-        ensures value { IfOk result (λ value. view value ≡ json_form (text_of self.now)) }
-        ensures fault { IfErr result (λ e. RefusesWrite e self.now N) }
-    {
-        let text = self.try_into_tinystr().or(Err(FormWriteError::NotAscii))?;
-        text.to_json(alloc).map_err(FormWriteError::Memory)
-    }
-
-    /// The text of a JSON string, and then NULs. The errors are those of `TinyAsciiStr::from_json`.
-    #[inline]
-    pub fn from_json(value: &Value) -> Result<Self, JsonReadError>
-        ensures accepted { IsOk result
-            ↔ IsSomeAnd (as_str (view value.now)) (λ t. IsStrictText t N) }
-        ensures bytes { IfOk result
-            (λ bytes. IsSomeAnd (as_str (view value.now)) (λ t. bytes ≡ pad t N)) }
-        ensures fault { IfErr result (λ e. RefusesJson e (view value.now) N) }
-    {
-        Ok(TinyAsciiStr::from_json(value)?.to_unvalidated())
-    }
-
     /// The bytes, where they are a text and then NULs, and else `NotAscii`: not all that `read_bytes` gives can be
     /// written again. It never answers `Memory`.
     ///
