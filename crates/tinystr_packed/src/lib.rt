@@ -12,8 +12,8 @@ mod sorted;
 mod sorting;
 mod table;
 
-pub use map::{Entries, MapError, PackedMap, pack_map};
-pub use packing::{pack, unpack};
+pub use map::{Entries, MapError, PackedMap};
+pub use packing::{pack, pack_map, unpack};
 pub use sorted::{NotRising, SortedTable};
 pub use sorting::pack_sorted;
 pub use table::{Table, Texts};

@@ -1,12 +1,14 @@
-//! Texts packed, and read back.
+//! Texts and maps packed, and texts read back.
 
 ghost use Rattle.std.specs.Prelude.{◌≡◌, All, IfOk};
 ghost use Rattle.std.specs.List.{flat_map};
 ghost use Rattle.tinystr_words.specs.Packed.{IsPacked};
 ghost use Rattle.tinystr_words.specs.Text.{IsStrictText, pad};
+ghost use Rattle.tinystr_packed.specs.Map.{ArePacked};
 
 use crate::table::Table;
 use std::alloc::{AllocError, Global};
+use std::collections::BTreeMap;
 use tinystr::TinyAsciiStr;
 
 /// The texts, packed. Only memory can stop it.
@@ -47,4 +49,34 @@ pub fn unpack<const N: usize>(
         texts.push(text)?;
     }
     Ok(texts)
+}
+
+/// The bytes of the keys and the bytes of the values of a map, each packed: what `PackedMap::new` takes. Only memory can
+/// stop it.
+///
+/// ```rust
+/// let mut places = BTreeMap::new(rt.alloc());
+/// places.insert(tinystr!(3, "JPY")?, [0])?;
+/// places.insert(tinystr!(3, "EUR")?, [2])?;
+/// let (keys, values) = pack_map(rt.alloc(), &places)?;
+/// assert_eq!(rt; keys.as_slice(), b"EURJPY".as_slice());
+/// assert_eq!(rt; values.as_slice(), [2, 0].as_slice());
+/// ```
+pub fn pack_map<const N: usize, const M: usize>(
+    alloc: Global,
+    map: &BTreeMap<TinyAsciiStr<N>, [u8; M]>,
+) -> Result<(Vec<u8>, Vec<u8>), AllocError>
+    ensures { IfOk result (λ made. ArePacked map.now.entries made.0.items made.1.items N M) }
+{
+    // Its contract says that the keys rise.
+    let count = map.len();
+    let mut keys = Vec::with_capacity(alloc, count.saturating_mul(N))?;
+    let mut values = Vec::with_capacity(alloc, count.saturating_mul(M))?;
+    for (key, value) in map {
+        // Its contract says that the text fits.
+        let _ = key.as_utf8();
+        keys.extend_from_slice(key.all_bytes())?;
+        values.extend_from_slice(value)?;
+    }
+    Ok((keys, values))
 }

@@ -2,7 +2,7 @@ use Rattle.std.proofs.Common.{◌≡◌, ◌++◌, length, rules}
 use Rattle.std.specs.Map.{keys_of}
 use Rattle.tinystr_words.specs.Text.{IsStrictText, pad}
 use Rattle.tinystr_packed.proofs.MapBytes.{PacksFirst-none, PacksFirst-more, ArePacked-all, IsRising-keys}
-use Rattle.tinystr_packed.proofs.map.pack_map.Goals as goal
+use Rattle.tinystr_packed.proofs.packing.pack_map.Goals as goal
 
 pub loop-key-init : goal.loop-key-init
 loop-key-init g c =

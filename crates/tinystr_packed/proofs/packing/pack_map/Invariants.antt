@@ -1,5 +1,5 @@
 use Rattle.tinystr_packed.proofs.MapBytes.{PacksFirst}
-use Rattle.tinystr_packed.proofs.map.pack_map.Given as goal
+use Rattle.tinystr_packed.proofs.packing.pack_map.Given as goal
 
 abbrev pub invariant-loop-key : goal.invariant-loop-key
 invariant-loop-key g l = PacksFirst l.map.entries l.key-iterator l.keys.items l.values.items g.row.N g.row.M
