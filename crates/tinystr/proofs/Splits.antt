@@ -2,10 +2,10 @@
 use Rattle.std.proofs.Common.{◌≡◌, ◌+◌, ◌*◌, ◌%◌, ◌-◌, ◌<◌, ◌≤◌, ℕ, suc, inl, inr, Bool, true, false, not, Option, Some, None, List, [], ◌∷◌, length, map, replicate, take, drop, get_or, cond, eqb, ap, ap₂, sym, ◌∙◌, w8, arith, refl, take_all, length-take, ltb, rules}
 use lib.Lanes.{zip2, mask_l, top, sel_l}
 use lib.Count.{count_trailing_zeros}
-use Rattle.std.specs.List.{position, position_or_len, range_with_len, slice_split}
+use Rattle.std.specs.List.{Contains, after_first, before_first, position, position_or_len, range_with_len, slice_split}
 use Rattle.std.proofs.lemmas.Bool.{cases_lt}
 use Rattle.std.proofs.lemmas.Bool.Decides.{nat_tests}
-use Rattle.std.proofs.lemmas.List.{get_or-drop, get_or-take, length-drop, places, take_rest}
+use Rattle.std.proofs.lemmas.List.{get_or-drop, get_or-take, get_or_default, length-drop, places, take_rest}
 use Rattle.std.proofs.lemmas.List.Elements.{All-take}
 use Rattle.std.proofs.lemmas.List.Quantifiers.{position-Some}
 use Rattle.std.proofs.lemmas.Simd.{bitmask_splat, leading_from_mask_l, trailing_mask_l, get_or-sel_l, get_or-zip2, get_or-replicate, length-sel_l, length-zip2, tops_compared}
@@ -193,3 +193,19 @@ slice_split-padded p l part i q at is = rw (is, text_of-rest l (i + 1) q) (slice
 -- all of a text without one
 pub slice_split-whole : (p : ℕ → Bool) (t part : List ℕ) → position p t ≡ None → part ≡ t → slice_split p t ≡ part ∷ []
 slice_split-whole p t part none is = rw is (slice_split-missed p t none)
+
+-- what stands before the first such byte, and behind it
+pub split_once-found : (c : ℕ) (t before behind : List ℕ) (i : ℕ) → position (λ b. eqb b c) t ≡ Some i → before ≡ take i t → behind ≡ drop (i + 1) t
+    → Contains t c × (◌≡◌ {A = List ℕ × List ℕ} (before, behind) (before_first (λ b. eqb b c) t, after_first (λ b. eqb b c) t))
+split_once-found c t before behind i at front back =
+    let is = position-Some (λ b. eqb b c) t i c at in
+    let first : position_or_len (λ b. eqb b c) t ≡ i = position_or_len_is (λ b. eqb b c) t i c (omega (arith, is.0)) is.2 (λ _. is.1) in
+    let here : get_or t i c ≡ c = grind (arith, nat_tests, is.1) in
+    ((i, is.0, here), rw (front, back, first) refl)
+
+-- where none is the byte, the text doesn't have it
+pub split_once-missed : (c : ℕ) (t : List ℕ) → position (λ b. eqb b c) t ≡ None → ¬ Contains t c
+split_once-missed c t none found =
+    let other : eqb (get_or t found.0 0) c ≡ false = position-None-fails (λ b. eqb b c) t none found.0 found.1 in
+    let here : get_or t found.0 0 ≡ c = get_or_default t found.0 0 c found.1 ∙ found.2 in
+    absurd (grind (arith, nat_tests))

@@ -7,6 +7,7 @@ mod join;
 mod resize;
 mod slice;
 mod split;
+mod split_once;
 
 use tinystr::TinyAsciiStr;
 

@@ -8,7 +8,7 @@ use crate::ascii::TinyAsciiStr;
 use tinystr_words::padded;
 
 impl<const N: usize> TinyAsciiStr<N> {
-    /// The text at another capacity: its first `M` bytes where it is longer.
+    /// The text at another capacity: its first `M` bytes where it is longer. At an `M` of at least `N` nothing is cut.
     ///
     /// ```rust
     /// assert_eq!(rt; tinystr!(8, "en-US")?.resize::<16>().as_str(), "en-US");
@@ -16,7 +16,8 @@ impl<const N: usize> TinyAsciiStr<N> {
     /// ```
     #[inline]
     pub fn resize<const M: usize>(self) -> TinyAsciiStr<M>
-        ensures { result ≡ take M self.entry }
+        ensures text { result ≡ take M self.entry }
+        ensures whole { N ≤ M → result ≡ self.entry }
     {
         TinyAsciiStr {
             bytes: padded::resize(&self.bytes),

@@ -26,6 +26,20 @@ impl<const N: usize> TinyAsciiStr<N> {
         self.behind::<M>(range.start).front(range.end - range.start)
     }
 
+    /// The first bytes of the text, so many, or all where there are no more.
+    ///
+    /// ```rust
+    /// let tag = tinystr!(16, "zh-Hant-TW")?;
+    /// assert_eq!(rt; tag.take(2).as_str(), "zh");
+    /// assert_eq!(rt; tag.take(99).as_str(), "zh-Hant-TW");
+    /// ```
+    #[inline]
+    pub fn take(&self, len: usize) -> Self
+        ensures { result ≡ take len self.now }
+    {
+        self.front(len)
+    }
+
     // What stands behind the first bytes, as much as there is room for. Where `M` bytes of the array stand there, they are
     // copied at once.
     #[inline(always)]

@@ -1,13 +1,14 @@
 //! A byte found in a text, and texts split at it.
 
-ghost use Rattle.std.specs.Prelude.{◌≡◌, ◌==◌, ◌∷◌, ◌<◌, ◌≤◌, ◌+◌, IfSome, None, length, position, take, drop, option_map};
+ghost use Rattle.std.specs.Prelude.{◌≡◌, ◌==◌, ◌∷◌, ◌<◌, ◌≤◌, ◌+◌, Contains, IfSome, None, SomeIff, length, position, take, drop, option_map};
 ghost use Rattle.std.specs.Iterator.{YieldsFirst, item_count};
-ghost use Rattle.std.specs.List.{slice_split};
+ghost use Rattle.std.specs.List.{after_first, before_first, slice_split};
 ghost use Rattle.std.specs.Option.{option_copied};
 ghost use Rattle.tinystr_words.specs.Text.{IsPadded, text_of};
 ghost use Rattle.tinystr.specs.Splitting.{parts_left};
 
 use crate::ascii::TinyAsciiStr;
+use crate::laws;
 use std::marker::Model;
 use std::simd::prelude::*;
 use tinystr_words::int_ops::{Aligned8, Aligned16};
@@ -55,6 +56,7 @@ impl<const N: usize> TinyAsciiStr<N> {
     pub fn find(&self, byte: u8) -> Option<usize>
         ensures place { result ≡ position (λ b. b == byte) self.now }
         ensures inside { IfSome result (λ at. at < N) }
+        ensures within { IfSome result (λ at. at < length self.now) }
     {
         let bytes = &self.bytes[..];
         let found = find_in_sixteen(first_sixteen(bytes), byte);
@@ -62,6 +64,28 @@ impl<const N: usize> TinyAsciiStr<N> {
             return find(bytes, byte);
         }
         found
+    }
+
+    /// What stands before the first byte that is the separator, and what stands behind it, or `None` where none is.
+    ///
+    /// ```rust
+    /// let tag = tinystr!(16, "zh-Hant-TW")?;
+    /// let parts = tag.split_once(b'-');
+    /// assert!(rt; parts == Some((tinystr!(16, "zh")?, tinystr!(16, "Hant-TW")?)));
+    /// assert!(rt; tag.split_once(b'_').is_none());
+    /// ```
+    #[inline]
+    pub fn split_once(&self, separator: u8) -> Option<(Self, Self)>
+        ensures { SomeIff result (Contains self.now separator)
+            (before_first (λ b. b == separator) self.now, after_first (λ b. b == separator) self.now) }
+    {
+        laws::fits(self);
+        let at = self.find(separator)?;
+        if N <= 8 {
+            let (before, behind) = around(self.resize(), at);
+            return Some((before.resize(), behind.resize()));
+        }
+        Some((self.take(at), self.slice(at + 1..N)))
     }
 
     /// The parts before, between and behind the bytes that are the separator, in order. A text without one is one part,

@@ -58,3 +58,31 @@ fn a_range_without_a_place_is_empty(rt: HostRuntime) {
     assert!(rt; is_cut::<8, 8>("New York", 3..3, "") && is_cut::<8, 8>("New York", 8..8, ""));
     assert!(rt; is_cut::<40, 40>(FORTY, 0..0, "") && is_cut::<40, 40>(FORTY, 40..40, ""));
 }
+
+// Whether the first bytes of the text, held at N, are these.
+fn is_front<const N: usize>(text: &str, len: usize, front: &str) -> bool
+    requires { N < 2 ^ 63 }
+{
+    match TinyAsciiStr::<N>::try_from_str(text) {
+        Ok(value) => is_text(value.take(len), front),
+        Err(_) => false,
+    }
+}
+
+#[test]
+fn the_first_bytes_of_a_text(rt: HostRuntime) {
+    assert!(rt; is_front::<0>("", 0, "") && is_front::<0>("", 1, "") && is_front::<8>("", 8, ""));
+    assert!(rt; is_front::<8>("New York", 0, "") && is_front::<8>("New York", 1, "N"));
+    assert!(rt;
+        is_front::<8>("New York", 7, "New Yor") && is_front::<8>("New York", 8, "New York")
+    );
+    assert!(rt; is_front::<8>("en", 3, "en") && is_front::<8>("en", usize::MAX, "en"));
+    assert!(rt;
+        is_front::<9>("New York!", 8, "New York") && is_front::<9>("New York!", 9, "New York!")
+    );
+    assert!(rt;
+        is_front::<17>("zh-Hant-TW", 2, "zh") && is_front::<17>("zh-Hant-TW", 16, "zh-Hant-TW")
+    );
+    assert!(rt; is_front::<40>(FORTY, 39, &FORTY[..39]) && is_front::<40>(FORTY, 40, FORTY));
+    assert!(rt; is_front::<100>(HUNDRED, 40, FORTY) && is_front::<100>(FORTY, 99, FORTY));
+}

@@ -1,0 +1,67 @@
+//! A text split at the first such byte.
+
+ghost use Rattle.std.specs.Prelude.{◌<◌, ◌^◌};
+
+use super::{FORTY, HUNDRED};
+use tinystr::TinyAsciiStr;
+
+// Whether the text, held at N, is split into what stands before the first separator and what stands behind it.
+fn is_split<const N: usize>(text: &str, separator: u8, before: &str, behind: &str) -> bool
+    requires { N < 2 ^ 63 }
+{
+    match TinyAsciiStr::<N>::try_from_str(text) {
+        Ok(text) => match text.split_once(separator) {
+            Some((front, back)) => front.as_str() == before && back.as_str() == behind,
+            None => false,
+        },
+        Err(_) => false,
+    }
+}
+
+// Whether the text, held at N, has no such byte.
+fn is_whole<const N: usize>(text: &str, separator: u8) -> bool
+    requires { N < 2 ^ 63 }
+{
+    match TinyAsciiStr::<N>::try_from_str(text) {
+        Ok(text) => text.split_once(separator).is_none(),
+        Err(_) => false,
+    }
+}
+
+#[test]
+fn a_text_is_split_at_the_first_separator(rt: HostRuntime) {
+    assert!(rt; is_split::<8>("en-US", b'-', "en", "US"));
+    assert!(rt; is_split::<8>("en-US-xx", b'-', "en", "US-xx"));
+    assert!(rt; is_split::<10>("zh-Hant-TW", b'-', "zh", "Hant-TW"));
+    assert!(rt; is_split::<16>("MacintoshOSX2019", b'0', "MacintoshOSX2", "19"));
+    assert!(rt; is_split::<17>("MacintoshOSX-2019", b'-', "MacintoshOSX", "2019"));
+    assert!(rt; is_split::<17>("MacintoshOSX2019-", b'-', "MacintoshOSX2019", ""));
+    assert!(rt; is_split::<40>(FORTY, b'0', &FORTY[..26], &FORTY[27..]));
+    assert!(rt; is_split::<100>(FORTY, b'p', &FORTY[..15], &FORTY[16..]));
+    assert!(rt; is_split::<100>(FORTY, b'q', &FORTY[..16], &FORTY[17..]));
+    let len = HUNDRED.len();
+    assert!(rt; is_split::<100>(HUNDRED, b'~', &HUNDRED[..len - 9], &HUNDRED[len - 8..]));
+}
+
+#[test]
+fn either_part_may_be_empty(rt: HostRuntime) {
+    assert!(rt; is_split::<1>("-", b'-', "", "") && is_split::<8>("--", b'-', "", "-"));
+    assert!(rt; is_split::<8>("-New Yor", b'-', "", "New Yor"));
+    assert!(rt; is_split::<8>("New Yor-", b'-', "New Yor", ""));
+    assert!(rt; is_split::<9>("-", b'-', "", "") && is_split::<40>("-a", b'-', "", "a"));
+    assert!(rt; is_split::<40>(FORTY, b'a', "", &FORTY[1..]));
+    assert!(rt; is_split::<40>(FORTY, b'-', &FORTY[..39], ""));
+}
+
+#[test]
+fn a_text_without_the_separator_is_not_split(rt: HostRuntime) {
+    assert!(rt; is_whole::<0>("", b'-') && is_whole::<8>("", b'-') && is_whole::<40>("", b'-'));
+    assert!(rt; is_whole::<8>("en-US", b'_') && is_whole::<8>("New York", b'K'));
+    assert!(rt; is_whole::<17>("MacintoshOSX2019", b'-') && is_whole::<40>(FORTY, b'~'));
+    for separator in [0, 128, 255] {
+        assert!(rt; is_whole::<8>("\u{1}\u{7f}", separator), "{separator}");
+        assert!(rt; is_whole::<40>(FORTY, separator), "{separator}");
+    }
+    assert!(rt; is_split::<2>("\u{1}\u{7f}", 1, "", "\u{7f}"));
+    assert!(rt; is_split::<2>("\u{1}\u{7f}", 127, "\u{1}", ""));
+}
