@@ -1,20 +1,22 @@
 -- Texts that begin with a text.
 use Rattle.std.proofs.Common.{◌≡◌, ◌≢◌, ℕ, suc, zero, ◌+◌, ◌-◌, ◌<◌, ◌≤◌, Bool, true, false, ◌&&◌, List, [], ◌∷◌, ◌++◌, length, map, take, drop, get_or, refl, sym, ap, ◌∙◌, arith, nat_eq, inl, inr}
-use Rattle.std.specs.List.{starts_with, filter, All}
+use Rattle.std.specs.List.{starts_with, filter, zip, All}
 use Rattle.std.specs.List.Sorted.{IsPartitionPoint}
+use Rattle.std.specs.Map.{keys_of}
 use Rattle.std.specs.Ordering.{nat_cmp}
 use Rattle.std.proofs.lemmas.Slice.Eq.{bytes_eq-Decides}
 use Rattle.std.specs.declared.cmp.Ordering.TheVariants.{Less, Equal, Greater}
 use Rattle.std.proofs.lemmas.Bool.{cases_lt, false≢true}
 use Rattle.std.proofs.lemmas.Bool.Decides.{nat_tests}
 use Rattle.std.proofs.lemmas.Cmp.{nat_list_cmp_total, tied_itself}
-use Rattle.std.proofs.lemmas.List.{get_or-drop, get_or-take, get_or_default, append-nil, length-drop, length-map, length-take, length-take-le, take-append-drop}
+use Rattle.std.proofs.lemmas.List.{get_or-drop, get_or-map, get_or-take, get_or_default, append-nil, length-drop, length-map, length-take, length-take-le, take-append-drop}
 use Rattle.std.proofs.lemmas.List.Elements.{filter-append, All-head, All-tail}
+use Rattle.std.proofs.lemmas.Map.Entries.{length-keys_of}
 use Rattle.tinystr_words.specs.Text.{IsTextByte, IsText, IsStrictText, IsPaddedText, pad, text_of}
 use Rattle.tinystr_words.proofs.Order.{cmp-IsPaddedText}
 use Rattle.tinystr_words.proofs.Texts.{NULS, length-pad, text_of-pad, IsPaddedText-pad}
 use Rattle.tinystr_packed.specs.Numbers.{AreRisingRecords, BeginAlike}
-use Rattle.tinystr_packed.specs.Rising.{order, text_at, IsRising, IsFirstNotBelow}
+use Rattle.tinystr_packed.specs.Rising.{order, text_at, IsRising, IsFirstNotBelow, IsPrefixRange}
 use Rattle.tinystr_packed.proofs.RisingTexts.{IsRecordOf-at, IsRecord-padded, raised, order-rising, below_from_rising}
 
 abbrev pub begins : List ℕ → List ℕ → Bool
@@ -190,35 +192,74 @@ IsPartitionPoint-raised records p n i m h low last fits found =
 
 -- ---- what a filter keeps of a list of three parts
 
-filter-none : (f : List ℕ → Bool) (xs : List (List ℕ)) → ((k : ℕ) → k < length xs → f (get_or xs k []) ≡ false) → filter f xs ≡ []
-filter-none f [] h = refl
-filter-none f (x ∷ xs) h = let first : f x ≡ false = h 0 (omega arith) in rw first (filter-none f xs (λ k below. h (suc k) (omega arith)))
+filter-none : {X : Type 0} (f : X → Bool) (xs : List X) (d : X) → ((k : ℕ) → k < length xs → f (get_or xs k d) ≡ false) → filter f xs ≡ []
+filter-none f [] d h = refl
+filter-none f (x ∷ xs) d h = let first : f x ≡ false = h 0 (omega arith) in rw first (filter-none f xs d (λ k below. h (suc k) (omega arith)))
 
-filter-all : (f : List ℕ → Bool) (xs : List (List ℕ)) → ((k : ℕ) → k < length xs → f (get_or xs k []) ≡ true) → filter f xs ≡ xs
-filter-all f [] h = refl
-filter-all f (x ∷ xs) h = let first : f x ≡ true = h 0 (omega arith) in rw first (ap (λ (l : List (List ℕ)). x ∷ l) (filter-all f xs (λ k below. h (suc k) (omega arith))))
+filter-all : {X : Type 0} (f : X → Bool) (xs : List X) (d : X) → ((k : ℕ) → k < length xs → f (get_or xs k d) ≡ true) → filter f xs ≡ xs
+filter-all f [] d h = refl
+filter-all f (x ∷ xs) d h = let first : f x ≡ true = h 0 (omega arith) in rw first (ap (λ l. x ∷ l) (filter-all f xs d (λ k below. h (suc k) (omega arith))))
 
-filter-middle : (f : List ℕ → Bool) (xs : List (List ℕ)) (i m : ℕ) → ((k : ℕ) → k < i → f (get_or xs k []) ≡ false) → ((k : ℕ) → i ≤ k → k < i + m → k < length xs → f (get_or xs k []) ≡ true)
-    → ((k : ℕ) → i + m ≤ k → k < length xs → f (get_or xs k []) ≡ false) → take m (drop i xs) ≡ filter f xs
-filter-middle f xs i m before inside behind =
+filter-middle : {X : Type 0} (f : X → Bool) (xs : List X) (d : X) (i m : ℕ) → ((k : ℕ) → k < i → k < length xs → f (get_or xs k d) ≡ false) → ((k : ℕ) → i ≤ k → k < i + m → k < length xs → f (get_or xs k d) ≡ true)
+    → ((k : ℕ) → i + m ≤ k → k < length xs → f (get_or xs k d) ≡ false) → take m (drop i xs) ≡ filter f xs
+filter-middle f xs d i m before inside behind =
     let rest = drop i xs in
-    let front = filter-none f (take i xs) (λ k below. rw (get_or-take i xs k [] (omega (arith, length-take i xs))) (before k (omega (arith, length-take i xs)))) in
-    let middle = filter-all f (take m rest) (λ k below. rw (get_or-take m rest k [] (omega (arith, length-take m rest)), get_or-drop) (inside (i + k) (omega arith) (omega (arith, length-take m rest)) (omega (arith, length-take m rest, length-drop i xs)))) in
-    let back = filter-none f (drop m rest) (λ k below. rw (get_or-drop, get_or-drop) (behind (i + (m + k)) (omega arith) (omega (arith, length-drop m rest, length-drop i xs)))) in
-    sym (ap (λ (l : List (List ℕ)). filter f l) (sym (take-append-drop i xs)) ∙ filter-append f (take i xs) rest
-    ∙ rw front (ap (λ (l : List (List ℕ)). filter f l) (sym (take-append-drop m rest)) ∙ filter-append f (take m rest) (drop m rest) ∙ rw (middle, back) (append-nil (take m rest))))
+    let front = filter-none f (take i xs) d (λ k below. rw (get_or-take i xs k d (omega (arith, length-take i xs))) (before k (omega (arith, length-take i xs)) (omega (arith, length-take i xs)))) in
+    let middle = filter-all f (take m rest) d (λ k below. rw (get_or-take m rest k d (omega (arith, length-take m rest)), get_or-drop) (inside (i + k) (omega arith) (omega (arith, length-take m rest)) (omega (arith, length-take m rest, length-drop i xs)))) in
+    let back = filter-none f (drop m rest) d (λ k below. rw (get_or-drop, get_or-drop) (behind (i + (m + k)) (omega arith) (omega (arith, length-drop m rest, length-drop i xs)))) in
+    sym (ap (λ l. filter f l) (sym (take-append-drop i xs)) ∙ filter-append f (take i xs) rest
+    ∙ rw front (ap (λ l. filter f l) (sym (take-append-drop m rest)) ∙ filter-append f (take m rest) (drop m rest) ∙ rw (middle, back) (append-nil (take m rest))))
 
--- the texts that begin with p
-pub filter-begins : (records rest ts : List (List ℕ)) (p : List ℕ) (n i m : ℕ) → All (λ r. IsPaddedText r n) records → map text_of records ≡ ts → IsText p → IsFirstNotBelow p ts i → rest ≡ drop i records
-    → IsPartitionPoint (λ r. begins p r ≡ true) (λ r. begins p r ≡ false) rest m → take m (drop i ts) ≡ filter (begins p) ts
-filter-begins records rest ts p n i m h view text first cut parts =
+-- ---- the texts that begin with p
+
+pub IsPrefixRange-counted : (records rest ts : List (List ℕ)) (p : List ℕ) (n i m : ℕ) → All (λ r. IsPaddedText r n) records → map text_of records ≡ ts → IsText p → IsFirstNotBelow p ts i → rest ≡ drop i records
+    → IsPartitionPoint (λ r. begins p r ≡ true) (λ r. begins p r ≡ false) rest m → m ≤ length rest → IsPrefixRange p ts i (i + m)
+IsPrefixRange-counted records rest ts p n i m h view text first cut parts count =
     let long : length records ≡ length ts = rw (← view) (sym (length-map records text_of)) in
-    let count : length rest ≡ length ts - i = omega (arith, ap (λ (l : List (List ℕ)). length l) cut, length-drop i records) in
-    filter-middle (begins p) ts i m
-    (λ k below. is_false (begins p (text_at ts k)) (λ yes. not_below_beginning p (text_at ts k) yes (first.below k below)))
-    (λ k from to inside.
-    let place : i + (k - i) ≡ k = omega arith in
-    sym (begins-text records ts p [] n k h view text (omega arith)) ∙ (rw (cut, get_or-drop, place) at (parts.0 (k - i) [] (omega arith) (omega arith))))
-    (λ k from inside.
-    let place : i + (k - i) ≡ k = omega arith in
-    sym (begins-text records ts p [] n k h view text (omega arith)) ∙ (rw (cut, get_or-drop, place) at (parts.1 (k - i) [] (omega arith) (omega arith))))
+    let left : length rest ≡ length ts - i = omega (arith, ap (λ (l : List (List ℕ)). length l) cut, length-drop i records) in
+    record {
+      ordered = omega arith;
+      inside = omega (arith, first.inside);
+      before = λ k below. is_false (begins p (text_at ts k)) (λ yes. not_below_beginning p (text_at ts k) yes (first.below k below));
+      within = λ k from to.
+          let place : i + (k - i) ≡ k = omega arith in
+          sym (begins-text records ts p [] n k h view text (omega (arith, first.inside))) ∙ (rw (cut, get_or-drop, place) at (parts.0 (k - i) [] (omega arith) (omega arith)));
+      behind = λ k from inside.
+          let place : i + (k - i) ≡ k = omega arith in
+          sym (begins-text records ts p [] n k h view text (omega arith)) ∙ (rw (cut, get_or-drop, place) at (parts.1 (k - i) [] (omega arith) (omega arith)));
+    }
+
+-- a filter keeps them
+pub filter-texts : (p : List ℕ) (ts : List (List ℕ)) (i j : ℕ) → IsPrefixRange p ts i j → take (j - i) (drop i ts) ≡ filter (begins p) ts
+filter-texts p ts i j h =
+    filter-middle (begins p) ts [] i (j - i) (λ k below _. h.before k below) (λ k from to _. h.within k from (omega (arith, h.ordered))) (λ k from inside. h.behind k (omega (arith, h.ordered)) inside)
+
+-- and the entries whose keys they are
+pub filter-entries : (p : List ℕ) (es : List (List ℕ × List ℕ)) (ks : List (List ℕ)) (i j : ℕ) → ks ≡ keys_of es → IsPrefixRange p ks i j → take (j - i) (drop i es) ≡ filter (λ e. begins p e.0) es
+filter-entries p es ks i j are h =
+    let key : (k : ℕ) → k < length es → begins p (get_or es k ([], [])).0 ≡ begins p (text_at ks k) =
+    λ k inside. ap (begins p) (sym (get_or-map (λ (e : List ℕ × List ℕ). e.0) es k ([], []) [] inside) ∙ ap (λ (l : List (List ℕ)). get_or l k []) (sym are)) in
+    let long : length ks ≡ length es = ap (λ (l : List (List ℕ)). length l) are ∙ length-keys_of es in
+    filter-middle (λ e. begins p e.0) es ([], []) i (j - i)
+    (λ k below inside. key k inside ∙ h.before k below)
+    (λ k from to inside. key k inside ∙ h.within k from (omega (arith, h.ordered)))
+    (λ k from inside. key k inside ∙ h.behind k (omega (arith, h.ordered)) (omega arith))
+
+-- a part of entries has a part of the keys and of the values
+drop-zip : (ks vs : List (List ℕ)) (i : ℕ) → drop i (zip ks vs) ≡ zip (drop i ks) (drop i vs)
+drop-zip ks vs zero = refl
+drop-zip [] vs (suc i) = refl
+drop-zip (k ∷ ks) [] (suc i) = zip-nil (drop i ks) where
+  zip-nil : (ks : List (List ℕ)) → ◌≡◌ {A = List (List ℕ × List ℕ)} [] (zip ks [])
+  zip-nil [] = refl
+  zip-nil (k ∷ ks) = refl
+drop-zip (k ∷ ks) (v ∷ vs) (suc i) = drop-zip ks vs i
+
+take-zip : (ks vs : List (List ℕ)) (m : ℕ) → take m (zip ks vs) ≡ zip (take m ks) (take m vs)
+take-zip ks vs zero = refl
+take-zip [] vs (suc m) = refl
+take-zip (k ∷ ks) [] (suc m) = refl
+take-zip (k ∷ ks) (v ∷ vs) (suc m) = ap (λ (l : List (List ℕ × List ℕ)). (k, v) ∷ l) (take-zip ks vs m)
+
+pub zip-part : (ks vs : List (List ℕ)) (i j : ℕ) → take (j - i) (drop i (zip ks vs)) ≡ zip (take (j - i) (drop i ks)) (take (j - i) (drop i vs))
+zip-part ks vs i j = ap (λ (l : List (List ℕ × List ℕ)). take (j - i) l) (drop-zip ks vs i) ∙ take-zip (drop i ks) (drop i vs) (j - i)

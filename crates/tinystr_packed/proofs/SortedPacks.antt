@@ -1,5 +1,5 @@
 -- Texts packed in order.
-use Rattle.std.proofs.Common.{◌≡◌, ℕ, ◌+◌, List, [], sym, arith, All, IfOk}
+use Rattle.std.proofs.Common.{◌≡◌, ℕ, ◌+◌, ◌<◌, ◌∙◌, List, [], sym, arith, IfOk}
 use Rattle.std.specs.Cmp.Lexicographic.{slice_cmp}
 use Rattle.std.specs.List.{dedup, flat_map}
 use Rattle.std.specs.List.Sorted.{IsPermutation, IsSorted}
@@ -13,18 +13,16 @@ use Rattle.std.proofs.lemmas.List.Sorted.{Contains-permutation, IsPermutation-sy
 use Rattle.std.proofs.lemmas.Map.Keys.{Less-from_sorted}
 use Rattle.std.proofs.lemmas.Map.Text.{is_eq-slice_cmp}
 use Rattle.std.proofs.lemmas.Slice.Eq.{bytes_eq-Decides}
-use Rattle.tinystr_words.specs.Text.{IsStrictText, pad}
+use Rattle.tinystr_words.specs.Text.{pad}
+use Rattle.tinystr_packed.proofs.PackedTexts.{AllStrict, packed, packed_injective}
 use Rattle.tinystr_packed.specs.Rising.{IsRising}
-use Rattle.tinystr_packed.specs.Sorting.{ArePackedInOrder}
+use Rattle.tinystr_packed.specs.Sorting.{ArePackedInOrder, ArePackedRising}
 
 -- texts that are sorted, each kept once, rise
 IsRising-dedup : (texts : List (List ℕ)) → IsSorted (slice_cmp nat_cmp) texts → IsRising (dedup bytes_eq texts)
 IsRising-dedup texts sorted =
     let strict = IsStrictlySortedBy-dedup nat_list_cmp_total (λ x y. sym (is_eq-slice_cmp x y)) texts sorted in
     λ k inside. Less-from_sorted (slice_cmp nat_cmp) (dedup bytes_eq texts) k (k + 1) [] strict (omega arith) inside
-
-abbrev AllStrict : ℕ → List (List ℕ) → Type 0
-AllStrict n ts = All (λ (t : List ℕ). IsStrictText t n) ts
 
 -- what is packed of texts that are sorted, each kept once
 pub ArePackedInOrder-packed : {X E : Type 0} (items : X → List ℕ) (r : Result X E) (texts sorted kept : List (List ℕ)) (n : ℕ)
@@ -41,3 +39,8 @@ ArePackedInOrder-packed items (Ok made) texts sorted kept n moved up is strict j
   strict = strict;
   joined = joined;
 }
+
+-- texts that don't rise aren't those of a sorted table
+pub unsorted-not_packed : (ts : List (List ℕ)) (bytes : List ℕ) (n : ℕ) → 0 < n → AllStrict n ts → bytes ≡ packed n ts → ¬ IsRising ts → ¬ ((ss : List (List ℕ)) × ArePackedRising ss bytes n)
+unsorted-not_packed ts bytes n some strict joined falls found =
+    falls (rw (← packed_injective n found.0 ts some found.1.strict strict (sym found.1.joined ∙ joined)) found.1.rising)

@@ -1,6 +1,7 @@
 -- Texts that rise, and places among them.
-use Rattle.std.specs.Prelude.{◌≡◌, ◌≢◌, ℕ, ◌+◌, ◌-◌, ◌<◌, ◌≤◌, List, [], length, take, slice_index_or}
+use Rattle.std.specs.Prelude.{◌≡◌, ◌≢◌, ℕ, ◌+◌, ◌-◌, ◌<◌, ◌≤◌, true, false, List, [], length, take, slice_index_or, nat_eq}
 use Rattle.std.specs.Cmp.Lexicographic.{slice_cmp}
+use Rattle.std.specs.List.{starts_with}
 use Rattle.std.specs.Ordering.{nat_cmp}
 use Rattle.std.specs.declared.cmp.Ordering.{Ordering}
 use Rattle.std.specs.declared.cmp.Ordering.TheVariants.{Less, Greater}
@@ -42,3 +43,11 @@ pub record IsFirstNotBelowWithin (t : List ℕ) (texts : List (List ℕ)) (i j :
   pub inside : j ≤ length texts
   pub below : (k : ℕ) → k < i → order (text_at texts k) t ≡ Less
   pub not_below : (k : ℕ) → j ≤ k → k < length texts → order (text_at texts k) t ≢ Less
+
+-- the texts from i to j begin with p, and no others do
+pub record IsPrefixRange (p : List ℕ) (texts : List (List ℕ)) (i j : ℕ) : Type 0 where
+  pub ordered : i ≤ j
+  pub inside : j ≤ length texts
+  pub before : (k : ℕ) → k < i → starts_with nat_eq (text_at texts k) p ≡ false
+  pub within : (k : ℕ) → i ≤ k → k < j → starts_with nat_eq (text_at texts k) p ≡ true
+  pub behind : (k : ℕ) → j ≤ k → k < length texts → starts_with nat_eq (text_at texts k) p ≡ false

@@ -14,6 +14,6 @@ mod table;
 
 pub use map::{Entries, MapError, PackedMap};
 pub use packing::{pack, pack_map, unpack};
-pub use sorted::{NotRising, SortedTable};
+pub use sorted::{NotRising, SortedError, SortedTable};
 pub use sorting::pack_sorted;
 pub use table::{Table, Texts};

@@ -1,7 +1,8 @@
 //! Maps whose keys and values are packed, read in place.
 
-ghost use Rattle.std.specs.Prelude.{◌≡◌, ◌<◌, ◌^◌, ◌↔◌, [], List, ℕ, is_some, length, IsOk, IsTrue, IfOk, IfErr};
+ghost use Rattle.std.specs.Prelude.{◌≡◌, ◌<◌, ◌^◌, ◌↔◌, [], List, ℕ, filter, is_some, length, nat_eq, IsOk, IsTrue, IfOk, IfErr};
 ghost use Rattle.std.specs.Iterator.{YieldsFirstBy, item_count};
+ghost use Rattle.std.specs.List.{starts_with};
 ghost use Rattle.std.specs.Map.{keys_of, values_of};
 ghost use Rattle.std.specs.Option.{option_copied};
 ghost use Rattle.tinystr_packed.specs.Map.{ArePacked, RefusesMap, get};
@@ -10,6 +11,7 @@ ghost use Rattle.tinystr_packed.specs.Rising.{IsRising};
 use crate::sorted::{NotRising, SortedTable};
 use crate::table::{Table, Texts};
 use std::marker::Model;
+use std::ops::Range;
 use tinystr::TinyAsciiStr;
 use tinystr::ule::UleError;
 
@@ -126,6 +128,25 @@ impl<'a, const N: usize, const M: usize> PackedMap<'a, N, M> {
         ensures { result ≡ is_some (get self.now key.now) }
     {
         self.keys.contains(key)
+    }
+
+    /// The entries whose keys begin with a text, as a map of them alone.
+    ///
+    /// ```rust
+    /// let places = PackedMap::<3, 1>::new(b"CADCHFEUR", &[2, 2, 2]).unwrap();
+    /// let found = places.with_prefix(&tinystr!(3, "C")?);
+    /// assert_eq!(rt; found.len(), 2);
+    /// assert_eq!(rt; found.get(&tinystr!(3, "EUR")?), None);
+    /// ```
+    pub fn with_prefix(&self, beginning: &TinyAsciiStr<N>) -> PackedMap<'a, N, M>
+        ensures { result ≡ filter (λ e. starts_with nat_eq e.0 beginning.now) self.now }
+    {
+        let Range { start, end } = self.keys.prefix_range(beginning);
+        let values = self.values;
+        PackedMap {
+            keys: self.keys.slice(start..end),
+            values: &values[start..end],
+        }
     }
 
     /// The keys in order.

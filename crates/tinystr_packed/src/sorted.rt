@@ -1,14 +1,17 @@
 //! Tables whose texts rise, and the search in them.
 
-ghost use Rattle.std.specs.Prelude.{◌≡◌, ◌↔◌, IsOk, IsTrue, IfOk, IfErr, Some, Contains, filter, nat_eq, slice_get};
+ghost use Rattle.std.specs.Prelude.{◌≡◌, ◌<◌, ◌≤◌, ◌-◌, ◌^◌, ◌↔◌, ℕ, List, IsOk, IsSome, IsTrue, IfOk, IfErr, IfSome, Some, Contains, drop, filter, length, nat_eq, slice_get, take};
 ghost use Rattle.std.specs.List.{starts_with};
 ghost use Rattle.tinystr_words.specs.Text.{IsStrictText};
-ghost use Rattle.tinystr_packed.specs.Rising.{IsRising, IsFirstFall, IsPlaceFor, IsFirstNotBelow};
+ghost use Rattle.tinystr_packed.specs.Rising.{IsRising, IsFirstFall, IsPlaceFor, IsFirstNotBelow, IsPrefixRange};
+ghost use Rattle.tinystr_packed.specs.Sorting.{ArePackedRising, RefusesSorted};
 
 use crate::search::{count_with_prefix, first_not_below};
 use crate::table::Table;
 use std::marker::Model;
+use std::ops::Range;
 use tinystr::TinyAsciiStr;
+use tinystr::ule::UleError;
 
 /// A table whose texts rise, each above the one before it. A clause sees the texts.
 ///
@@ -44,6 +47,20 @@ pub struct NotRising {
     pub index: usize,
 }
 
+/// Why bytes aren't a sorted table.
+///
+/// ```rust
+/// let fault = SortedTable::<3>::from_bytes(b"EURJP").err();
+/// assert_eq!(rt; fault, Some(SortedError::Records(UleError::Length { len: 5 })));
+/// ```
+#[derive(Clone, Copy, Debug, PartialEq, Eq)]
+pub enum SortedError {
+    /// The bytes aren't packed records.
+    Records(UleError),
+    /// A text isn't above the one before it.
+    Order(NotRising),
+}
+
 impl<'a, const N: usize> SortedTable<'a, N> {
     /// The table, once each text is compared with the next.
     ///
@@ -59,6 +76,30 @@ impl<'a, const N: usize> SortedTable<'a, N> {
         match table.first_fall() {
             None => Ok(SortedTable { table }),
             Some(index) => Err(NotRising { index }),
+        }
+    }
+
+    /// The sorted table of bytes, which are checked here alone. `N` has to be above 0.
+    ///
+    /// ```rust
+    /// let codes = SortedTable::<3>::from_bytes(b"CHFEURJPY").unwrap();
+    /// assert_eq!(rt; codes.table().len(), 3);
+    /// let fault = SortedTable::<3>::from_bytes(b"EURCHF").err();
+    /// assert_eq!(rt; fault, Some(SortedError::Order(NotRising { index: 1 })));
+    /// ```
+    pub fn from_bytes(bytes: &'a [u8]) -> Result<Self, SortedError>
+        requires { 0 < N }
+        ensures accepted { IsOk result ↔ ((texts : List (List ℕ)) × ArePackedRising texts bytes.now N) }
+        ensures texts { IfOk result (λ sorted. ArePackedRising sorted bytes.now N) }
+        ensures fault { IfErr result (λ e. RefusesSorted e bytes.now N) }
+    {
+        let table = match Table::new(bytes) {
+            Ok(table) => table,
+            Err(fault) => return Err(SortedError::Records(fault)),
+        };
+        match SortedTable::new(table) {
+            Ok(sorted) => Ok(sorted),
+            Err(fault) => Err(SortedError::Order(fault)),
         }
     }
 
@@ -86,6 +127,25 @@ impl<'a, const N: usize> SortedTable<'a, N> {
         }
     }
 
+    /// The index of a text of any capacity, or `None` where it isn't one of them.
+    ///
+    /// ```rust
+    /// let codes = SortedTable::<3>::from_bytes(b"CHFEURJPY").unwrap();
+    /// assert_eq!(rt; codes.find_text(&tinystr!(8, "EUR")?), Some(1));
+    /// assert_eq!(rt; codes.find_text(&tinystr!(8, "EURO")?), None);
+    /// ```
+    pub fn find_text<const M: usize>(&self, key: &TinyAsciiStr<M>) -> Option<usize>
+        requires texts { N < 2 ^ 63 }
+        requires key { M < 2 ^ 63 }
+        ensures found { IfSome result (λ index. slice_get self.now index ≡ Some key.now) }
+        ensures exact { IsSome result ↔ Contains self.now key.now }
+    {
+        // Its contract says that no text is longer than `N` bytes.
+        let _ = self.table.len();
+        let key = key.try_resize()?;
+        self.binary_search(&key).ok()
+    }
+
     /// Whether a text is one of them.
     pub fn contains(&self, key: &TinyAsciiStr<N>) -> bool
         ensures { IsTrue result ↔ Contains self.now key.now }
@@ -104,12 +164,28 @@ impl<'a, const N: usize> SortedTable<'a, N> {
     pub fn with_prefix(&self, beginning: &TinyAsciiStr<N>) -> SortedTable<'a, N>
         ensures { result ≡ filter (λ t. starts_with nat_eq t beginning.now) self.now }
     {
+        self.slice(self.prefix_range(beginning))
+    }
+
+    // The table of the texts at a range of indices.
+    pub(crate) fn slice(&self, range: Range<usize>) -> SortedTable<'a, N>
+        requires start { range.start ≤ range.end }
+        requires end { range.end ≤ length self.now }
+        ensures { result ≡ take (range.end - range.start) (drop range.start self.now) }
+    {
+        SortedTable {
+            table: self.table.slice(range),
+        }
+    }
+
+    // The indices of the texts that begin with a text.
+    pub(crate) fn prefix_range(&self, beginning: &TinyAsciiStr<N>) -> Range<usize>
+        ensures { IsPrefixRange beginning.now self.now result.start result.end }
+    {
         let start = self.first_not_below(beginning);
         let (_, rest) = self.table.records().split_at(start);
         let len = count_with_prefix(rest, beginning);
-        SortedTable {
-            table: self.table.slice(start..start + len),
-        }
+        start..start + len
     }
 
     // The index of the first text that isn't below a key, or the number of texts.

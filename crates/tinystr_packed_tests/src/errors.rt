@@ -3,7 +3,7 @@
 use std::test::Fail;
 use tinystr::ParseError;
 use tinystr::ule::UleError;
-use tinystr_packed::{MapError, NotRising};
+use tinystr_packed::{MapError, NotRising, SortedError};
 
 // No two are the same, and most differ from another in one part alone.
 const FAULTS: [MapError; 9] = [
@@ -56,5 +56,17 @@ fn faults_of_a_map_are_printed_by_their_names(rt: HostRuntime) -> Result<(), Fai
             == "Keys(Length { len: 7 }) Keys(Parse { index: 1, fault: NonAscii }) \
                 Order(NotRising { index: 1 }) Values { keys: 2, len: 3 }"
     );
+    Ok(())
+}
+
+#[test]
+fn faults_of_a_sorted_table_are_told_apart(rt: HostRuntime) -> Result<(), Fail> {
+    let bytes = SortedError::Records(UleError::Length { len: 7 });
+    let falling = SortedError::Order(NotRising { index: 1 });
+    assert!(rt; bytes == bytes && falling == falling && bytes != falling);
+    assert!(rt; bytes != SortedError::Records(UleError::Length { len: 8 }));
+    assert!(rt; falling != SortedError::Order(NotRising { index: 2 }));
+    let printed = format!(in rt.alloc(); "{bytes:?} {falling:?}")?;
+    assert!(rt; printed.as_str() == "Records(Length { len: 7 }) Order(NotRising { index: 1 })");
     Ok(())
 }

@@ -16,4 +16,6 @@ mod searching;
 #[cfg(test)]
 mod slices;
 #[cfg(test)]
+mod sorted;
+#[cfg(test)]
 mod tables;

@@ -3,7 +3,7 @@
 ghost use Rattle.std.specs.Prelude.{◌<◌, ◌^◌};
 
 use tinystr::TinyAsciiStr;
-use tinystr_packed::{SortedTable, Table};
+use tinystr_packed::{PackedMap, SortedTable, Table};
 
 // Each line of the words is a text of the file.
 const FILES: &[(&[u8], &str)] = &[
@@ -65,6 +65,40 @@ fn has_exactly_those<const N: usize>(file: &[u8], words: &str, prefix: &str) -> 
         is_word = is_word || word == prefix;
     }
     texts.next().is_none() && begun.contains(&beginning) == is_word
+}
+
+#[test]
+fn entries_with_a_prefix_are_those_that_std_tells(rt: HostRuntime) {
+    for (file, words) in FILES {
+        for prefix in "|a|ab|ab\x7f|abc|abcd|b|ba|c|z|\x7f|\x7f\x7f\x7f\x7f".split('|') {
+            assert!(rt;
+                have_exactly_those(file, words, prefix),
+                "{prefix} in {words}"
+            );
+        }
+    }
+}
+
+/// Whether the map in which each key is its own value has, of those with the prefix, the words that begin with it, in
+/// order, each with its own value.
+fn have_exactly_those(file: &[u8], words: &str, prefix: &str) -> bool {
+    let (Ok(map), Ok(beginning)) = (
+        PackedMap::<4, 4>::new(file, file),
+        TinyAsciiStr::try_from_str(prefix),
+    ) else {
+        return false;
+    };
+    let begun = map.with_prefix(&beginning);
+    let mut entries = begun.iter();
+    for word in words.lines() {
+        if word.starts_with(prefix) {
+            match entries.next() {
+                Some((key, value)) if key.as_str() == word && key.all_bytes() == value => {}
+                _ => return false,
+            }
+        }
+    }
+    entries.next().is_none()
 }
 
 #[test]
