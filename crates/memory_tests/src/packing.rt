@@ -3,7 +3,7 @@
 use std::collections::BTreeMap;
 use std::test::Fail;
 use tinystr::TinyAsciiStr;
-use tinystr_packed::{Table, pack, pack_map, pack_sorted, unpack};
+use tinystr_packed::{Table, pack, pack_map, pack_sorted, pack_text_map, unpack};
 
 const FILE: &[u8] = b"b\0a\0b\0";
 
@@ -89,5 +89,30 @@ fn want_of_memory_for_a_map(rt: HostRuntime) -> Result<(), Fail> {
         }
     };
     assert!(rt; keys.as_slice() == b"b\0".as_slice() && values.as_slice() == [1].as_slice());
+    Ok(())
+}
+
+#[test]
+fn want_of_memory_for_a_map_of_texts(rt: HostRuntime) -> Result<(), Fail> {
+    let mut map = BTreeMap::new(rt.alloc());
+    let [key, value, ..] = texts();
+    match map.insert(key, value) {
+        Ok(_) => println!(rt; "map given")?,
+        Err(_) => {
+            println!(rt; "map refused")?;
+            map.insert(key, value)?;
+        }
+    }
+    let (keys, values) = match pack_text_map(rt.alloc(), &map) {
+        Ok(made) => {
+            println!(rt; "pack_text_map given")?;
+            made
+        }
+        Err(_) => {
+            println!(rt; "pack_text_map refused")?;
+            pack_text_map(rt.alloc(), &map)?
+        }
+    };
+    assert!(rt; keys.as_slice() == b"b\0".as_slice() && values.as_slice() == b"a\0".as_slice());
     Ok(())
 }

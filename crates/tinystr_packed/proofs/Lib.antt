@@ -1,6 +1,7 @@
 pub mod MapBytes
 pub mod Numbers
 pub mod PackedMaps
+pub mod PackedTextMaps
 pub mod PackedTexts
 pub mod Prefixes
 pub mod RecordOrder

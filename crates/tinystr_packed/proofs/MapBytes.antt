@@ -14,26 +14,31 @@ use Rattle.tinystr_words.specs.Text.{IsStrictText, pad}
 use Rattle.tinystr_packed.proofs.PackedTexts.{packed_injective}
 use Rattle.tinystr_packed.specs.Map.{ArePacked}
 use Rattle.tinystr_packed.specs.Rising.{IsRising}
+use Rattle.tinystr_packed.specs.Sorting.{ArePackedRising}
 
 abbrev Entries : Type 0
 Entries = List (List ℕ × List ℕ)
 
--- the entries that are packed, in front of those that are left
-pub record PacksFirst (entries rest : Entries) (keys values : List ℕ) (n m : ℕ) : Type 0 where
+-- packed keys, if they rise
+abbrev ArePackedRisingIf : Entries → List ℕ → ℕ → Type 0
+ArePackedRisingIf entries keys n = IsRising (keys_of entries) → ArePackedRising (keys_of entries) keys n
+
+-- the entries that are packed, in front of those that are left: each value is of a kind, and is packed in a form
+pub record PacksFirst (entries rest : Entries) (keys values : List ℕ) (n : ℕ) (IsValue : List ℕ → Type 0) (form : List ℕ → List ℕ) : Type 0 where
   pub done : Entries
   pub split : entries ≡ done ++ rest
   pub strict : All (λ (t : List ℕ). IsStrictText t n) (keys_of done)
-  pub long : All (λ (v : List ℕ). length v ≡ m) (values_of done)
+  pub each : All IsValue (values_of done)
   pub joined_keys : keys ≡ flat_map (λ (t : List ℕ). pad t n) (keys_of done)
-  pub joined_values : values ≡ flat_map (λ (v : List ℕ). v) (values_of done)
+  pub joined_values : values ≡ flat_map form (values_of done)
 
 -- none yet
-pub PacksFirst-none : (entries : Entries) (n m : ℕ) → PacksFirst entries entries [] [] n m
-PacksFirst-none entries n m = record {
+pub PacksFirst-none : (entries : Entries) (n : ℕ) (IsValue : List ℕ → Type 0) (form : List ℕ → List ℕ) → PacksFirst entries entries [] [] n IsValue form
+PacksFirst-none entries n IsValue form = record {
   done = [];
   split = refl;
   strict = All-nil (λ (t : List ℕ). IsStrictText t n);
-  long = All-nil (λ (v : List ℕ). length v ≡ m);
+  each = All-nil IsValue;
   joined_keys = refl;
   joined_values = refl;
 }
@@ -47,31 +52,26 @@ values_of-append [] fs = refl
 values_of-append (e ∷ es) fs = ap (λ (vs : List (List ℕ)). e.1 ∷ vs) (values_of-append es fs)
 
 -- one more
-pub PacksFirst-more : (entries rest more : Entries) (keys values k v keys' values' : List ℕ) (n m : ℕ) → PacksFirst entries rest keys values n m → rest ≡ (k, v) ∷ more
-    → IsStrictText k n → length v ≡ m → keys' ≡ keys ++ pad k n → values' ≡ values ++ v → PacksFirst entries more keys' values' n m
-PacksFirst-more entries rest more keys values k v keys' values' n m h next strict long more_keys more_values =
+pub PacksFirst-more : (entries rest more : Entries) (keys values k v keys' values' : List ℕ) (n : ℕ) (IsValue : List ℕ → Type 0) (form : List ℕ → List ℕ) → PacksFirst entries rest keys values n IsValue form → rest ≡ (k, v) ∷ more
+    → IsStrictText k n → IsValue v → keys' ≡ keys ++ pad k n → values' ≡ values ++ form v → PacksFirst entries more keys' values' n IsValue form
+PacksFirst-more entries rest more keys values k v keys' values' n IsValue form h next strict value more_keys more_values =
     let ks = keys_of-append h.done ((k, v) ∷ []) in
     let vs = values_of-append h.done ((k, v) ∷ []) in
     record {
       done = h.done ++ (k, v) ∷ [];
       split = rw (append_assoc, ← next) h.split;
       strict = rw ks (All-append (λ (t : List ℕ). IsStrictText t n) (keys_of h.done) (k ∷ []) h.strict (All-cons (λ (t : List ℕ). IsStrictText t n) k [] strict (All-nil (λ (t : List ℕ). IsStrictText t n))));
-      long = rw vs (All-append (λ (v : List ℕ). length v ≡ m) (values_of h.done) (v ∷ []) h.long (All-cons (λ (v : List ℕ). length v ≡ m) v [] long (All-nil (λ (v : List ℕ). length v ≡ m))));
+      each = rw vs (All-append IsValue (values_of h.done) (v ∷ []) h.each (All-cons IsValue v [] value (All-nil IsValue)));
       joined_keys = rw (more_keys, ks, flat_map-append (λ (t : List ℕ). pad t n) (keys_of h.done) (k ∷ []), append-nil (pad k n)) (ap (λ (l : List ℕ). l ++ pad k n) h.joined_keys);
-      joined_values = rw (more_values, vs, flat_map-append (λ (v : List ℕ). v) (values_of h.done) (v ∷ []), append-nil v) (ap (λ (l : List ℕ). l ++ v) h.joined_values);
+      joined_values = rw (more_values, vs, flat_map-append form (values_of h.done) (v ∷ []), append-nil (form v)) (ap (λ (l : List ℕ). l ++ form v) h.joined_values);
     }
 
 -- all
-pub ArePacked-all : (entries rest : Entries) (keys values : List ℕ) (n m : ℕ) → PacksFirst entries rest keys values n m → rest ≡ [] → IsRising (keys_of entries) → ArePacked entries keys values n m
-ArePacked-all entries rest keys values n m h none up =
+pub PacksFirst-all : (entries rest : Entries) (keys values : List ℕ) (n : ℕ) (IsValue : List ℕ → Type 0) (form : List ℕ → List ℕ) → PacksFirst entries rest keys values n IsValue form → rest ≡ []
+    → ArePackedRisingIf entries keys n × (All IsValue (values_of entries) × (values ≡ flat_map form (values_of entries)))
+PacksFirst-all entries rest keys values n IsValue form h none =
     let all : entries ≡ h.done = h.split ∙ ap (λ (l : Entries). h.done ++ l) none ∙ append-nil h.done in
-    record {
-      strict = rw all h.strict;
-      rising = up;
-      long = rw all h.long;
-      joined_keys = rw all h.joined_keys;
-      joined_values = rw all h.joined_values;
-    }
+    rw all ((λ up. record { strict = h.strict; rising = up; joined = h.joined_keys }), (h.each, h.joined_values))
 
 -- the keys of a map rise
 pub IsRising-keys : (ks : List (List ℕ)) → IsStrictlySortedBy (slice_cmp nat_cmp) ks → IsRising ks
@@ -94,7 +94,7 @@ same_values (v ∷ vs) (w ∷ ws) m h k same e =
     rw (first, rest) refl
 
 -- entries are told by their keys and values
-same_entries : (es fs : Entries) → keys_of es ≡ keys_of fs → values_of es ≡ values_of fs → es ≡ fs
+pub same_entries : (es fs : Entries) → keys_of es ≡ keys_of fs → values_of es ≡ values_of fs → es ≡ fs
 same_entries [] [] h k = refl
 same_entries [] (f ∷ fs) h k = cc
 same_entries (e ∷ es) [] h k = cc

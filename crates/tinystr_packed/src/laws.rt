@@ -4,6 +4,7 @@ ghost use Rattle.std.specs.Prelude.{◌≡◌, ◌<◌, ℕ, List, All};
 ghost use Rattle.std.specs.List.{flat_map};
 ghost use Rattle.tinystr_words.specs.Text.{IsStrictText, pad};
 ghost use Rattle.tinystr_packed.specs.Map.{ArePacked};
+ghost use Rattle.tinystr_packed.specs.TextMap.{ArePackedTexts};
 
 /// Packed bytes are those of one list of texts.
 pub fn texts_once()
@@ -16,4 +17,10 @@ pub fn texts_once()
 pub fn map_once()
     ensures { (entries others : List (List ℕ × List ℕ)) (keys values : List ℕ) (n m : ℕ) → 0 < n →
         ArePacked entries keys values n m → ArePacked others keys values n m → entries ≡ others }
+{}
+
+/// The bytes of keys and texts are those of one map of texts.
+pub fn text_map_once()
+    ensures { (entries others : List (List ℕ × List ℕ)) (keys values : List ℕ) (n m : ℕ) → 0 < n → 0 < m →
+        ArePackedTexts entries keys values n m → ArePackedTexts others keys values n m → entries ≡ others }
 {}

@@ -11,9 +11,11 @@ mod search;
 mod sorted;
 mod sorting;
 mod table;
+mod text_map;
 
 pub use map::{Entries, MapError, PackedMap};
 pub use packing::{pack, pack_map, unpack};
 pub use sorted::{NotRising, SortedError, SortedTable};
 pub use sorting::pack_sorted;
 pub use table::{Table, Texts};
+pub use text_map::{TextEntries, TextMap, TextMapError, pack_text_map};

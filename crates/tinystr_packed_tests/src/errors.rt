@@ -3,7 +3,7 @@
 use std::test::Fail;
 use tinystr::ParseError;
 use tinystr::ule::UleError;
-use tinystr_packed::{MapError, NotRising, SortedError};
+use tinystr_packed::{MapError, NotRising, SortedError, TextMapError};
 
 // No two are the same, and most differ from another in one part alone.
 const FAULTS: [MapError; 9] = [
@@ -68,5 +68,25 @@ fn faults_of_a_sorted_table_are_told_apart(rt: HostRuntime) -> Result<(), Fail> 
     assert!(rt; falling != SortedError::Order(NotRising { index: 2 }));
     let printed = format!(in rt.alloc(); "{bytes:?} {falling:?}")?;
     assert!(rt; printed.as_str() == "Records(Length { len: 7 }) Order(NotRising { index: 1 })");
+    Ok(())
+}
+
+#[test]
+fn faults_of_a_map_of_texts_are_told_apart(rt: HostRuntime) -> Result<(), Fail> {
+    let keys = TextMapError::Keys(SortedError::Order(NotRising { index: 1 }));
+    let values = TextMapError::Values(UleError::Length { len: 7 });
+    let count = TextMapError::Count { keys: 2, values: 3 };
+    assert!(rt; keys == keys && values == values && count == count);
+    assert!(rt; keys != values && values != count && count != keys);
+    assert!(rt; keys != TextMapError::Keys(SortedError::Order(NotRising { index: 2 })));
+    assert!(rt; values != TextMapError::Values(UleError::Length { len: 8 }));
+    assert!(rt; count != TextMapError::Count { keys: 2, values: 2 });
+    assert!(rt; count != TextMapError::Count { keys: 3, values: 3 });
+    let printed = format!(in rt.alloc(); "{keys:?} {values:?} {count:?}")?;
+    assert!(rt;
+        printed.as_str()
+            == "Keys(Order(NotRising { index: 1 })) Values(Length { len: 7 }) \
+                Count { keys: 2, values: 3 }"
+    );
     Ok(())
 }

@@ -19,3 +19,5 @@ mod slices;
 mod sorted;
 #[cfg(test)]
 mod tables;
+#[cfg(test)]
+mod text_maps;

@@ -3,7 +3,7 @@
 ghost use Rattle.std.specs.Prelude.{◌<◌, ◌^◌};
 
 use tinystr::TinyAsciiStr;
-use tinystr_packed::{PackedMap, SortedTable, Table};
+use tinystr_packed::{PackedMap, SortedTable, Table, TextMap};
 
 // Each line of the words is a text of the file.
 const FILES: &[(&[u8], &str)] = &[
@@ -79,26 +79,31 @@ fn entries_with_a_prefix_are_those_that_std_tells(rt: HostRuntime) {
     }
 }
 
-/// Whether the map in which each key is its own value has, of those with the prefix, the words that begin with it, in
+/// Whether the maps in which each key is its own value have, of those with the prefix, the words that begin with it, in
 /// order, each with its own value.
 fn have_exactly_those(file: &[u8], words: &str, prefix: &str) -> bool {
-    let (Ok(map), Ok(beginning)) = (
+    let (Ok(map), Ok(texts), Ok(beginning)) = (
         PackedMap::<4, 4>::new(file, file),
+        TextMap::<4, 4>::new(file, file),
         TinyAsciiStr::try_from_str(prefix),
     ) else {
         return false;
     };
-    let begun = map.with_prefix(&beginning);
-    let mut entries = begun.iter();
+    let (begun, begun_texts) = (map.with_prefix(&beginning), texts.with_prefix(&beginning));
+    let (mut entries, mut text_entries) = (begun.iter(), begun_texts.iter());
     for word in words.lines() {
         if word.starts_with(prefix) {
-            match entries.next() {
-                Some((key, value)) if key.as_str() == word && key.all_bytes() == value => {}
+            match (entries.next(), text_entries.next()) {
+                (Some((key, value)), Some((text, same)))
+                    if key.as_str() == word
+                        && key.all_bytes() == value
+                        && text == key
+                        && same == text => {}
                 _ => return false,
             }
         }
     }
-    entries.next().is_none()
+    entries.next().is_none() && text_entries.next().is_none()
 }
 
 #[test]

@@ -1,0 +1,249 @@
+//! Maps whose keys and values are packed texts, read in place.
+
+ghost use Rattle.std.specs.Prelude.{◌≡◌, ◌<◌, ◌^◌, ◌↔◌, [], List, ℕ, filter, is_some, length, nat_eq, IsOk, IsTrue, IfOk, IfErr};
+ghost use Rattle.std.specs.Iterator.{YieldsFirst, item_count};
+ghost use Rattle.std.specs.List.{starts_with};
+ghost use Rattle.std.specs.Map.{keys_of, values_of};
+ghost use Rattle.tinystr_packed.specs.Map.{get};
+ghost use Rattle.tinystr_packed.specs.Rising.{IsRising};
+ghost use Rattle.tinystr_packed.specs.TextMap.{ArePackedTexts, RefusesTextMap};
+
+use crate::sorted::{SortedError, SortedTable};
+use crate::table::{Table, Texts};
+use std::alloc::{AllocError, Global};
+use std::collections::BTreeMap;
+use std::marker::Model;
+use std::ops::Range;
+use tinystr::ule::UleError;
+use tinystr::{TinyAsciiStr, laws};
+
+/// Why bytes aren't a packed map of texts.
+///
+/// ```rust
+/// let fault = TextMap::<2, 3>::new(b"CHJP", b"CHF").err();
+/// assert_eq!(rt; fault, Some(TextMapError::Count { keys: 2, values: 1 }));
+/// ```
+#[derive(Clone, Copy, Debug, PartialEq, Eq)]
+pub enum TextMapError {
+    /// The keys aren't a sorted table.
+    Keys(SortedError),
+    /// The values aren't packed records.
+    Values(UleError),
+    /// There aren't as many values as keys.
+    Count { keys: usize, values: usize },
+}
+
+/// Keys of at most `N` bytes that rise, and a text of at most `M` bytes for each. A clause sees the entries of a
+/// `BTreeMap`.
+///
+/// ```rust
+/// let currencies = TextMap::<2, 3>::new(b"CHJP", b"CHFJPY").unwrap();
+/// assert_eq!(rt; currencies.get(&tinystr!(2, "JP")?), Some(tinystr!(3, "JPY")?));
+/// assert_eq!(rt; currencies.get(&tinystr!(2, "US")?), None);
+/// ```
+#[derive(Clone, Drop)]
+pub struct TextMap<'a, const N: usize, const M: usize> {
+    keys: SortedTable<'a, N>,
+    values: Table<'a, M>,
+}
+
+impl<'a, const N: usize, const M: usize> Model for TextMap<'a, N, M> {
+    ghost use Rattle.std.specs.Prelude.{◌≡◌, List, ℕ, length, zip};
+    ghost use Rattle.tinystr_packed.specs.Rising.{IsRising};
+
+    ghost Value = { List (List ℕ × List ℕ) };
+
+    ghost view = { λ s. zip s.keys s.values };
+
+    ghost invariant = { λ s. IsRising s.keys × (length s.values ≡ length s.keys) };
+}
+
+impl<'a, const N: usize, const M: usize> TextMap<'a, N, M> {
+    /// The map of the bytes of its keys and of its values, which are checked here alone. `N` and `M` have to be above 0.
+    ///
+    /// The error is `Keys` where the keys aren't a sorted table, else `Values` where the values aren't packed records,
+    /// else `Count`.
+    ///
+    /// ```rust
+    /// assert!(rt; TextMap::<2, 3>::new(b"CHJP", b"CHFJPY").is_ok());
+    /// let fault = TextMap::<2, 3>::new(b"CHJP", b"CHFJP").err();
+    /// assert_eq!(rt; fault, Some(TextMapError::Values(UleError::Length { len: 5 })));
+    /// ```
+    pub fn new(keys: &'a [u8], values: &'a [u8]) -> Result<Self, TextMapError>
+        requires keys { 0 < N }
+        requires values { 0 < M }
+        ensures accepted { IsOk result
+            ↔ ((entries : List (List ℕ × List ℕ)) × ArePackedTexts entries keys.now values.now N M) }
+        ensures entries { IfOk result (λ map. ArePackedTexts map keys.now values.now N M) }
+        ensures fault { IfErr result (λ e. RefusesTextMap e keys.now values.now N M) }
+    {
+        let keys = match SortedTable::from_bytes(keys) {
+            Ok(keys) => keys,
+            Err(fault) => return Err(TextMapError::Keys(fault)),
+        };
+        let values = match Table::new(values) {
+            Ok(values) => values,
+            Err(fault) => return Err(TextMapError::Values(fault)),
+        };
+        let count = keys.table().len();
+        let len = values.len();
+        if len != count {
+            return Err(TextMapError::Count {
+                keys: count,
+                values: len,
+            });
+        }
+        Ok(TextMap { keys, values })
+    }
+
+    /// How many entries.
+    #[tactic(auto, using(crate::proofs::PackedMaps::map_steps))]
+    pub fn len(&self) -> usize
+        ensures len { result ≡ length self.now }
+        ensures rising { IsRising (keys_of self.now) }
+    {
+        self.values.len()
+    }
+
+    /// Whether there is no entry.
+    pub fn is_empty(&self) -> bool
+        ensures { IsTrue result ↔ (self.now ≡ []) }
+    {
+        self.len() == 0
+    }
+
+    /// The value of a key, or `None` where it isn't one.
+    pub fn get(&self, key: &TinyAsciiStr<N>) -> Option<TinyAsciiStr<M>>
+        ensures { result ≡ get self.now key.now }
+    {
+        match self.keys.binary_search(key) {
+            Ok(index) => self.values.get(index),
+            Err(_) => None,
+        }
+    }
+
+    /// Whether it is a key.
+    pub fn contains_key(&self, key: &TinyAsciiStr<N>) -> bool
+        ensures { result ≡ is_some (get self.now key.now) }
+    {
+        self.keys.contains(key)
+    }
+
+    /// The entries whose keys begin with a text, as a map of them alone.
+    ///
+    /// ```rust
+    /// let currencies = TextMap::<2, 3>::new(b"CACHJP", b"CADCHFJPY").unwrap();
+    /// let found = currencies.with_prefix(&tinystr!(2, "C")?);
+    /// assert_eq!(rt; found.len(), 2);
+    /// assert_eq!(rt; found.get(&tinystr!(2, "CH")?), Some(tinystr!(3, "CHF")?));
+    /// ```
+    pub fn with_prefix(&self, beginning: &TinyAsciiStr<N>) -> TextMap<'a, N, M>
+        ensures { result ≡ filter (λ e. starts_with nat_eq e.0 beginning.now) self.now }
+    {
+        let Range { start, end } = self.keys.prefix_range(beginning);
+        TextMap {
+            keys: self.keys.slice(start..end),
+            values: self.values.slice(start..end),
+        }
+    }
+
+    /// The keys in order.
+    #[tactic(auto, using(crate::proofs::PackedMaps::map_steps))]
+    pub fn keys(&self) -> &SortedTable<'a, N>
+        ensures { result.now ≡ keys_of self.now }
+    {
+        &self.keys
+    }
+
+    /// The values, in the order of their keys.
+    #[tactic(auto, using(crate::proofs::PackedMaps::map_steps))]
+    pub fn values(&self) -> &Table<'a, M>
+        ensures { result.now ≡ values_of self.now }
+    {
+        &self.values
+    }
+
+    /// The keys with their values, in order.
+    #[tactic(auto, using(crate::proofs::PackedMaps::map_steps))]
+    pub fn iter(&self) -> TextEntries<'a, N, M>
+        ensures entries { result ≡ self.now }
+        ensures rising { IsRising (keys_of self.now) }
+        ensures bound { length result < 2 ^ 64 }
+    {
+        TextEntries {
+            keys: self.keys.table().iter(),
+            values: self.values.iter(),
+        }
+    }
+}
+
+/// The bytes of the keys and the bytes of the values of a map, each packed: what `TextMap::new` takes. Only memory can
+/// stop it.
+///
+/// ```rust
+/// let mut currencies = BTreeMap::new(rt.alloc());
+/// currencies.insert(tinystr!(2, "JP")?, tinystr!(3, "JPY")?)?;
+/// currencies.insert(tinystr!(2, "CH")?, tinystr!(3, "CHF")?)?;
+/// let (keys, values) = pack_text_map(rt.alloc(), &currencies)?;
+/// assert_eq!(rt; keys.as_slice(), b"CHJP".as_slice());
+/// assert_eq!(rt; values.as_slice(), b"CHFJPY".as_slice());
+/// ```
+pub fn pack_text_map<const N: usize, const M: usize>(
+    alloc: Global,
+    map: &BTreeMap<TinyAsciiStr<N>, TinyAsciiStr<M>>,
+) -> Result<(Vec<u8>, Vec<u8>), AllocError>
+    ensures { IfOk result (λ made. ArePackedTexts map.now.entries made.0.items made.1.items N M) }
+{
+    // Its contract says that the keys rise.
+    let count = map.len();
+    let mut keys = Vec::with_capacity(alloc, count.saturating_mul(N))?;
+    let mut values = Vec::with_capacity(alloc, count.saturating_mul(M))?;
+    for (key, value) in map {
+        laws::fits(key);
+        laws::fits(value);
+        keys.extend_from_slice(key.all_bytes())?;
+        values.extend_from_slice(value.all_bytes())?;
+    }
+    Ok((keys, values))
+}
+
+/// The keys of a map with their values, in order. A clause sees those that are left.
+///
+/// ```rust
+/// let currencies = TextMap::<2, 3>::new(b"CHJP", b"CHFJPY").unwrap();
+/// assert_eq!(rt; currencies.iter().next(), Some((tinystr!(2, "CH")?, tinystr!(3, "CHF")?)));
+/// ```
+#[derive(Clone, Drop)]
+pub struct TextEntries<'a, const N: usize, const M: usize> {
+    keys: Texts<'a, N>,
+    values: Texts<'a, M>,
+}
+
+impl<'a, const N: usize, const M: usize> Model for TextEntries<'a, N, M> {
+    ghost use Rattle.std.specs.Prelude.{◌≡◌, List, ℕ, length, zip};
+
+    ghost Value = { List (List ℕ × List ℕ) };
+
+    ghost view = { λ s. zip s.keys s.values };
+
+    ghost invariant = { λ s. length s.values ≡ length s.keys };
+}
+
+impl<'a, const N: usize, const M: usize> Iterator for TextEntries<'a, N, M> {
+    type Item = (TinyAsciiStr<N>, TinyAsciiStr<M>);
+
+    ghost next_gives = { YieldsFirst (λ rest. rest) };
+
+    ghost remaining = { item_count (λ rest. rest) };
+
+    fn next(&mut self) -> Option<(TinyAsciiStr<N>, TinyAsciiStr<M>)> {
+        let key = self.keys.next()?;
+        let value = self.values.next()?;
+        Some((key, value))
+    }
+
+    #[tactic(auto, using(crate::proofs::PackedMaps::map_steps))]
+    fn size_hint(&self) -> (usize, Option<usize>) {
+        self.keys.size_hint()
+    }
+}

@@ -1,0 +1,228 @@
+//! Packed maps of texts.
+
+ghost use Rattle.std.specs.Prelude.{◌<◌, ◌^◌};
+
+use std::alloc::Global;
+use std::collections::BTreeMap;
+use tinystr::ule::UleError;
+use tinystr::{ParseError, TinyAsciiStr};
+use tinystr_packed::{NotRising, SortedError, TextMap, TextMapError, pack_text_map};
+
+const KEYS: &[u8] = b"CHEUJPUSXX";
+
+const VALUES: &[u8] = b"CHFEURJPYUSD\0\0\0";
+
+// The keys, each with its value.
+const ENTRIES: [(&str, &str); 5] = [
+    ("CH", "CHF"),
+    ("EU", "EUR"),
+    ("JP", "JPY"),
+    ("US", "USD"),
+    ("XX", ""),
+];
+
+fn value_of(keys: &[u8], values: &[u8], key: &str) -> Option<TinyAsciiStr<3>> {
+    let map = TextMap::<2, 3>::new(keys, values).ok()?;
+    map.get(&TinyAsciiStr::try_from_str(key).ok()?)
+}
+
+fn is_key(keys: &[u8], values: &[u8], key: &str) -> bool {
+    match (
+        TextMap::<2, 3>::new(keys, values),
+        TinyAsciiStr::try_from_str(key),
+    ) {
+        (Ok(map), Ok(key)) => map.contains_key(&key),
+        _ => false,
+    }
+}
+
+#[test]
+fn each_key_has_its_text(rt: HostRuntime) {
+    for (key, value) in ENTRIES {
+        assert!(rt;
+            matches!(value_of(KEYS, VALUES, key), Some(text) if text.as_str() == value),
+            "{key}"
+        );
+        assert!(rt; is_key(KEYS, VALUES, key), "{key}");
+    }
+}
+
+#[test]
+fn other_texts_have_no_text(rt: HostRuntime) {
+    for key in "|A|CG|CI|D|E|EV|U|UR|UT|zz".split('|') {
+        assert!(rt; value_of(KEYS, VALUES, key).is_none(), "{key}");
+        assert!(rt; !is_key(KEYS, VALUES, key), "{key}");
+        assert!(rt;
+            value_of(b"", b"", key).is_none() && !is_key(b"", b"", key),
+            "{key}"
+        );
+    }
+}
+
+#[test]
+fn the_empty_text_is_a_key_of_a_text(rt: HostRuntime) {
+    let (keys, values) = (b"\0\0EU", b"X\0\0EUR");
+    assert!(rt; matches!(value_of(keys, values, ""), Some(text) if text.as_str() == "X"));
+    assert!(rt; is_key(keys, values, "") && !is_key(b"EU", b"EUR", ""));
+}
+
+#[test]
+fn entries_are_the_keys_with_their_texts_in_order(rt: HostRuntime) {
+    for len in 0..=5 {
+        assert!(rt;
+            has_entries(&KEYS[..2 * len], &VALUES[..3 * len], len),
+            "{len}"
+        );
+    }
+}
+
+/// Whether the map has the first of the five entries and no more, and tells how many they are and how many are left.
+fn has_entries(keys: &[u8], values: &[u8], len: usize) -> bool {
+    let Ok(map) = TextMap::<2, 3>::new(keys, values) else {
+        return false;
+    };
+    if map.len() != len
+        || map.is_empty() != (len == 0)
+        || map.keys().table().len() != len
+        || map.values().len() != len
+    {
+        return false;
+    }
+    let mut entries = map.iter();
+    let mut left = len;
+    for (index, (key, value)) in ENTRIES.into_iter().take(len).enumerate() {
+        if entries.size_hint() != (left, Some(left)) {
+            return false;
+        }
+        match (entries.next(), map.values().get(index)) {
+            (Some((found, text)), Some(same))
+                if found.as_str() == key && text.as_str() == value && same == text => {}
+            _ => return false,
+        }
+        left = left.saturating_sub(1);
+    }
+    entries.size_hint() == (0, Some(0)) && entries.next().is_none()
+}
+
+#[test]
+fn keys_are_refused_first_then_the_values_then_their_number(rt: HostRuntime) {
+    let length = |len| TextMapError::Keys(SortedError::Records(UleError::Length { len }));
+    let bad = |index, fault| TextMapError::Keys(SortedError::Records(UleError::Parse {
+        index,
+        fault,
+    }));
+    let falls = |index| TextMapError::Keys(SortedError::Order(NotRising { index }));
+    let value = |index, fault| TextMapError::Values(UleError::Parse { index, fault });
+    let values = |len| TextMapError::Values(UleError::Length { len });
+    let count = |keys, values| TextMapError::Count { keys, values };
+    for (keys, bytes, fault) in [
+        (&b"CHE"[..], &b"CHF"[..], length(3)),
+        (
+            &b"CH\0E"[..],
+            &b"CHFEUR"[..],
+            bad(1, ParseError::ContainsNull),
+        ),
+        (
+            &b"\xffHEU"[..],
+            &b"CHFEUR"[..],
+            bad(0, ParseError::NonAscii),
+        ),
+        // that, though they don't rise either and the values are too few and bad
+        (
+            &b"EUCH\0U"[..],
+            &b"\xff"[..],
+            bad(2, ParseError::ContainsNull),
+        ),
+        (&b"EUCH"[..], &b"EURCHF"[..], falls(1)),
+        (&b"EUEU"[..], &b"EUREUR"[..], falls(1)),
+        (&b"CHEUUSJP"[..], &b"CHFEURUSDJPY"[..], falls(3)),
+        // that, though the values are bad, too few, or none
+        (&b"EUEU"[..], &b"\xff"[..], falls(1)),
+        (&b"EUEU"[..], &b""[..], falls(1)),
+        // values that aren't packed, though their number differs too
+        (&b"CHEU"[..], &b"CHFEU"[..], values(5)),
+        (
+            &b"CHEU"[..],
+            &b"CHF\0UR"[..],
+            value(1, ParseError::ContainsNull),
+        ),
+        (&b"CHEU"[..], &b"\xffHF"[..], value(0, ParseError::NonAscii)),
+        // as many as there aren't keys
+        (&b"CHEU"[..], &b"CHF"[..], count(2, 1)),
+        (&b"CHEU"[..], &b"CHFEURJPY"[..], count(2, 3)),
+        (&b"CH"[..], &b""[..], count(1, 0)),
+        (&b""[..], &b"CHF"[..], count(0, 1)),
+    ] {
+        assert!(rt; is_refused(keys, bytes, fault), "{fault:?}");
+    }
+}
+
+fn is_refused(keys: &[u8], values: &[u8], fault: TextMapError) -> bool {
+    match TextMap::<2, 3>::new(keys, values) {
+        Ok(_) => false,
+        Err(found) => found == fault,
+    }
+}
+
+#[test]
+fn a_map_of_texts_is_packed_and_read_back(rt: HostRuntime) {
+    for (rows, keys, values) in [
+        ("", "", ""),
+        ("EUR=34", "EUR", "34"),
+        ("USD=78 CHF=1 JPY=56 EUR=", "CHFEURJPYUSD", "1\0\0\x005678"),
+        ("EUR=00 =34 EUR=zz A=5", "\0\0\0A\0\0EUR", "345\0zz"),
+    ] {
+        assert!(rt;
+            is_packed_and_read::<3>(rt.alloc(), rows, keys, values),
+            "{rows}"
+        );
+    }
+    let keys = "abcdefghijklabcdefghijkm";
+    let rows = "abcdefghijkm=34 abcdefghijkl=12";
+    assert!(rt; is_packed_and_read::<12>(rt.alloc(), rows, keys, "1234"));
+}
+
+/// Whether std's map of the rows is packed to the keys and the values, and these have its entries.
+fn is_packed_and_read<const N: usize>(alloc: Global, rows: &str, keys: &str, values: &str) -> bool
+    requires positive { 0 < N }
+    requires sized { N < 2 ^ 63 }
+{
+    let mut map = BTreeMap::new(alloc);
+    for row in rows.split_whitespace() {
+        let Some((key, value)) = row.split_once('=') else {
+            return false;
+        };
+        match (
+            TinyAsciiStr::<N>::try_from_str(key),
+            TinyAsciiStr::<2>::try_from_str(value),
+        ) {
+            (Ok(key), Ok(value)) => if map.insert(key, value).is_err() {
+                return false;
+            },
+            _ => return false,
+        }
+    }
+    let is_packed = match pack_text_map(alloc, &map) {
+        Ok((made, others)) => made.as_slice() == keys.as_bytes()
+            && others.as_slice() == values.as_bytes(),
+        Err(_) => false,
+    };
+    match TextMap::<N, 2>::new(keys.as_bytes(), values.as_bytes()) {
+        Ok(packed) => is_packed && packed.len() == map.len() && are_entries(&packed, &map),
+        Err(_) => false,
+    }
+}
+
+/// Whether the packed map has the entries of the other in their order, and no more.
+fn are_entries<const N: usize>(
+    packed: &TextMap<'_, N, 2>,
+    map: &BTreeMap<TinyAsciiStr<N>, TinyAsciiStr<2>>,
+) -> bool {
+    let mut entries = packed.iter();
+    for (key, value) in map {
+        if entries.next() != Some((*key, *value)) {
+            return false;
+        }
+    }
+    entries.next().is_none()
+}
