@@ -14,8 +14,8 @@ mod table;
 mod text_map;
 
 pub use map::{Entries, MapError, PackedMap};
-pub use packing::{pack, pack_map, unpack};
+pub use packing::{pack, pack_map, pack_text_map, unpack};
 pub use sorted::{NotRising, SortedError, SortedTable};
 pub use sorting::pack_sorted;
 pub use table::{Table, Texts};
-pub use text_map::{TextEntries, TextMap, TextMapError, pack_text_map};
+pub use text_map::{TextEntries, TextMap, TextMapError};

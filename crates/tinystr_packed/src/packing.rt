@@ -5,11 +5,12 @@ ghost use Rattle.std.specs.List.{flat_map};
 ghost use Rattle.tinystr_words.specs.Packed.{IsPacked};
 ghost use Rattle.tinystr_words.specs.Text.{IsStrictText, pad};
 ghost use Rattle.tinystr_packed.specs.Map.{ArePacked};
+ghost use Rattle.tinystr_packed.specs.TextMap.{ArePackedTexts};
 
 use crate::table::Table;
 use std::alloc::{AllocError, Global};
 use std::collections::BTreeMap;
-use tinystr::TinyAsciiStr;
+use tinystr::{TinyAsciiStr, laws};
 
 /// The texts, packed. Only memory can stop it.
 ///
@@ -77,6 +78,36 @@ pub fn pack_map<const N: usize, const M: usize>(
         let _ = key.as_utf8();
         keys.extend_from_slice(key.all_bytes())?;
         values.extend_from_slice(value)?;
+    }
+    Ok((keys, values))
+}
+
+/// The bytes of the keys and the bytes of the values of a map, each packed: what `TextMap::new` takes. Only memory can
+/// stop it.
+///
+/// ```rust
+/// let mut currencies = BTreeMap::new(rt.alloc());
+/// currencies.insert(tinystr!(2, "JP")?, tinystr!(3, "JPY")?)?;
+/// currencies.insert(tinystr!(2, "CH")?, tinystr!(3, "CHF")?)?;
+/// let (keys, values) = pack_text_map(rt.alloc(), &currencies)?;
+/// assert_eq!(rt; keys.as_slice(), b"CHJP".as_slice());
+/// assert_eq!(rt; values.as_slice(), b"CHFJPY".as_slice());
+/// ```
+pub fn pack_text_map<const N: usize, const M: usize>(
+    alloc: Global,
+    map: &BTreeMap<TinyAsciiStr<N>, TinyAsciiStr<M>>,
+) -> Result<(Vec<u8>, Vec<u8>), AllocError>
+    ensures { IfOk result (λ made. ArePackedTexts map.now.entries made.0.items made.1.items N M) }
+{
+    // Its contract says that the keys rise.
+    let count = map.len();
+    let mut keys = Vec::with_capacity(alloc, count.saturating_mul(N))?;
+    let mut values = Vec::with_capacity(alloc, count.saturating_mul(M))?;
+    for (key, value) in map {
+        laws::fits(key);
+        laws::fits(value);
+        keys.extend_from_slice(key.all_bytes())?;
+        values.extend_from_slice(value.all_bytes())?;
     }
     Ok((keys, values))
 }

@@ -2,7 +2,7 @@ use Rattle.std.proofs.Common.{◌≡◌, ◌++◌, ℕ, List, rules}
 use Rattle.std.specs.Map.{keys_of}
 use Rattle.tinystr_words.specs.Text.{IsStrictText, pad}
 use Rattle.tinystr_packed.proofs.MapBytes.{PacksFirst-none, PacksFirst-more, PacksFirst-all, IsRising-keys}
-use Rattle.tinystr_packed.proofs.text_map.pack_text_map.Goals as goal
+use Rattle.tinystr_packed.proofs.packing.pack_text_map.Goals as goal
 
 pub loop-key-init : goal.loop-key-init
 loop-key-init g c =
