@@ -1,3 +1,4 @@
+pub mod InPlace
 pub mod MapBytes
 pub mod Numbers
 pub mod PackedMaps

@@ -43,7 +43,7 @@ texts_of-packed n ts some h =
     let count : length (packed n ts) / n ≡ length ts = rw (length-joined n ts h) (mul-div_cancel (length ts) some) in
     rw count (chunks-packed n ts h)
 
-texts_of-records : (bytes : List ℕ) (records : List (List ℕ)) (n : ℕ) → 0 < n → (h : IsPacked bytes n) → records ≡ first_chunks n (length bytes / n) bytes → map text_of records ≡ h.texts
+pub texts_of-records : (bytes : List ℕ) (records : List (List ℕ)) (n : ℕ) → 0 < n → (h : IsPacked bytes n) → records ≡ first_chunks n (length bytes / n) bytes → map text_of records ≡ h.texts
 texts_of-records bytes records n some h are =
     rw are (ap (λ (l : List ℕ). map text_of (first_chunks n (length l / n) l)) h.joined ∙ texts_of-packed n h.texts some h.each)
 

@@ -1,7 +1,7 @@
 -- Texts that begin with a text.
 use Rattle.std.proofs.Common.{◌≡◌, ◌≢◌, ℕ, suc, zero, ◌+◌, ◌-◌, ◌<◌, ◌≤◌, Bool, true, false, ◌&&◌, List, [], ◌∷◌, ◌++◌, length, map, take, drop, get_or, refl, sym, ap, ◌∙◌, arith, nat_eq, inl, inr}
 use Rattle.std.specs.List.{starts_with, filter, zip, All}
-use Rattle.std.specs.List.Sorted.{IsPartitionPoint}
+use Rattle.std.specs.List.Sorted.{IsPartitionedBy, IsPartitionPoint}
 use Rattle.std.specs.Map.{keys_of}
 use Rattle.std.specs.Ordering.{nat_cmp}
 use Rattle.std.proofs.lemmas.Slice.Eq.{bytes_eq-Decides}
@@ -91,6 +91,15 @@ not_above : (ts : List (List ℕ)) (i j : ℕ) → IsRising ts → i ≤ j → j
 not_above ts i j up le inside above =
     let no_more = rw (above, tied_itself nat_list_cmp_total (text_at ts j)) at (order-rising ts (text_at ts j) i j up le inside) in
     absurd (omega arith)
+
+-- from the first text that isn't below p on, those that begin with p stand in front
+pub IsPartitionedBy-begins : (records rest ts : List (List ℕ)) (p : List ℕ) (n i : ℕ) → All (λ r. IsPaddedText r n) records → map text_of records ≡ ts → IsText p → IsRising ts → IsFirstNotBelow p ts i → rest ≡ drop i records → IsPartitionedBy (begins p) rest
+IsPartitionedBy-begins records rest ts p n i h view text up first cut j k d le inside here =
+    let long : length records ≡ length ts = rw (← view) (sym (length-map records text_of)) in
+    let within : i + k < length records = omega (arith, ap (λ (l : List (List ℕ)). length l) cut, length-drop i records) in
+    let far : begins p (text_at ts (i + k)) ≡ true = sym (begins-text records ts p d n (i + k) h view text within) ∙ (rw (cut, get_or-drop) at here) in
+    let near = begins-between p (text_at ts (i + j)) (text_at ts (i + k)) (first.not_below (i + j) (omega arith) (omega arith)) (not_above ts (i + j) (i + k) up (omega arith) (omega arith)) far in
+    rw (cut, get_or-drop) (begins-text records ts p d n (i + j) h view text (omega arith) ∙ near)
 
 -- no record is below the padded text from its place on
 pub IsFirstNotBelow-behind : (records rest ts : List (List ℕ)) (p : List ℕ) (n i : ℕ) → All (λ r. IsPaddedText r n) records → map text_of records ≡ ts → IsStrictText p n → IsFirstNotBelow p ts i → rest ≡ drop i records → IsFirstNotBelow (pad p n) rest 0

@@ -12,7 +12,7 @@ use Rattle.std.specs.Cmp.{nat_cmp_is}
 use Rattle.std.proofs.lemmas.Nat.{be_bytes_8}
 use Rattle.std.proofs.Math.Seq.{take-add}
 use Rattle.tinystr_words.specs.Text.{pad}
-use Rattle.tinystr_packed.specs.Numbers.{number_at, pair_at, IsRecord, AreRisingRecords, BeginAlike, Tells}
+use Rattle.tinystr_packed.specs.Numbers.{number_at, pair_at, IsRecord, AreRisingRecords, AreToldApart, BeginAlike, Tells}
 use Rattle.tinystr_packed.specs.Rising.{order, text_at}
 use Rattle.tinystr_packed.proofs.Numbers.{number_at-short, number_at-long}
 use Rattle.tinystr_packed.proofs.RisingTexts.{Less-from_is_lt}
@@ -190,3 +190,39 @@ not_below_same-pair records key n long short h is_record k inside is less =
     let same = same-pair (text_at records k) key n long short (h.each k inside) is_record is in
     let tied = tied_itself nat_list_cmp_total key in
     cc
+
+-- ---- what tells records from a key
+
+-- at most eight bytes do as one number
+pub AreToldApart-short : (records : List (List ℕ)) (key : List ℕ) (n : ℕ) → n ≤ 8 → AreRisingRecords n records → IsRecord n key → AreToldApart n (number_at 0) key records
+AreToldApart-short records key n short up k = record {
+  rising = up.rising;
+  tells = Tells-short records key n short up k;
+  whole = λ _. not_below_same-short records key n short up k;
+}
+
+-- at most sixteen as two
+pub AreToldApart-pair : (records : List (List ℕ)) (key : List ℕ) (n : ℕ) → 8 < n → n ≤ 16 → AreRisingRecords n records → IsRecord n key → AreToldApart n (pair_at 0) key records
+AreToldApart-pair records key n long short up k =
+    let alike : BeginAlike 0 key records = record { each = λ i inside. refl } in
+    record {
+      rising = up.rising;
+      tells = Tells-pair records key n 0 (omega arith) up k alike;
+      whole = λ _. not_below_same-pair records key n long short up k;
+    }
+
+-- longer ones behind what they share by eight bytes
+pub AreToldApart-long : (records : List (List ℕ)) (key : List ℕ) (n i : ℕ) → 16 < n → i ≤ n - 8 → AreRisingRecords n records → IsRecord n key → BeginAlike i key records → AreToldApart n (number_at i) key records
+AreToldApart-long records key n i long fits up k alike = record {
+  rising = up.rising;
+  tells = Tells-long records key n i (omega arith) up k alike;
+  whole = λ short. absurd (omega arith);
+}
+
+-- and by sixteen
+pub AreToldApart-long_pair : (records : List (List ℕ)) (key : List ℕ) (n i : ℕ) → 16 < n → i ≤ n - 8 → AreRisingRecords n records → IsRecord n key → BeginAlike i key records → AreToldApart n (pair_at i) key records
+AreToldApart-long_pair records key n i long fits up k alike = record {
+  rising = up.rising;
+  tells = Tells-pair records key n i (omega arith) up k alike;
+  whole = λ short. absurd (omega arith);
+}

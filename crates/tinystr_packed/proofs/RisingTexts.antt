@@ -234,6 +234,13 @@ AreRisingRecords-part records part n i h p = record {
       rw (p.each k (omega arith), p.each (k + 1) within, next) (h.rising (i + k) (omega (arith, p.inside)));
 }
 
+-- a range of texts that rise
+pub IsRising-range : (ts : List (List ℕ)) (i m : ℕ) → i + m ≤ length ts → IsRising ts → IsRising (take m (drop i ts))
+IsRising-range ts i m inside up k within =
+    let p = IsPart-range ts (take m (drop i ts)) i m inside refl in
+    let next : i + (k + 1) ≡ i + k + 1 = omega arith in
+    rw (p.each k (omega arith), p.each (k + 1) within, next) (up (i + k) (omega (arith, p.inside)))
+
 -- a place in a part, where those before the part are below the key and those behind it aren't
 pub IsFirstNotBelow-part : (ts part : List (List ℕ)) (key : List ℕ) (i m : ℕ) → IsRising ts → IsPart ts part i → ((k : ℕ) → k < i → order (text_at ts k) key ≡ Less)
     → (i + length part < length ts → order (text_at ts (i + length part)) key ≢ Less) → IsFirstNotBelow key part m → IsFirstNotBelow key ts (i + m)
@@ -264,7 +271,24 @@ IsFirstNotBelow-range ts key i j m up le inside before behind found =
 
 -- ---- a range that holds a place
 
--- of which the front goes where a text is below
+-- all texts do
+pub IsFirstNotBelowWithin-all : (ts : List (List ℕ)) (key : List ℕ) → IsFirstNotBelowWithin key ts 0 (length ts)
+IsFirstNotBelowWithin-all ts key = record {
+  ordered = omega arith;
+  inside = omega arith;
+  below = λ k before. absurd (omega arith);
+  not_below = λ k from inside. absurd (omega arith);
+}
+
+-- a range of no texts is the place
+pub IsFirstNotBelow-empty : (ts : List (List ℕ)) (key : List ℕ) (i j : ℕ) → IsFirstNotBelowWithin key ts i j → i ≡ j → IsFirstNotBelow key ts i
+IsFirstNotBelow-empty ts key i j h same = record {
+  inside = omega (arith, h.inside);
+  below = h.below;
+  not_below = λ k from inside. h.not_below k (omega arith) inside;
+}
+
+-- the front of a range goes where a text is below
 pub IsFirstNotBelowWithin-from : (ts : List (List ℕ)) (key : List ℕ) (i j m n : ℕ) → IsRising ts → IsFirstNotBelowWithin key ts i j → m < length ts → order (text_at ts m) key ≡ Less → n ≤ m + 1 → n ≤ j → IsFirstNotBelowWithin key ts n j
 IsFirstNotBelowWithin-from ts key i j m n up h inside less before within = record {
   ordered = within;
@@ -273,7 +297,7 @@ IsFirstNotBelowWithin-from ts key i j m n up h inside less before within = recor
   not_below = h.not_below;
 }
 
--- and what is behind where one isn't
+-- and what is behind goes where one isn't
 pub IsFirstNotBelowWithin-to : (ts : List (List ℕ)) (key : List ℕ) (i j m n : ℕ) → IsRising ts → IsFirstNotBelowWithin key ts i j → order (text_at ts m) key ≢ Less → m ≤ n → i ≤ n → n ≤ length ts → IsFirstNotBelowWithin key ts i n
 IsFirstNotBelowWithin-to ts key i j m n up h other behind within inside = record {
   ordered = within;

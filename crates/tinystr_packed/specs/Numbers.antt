@@ -1,5 +1,5 @@
 -- Records by numbers that their bytes spell.
-use Rattle.std.specs.Prelude.{◌≡◌, ◌≢◌, ℕ, ◌+◌, ◌-◌, ◌*◌, ◌^◌, ◌<◌, List, length, take, drop, min, slice_index_or}
+use Rattle.std.specs.Prelude.{◌≡◌, ◌≢◌, ℕ, ◌+◌, ◌-◌, ◌*◌, ◌^◌, ◌<◌, ◌≤◌, List, length, take, drop, min, slice_index_or}
 use Rattle.std.specs.Int.{from_be_bytes, w64}
 use Rattle.tinystr_words.specs.Text.{pad}
 use Rattle.std.specs.declared.cmp.Ordering.TheVariants.{Less}
@@ -27,6 +27,13 @@ pair_at i raw = number_at i raw * 2 ^ 64 + number_at (min (i + 8) (length raw - 
 pub record Tells (number : List ℕ → ℕ) (key : List ℕ) (records : List (List ℕ)) : Type 0 where
   pub below : (k : ℕ) → k < length records → number (text_at records k) < number key → order (text_at records k) key ≡ Less
   pub above : (k : ℕ) → k < length records → number key < number (text_at records k) → order (text_at records k) key ≢ Less
+
+-- records that rise, told from the key by a number, and by nothing else where they have at most sixteen bytes: one of the
+-- key's number isn't below it
+pub record AreToldApart (n : ℕ) (number : List ℕ → ℕ) (key : List ℕ) (records : List (List ℕ)) : Type 0 where
+  pub rising : IsRising records
+  pub tells : Tells number key records
+  pub whole : n ≤ 16 → (k : ℕ) → k < length records → number (text_at records k) ≡ number key → order (text_at records k) key ≢ Less
 
 -- each record begins with the first bytes of the key
 pub record BeginAlike (n : ℕ) (key : List ℕ) (records : List (List ℕ)) : Type 0 where

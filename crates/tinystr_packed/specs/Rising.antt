@@ -1,10 +1,11 @@
 -- Texts that rise, and places among them.
-use Rattle.std.specs.Prelude.{◌≡◌, ◌≢◌, ℕ, ◌+◌, ◌-◌, ◌<◌, ◌≤◌, true, false, List, [], length, take, slice_index_or, nat_eq}
+use Rattle.std.specs.Prelude.{◌≡◌, ◌≢◌, ◌↔◌, ℕ, ◌+◌, ◌-◌, ◌<◌, ◌≤◌, true, false, List, [], length, take, slice_index_or, slice_get, nat_eq, All, Contains, Result, Some, IsOk, IfOk, IfErr}
 use Rattle.std.specs.Cmp.Lexicographic.{slice_cmp}
-use Rattle.std.specs.List.{starts_with}
+use Rattle.std.specs.List.{flat_map, starts_with}
 use Rattle.std.specs.Ordering.{nat_cmp}
 use Rattle.std.specs.declared.cmp.Ordering.{Ordering}
 use Rattle.std.specs.declared.cmp.Ordering.TheVariants.{Less, Greater}
+use Rattle.tinystr_words.specs.Text.{IsStrictText, pad}
 
 -- the order of two texts
 abbrev pub order : List ℕ → List ℕ → Ordering
@@ -51,3 +52,15 @@ pub record IsPrefixRange (p : List ℕ) (texts : List (List ℕ)) (i j : ℕ) : 
   pub before : (k : ℕ) → k < i → starts_with nat_eq (text_at texts k) p ≡ false
   pub within : (k : ℕ) → i ≤ k → k < j → starts_with nat_eq (text_at texts k) p ≡ true
   pub behind : (k : ℕ) → j ≤ k → k < length texts → starts_with nat_eq (text_at texts k) p ≡ false
+
+-- the bytes are the padded forms of these texts, of at most n bytes each, which rise
+pub record ArePackedRising (texts : List (List ℕ)) (bytes : List ℕ) (n : ℕ) : Type 0 where
+  pub strict : All (λ t. IsStrictText t n) texts
+  pub joined : bytes ≡ flat_map (λ t. pad t n) texts
+  pub rising : IsRising texts
+
+-- the index of t where it is one of the texts, and else its place
+pub record IsSearched (t : List ℕ) (texts : List (List ℕ)) (r : Result ℕ ℕ) : Type 0 where
+  pub found : IfOk r (λ index. slice_get texts index ≡ Some t)
+  pub place : IfErr r (λ place. IsPlaceFor t texts place)
+  pub exact : IsOk r ↔ Contains texts t

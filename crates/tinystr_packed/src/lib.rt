@@ -2,6 +2,7 @@
 //! checked once, and then read in place.
 #![tactic(auto)]
 
+pub mod in_place;
 pub mod laws;
 mod map;
 mod number;

@@ -7,8 +7,8 @@ ghost use Rattle.std.specs.List.Sorted.{IsPartitionPoint};
 ghost use Rattle.std.specs.Ordering.{nat_cmp, is_lt};
 ghost use Rattle.std.specs.declared.cmp.Ordering.TheVariants.{Less};
 ghost use Rattle.tinystr_words.specs.Text.{pad};
-ghost use Rattle.tinystr_packed.specs.Numbers.{IsRecord, AreRisingRecords, BeginAlike, Tells};
-ghost use Rattle.tinystr_packed.specs.Rising.{order, text_at, IsFirstNotBelow, IsFirstNotBelowWithin};
+ghost use Rattle.tinystr_packed.specs.Numbers.{IsRecord, AreRisingRecords, AreToldApart, BeginAlike};
+ghost use Rattle.tinystr_packed.specs.Rising.{order, text_at, IsRising, IsFirstNotBelow, IsFirstNotBelowWithin};
 
 use crate::number::Number;
 use crate::record::{compare, is_below, number_at};
@@ -29,17 +29,27 @@ pub(crate) fn first_not_below<const N: usize>(records: &[[u8; N]], key: &[u8; N]
     requires key { IsRecord N key.now }
     ensures { IsFirstNotBelow key.now records.now result }
 {
-    let all = 0..records.len();
-    if N <= 8 {
-        return narrow::<N, u64>(records, key, 0, all).start;
-    }
     if N <= 16 {
-        return narrow::<N, u128>(records, key, 0, all).start;
+        return first_not_below_by_number(records, key);
     }
     if records.len() < FEW {
         return first_not_below_by_halves(records, key);
     }
     first_not_below_of_many(records, key)
+}
+
+/// The place of a key among records of at most sixteen bytes. Where they don't rise, it is any index up to their number.
+#[inline(always)]
+pub fn first_not_below_by_number<const N: usize>(records: &[[u8; N]], key: &[u8; N]) -> usize
+    requires { N ≤ 16 }
+    ensures bound { result ≤ length records.now }
+    ensures place { AreRisingRecords N records.now → IsRecord N key.now → IsFirstNotBelow key.now records.now result }
+{
+    let all = 0..records.len();
+    if N <= 8 {
+        return narrow::<N, u64>(records, key, 0, all).start;
+    }
+    narrow::<N, u128>(records, key, 0, all).start
 }
 
 // The place of a key among many records of more than sixteen bytes. It isn't inlined, so that a search among few doesn't save
@@ -106,8 +116,9 @@ fn is_below_at<const N: usize>(records: &[[u8; N]], index: usize, key: &[u8; N])
 }
 
 // Narrows a range that holds a key's place, by the numbers of its records from `start` on: to nothing at the place or, past
-// sixteen bytes, to a range whose middle has the key's number and may still differ from the key. For speed, no test for the
-// order is a branch, and both records that the next step may ask are read before this step's test is done.
+// sixteen bytes, to a range whose middle has the key's number and may still differ from the key. Where the records don't rise,
+// a part of the range is left all the same. For speed, no test for the order is a branch, and both records that the next step
+// may ask are read before this step's test is done.
 #[inline(always)]
 fn narrow<const N: usize, T: Number<N>>(
     records: &[[u8; N]],
@@ -116,13 +127,13 @@ fn narrow<const N: usize, T: Number<N>>(
     range: Range<usize>,
 ) -> Range<usize>
     requires start { start ≤ N - 8 }
-    requires records { AreRisingRecords N records.now }
-    requires tells { Tells (T.spelled start) key.now records.now }
-    requires whole { N ≤ 16 → (k : ℕ) → k < length records.now
-        → T.spelled start (text_at records.now k) ≡ T.spelled start key.now
-        → order (text_at records.now k) key.now ≢ Less }
-    requires within { IsFirstNotBelowWithin key.now records.now range.start range.end }
-    ensures within { IsFirstNotBelowWithin key.now records.now result.start result.end }
+    requires ordered { range.start ≤ range.end }
+    requires inside { range.end ≤ length records.now }
+    ensures ordered { result.start ≤ result.end }
+    ensures inside { result.end ≤ length records.now }
+    ensures within { AreToldApart N (T.spelled start) key.now records.now
+        → IsFirstNotBelowWithin key.now records.now range.start range.end
+        → IsFirstNotBelowWithin key.now records.now result.start result.end }
     ensures place { N ≤ 16 → result.start ≡ result.end }
 {
     if range.is_empty() {
@@ -176,11 +187,11 @@ fn first_not_below_within<const N: usize>(
     }
 }
 
-// The place of a key, by halves.
+/// The place of a key, by halves. Where the records don't rise, it is any index up to their number.
 #[inline(always)]
-fn first_not_below_by_halves<const N: usize>(records: &[[u8; N]], key: &[u8; N]) -> usize
-    requires records { AreRisingRecords N records.now }
-    ensures { IsFirstNotBelow key.now records.now result }
+pub fn first_not_below_by_halves<const N: usize>(records: &[[u8; N]], key: &[u8; N]) -> usize
+    ensures bound { result ≤ length records.now }
+    ensures place { IsRising records.now → IsFirstNotBelow key.now records.now result }
 {
     records.partition_point(
         |raw| -> bool

@@ -3,7 +3,7 @@
 ghost use Rattle.std.specs.Prelude.{◌<◌, ◌^◌};
 
 use tinystr::TinyAsciiStr;
-use tinystr_packed::{PackedMap, SortedTable, Table, TextMap};
+use tinystr_packed::{PackedMap, SortedTable, Table, TextMap, in_place};
 
 // Each line of the words is a text of the file.
 const FILES: &[(&[u8], &str)] = &[
@@ -138,7 +138,10 @@ fn counts(prefix: &str, count: usize) -> bool {
     let file = b"ab\0\0abc\0abcdabd\0b\0\0\0ba\0\0c\0\0\0";
     match (Table::<4>::new(file), TinyAsciiStr::try_from_str(prefix)) {
         (Ok(table), Ok(beginning)) => match SortedTable::new(table) {
-            Ok(sorted) => sorted.with_prefix(&beginning).table().len() == count,
+            Ok(sorted) => {
+                sorted.with_prefix(&beginning).table().len() == count
+                    && in_place::with_prefix(file, &beginning).1 == count
+            }
             Err(_) => false,
         },
         _ => false,

@@ -3,9 +3,9 @@
 ghost use Rattle.std.specs.Prelude.{◌<◌, ◌≤◌, ◌^◌};
 
 use tinystr::TinyAsciiStr;
-use tinystr_packed::{SortedTable, Table};
+use tinystr_packed::{SortedTable, Table, in_place};
 
-/// Whether a search in the sorted table of a file has the answer, and `contains` the same.
+/// Whether a search in the sorted table of a file has the answer, one in the file itself too, and `contains` the same.
 fn answers<const N: usize>(file: &[u8], key: &TinyAsciiStr<N>, answer: Result<usize, usize>) -> bool
     requires { 0 < N }
 {
@@ -13,7 +13,11 @@ fn answers<const N: usize>(file: &[u8], key: &TinyAsciiStr<N>, answer: Result<us
         return false;
     };
     match SortedTable::new(table) {
-        Ok(sorted) => sorted.binary_search(key) == answer && sorted.contains(key) == answer.is_ok(),
+        Ok(sorted) => {
+            sorted.binary_search(key) == answer
+                && in_place::search(file, key) == answer
+                && sorted.contains(key) == answer.is_ok()
+        }
         Err(_) => false,
     }
 }

@@ -1,41 +1,17 @@
-use Rattle.std.proofs.Common.{arith, rules}
-use Rattle.tinystr_packed.proofs.RecordOrder.{Tells-long, Tells-pair}
+use Rattle.std.proofs.Common.{rules}
+use Rattle.tinystr_packed.proofs.RecordOrder.{AreToldApart-long, AreToldApart-long_pair}
+use Rattle.tinystr_packed.proofs.RisingTexts.{IsFirstNotBelowWithin-all}
 use Rattle.tinystr_packed.proofs.search.first_not_below_of_many.Goals as goal
 
-pub narrow-range-requires : goal.narrow-range-requires
-narrow-range-requires g c =
-    let fits = c.shared_len-start.ensures.bound in (
+pub first_not_below_within-requires : goal.first_not_below_within-requires
+first_not_below_within-requires g c =
+    let records = c.args.records.now in
+    let key = c.args.key.now in
+    let start = c.shared_len-start.result in
+    let fits = c.shared_len-start.ensures.bound in
+    let alike = c.shared_len-start.ensures.alike in
+    let eight = AreToldApart-long records key g.row.N start c.requires.long fits c.requires.records c.requires.key alike in
+    let sixteen = AreToldApart-long_pair records key g.row.N start c.requires.long fits c.requires.records c.requires.key alike in (
       search rules,
-      (
-        fits,
-        (
-          c.requires.records,
-          (
-            Tells-long c.args.records.now c.args.key.now g.row.N c.shared_len-start.result (omega (arith, fits, c.requires.long)) c.requires.records c.requires.key c.shared_len-start.ensures.alike,
-            (
-              (λ short k inside same. absurd (omega (arith, short, c.requires.long))),
-              search rules,
-            ),
-          ),
-        ),
-      ),
-    )
-
-pub narrow-range-requires-2 : goal.narrow-range-requires-2
-narrow-range-requires-2 g c =
-    let fits = c.shared_len-start.ensures.bound in (
-      search rules,
-      (
-        fits,
-        (
-          c.requires.records,
-          (
-            Tells-pair c.args.records.now c.args.key.now g.row.N c.shared_len-start.result (omega (arith, fits, c.requires.long)) c.requires.records c.requires.key c.shared_len-start.ensures.alike,
-            (
-              (λ short k inside same. absurd (omega (arith, short, c.requires.long))),
-              search rules,
-            ),
-          ),
-        ),
-      ),
+      (c.requires.records, c.narrow-range-2.ensures.within sixteen (c.narrow-range.ensures.within eight (IsFirstNotBelowWithin-all records key))),
     )

@@ -2,7 +2,7 @@ use Rattle.std.proofs.Common.{◌≡◌, ◌≢◌, ◌<◌, [], ◌+◌, ◌-�
 use Rattle.std.proofs.lemmas.List.{get_or_default}
 use Rattle.std.specs.declared.cmp.Ordering.TheVariants.{Less, Equal, Greater}
 use Rattle.tinystr_packed.specs.Rising.{order, text_at}
-use Rattle.tinystr_packed.proofs.RisingTexts.{IsFirstNotBelow-behind_middle, IsFirstNotBelow-same, IsFirstNotBelow-before_middle}
+use Rattle.tinystr_packed.proofs.RisingTexts.{IsRising-range, IsFirstNotBelow-behind_middle, IsFirstNotBelow-same, IsFirstNotBelow-before_middle}
 use Rattle.tinystr_packed.proofs.search.first_not_below_within.Goals as goal
 
 pub returns-in-Less : goal.returns-in-Less
@@ -13,7 +13,7 @@ returns-in-Less g c =
     let some : range.start < range.end = omega arith in
     let here = get_or_default records middle c.index-records-middle.result [] (omega (arith, c.requires.within.inside)) in
     let less : order (text_at records middle) c.args.key.now ≡ Less = rw (← here, ← c.index-records-middle.is) (sym c.compare.ensures ∙ c.in-Less.is) in
-    IsFirstNotBelow-behind_middle records c.args.key.now range.start range.end middle c.first_not_below_by_halves.result c.requires.records.rising c.requires.within (omega arith) less c.first_not_below_by_halves.ensures
+    IsFirstNotBelow-behind_middle records c.args.key.now range.start range.end middle c.first_not_below_by_halves.result c.requires.records.rising c.requires.within (omega arith) less (c.first_not_below_by_halves.ensures.place (IsRising-range records (middle + 1) (range.end - (middle + 1)) (omega (arith, c.requires.within.inside)) c.requires.records.rising))
 
 pub returns-in-Equal : goal.returns-in-Equal
 returns-in-Equal g c =
@@ -34,4 +34,4 @@ returns-in-Greater g c =
     let here = get_or_default records middle c.index-records-middle.result [] (omega (arith, c.requires.within.inside)) in
     let above : order (text_at records middle) c.args.key.now ≡ Greater = rw (← here, ← c.index-records-middle.is) (sym c.compare.ensures ∙ c.in-Greater.is) in
     let other : order (text_at records middle) c.args.key.now ≢ Less = λ less. cc in
-    IsFirstNotBelow-before_middle records c.args.key.now range.start range.end middle c.first_not_below_by_halves-in-Greater.result c.requires.records.rising c.requires.within (omega arith) (omega arith) other c.first_not_below_by_halves-in-Greater.ensures
+    IsFirstNotBelow-before_middle records c.args.key.now range.start range.end middle c.first_not_below_by_halves-in-Greater.result c.requires.records.rising c.requires.within (omega arith) (omega arith) other (c.first_not_below_by_halves-in-Greater.ensures.place (IsRising-range records range.start (middle - range.start) (omega (arith, c.requires.within.inside)) c.requires.records.rising))

@@ -1,0 +1,58 @@
+-- Bytes that were checked before, and their records.
+use Rattle.std.proofs.Common.{◌≡◌, ◌≢◌, ℕ, ◌<◌, ◌*◌, ◌/◌, List, [], ◌∷◌, length, map, refl, sym, ap, ◌∙◌, arith, All}
+use Rattle.std.specs.List.{slice_get}
+use Rattle.std.specs.Simd.{first_chunks}
+use Rattle.std.specs.declared.option.Option.TheVariants.{Some, None}
+use Rattle.std.specs.declared.result.Result.TheVariants.{Err}
+use Rattle.std.proofs.lemmas.Bool.{false≢true}
+use Rattle.std.proofs.lemmas.List.{length-map}
+use Rattle.std.proofs.lemmas.Option.{slice_get-map, slice_get-get_or, slice_get_within, get_or_from_slice_get}
+use Rattle.std.proofs.Math.Nat.{suc-mul}
+use Rattle.tinystr_words.proofs.Packing.{length-joined}
+use Rattle.tinystr_words.specs.Packed.{IsPacked}
+use Rattle.tinystr_words.specs.Text.{IsPaddedText, text_of, pad}
+use Rattle.tinystr_packed.proofs.PackedTexts.{AllPadded-chunks, texts_of-records}
+use Rattle.tinystr_packed.proofs.RisingTexts.{IsRecordOf-at}
+use Rattle.tinystr_packed.specs.Rising.{ArePackedRising, IsFirstNotBelow, IsSearched, text_at}
+
+-- the records of packed texts
+pub records_are : (bytes : List ℕ) (records texts : List (List ℕ)) (n : ℕ) → 0 < n → ArePackedRising texts bytes n → records ≡ first_chunks n (length bytes / n) bytes → length records ≡ length bytes / n
+    → All (λ raw. IsPaddedText raw n) records × (map text_of records ≡ texts)
+records_are bytes records texts n some h are count =
+    let packed : IsPacked bytes n = record { texts = texts; each = h.strict; joined = h.joined } in
+    (AllPadded-chunks bytes records n some packed are count, texts_of-records bytes records n some packed are)
+
+-- no bytes are no texts
+pub none_from_empty : (texts : List (List ℕ)) (bytes : List ℕ) (n : ℕ) → 0 < n → length bytes ≡ 0 → ArePackedRising texts bytes n → texts ≡ []
+none_from_empty [] bytes n some none h = refl
+none_from_empty (t ∷ ts) bytes n some none h =
+    let long : length bytes ≡ length (t ∷ ts) * n = ap (λ (l : List ℕ). length l) h.joined ∙ length-joined n (t ∷ ts) h.strict in
+    absurd (omega (arith, suc-mul (length ts) n))
+
+-- the text of a record that is the key's
+pub found_record : (records : List (List ℕ)) (raw bytes key : List ℕ) (i : ℕ) → slice_get records i ≡ Some raw → raw ≡ bytes → text_of bytes ≡ key → slice_get (map text_of records) i ≡ Some key
+found_record records raw bytes key i at same is = rw (slice_get-map, at, same, is) refl
+
+-- another record holds another text
+pub missed_record : (records : List (List ℕ)) (raw bytes key : List ℕ) (n i : ℕ) → All (λ r. IsPaddedText r n) records → slice_get records i ≡ Some raw → bytes ≡ pad key n → raw ≢ bytes
+    → i < length (map text_of records) → text_at (map text_of records) i ≢ key
+missed_record records raw bytes key n i padded at is differs inside same =
+    let within : i < length records = slice_get_within records i raw at in
+    let here = IsRecordOf-at records (map text_of records) raw n i padded refl within (sym (get_or_from_slice_get records i raw [] at)) in
+    differs (here.padded.padded ∙ ap (λ (t : List ℕ). pad t n) (here.text ∙ same) ∙ sym is)
+
+-- where there is no record, there is no text
+pub no_text_at : (records : List (List ℕ)) (key : List ℕ) (i : ℕ) → slice_get records i ≡ None → i < length (map text_of records) → text_at (map text_of records) i ≢ key
+no_text_at records key i none inside is = let some = slice_get-get_or records i [] (rw (← length-map records text_of) inside) in cc
+
+-- among no texts a text has its place
+pub IsFirstNotBelow-none : (t : List ℕ) → IsFirstNotBelow t [] 0
+IsFirstNotBelow-none t = record { inside = omega arith; below = λ k before. absurd (omega arith); not_below = λ k from inside. absurd (omega arith) }
+
+-- and isn't found
+pub IsSearched-none : (key : List ℕ) → IsSearched key [] (Err 0)
+IsSearched-none key = record {
+  found = tt;
+  place = record { inside = omega arith; below = λ k before. absurd (omega arith); above = λ k from inside. absurd (omega arith) };
+  exact = (λ no. absurd (false≢true no), λ found. absurd (omega (arith, found.1)));
+}
