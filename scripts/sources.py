@@ -5,7 +5,7 @@ from dataclasses import dataclass, field
 from pathlib import Path
 
 TOP = Path(__file__).resolve().parent.parent
-FUNCTION = re.compile(r"( *)(?:pub(?:\([a-z]+\))? )?(?:const )?fn (\w+)")
+FUNCTION = re.compile(r'( *)(?:pub(?:\([a-z]+\))? )?(?:const )?(?:extern "C" )?fn (\w+)')
 CONSTANT = re.compile(r"( *)(?:pub(?:\([a-z]+\))? )?(?:const|static) ([A-Z]\w*)\b")
 BLOCK = re.compile(r"(?:pub )?(?:impl|trait)\b")
 ARM = re.compile(r" +(?:\| )?(?:Width|Question|Case|Command|TextCall|Self)::\w+.*=>")
@@ -37,7 +37,8 @@ class Item:
         if self.is_constant or name != self.name:
             return False
         if not self.block:
-            return before == re.sub(r"^src/|(^|/)(lib|main)\.rt$|\.rt$", "", self.file).split("/")
+            module = re.sub(r"(^|/)(lib|main)\.rt$|\.rt$", "", self.file.removeprefix("src/"))
+            return before == [it for it in module.split("/") if it]
         head = re.sub(r"^(?:pub )?(?:impl|trait)\b", "", self.block)
         while (bare := re.sub(r"<[^<>]*>", "", head)) != head:
             head = bare
