@@ -1,0 +1,190 @@
+/* Each call of tinystr.h, with each of its codes; and calls that break what the header says a caller owes. The last line is
+ * 'passed' or 'failed'. */
+#define _DEFAULT_SOURCE
+#include <stdio.h>
+#include <stdlib.h>
+#include <string.h>
+#include <sys/mman.h>
+#include <tinystr.h>
+#include <unistd.h>
+
+static int has_failed;
+#define CHECK(fact) \
+    do { \
+        if (!(fact)) { \
+            fprintf(stderr, "%s:%d: %s\n", __FILE__, __LINE__, #fact); \
+            has_failed = 1; \
+        } \
+    } while (0)
+
+static int is(tinystr_result r, uint32_t code, size_t value) { return r.code == code && r.value == value; }
+static int is_range(tinystr_range r, uint32_t code, size_t start, size_t count) {
+    return r.code == code && r.start == start && r.count == count;
+}
+static const uint8_t *bytes(const char *s) { return (const uint8_t *)s; }
+
+static void langids(void) {
+    static const char longest[] = "abcdefgh-Latn-419";
+    uint8_t out[TINYSTR_LANGID_ROOM];
+    CHECK(is(tinystr_langid(bytes("en_us"), 5, out, sizeof out), TINYSTR_OK, 5) && !strcmp((char *)out, "en-US"));
+    CHECK(is(tinystr_langid(bytes("ZH_hANT-tw"), 10, out, sizeof out), TINYSTR_OK, 10) && !strcmp((char *)out, "zh-Hant-TW"));
+    CHECK(is(tinystr_langid(bytes(longest), 17, out, sizeof out), TINYSTR_OK, 17) && !strcmp((char *)out, longest));
+    CHECK(sizeof longest == TINYSTR_LANGID_ROOM);
+    CHECK(is(tinystr_langid(bytes(longest), 17, out, 17), TINYSTR_OK, 17));
+    memset(out, 7, sizeof out);
+    CHECK(is(tinystr_langid(bytes(longest), 17, out, 16), TINYSTR_NO_ROOM, 17) && out[0] == 7);
+    CHECK(is(tinystr_langid(bytes("en-US"), 5, out, 4), TINYSTR_NO_ROOM, 5) && out[0] == 7);
+    CHECK(is(tinystr_langid(bytes("en-US"), 5, out, 0), TINYSTR_NO_ROOM, 5) && out[0] == 7);
+    CHECK(is(tinystr_langid(bytes("e"), 1, out, sizeof out), TINYSTR_INVALID_LANGUAGE, 0) && out[0] == 7);
+    CHECK(is(tinystr_langid(bytes(""), 0, out, sizeof out), TINYSTR_INVALID_LANGUAGE, 0) && out[0] == 7);
+    CHECK(is(tinystr_langid(bytes("en-US-posix"), 11, out, sizeof out), TINYSTR_INVALID_SUBTAG, 0) && out[17] == 7);
+    CHECK(is(tinystr_langid(bytes("en-US"), 5, out, 5), TINYSTR_OK, 5) && !memcmp(out, "en-US\7", 6));
+}
+
+static void texts(void) {
+    size_t n;
+    uint8_t out[18];
+    for (n = 3; n <= 16; n++) {
+        memset(out, 7, sizeof out);
+        CHECK(is(tinystr_read(bytes("eur"), 3, out, n), TINYSTR_OK, 3) && !memcmp(out, "eur", 3));
+        CHECK((n == 3 || out[3] == 0) && out[n - 1] != 7 && out[n] == 7);
+        CHECK(is(tinystr_change_case(out, n, TINYSTR_UPPER), TINYSTR_OK, 3) && !memcmp(out, "EUR", 3) && out[n] == 7);
+        CHECK(is(tinystr_change_case(out, n, TINYSTR_LOWER), TINYSTR_OK, 3) && !memcmp(out, "eur", 3));
+        CHECK(is(tinystr_change_case(out, n, TINYSTR_TITLE), TINYSTR_OK, 3) && !memcmp(out, "Eur", 3));
+        CHECK(is(tinystr_change_case(out, n, 3), TINYSTR_BAD_ARGUMENT, 3) && !memcmp(out, "Eur", 3));
+        CHECK(is(tinystr_ask(out, n, TINYSTR_ALPHABETIC_TITLECASE), TINYSTR_OK, 1));
+        CHECK(is(tinystr_ask(out, n, TINYSTR_UPPERCASE), TINYSTR_OK, 0));
+        CHECK(is(tinystr_read(bytes("abcdefghijklmnopq"), n + 1, out, n), TINYSTR_TOO_LONG, n + 1) && out[0] == 'E');
+        CHECK(is(tinystr_read(bytes("a\0b"), 3, out, n), TINYSTR_NUL, 1) && out[0] == 'E');
+        CHECK(is(tinystr_read(bytes("ab\0"), 3, out, n), TINYSTR_NUL, 2));
+        CHECK(is(tinystr_read(bytes("ab\xc3"), 3, out, n), TINYSTR_NON_ASCII, 2));
+        CHECK(is(tinystr_read(bytes("\0\xc3\xc3"), 3, out, n), TINYSTR_NON_ASCII, 1));
+        CHECK(is(tinystr_read(bytes(""), 0, out, n), TINYSTR_OK, 0) && out[0] == 0 && out[n - 1] == 0);
+    }
+    CHECK(is(tinystr_read(bytes(""), 0, out, 0), TINYSTR_OK, 0));
+    memset(out, 7, sizeof out);
+    CHECK(is(tinystr_read(bytes("eur"), 3, out, 17), TINYSTR_BAD_ARGUMENT, 17) && out[0] == 7);
+    memcpy(out, "a\0b", 3);
+    CHECK(is(tinystr_change_case(out, 3, TINYSTR_UPPER), TINYSTR_NUL, 1) && out[0] == 'a');
+    CHECK(is(tinystr_change_case(out, 17, TINYSTR_UPPER), TINYSTR_BAD_ARGUMENT, 17) && out[0] == 'a');
+}
+
+static void questions(void) {
+    /* of each question a text that has it, and one that hasn't */
+    static const char *const yes[] = {"aZ", "a9", "09", "a9", "Ab9", "A9", "az", "Az", "AZ"};
+    static const char *const no[] = {"a9", "a-", "a9", "aZ", "aB", "aZ", "aZ", "aZ", "Az"};
+    uint32_t question;
+    for (question = TINYSTR_ALPHABETIC; question <= TINYSTR_ALPHABETIC_UPPERCASE; question++) {
+        CHECK(is(tinystr_ask(bytes(yes[question]), strlen(yes[question]), question), TINYSTR_OK, 1));
+        CHECK(is(tinystr_ask(bytes(no[question]), 2, question), TINYSTR_OK, 0));
+        CHECK(is(tinystr_ask(bytes(""), 0, question), TINYSTR_OK, 1));
+    }
+    CHECK(is(tinystr_ask(bytes("419"), 3, 9), TINYSTR_BAD_ARGUMENT, 9));
+    CHECK(is(tinystr_ask(bytes("419"), 3, UINT32_MAX), TINYSTR_BAD_ARGUMENT, UINT32_MAX));
+    CHECK(is(tinystr_ask(bytes("a\0b"), 3, TINYSTR_NUMERIC), TINYSTR_NUL, 1));
+    CHECK(is(tinystr_ask(bytes("a\xff"), 2, TINYSTR_NUMERIC), TINYSTR_NON_ASCII, 1));
+    CHECK(is(tinystr_ask(bytes("abcdefghijklmnopq"), 17, 0), TINYSTR_BAD_ARGUMENT, 17));
+}
+
+static void tables(void) {
+    static const size_t none[] = {0, 1, 5, 6, 7, 9, 15, 17, SIZE_MAX};
+    size_t k;
+    CHECK(is(tinystr_table_check(bytes("EURGB\0JPY"), 9, 3), TINYSTR_OK, 3));
+    CHECK(is(tinystr_table_check(bytes(""), 0, 3), TINYSTR_OK, 0));
+    CHECK(is(tinystr_table_check(bytes("EURJP"), 5, 3), TINYSTR_BAD_LENGTH, 5));
+    CHECK(is(tinystr_table_check(bytes("EURG\0B"), 6, 3), TINYSTR_NUL, 1));
+    CHECK(is(tinystr_table_check(bytes("EURJPYG\xff" "B"), 9, 3), TINYSTR_NON_ASCII, 2));
+    CHECK(is(tinystr_sorted_check(bytes("CHFEURJPY"), 9, 3), TINYSTR_OK, 3));
+    CHECK(is(tinystr_sorted_check(bytes("CHFEUREUR"), 9, 3), TINYSTR_NOT_RISING, 2));
+    CHECK(is(tinystr_sorted_check(bytes("EURCHFJP"), 8, 3), TINYSTR_BAD_LENGTH, 8));
+    CHECK(is(tinystr_sorted_check(bytes("EURC\0F"), 6, 3), TINYSTR_NUL, 1));
+    CHECK(is(tinystr_sorted_search(bytes("CHFEURJPY"), 9, 3, bytes("EUR"), 3), TINYSTR_OK, 1));
+    CHECK(is(tinystr_sorted_search(bytes("CHFEURJPY"), 9, 3, bytes("GBP"), 3), TINYSTR_NOT_FOUND, 2));
+    CHECK(is(tinystr_sorted_search(bytes("CHFEURJPY"), 9, 3, bytes("EURO"), 4), TINYSTR_TOO_LONG, 4));
+    CHECK(is(tinystr_sorted_search(bytes("CHFEURJPY"), 9, 3, bytes("E\0"), 2), TINYSTR_NUL, 1));
+    CHECK(is(tinystr_sorted_search(bytes("CHFEURJPY"), 9, 3, bytes("E\xff"), 2), TINYSTR_NON_ASCII, 1));
+    CHECK(is(tinystr_sorted_search(bytes(""), 0, 3, bytes("EUR"), 3), TINYSTR_NOT_FOUND, 0));
+    CHECK(is_range(tinystr_sorted_prefix(bytes("CADCHFCZKEUR"), 12, 3, bytes("C"), 1), TINYSTR_OK, 0, 3));
+    CHECK(is_range(tinystr_sorted_prefix(bytes("CADCHFCZKEUR"), 12, 3, bytes("D"), 1), TINYSTR_OK, 3, 0));
+    CHECK(is_range(tinystr_sorted_prefix(bytes("CADCHFCZKEUR"), 12, 3, bytes(""), 0), TINYSTR_OK, 0, 4));
+    CHECK(is_range(tinystr_sorted_prefix(bytes("CADCHFCZKEUR"), 12, 3, bytes("CADE"), 4), TINYSTR_TOO_LONG, 0, 0));
+    CHECK(is(tinystr_map_check(bytes("EURJPY"), 6, 3, bytes("\2\0"), 2, 1), TINYSTR_OK, 2));
+    CHECK(is(tinystr_map_check(bytes("EURJPY"), 6, 3, bytes("\2\0\0\0"), 4, 2), TINYSTR_OK, 2));
+    CHECK(is(tinystr_map_check(bytes("EURJPY"), 6, 3, bytes("\2\0"), 2, 2), TINYSTR_BAD_VALUES, 2));
+    CHECK(is(tinystr_map_check(bytes("JPYEUR"), 6, 3, bytes("\2\0"), 2, 1), TINYSTR_NOT_RISING, 1));
+    CHECK(is(tinystr_map_check(bytes("EURJPY"), 6, 3, bytes("\2\0"), 2, 3), TINYSTR_BAD_ARGUMENT, 3));
+    for (k = 0; k < sizeof none / sizeof *none; k++) {
+        size_t n = none[k];
+        CHECK(is(tinystr_table_check(bytes("EURJPY"), 6, n), TINYSTR_BAD_ARGUMENT, n));
+        CHECK(is(tinystr_sorted_check(bytes("EURJPY"), 6, n), TINYSTR_BAD_ARGUMENT, n));
+        CHECK(is(tinystr_sorted_search(bytes("EURJPY"), 6, n, bytes("EUR"), 3), TINYSTR_BAD_ARGUMENT, n));
+        CHECK(is_range(tinystr_sorted_prefix(bytes("EURJPY"), 6, n, bytes("E"), 1), TINYSTR_BAD_ARGUMENT, 0, 0));
+        CHECK(is(tinystr_map_check(bytes("EURJPY"), 6, n, bytes("\2\0"), 2, 3), TINYSTR_BAD_ARGUMENT, n));
+    }
+}
+
+static uint32_t seed = 1;
+static uint8_t next_byte(void) { return (uint8_t)((seed = seed * 1664525u + 1013904223u) >> 24); }
+
+/* 20,000 tables of any bytes, which were never checked: no call reads a byte outside, and each answers a place inside. A
+ * table begins behind a page that can't be read, or ends before one. */
+static void unchecked_tables(void) {
+    static const size_t capacities[] = {2, 3, 4, 8, 16};
+    size_t page = (size_t)sysconf(_SC_PAGESIZE), k, i;
+    uint8_t *pages = mmap(NULL, 3 * page, PROT_NONE, MAP_PRIVATE | MAP_ANONYMOUS, -1, 0);
+    CHECK(pages != MAP_FAILED && !mprotect(pages + page, page, PROT_READ | PROT_WRITE));
+    if (has_failed) return;
+    for (k = 0; k < 20000; k++) {
+        size_t n = capacities[k % 5], len = k * 7 % 601, records = len / n, key_len = k / 5 % (n + 1);
+        uint8_t *table = k % 2 ? pages + page : pages + 2 * page - len, key[16];
+        tinystr_result r;
+        tinystr_range found;
+        for (i = 0; i < len; i++) table[i] = next_byte();
+        for (i = 0; i < key_len; i++) key[i] = (uint8_t)(1 + next_byte() % 127);
+        r = tinystr_sorted_search(table, len, n, key, key_len);
+        CHECK((r.code == TINYSTR_OK && r.value < records) || (r.code == TINYSTR_NOT_FOUND && r.value <= records));
+        found = tinystr_sorted_prefix(table, len, n, key, key_len);
+        CHECK(found.code == TINYSTR_OK && found.start <= records && found.count <= records - found.start);
+    }
+    CHECK(!munmap(pages, 3 * page));
+}
+
+/* Records that don't rise: one of them isn't found. */
+static void falling_tables(void) {
+    tinystr_result r = tinystr_sorted_search(bytes("JPYEURCHF"), 9, 3, bytes("CHF"), 3);
+    tinystr_range found = tinystr_sorted_prefix(bytes("JPYEURCHF"), 9, 3, bytes("C"), 1);
+    CHECK(r.code == TINYSTR_NOT_FOUND && r.value <= 3);
+    CHECK(found.code == TINYSTR_OK && found.count == 0);
+}
+
+/* What the header says that a caller owes, broken: NULL with no bytes, and `out` upon the input. Nothing is promised of these
+ * calls. This is what they do as the library is built now. */
+static void broken_calls(void) {
+    uint8_t both[TINYSTR_LANGID_ROOM] = "zh_hANT_tw";
+    CHECK(is(tinystr_langid(NULL, 0, both, sizeof both), TINYSTR_INVALID_LANGUAGE, 0));
+    CHECK(is(tinystr_langid(bytes("en"), 2, NULL, 0), TINYSTR_NO_ROOM, 2));
+    CHECK(is(tinystr_read(NULL, 0, NULL, 0), TINYSTR_OK, 0));
+    CHECK(is(tinystr_ask(NULL, 0, TINYSTR_NUMERIC), TINYSTR_OK, 1));
+    CHECK(is(tinystr_change_case(NULL, 0, TINYSTR_UPPER), TINYSTR_OK, 0));
+    CHECK(is(tinystr_table_check(NULL, 0, 3), TINYSTR_OK, 0));
+    CHECK(is(tinystr_sorted_check(NULL, 0, 16), TINYSTR_OK, 0));
+    CHECK(is(tinystr_sorted_search(NULL, 0, 3, NULL, 0), TINYSTR_NOT_FOUND, 0));
+    CHECK(is_range(tinystr_sorted_prefix(NULL, 0, 3, NULL, 0), TINYSTR_OK, 0, 0));
+    CHECK(is(tinystr_map_check(NULL, 0, 3, NULL, 0, 8), TINYSTR_OK, 0));
+    CHECK(is(tinystr_langid(both, 10, both, sizeof both), TINYSTR_OK, 10) && !strcmp((char *)both, "zh-Hant-TW"));
+    CHECK(is(tinystr_langid(both, 10, both + 1, 12), TINYSTR_OK, 10) && !strcmp((char *)both, "zzh-Hant-TW"));
+    CHECK(is(tinystr_read(both, 8, both + 2, 16), TINYSTR_OK, 8) && !memcmp(both, "zzzzh-Hant\0\0\0", 13));
+}
+
+int main(void) {
+    CHECK(tinystr_version() == TINYSTR_VERSION);
+    langids();
+    texts();
+    questions();
+    tables();
+    unchecked_tables();
+    falling_tables();
+    broken_calls();
+    puts(has_failed ? "failed" : "passed");
+    return has_failed;
+}

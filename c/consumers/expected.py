@@ -1,0 +1,80 @@
+#!/usr/bin/env python3
+"""expected.py FOLDER: writes what the programs beside it read, and what each of them has to print.
+
+FOLDER/words is a word a line: names of locales and codes from Debian's lists, and awkward words. FOLDER/table is packed
+records of 3 bytes that rise: the codes of ISO 639. FOLDER/wanted has a line for each word, made here by regular
+expressions, str and bisect, and not by the library. The lists that aren't there are named, and left out.
+"""
+import bisect
+import json
+import re
+import sys
+from pathlib import Path
+
+NAMES = Path("/usr/share/i18n/SUPPORTED")
+CODES = Path("/usr/share/iso-codes/json")
+LISTS = [("iso_639-3.json", "639-3", "alpha_3"), ("iso_639-3.json", "639-3", "alpha_2"), ("iso_639-2.json", "639-2", "alpha_3"),
+         ("iso_639-5.json", "639-5", "alpha_3")]
+OTHERS = [("iso_4217.json", "4217", "alpha_3"), ("iso_15924.json", "15924", "alpha_4"), ("iso_3166-1.json", "3166-1", "alpha_3"),
+          ("iso_3166-2.json", "3166-2", "code")]
+AWKWARD = ["zh_hANT-tw", "abcdefgh-latn-419", "abcdefgh-latn-4199", "en-US-posix", "en_Latn_US_x", "a", "abcd", "abcdefghi", "es-419",
+           "es-41", "-", "en-", "_en", "en--US", "EN_us", "Ωmega", "né", "üb", "a\x7f", "\x01", "qqq", "zzz", "z", "419", "A1", "a b"]
+CAPACITY = 3
+LANGUAGE = re.compile(rb"(?:[a-z]{2,3}|[a-z]{5,8})", re.I)
+IDENTIFIER = re.compile(rb"(?P<language>[a-z]{2,3}|[a-z]{5,8})(?:[-_](?P<script>[a-z]{4}))?(?:[-_](?P<region>[a-z]{2}|[0-9]{3}))?", re.I)
+OK, TOO_LONG, NON_ASCII, INVALID_LANGUAGE, INVALID_SUBTAG, NOT_FOUND = 0, 1, 3, 4, 5, 11
+
+
+def codes_of(lists):
+    """The codes of the lists, of those that are there."""
+    for file, top, key in lists:
+        if (CODES / file).is_file():
+            yield from (entry[key] for entry in json.loads((CODES / file).read_text("utf-8"))[top] if key in entry)
+
+
+def langid(word):
+    if found := IDENTIFIER.fullmatch(word):
+        parts = found["language"].lower(), (found["script"] or b"").capitalize(), (found["region"] or b"").upper()
+        text = b"-".join(part for part in parts if part)
+        return OK, len(text), text
+    is_language = LANGUAGE.fullmatch(re.split(b"[-_]", word)[0])
+    return INVALID_SUBTAG if is_language else INVALID_LANGUAGE, 0, b""
+
+
+def refused(word):
+    """The code and the value of a word that is no text of the capacity; no word has a NUL."""
+    if len(word) > CAPACITY:
+        return TOO_LONG, len(word)
+    above = [index for index, byte in enumerate(word) if byte > 127]
+    return (NON_ASCII, above[0]) if above else None
+
+
+def line(word, table):
+    fault = refused(word)
+    code, value, text = langid(word)
+    said = [b"langid %d %d [%s]" % (code, value, text)]
+    said.append(b"upper %d %d [%s]" % (*(fault or (OK, len(word))), b"" if fault else word.upper()))
+    said.append(b"alphabetic %d" % (not fault and re.fullmatch(b"[A-Za-z]*", word) is not None))
+    place = bisect.bisect_left(table, word)
+    is_there = table[place : place + 1] == [word]
+    said.append(b"search %d %d" % (fault or (OK if is_there else NOT_FOUND, place)))
+    count = sum(code.startswith(word) for code in table)
+    said.append(b"prefix %d %d %d" % ((fault[0], 0, 0) if fault else (OK, place, count)))
+    return word + b": " + b", ".join(said)
+
+
+def main():
+    folder = Path(sys.argv[1])
+    missing = [str(path) for path in (NAMES, CODES) if not path.exists()]
+    # qaa-qtz is a range and no code
+    table = sorted({code.encode() for code in codes_of(LISTS) if len(code) <= CAPACITY} | {b"aa", b"ab", b"zu"})
+    names = re.findall(r"^[^.@\s]+", NAMES.read_text("utf-8"), re.M) if NAMES.exists() else []
+    others = [code.lower() for code in codes_of(OTHERS)]
+    words = list(dict.fromkeys([*(word.encode() for word in AWKWARD + names + others), *table]))
+    (folder / "words").write_bytes(b"".join(word + b"\n" for word in words))
+    (folder / "table").write_bytes(b"".join(code.ljust(CAPACITY, b"\0") for code in table))
+    (folder / "wanted").write_bytes(b"records %d\n" % len(table) + b"".join(line(word, table) + b"\n" for word in words))
+    print(f"{len(words)} words, {len(table)} records" + "".join(f"; left out: {path}" for path in missing))
+
+
+main()

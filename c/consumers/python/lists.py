@@ -1,0 +1,60 @@
+"""lists.py LIBRARY WORDS TABLE: what c/lists.c prints, by ctypes and the shared object."""
+import ctypes
+import sys
+
+OK, UPPER, ALPHABETIC, LANGID_ROOM, CAPACITY = 0, 2, 0, 18, 3
+
+
+class Result(ctypes.Structure):
+    _fields_ = [("value", ctypes.c_size_t), ("code", ctypes.c_uint32)]
+
+
+class Range(ctypes.Structure):
+    _fields_ = [("start", ctypes.c_size_t), ("count", ctypes.c_size_t), ("code", ctypes.c_uint32)]
+
+
+library = ctypes.CDLL(sys.argv[1])
+
+
+def call(name, result, *kinds):
+    """An export. A `bytes` is never NULL as a c_char_p, and no export writes through one that is `const`."""
+    found = getattr(library, "tinystr_" + name)
+    found.restype, found.argtypes = result, kinds
+    return found
+
+
+size, read_only, writable = ctypes.c_size_t, ctypes.c_char_p, ctypes.c_void_p
+langid = call("langid", Result, read_only, size, writable, size)
+read = call("read", Result, read_only, size, writable, size)
+ask = call("ask", Result, writable, size, ctypes.c_uint32)
+change_case = call("change_case", Result, writable, size, ctypes.c_uint32)
+sorted_check = call("sorted_check", Result, read_only, size, size)
+sorted_search = call("sorted_search", Result, read_only, size, size, read_only, size)
+sorted_prefix = call("sorted_prefix", Range, read_only, size, size, read_only, size)
+
+
+def about(word, table):
+    text, code = ctypes.create_string_buffer(LANGID_ROOM), ctypes.create_string_buffer(CAPACITY)
+    r = langid(word, len(word), text, LANGID_ROOM)
+    said = b"%s: langid %d %d [%s]" % (word, r.code, r.value, text.value)
+    r = read(word, len(word), code, CAPACITY)
+    if r.code == OK:
+        r = change_case(code, CAPACITY, UPPER)
+    said += b", upper %d %d [%s]" % (r.code, r.value, code.value)
+    said += b", alphabetic %d" % (r.code == OK and ask(code, CAPACITY, ALPHABETIC).value)
+    r = sorted_search(table, len(table), CAPACITY, word, len(word))
+    found = sorted_prefix(table, len(table), CAPACITY, word, len(word))
+    return said + b", search %d %d, prefix %d %d %d\n" % (r.code, r.value, found.code, found.start, found.count)
+
+
+def main():
+    table = open(sys.argv[3], "rb").read()
+    checked = sorted_check(table, len(table), CAPACITY)
+    if checked.code != OK:
+        sys.exit(1)
+    sys.stdout.buffer.write(b"records %d\n" % checked.value)
+    for line in open(sys.argv[2], "rb"):
+        sys.stdout.buffer.write(about(line.rstrip(b"\n"), table))
+
+
+main()

@@ -1,0 +1,47 @@
+//! lists WORDS TABLE: what c/lists.c prints, from Rust. A slice is never a null pointer, and `&mut` overlaps nothing, so safe
+//! Rust upholds what the library's caller owes.
+use std::io::{self, Write};
+
+#[path = "tinystr.rs"]
+mod tinystr;
+
+const OK: u32 = 0;
+const UPPER: u32 = 2;
+const ALPHABETIC: u32 = 0;
+const LANGID_ROOM: usize = 18;
+const CAPACITY: usize = 3;
+
+fn until_nul(bytes: &[u8]) -> &str {
+    let len = bytes.iter().position(|byte| *byte == 0).unwrap_or(bytes.len());
+    std::str::from_utf8(&bytes[..len]).expect("an export writes bytes from 0 to 127")
+}
+
+fn about(out: &mut impl Write, word: &[u8], table: &[u8]) -> io::Result<()> {
+    let (mut text, mut code) = ([0; LANGID_ROOM], [0; CAPACITY]);
+    let r = tinystr::langid(word, &mut text);
+    out.write_all(word)?;
+    write!(out, ": langid {} {} [{}]", r.code, r.value, until_nul(&text))?;
+    let mut r = tinystr::read(word, &mut code);
+    if r.code == OK {
+        r = tinystr::change_case(&mut code, UPPER);
+    }
+    write!(out, ", upper {} {} [{}]", r.code, r.value, until_nul(&code))?;
+    let alphabetic = if r.code == OK { tinystr::ask(&code, ALPHABETIC).value } else { 0 };
+    let r = tinystr::sorted_search(table, CAPACITY, word);
+    let found = tinystr::sorted_prefix(table, CAPACITY, word);
+    let range = format!("{} {} {}", found.code, found.start, found.count);
+    writeln!(out, ", alphabetic {alphabetic}, search {} {}, prefix {range}", r.code, r.value)
+}
+
+fn main() -> io::Result<()> {
+    let files: Vec<String> = std::env::args().skip(1).collect();
+    let (words, table) = (std::fs::read(&files[0])?, std::fs::read(&files[1])?);
+    let checked = tinystr::sorted_check(&table, CAPACITY);
+    assert_eq!(checked.code, OK, "the records rise");
+    let mut out = io::stdout().lock();
+    writeln!(out, "records {}", checked.value)?;
+    for word in words.strip_suffix(b"\n").unwrap_or(&words).split(|byte| *byte == b'\n') {
+        about(&mut out, word, &table)?;
+    }
+    Ok(())
+}

@@ -1,0 +1,122 @@
+//! What the exports return.
+
+ghost use Rattle.std.specs.Prelude.{◌≡◌};
+ghost use Rattle.tinystr.specs.Error.{fault_of};
+ghost use Rattle.tinystr_c.specs.Codes.{answer, no_range, fault_code, first_nul, first_non_ascii, fault_answer, refusal_code, records_answer, map_answer};
+
+use crate::numbers::{
+    BAD_LENGTH, BAD_VALUES, INVALID_LANGUAGE, INVALID_SUBTAG, NON_ASCII, NOT_RISING, NUL, TOO_LONG,
+};
+use subtags::LangIdError;
+use tinystr::ParseError;
+use tinystr::ule::UleError;
+use tinystr_packed::MapError;
+
+/// A code, which is 0 where all is well, and a number whose meaning each export tells.
+#[repr(C)]
+#[derive(Clone, Copy)]
+pub struct TinystrResult {
+    pub value: usize,
+    pub code: u32,
+}
+
+/// A range of records, by its start and its length, and a code.
+#[repr(C)]
+#[derive(Clone, Copy)]
+pub struct TinystrRange {
+    pub start: usize,
+    pub count: usize,
+    pub code: u32,
+}
+
+/// A code and a number.
+#[inline]
+pub fn answer(code: u32, value: usize) -> TinystrResult
+    ensures { result ≡ answer code value }
+{
+    TinystrResult { value, code }
+}
+
+/// No records, and why.
+#[inline]
+pub fn no_range(code: u32) -> TinystrRange
+    ensures { result ≡ no_range code }
+{
+    TinystrRange {
+        start: 0,
+        count: 0,
+        code,
+    }
+}
+
+/// The code of a fault.
+#[inline]
+pub fn fault_code(fault: ParseError) -> u32
+    ensures { result ≡ fault_code (fault_of fault) }
+{
+    match fault {
+        ParseError::TooLong { .. } => TOO_LONG,
+        ParseError::ContainsNull => NUL,
+        ParseError::NonAscii => NON_ASCII,
+    }
+}
+
+/// A fault, and where it is: the first NUL or byte above 127, or the number of bytes where they are too many.
+// A text that is refused for a NUL or a byte above 127 has one, so that no 0 is put in its place.
+pub fn fault_answer(fault: ParseError, bytes: &[u8]) -> TinystrResult
+    ensures { result ≡ fault_answer (fault_of fault) bytes.now }
+{
+    match fault {
+        ParseError::TooLong { .. } => answer(TOO_LONG, bytes.len()),
+        ParseError::ContainsNull => answer(NUL, first_nul(bytes).unwrap_or(0)),
+        ParseError::NonAscii => answer(NON_ASCII, first_non_ascii(bytes).unwrap_or(0)),
+    }
+}
+
+// The index of the first NUL.
+fn first_nul(bytes: &[u8]) -> Option<usize>
+    ensures { result ≡ first_nul bytes.now }
+{
+    bytes.iter().position(|byte| *byte == 0)
+}
+
+// The index of the first byte above 127.
+fn first_non_ascii(bytes: &[u8]) -> Option<usize>
+    ensures { result ≡ first_non_ascii bytes.now }
+{
+    bytes.iter().position(|byte| *byte > 127)
+}
+
+/// The code of a refused language identifier.
+#[inline]
+pub fn refusal_code(refusal: LangIdError) -> u32
+    ensures { result ≡ refusal_code refusal }
+{
+    match refusal {
+        LangIdError::InvalidLanguage => INVALID_LANGUAGE,
+        LangIdError::InvalidSubtag => INVALID_SUBTAG,
+    }
+}
+
+/// Why bytes aren't packed records.
+#[inline]
+pub fn records_answer(fault: UleError) -> TinystrResult
+    ensures { result ≡ records_answer fault }
+{
+    match fault {
+        UleError::Length { len } => answer(BAD_LENGTH, len),
+        UleError::Parse { index, fault } => answer(fault_code(fault), index),
+    }
+}
+
+/// Why bytes aren't a packed map.
+#[inline]
+pub fn map_answer(fault: MapError) -> TinystrResult
+    ensures { result ≡ map_answer fault }
+{
+    match fault {
+        MapError::Keys(fault) => records_answer(fault),
+        MapError::Order(fault) => answer(NOT_RISING, fault.index),
+        MapError::Values { len, .. } => answer(BAD_VALUES, len),
+    }
+}

@@ -1,0 +1,143 @@
+//! The calls of `tinystr`, `subtags` and `tinystr_packed` for C, which `c/include/tinystr.h` declares. They allocate nothing
+//! and keep nothing between calls. No export has a `requires`: each answers whatever bytes and numbers it is given.
+#![tactic(auto)]
+
+mod answer;
+mod numbers;
+mod packed;
+mod texts;
+
+ghost use Rattle.std.specs.Prelude.{◌≡◌, length};
+ghost use Rattle.tinystr_c.specs.Codes.{answer, no_range, BAD_ARGUMENT, VERSION};
+ghost use Rattle.tinystr_c.specs.Tables.{IsCapacity, IsValueSize, ChecksTable, ChecksSorted, ChecksMap, Searches, FindsPrefix};
+ghost use Rattle.tinystr_c.specs.Texts.{langid_answer, langid_bytes, read_answer, read_bytes, ask_answer, case_answer, case_bytes};
+
+pub use answer::{TinystrRange, TinystrResult};
+use answer::{answer, no_range};
+use numbers::{BAD_ARGUMENT, VERSION};
+use packed::{map_check, sorted_check, sorted_prefix, sorted_search, table_check};
+
+/// The version of the library: 10,000 times the first number, 100 times the second, and the third.
+#[unsafe(no_mangle)]
+pub extern "C" fn tinystr_version() -> u32
+    ensures { result ≡ VERSION }
+{
+    VERSION
+}
+
+/// Reads a language identifier, and writes its canonical text with NULs up to the end of `out`. An error leaves `out` as it
+/// was.
+#[unsafe(no_mangle)]
+pub extern "C" fn tinystr_langid(input: &[u8], out: &mut [u8]) -> TinystrResult
+    ensures answer { result ≡ langid_answer input.now (length out.old) }
+    ensures bytes { out.new ≡ langid_bytes input.now out.old }
+{
+    texts::langid(input, out)
+}
+
+/// Reads a text of at most as many bytes as `out` has, and writes it with NULs up to the end of `out`. An error leaves `out`
+/// as it was.
+#[unsafe(no_mangle)]
+pub extern "C" fn tinystr_read(input: &[u8], out: &mut [u8]) -> TinystrResult
+    ensures answer { result ≡ read_answer input.now (length out.old) }
+    ensures bytes { out.new ≡ read_bytes input.now out.old }
+{
+    texts::read(input, out)
+}
+
+/// Asks a text, padded or not, a question.
+#[unsafe(no_mangle)]
+pub extern "C" fn tinystr_ask(text: &[u8], question: u32) -> TinystrResult
+    ensures { result ≡ ask_answer text.now question }
+{
+    texts::ask(text, question)
+}
+
+/// Changes the case of a text, padded or not, in place. An error leaves it as it was.
+#[unsafe(no_mangle)]
+pub extern "C" fn tinystr_change_case(text: &mut [u8], case: u32) -> TinystrResult
+    ensures answer { result ≡ case_answer text.old case }
+    ensures bytes { text.new ≡ case_bytes text.old case }
+{
+    texts::change_case(text, case)
+}
+
+/// Whether bytes are packed records of `capacity` bytes.
+#[unsafe(no_mangle)]
+pub extern "C" fn tinystr_table_check(bytes: &[u8], capacity: usize) -> TinystrResult
+    ensures capacity { ¬ IsCapacity capacity → result ≡ answer BAD_ARGUMENT capacity }
+    ensures checked { IsCapacity capacity → ChecksTable result bytes.now capacity }
+{
+    crate::at_capacity!(capacity, table_check, answer(BAD_ARGUMENT, capacity), bytes)
+}
+
+/// Whether they are, and each text is above the one before it.
+#[unsafe(no_mangle)]
+pub extern "C" fn tinystr_sorted_check(bytes: &[u8], capacity: usize) -> TinystrResult
+    ensures capacity { ¬ IsCapacity capacity → result ≡ answer BAD_ARGUMENT capacity }
+    ensures checked { IsCapacity capacity → ChecksSorted result bytes.now capacity }
+{
+    crate::at_capacity!(
+        capacity,
+        sorted_check,
+        answer(BAD_ARGUMENT, capacity),
+        bytes
+    )
+}
+
+/// The index of a text among packed records that rise, or where it is to be inserted. The records aren't checked again.
+#[unsafe(no_mangle)]
+pub extern "C" fn tinystr_sorted_search(bytes: &[u8], capacity: usize, key: &[u8]) -> TinystrResult
+    ensures capacity { ¬ IsCapacity capacity → result ≡ answer BAD_ARGUMENT capacity }
+    ensures searched { IsCapacity capacity → Searches result bytes.now key.now capacity }
+{
+    crate::at_capacity!(
+        capacity,
+        sorted_search,
+        answer(BAD_ARGUMENT, capacity),
+        bytes,
+        key
+    )
+}
+
+/// The range of the texts that begin with a text, among packed records that rise. The records aren't checked again.
+#[unsafe(no_mangle)]
+pub extern "C" fn tinystr_sorted_prefix(
+    bytes: &[u8],
+    capacity: usize,
+    beginning: &[u8],
+) -> TinystrRange
+    ensures capacity { ¬ IsCapacity capacity → result ≡ no_range BAD_ARGUMENT }
+    ensures found { IsCapacity capacity → FindsPrefix result bytes.now beginning.now capacity }
+{
+    crate::at_capacity!(
+        capacity,
+        sorted_prefix,
+        no_range(BAD_ARGUMENT),
+        bytes,
+        beginning
+    )
+}
+
+/// Whether bytes are the packed keys, which rise, and the values of `value_size` bytes of a map.
+#[unsafe(no_mangle)]
+pub extern "C" fn tinystr_map_check(
+    keys: &[u8],
+    capacity: usize,
+    values: &[u8],
+    value_size: usize,
+) -> TinystrResult
+    ensures capacity { ¬ IsCapacity capacity → result ≡ answer BAD_ARGUMENT capacity }
+    ensures value_size { IsCapacity capacity → ¬ IsValueSize value_size → result ≡ answer BAD_ARGUMENT value_size }
+    ensures checked { IsCapacity capacity → IsValueSize value_size →
+        ChecksMap result keys.now values.now capacity value_size }
+{
+    crate::at_capacity!(
+        capacity,
+        map_check,
+        answer(BAD_ARGUMENT, capacity),
+        keys,
+        values,
+        value_size
+    )
+}

@@ -1,0 +1,57 @@
+//! The numbers of `tinystr.h`. Those of specs/Codes.antt and specs/Texts.antt are the same, or else nothing is proved.
+
+pub const VERSION: u32 = 100;
+
+// The codes.
+
+pub const OK: u32 = 0;
+
+pub const TOO_LONG: u32 = 1;
+
+pub const NUL: u32 = 2;
+
+pub const NON_ASCII: u32 = 3;
+
+pub const INVALID_LANGUAGE: u32 = 4;
+
+pub const INVALID_SUBTAG: u32 = 5;
+
+pub const NO_ROOM: u32 = 6;
+
+pub const BAD_ARGUMENT: u32 = 7;
+
+pub const BAD_LENGTH: u32 = 8;
+
+pub const NOT_RISING: u32 = 9;
+
+pub const BAD_VALUES: u32 = 10;
+
+pub const NOT_FOUND: u32 = 11;
+
+// The questions.
+
+pub const ALPHABETIC: u32 = 0;
+
+pub const ALPHANUMERIC: u32 = 1;
+
+pub const NUMERIC: u32 = 2;
+
+pub const LOWERCASE: u32 = 3;
+
+pub const TITLECASE: u32 = 4;
+
+pub const UPPERCASE: u32 = 5;
+
+pub const ALPHABETIC_LOWERCASE: u32 = 6;
+
+pub const ALPHABETIC_TITLECASE: u32 = 7;
+
+pub const ALPHABETIC_UPPERCASE: u32 = 8;
+
+// The cases.
+
+pub const LOWER: u32 = 0;
+
+pub const TITLE: u32 = 1;
+
+pub const UPPER: u32 = 2;
