@@ -1,0 +1,132 @@
+/* c NAMES TABLE: nanoseconds a call from C, the least of 400 rounds, over the locale names of a file (one a line, of at most
+ * 17 bytes) and packed records of 3 bytes that rise; beside each what a C programmer has: a function written by hand, ICU
+ * where this is built with -DICU, bsearch and memcmp. Before anything is timed, the answers are compared. */
+#define _POSIX_C_SOURCE 199309L
+#include <stdio.h>
+#include <stdlib.h>
+#include <string.h>
+#include <time.h>
+#include <tinystr.h>
+#ifdef ICU
+#include <unicode/uloc.h>
+#endif
+
+enum { MOST_NAMES = 600, CAPACITY = 3 };
+static char names[MOST_NAMES][TINYSTR_LANGID_ROOM];
+static size_t lens[MOST_NAMES], name_count, record_count;
+static uint8_t table[1 << 20];
+static volatile size_t sink;
+
+static double now(void) {
+    struct timespec t;
+    clock_gettime(CLOCK_MONOTONIC, &t);
+    return (double)t.tv_sec * 1e9 + (double)t.tv_nsec;
+}
+
+static int is_letter(char c) { return (c | 0x20) >= 'a' && (c | 0x20) <= 'z'; }
+static int is_digit(char c) { return c >= '0' && c <= '9'; }
+
+/* The canonical text of a language identifier and its length, or -1: one subtag after another, a byte at a time. */
+static int by_hand(const char *in, size_t len, char *out, size_t room) {
+    enum { LANGUAGE, SCRIPT_OR_REGION, REGION, END } next = LANGUAGE;
+    size_t i = 0, at = 0, k;
+    if (len >= room) return -1;
+    for (;;) {
+        const char *subtag = in + i;
+        size_t n, letters = 0, digits = 0;
+        for (; i < len && in[i] != '-' && in[i] != '_'; i++) {
+            if (is_letter(in[i])) letters++;
+            else if (is_digit(in[i])) digits++;
+        }
+        n = (size_t)(in + i - subtag);
+        if (next == LANGUAGE && letters == n && (n == 2 || n == 3 || (n >= 5 && n <= 8))) {
+            for (k = 0; k < n; k++) out[at++] = (char)(subtag[k] | 0x20);
+            next = SCRIPT_OR_REGION;
+        } else if (next == SCRIPT_OR_REGION && n == 4 && letters == 4) {
+            out[at++] = '-';
+            out[at++] = (char)(subtag[0] & ~0x20);
+            for (k = 1; k < 4; k++) out[at++] = (char)(subtag[k] | 0x20);
+            next = REGION;
+        } else if ((next == SCRIPT_OR_REGION || next == REGION) && ((n == 2 && letters == 2) || (n == 3 && digits == 3))) {
+            out[at++] = '-';
+            for (k = 0; k < n; k++) out[at++] = (char)(n == 2 ? subtag[k] & ~0x20 : subtag[k]);
+            next = END;
+        } else {
+            return -1;
+        }
+        if (i++ == len) break;
+    }
+    out[at] = 0;
+    return (int)at;
+}
+
+static int compare(const void *a, const void *b) { return memcmp(a, b, CAPACITY); }
+
+#define TIME(name, count, call) \
+    do { \
+        double least = 1e18; \
+        int round; \
+        for (round = 0; round < 400; round++) { \
+            size_t i; \
+            double begin = now(), each; \
+            for (i = 0; i < (count); i++) sink += (size_t)(call); \
+            each = (now() - begin) / (double)(count); \
+            if (each < least) least = each; \
+        } \
+        printf("%-42s %8.1f ns\n", name, least); \
+    } while (0)
+
+static void read_names(const char *path) {
+    char line[256];
+    FILE *file = fopen(path, "r");
+    while (file && name_count < MOST_NAMES && fgets(line, sizeof line, file)) {
+        size_t len = strcspn(line, "\n");
+        tinystr_result r;
+        uint8_t text[TINYSTR_LANGID_ROOM];
+        char other[32];
+        if (len >= TINYSTR_LANGID_ROOM) continue;
+        r = tinystr_langid((uint8_t *)line, len, text, sizeof text);
+        if (by_hand(line, len, other, sizeof other) != (r.code ? -1 : (int)r.value) || (!r.code && strcmp(other, (char *)text)))
+            exit(3);
+        if (r.code) continue;
+        memcpy(names[name_count], line, len);
+        lens[name_count++] = len;
+    }
+    if (!file || !name_count) exit(2);
+    fclose(file);
+}
+
+int main(int argc, char **argv) {
+    char out[64];
+    uint8_t text[TINYSTR_LANGID_ROOM];
+    size_t len, k;
+    FILE *file;
+    if (argc < 3 || !(file = fopen(argv[2], "rb"))) return 2;
+    len = fread(table, 1, sizeof table, file);
+    fclose(file);
+    record_count = len / CAPACITY;
+    if (tinystr_sorted_check(table, len, CAPACITY).code) return 2;
+    read_names(argv[1]);
+    for (k = 0; k < record_count; k++) { /* each record is found by both */
+        const uint8_t *record = table + CAPACITY * k;
+        if (tinystr_sorted_search(table, len, CAPACITY, record, record[2] ? 3 : 2).value != k) return 3;
+        if (bsearch(record, table, record_count, CAPACITY, compare) != record) return 3;
+    }
+    printf("%zu identifiers, %zu records\n", name_count, record_count);
+    TIME("tinystr_langid", name_count, tinystr_langid((uint8_t *)names[i], lens[i], text, sizeof text).value);
+    TIME("the same by hand", name_count, by_hand(names[i], lens[i], out, sizeof out));
+#ifdef ICU
+    {
+        UErrorCode status;
+        TIME("ICU uloc_canonicalize", name_count, (status = U_ZERO_ERROR, uloc_canonicalize(names[i], out, sizeof out, &status)));
+    }
+#endif
+#define RECORD (table + CAPACITY * (i * 7919 % record_count))
+    TIME("tinystr_sorted_search", record_count, tinystr_sorted_search(table, len, CAPACITY, RECORD, RECORD[2] ? 3 : 2).value);
+    TIME("bsearch with memcmp", record_count, (uint8_t *)bsearch(RECORD, table, record_count, CAPACITY, compare) - table);
+    TIME("tinystr_sorted_prefix, of one byte", record_count, tinystr_sorted_prefix(table, len, CAPACITY, RECORD, 1).count);
+    TIME("tinystr_read and tinystr_change_case at 8", name_count,
+         (tinystr_read((uint8_t *)names[i], lens[i] < 8 ? lens[i] : 8, text, 8), tinystr_change_case(text, 8, TINYSTR_UPPER).value));
+    TIME("tinystr_ask at 8", name_count, tinystr_ask(text, 8, (uint32_t)(i & 7)).value);
+    return 0;
+}
