@@ -1,8 +1,8 @@
-use Rattle.std.proofs.Common.{◌∙◌, ℕ, List, ap, map, refl, rules}
+use Rattle.std.proofs.Common.{◌≡◌, ◌∙◌, ◌+◌, ◌-◌, ℕ, List, ap, map, refl, rules, arith}
 use Rattle.std.specs.List.{filter}
 use Rattle.std.proofs.lemmas.List.Sorted.{IsPartitionPoint-from_clause}
 use Rattle.tinystr_words.specs.Text.{text_of}
-use Rattle.tinystr_packed.proofs.Prefixes.{begins, IsPartitionedBy-begins, filter-begins}
+use Rattle.tinystr_packed.proofs.Prefixes.{begins, IsPartitionedBy-begins, IsPrefixRange-counted, filter-texts}
 use Rattle.tinystr_packed.proofs.in_place.range_with_prefix.Goals as goal
 
 pub returns-clause-range : goal.returns-clause-range
@@ -16,5 +16,7 @@ returns-clause-range g c = λ padded rising.
     let first = rw (← c.as_utf8-beginning.ensures.text) at (c.first_not_below-start.ensures.place padded rising) in
     let parted = IsPartitionedBy-begins records rest ts p g.row.N start padded refl c.as_utf8-beginning.ensures.ascii rising first c.split_at.ensures.back in
     let cut = IsPartitionPoint-from_clause (begins p) rest len c.partition_point-len.ensures.partitioned parted (λ a r q k. search rules) in
-    let kept = filter-begins records rest ts p g.row.N start len padded refl c.as_utf8-beginning.ensures.ascii first c.split_at.ensures.back cut in
+    let range = IsPrefixRange-counted records rest ts p g.row.N start len padded refl c.as_utf8-beginning.ensures.ascii first c.split_at.ensures.back cut c.partition_point-len.ensures.bound in
+    let counted : start + len - start ≡ len = omega arith in
+    let kept = rw counted at (filter-texts p ts start (start + len) range) in
     kept ∙ ap (λ (l : List ℕ). filter (begins l) ts) c.as_utf8-beginning.ensures.text
