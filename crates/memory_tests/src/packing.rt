@@ -3,7 +3,7 @@
 use std::collections::BTreeMap;
 use std::test::Fail;
 use tinystr::TinyAsciiStr;
-use tinystr_packed::{Table, pack, pack_map, pack_sorted, pack_text_map, unpack};
+use tinystr_packed::{Table, count_texts, pack, pack_map, pack_sorted, pack_text_map, unpack};
 
 const FILE: &[u8] = b"b\0a\0b\0";
 
@@ -114,5 +114,23 @@ fn want_of_memory_for_a_map_of_texts(rt: HostRuntime) -> Result<(), Fail> {
         }
     };
     assert!(rt; keys.as_slice() == b"b\0".as_slice() && values.as_slice() == b"a\0".as_slice());
+    Ok(())
+}
+
+#[test]
+fn want_of_memory_for_counting(rt: HostRuntime) -> Result<(), Fail> {
+    let given = texts();
+    let counts = match count_texts(rt.alloc(), &given) {
+        Ok(made) => {
+            println!(rt; "count_texts given")?;
+            made
+        }
+        Err(_) => {
+            println!(rt; "count_texts refused")?;
+            count_texts(rt.alloc(), &given)?
+        }
+    };
+    let [twice, once, ..] = given;
+    assert!(rt; counts.get(&twice) == Some(&2) && counts.get(&once) == Some(&1));
     Ok(())
 }

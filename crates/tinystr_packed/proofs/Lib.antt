@@ -1,3 +1,4 @@
+pub mod Counted
 pub mod InPlace
 pub mod MapBytes
 pub mod Numbers

@@ -2,6 +2,7 @@
 //! checked once, and then read in place.
 #![tactic(auto)]
 
+mod counting;
 pub mod in_place;
 pub mod laws;
 mod map;
@@ -14,6 +15,7 @@ mod sorting;
 mod table;
 mod text_map;
 
+pub use counting::count_texts;
 pub use map::{Entries, MapError, PackedMap};
 pub use packing::{pack, pack_map, pack_text_map, unpack};
 pub use sorted::{NotRising, SortedError, SortedTable};
