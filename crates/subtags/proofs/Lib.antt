@@ -5,3 +5,5 @@ pub mod ReadLemmas
 pub mod JoinLemmas
 pub mod PlaceLemmas
 pub mod HeadLemmas
+pub mod CanonicalLen
+pub mod ForCallers

@@ -1,6 +1,6 @@
 //! Laws of language identifiers. A function with an empty body has the law as its contract.
 
-ghost use Rattle.std.specs.Prelude.{◌≡◌, ℕ, List, Ok, Some, map, IsTrue, ◌↔◌};
+ghost use Rattle.std.specs.Prelude.{◌≡◌, ◌≤◌, ℕ, List, Ok, Some, length, map, IsTrue, ◌↔◌};
 ghost use Rattle.std.specs.List.{slice_split};
 ghost use Rattle.std.specs.Ordering.{nat_cmp};
 ghost use Rattle.std.specs.Cmp.Lexicographic.{slice_cmp};
@@ -15,22 +15,34 @@ use crate::subtag::{Subtag, SubtagKind};
 use std::cmp::Ordering;
 
 /// To fold an input and then split it at each dash is to split it at each separator and then fold its subtags.
+#[tactic(auto, using(crate::proofs::ForCallers::split_before_fold))]
 pub fn split_before_fold()
     ensures { (u : List ℕ) → subtags_of (fold_text u) ≡ map fold_text (slice_split is_separator u) }
 {}
 
 /// A canonical text is accepted, is its own canonical text, and folds as the input does.
+#[tactic(auto, using(crate::proofs::ForCallers::canonical_once))]
 pub fn canonical_once()
     ensures canonical { (u : List ℕ) → IsLangId u → IsCanonical (canonical_text u) }
     ensures fold { (u : List ℕ) → fold_text (canonical_text u) ≡ fold_text u }
 {}
 
+/// A canonical text is as long as its input, and a canonical identifier has 2 to 17 bytes.
+#[tactic(auto, using(crate::proofs::ForCallers::canonical_len))]
+pub fn canonical_len()
+    ensures same { (u : List ℕ) → length (canonical_text u) ≡ length u }
+    ensures least { (t : List ℕ) → IsCanonical t → 2 ≤ length t }
+    ensures most { (t : List ℕ) → IsCanonical t → length t ≤ 17 }
+{}
+
 /// Two inputs have the same canonical text exactly if they fold alike.
+#[tactic(auto, using(crate::proofs::ForCallers::fold_tells_apart))]
 pub fn fold_tells_apart()
     ensures { (u v : List ℕ) → (canonical_text u ≡ canonical_text v) ↔ (fold_text u ≡ fold_text v) }
 {}
 
 /// A canonical text is its language, its script and its region, joined by dashes.
+#[tactic(auto, using(crate::proofs::ForCallers::joined_subtags))]
 pub fn joined_subtags()
     ensures { (t : List ℕ) → IsCanonical t → t ≡ join_subtags (language_of t) (script_of t) (region_of t) }
 {}

@@ -1,12 +1,23 @@
 -- What a strict reader answers.
-use Rattle.std.specs.Prelude.{◌≡◌, ℕ, List, Result, IsOk, IfOk, IfErr, ◌↔◌}
+use Rattle.std.specs.Prelude.{◌≡◌, ℕ, List, Result, Ok, Err, IsOk, IfOk, IfErr, ◌↔◌, if◌then◌else◌}
 use Rattle.std.specs.Result.{result_ok}
-use Rattle.tinystr_words.specs.Text.{IsStrictText}
+use Rattle.tinystr_words.specs.Text.{IsStrictText, is_padded_text, is_strict_text, text_of}
 use Rattle.tinystr_words.specs.Reading.{Fault, fault_in, strict_of}
+use Rattle.tinystr.specs.Error.{parse_error_of}
+use Rattle.tinystr.specs.declared.error.ParseError.{ParseError}
+
+-- the code units where they are a text of at most n bytes, and else the error that names their fault
+abbrev pub read_of : ℕ → List ℕ → Result (List ℕ) ParseError
+read_of n units = if is_strict_text units n then Ok units else Err (parse_error_of (fault_in n units))
+
+-- the text of n bytes where they are a text and then NULs, and else the error that names their fault
+abbrev pub read_raw_of : ℕ → List ℕ → Result (List ℕ) ParseError
+read_raw_of n bytes = if is_padded_text bytes n then Ok (text_of bytes) else Err (parse_error_of (fault_in n bytes))
 
 -- a text exactly where the code units are one that fits, and else the fault of the code units
-pub record IsStrictRead {E : Type 0} (fault_of : E → Fault) (units : List ℕ) (n : ℕ) (r : Result (List ℕ) E) : Type 0 where
+pub record IsStrictRead (fault_of : ParseError → Fault) (units : List ℕ) (n : ℕ) (r : Result (List ℕ) ParseError) : Type 0 where
   pub accepted : IsOk r ↔ IsStrictText units n
   pub text : IfOk r (λ t. t ≡ units)
   pub fault : IfErr r (λ e. fault_of e ≡ fault_in n units)
   pub value : result_ok r ≡ strict_of n units
+  pub read : r ≡ read_of n units

@@ -3,11 +3,20 @@
 ghost use Rattle.std.specs.Prelude.{◌≡◌, ◌<◌, ◌↔◌, Ok, Err, IsTrue};
 ghost use Rattle.std.specs.declared.cmp.Ordering.TheVariants.{Less, Equal};
 ghost use Rattle.tinystr_words.specs.Order.{IsBefore};
+ghost use Rattle.tinystr_words.specs.Reading.{Fault};
 ghost use Rattle.tinystr_words.specs.Text.{IsStrictText};
+ghost use Rattle.tinystr.specs.Error.{fault_of, parse_error_of};
 
 use crate::ascii::TinyAsciiStr;
 use crate::error::ParseError;
 use std::cmp::Ordering;
+
+/// An error and the fault that it names tell each other.
+#[tactic(auto, using(crate::proofs::ForCallers::error_back))]
+pub fn error_back()
+    ensures error { (e : ParseError) → parse_error_of (fault_of e) ≡ e }
+    ensures fault { (f : Fault) → fault_of (parse_error_of f) ≡ f }
+{}
 
 /// A value is a text that fits.
 #[inline]

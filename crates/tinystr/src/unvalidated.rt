@@ -4,6 +4,7 @@ ghost use Rattle.std.specs.Prelude.{◌≡◌, ◌≤◌, ◌↔◌, length, rep
 ghost use Rattle.tinystr_words.specs.Text.{pad, text_of, IsPaddedText};
 ghost use Rattle.tinystr_words.specs.Reading.{fault_in};
 ghost use Rattle.tinystr.specs.Error.{fault_of};
+ghost use Rattle.tinystr.specs.Reading.{read_raw_of};
 ghost use Rattle.tinystr.specs.Unvalidated.{debug_bytes};
 
 use crate::ascii::TinyAsciiStr;
@@ -118,6 +119,7 @@ impl<const N: usize> UnvalidatedTinyAsciiStr<N> {
         ensures accepted { IsOk result ↔ IsPaddedText self.entry N }
         ensures text { IfOk result (λ t. t ≡ text_of self.entry) }
         ensures fault { IfErr result (λ e. fault_of e ≡ fault_in N self.entry) }
+        ensures read { result ≡ read_raw_of N self.entry }
     {
         TinyAsciiStr::try_from_raw(self.bytes)
     }

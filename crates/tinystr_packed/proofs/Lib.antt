@@ -9,3 +9,5 @@ pub mod Prefixes
 pub mod RecordOrder
 pub mod RisingTexts
 pub mod SortedPacks
+pub mod Computed
+pub mod ForCallers

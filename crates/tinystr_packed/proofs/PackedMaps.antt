@@ -22,14 +22,10 @@ use Rattle.std.proofs.lemmas.Map.Views.{Contains-keys_from_lookup, IsSome-lookup
 use Rattle.std.proofs.lemmas.Option.{slice_get-get_or, slice_get-map, slice_get_past, get_or_from_slice_get, slice_get_within}
 use Rattle.std.proofs.lemmas.Slice.Zip.{get_or-zip, length-zip, seconds-zip}
 use Rattle.tinystr_words.specs.Text.{IsStrictText, pad}
+use Rattle.tinystr_words.proofs.Packing.{length-first_chunks}
 use Rattle.tinystr_packed.proofs.PackedTexts.{packed, AllStrict, packed_injective}
 use Rattle.tinystr_packed.specs.Map.{ArePacked, get}
 use Rattle.tinystr_packed.specs.Rising.{IsRising}
-
--- so many chunks
-pub length-first_chunks : (m k : ℕ) (xs : List ℕ) → length (first_chunks m k xs) ≡ k
-length-first_chunks m zero xs = refl
-length-first_chunks m (suc k) xs = ap suc (length-first_chunks m k (drop m xs))
 
 -- chunks of the whole list, joined, are the list
 pub flat_map-first_chunks : (m k : ℕ) (xs : List ℕ) → length xs ≡ k * m → flat_map (λ (v : List ℕ). v) (first_chunks m k xs) ≡ xs

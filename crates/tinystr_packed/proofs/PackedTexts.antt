@@ -38,7 +38,7 @@ chunks-packed n (t ∷ ts) h =
     rw (first, others, text_of-pad t n strict.text, chunks-packed n ts (All-tail (λ (t : List ℕ). IsStrictText t n) t ts h)) refl
 
 -- all records of packed bytes hold the texts that were packed
-texts_of-packed : (n : ℕ) (ts : List (List ℕ)) → 0 < n → AllStrict n ts → map text_of (first_chunks n (length (packed n ts) / n) (packed n ts)) ≡ ts
+pub texts_of-packed : (n : ℕ) (ts : List (List ℕ)) → 0 < n → AllStrict n ts → map text_of (first_chunks n (length (packed n ts) / n) (packed n ts)) ≡ ts
 texts_of-packed n ts some h =
     let count : length (packed n ts) / n ≡ length ts = rw (length-joined n ts h) (mul-div_cancel (length ts) some) in
     rw count (chunks-packed n ts h)

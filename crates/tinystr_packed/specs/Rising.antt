@@ -1,8 +1,8 @@
 -- Texts that rise, and places among them.
-use Rattle.std.specs.Prelude.{◌≡◌, ◌≢◌, ◌↔◌, ℕ, ◌+◌, ◌-◌, ◌<◌, ◌≤◌, true, false, List, [], length, take, slice_index_or, slice_get, nat_eq, All, Contains, Result, Some, IsOk, IfOk, IfErr}
+use Rattle.std.specs.Prelude.{◌≡◌, ◌≢◌, ◌↔◌, ℕ, ◌+◌, ◌-◌, ◌<◌, ◌≤◌, ◌&&◌, Bool, true, false, List, [], ◌∷◌, length, take, slice_index_or, slice_get, nat_eq, All, Contains, Result, Some, IsOk, IfOk, IfErr}
 use Rattle.std.specs.Cmp.Lexicographic.{slice_cmp}
 use Rattle.std.specs.List.{flat_map, starts_with}
-use Rattle.std.specs.Ordering.{nat_cmp}
+use Rattle.std.specs.Ordering.{is_lt, nat_cmp}
 use Rattle.std.specs.declared.cmp.Ordering.{Ordering}
 use Rattle.std.specs.declared.cmp.Ordering.TheVariants.{Less, Greater}
 use Rattle.tinystr_words.specs.Text.{IsStrictText, pad}
@@ -18,6 +18,12 @@ text_at texts k = slice_index_or texts k []
 -- each text is below the next
 abbrev pub IsRising : List (List ℕ) → Type 0
 IsRising texts = (k : ℕ) → k + 1 < length texts → order (text_at texts k) (text_at texts (k + 1)) ≡ Less
+
+-- the same, as a test that computes
+abbrev pub is_rising : List (List ℕ) → Bool
+is_rising [] = true
+is_rising (t ∷ []) = true
+is_rising (t ∷ s ∷ texts) = is_lt (order t s) && is_rising (s ∷ texts)
 
 -- the text at i is the first that isn't above the one before it
 pub record IsFirstFall (texts : List (List ℕ)) (i : ℕ) : Type 0 where

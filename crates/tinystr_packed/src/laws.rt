@@ -1,12 +1,19 @@
 //! Laws of packed bytes, each a function whose contract is the law.
 
-ghost use Rattle.std.specs.Prelude.{◌≡◌, ◌<◌, ℕ, List, All};
+ghost use Rattle.std.specs.Prelude.{◌≡◌, ◌<◌, ◌*◌, ◌↔◌, ℕ, List, All, IsTrue, length};
 ghost use Rattle.std.specs.List.{flat_map};
+ghost use Rattle.std.specs.Map.{keys_of};
 ghost use Rattle.tinystr_words.specs.Text.{IsStrictText, pad};
 ghost use Rattle.tinystr_packed.specs.Map.{ArePacked};
+ghost use Rattle.tinystr_packed.specs.Reading.{are_packed};
+ghost use Rattle.tinystr_packed.specs.Rising.{IsRising, is_rising};
 ghost use Rattle.tinystr_packed.specs.TextMap.{ArePackedTexts};
 
+use crate::map::PackedMap;
+use crate::sorted::SortedTable;
+
 /// Packed bytes are those of one list of texts.
+#[tactic(auto, using(crate::proofs::ForCallers::texts_once))]
 pub fn texts_once()
     ensures { (n : ℕ) (ts ss : List (List ℕ)) → 0 < n →
         All (λ t. IsStrictText t n) ts → All (λ t. IsStrictText t n) ss →
@@ -14,6 +21,7 @@ pub fn texts_once()
 {}
 
 /// The bytes of keys and values are those of one map.
+#[tactic(auto, using(crate::proofs::ForCallers::map_once))]
 pub fn map_once()
     ensures { (entries others : List (List ℕ × List ℕ)) (keys values : List ℕ) (n m : ℕ) → 0 < n →
         ArePacked entries keys values n m → ArePacked others keys values n m → entries ≡ others }
@@ -24,3 +32,37 @@ pub fn text_map_once()
     ensures { (entries others : List (List ℕ × List ℕ)) (keys values : List ℕ) (n m : ℕ) → 0 < n → 0 < m →
         ArePackedTexts entries keys values n m → ArePackedTexts others keys values n m → entries ≡ others }
 {}
+
+/// There are `n` bytes for each key, and `m` for each value.
+#[tactic(auto, using(crate::proofs::ForCallers::map_len))]
+pub fn map_len()
+    ensures keys { (entries : List (List ℕ × List ℕ)) (keys values : List ℕ) (n m : ℕ) →
+        ArePacked entries keys values n m → length keys ≡ length entries * n }
+    ensures values { (entries : List (List ℕ × List ℕ)) (keys values : List ℕ) (n m : ℕ) →
+        ArePacked entries keys values n m → length values ≡ length entries * m }
+{}
+
+/// The tests that compute are true of exactly what the definitions say.
+#[tactic(auto, using(crate::proofs::ForCallers::tests_decide))]
+pub fn tests_decide()
+    ensures rising { (texts : List (List ℕ)) → IsTrue (is_rising texts) ↔ IsRising texts }
+    ensures map { (keys values : List ℕ) (n m : ℕ) → 0 < n → 0 < m →
+        IsTrue (are_packed n m keys values)
+        ↔ ((entries : List (List ℕ × List ℕ)) × ArePacked entries keys values n m) }
+{}
+
+/// The texts of a sorted table fit in `N` bytes and rise.
+pub fn sorted_texts<const N: usize>(sorted: &SortedTable<'_, N>)
+    ensures strict { All (λ t. IsStrictText t N) sorted.now }
+    ensures rising { IsRising sorted.now }
+{
+    let _ = sorted.table().len();
+}
+
+/// The keys of a map fit in `N` bytes and rise.
+pub fn map_keys<const N: usize, const M: usize>(map: &PackedMap<'_, N, M>)
+    ensures strict { All (λ t. IsStrictText t N) (keys_of map.now) }
+    ensures rising { IsRising (keys_of map.now) }
+{
+    sorted_texts(map.keys());
+}

@@ -5,7 +5,9 @@ ghost use Rattle.std.specs.Iterator.{YieldsFirstBy, item_count};
 ghost use Rattle.std.specs.List.{starts_with};
 ghost use Rattle.std.specs.Map.{keys_of, values_of};
 ghost use Rattle.std.specs.Option.{option_copied};
+ghost use Rattle.std.specs.Result.{result_ok};
 ghost use Rattle.tinystr_packed.specs.Map.{ArePacked, RefusesMap, get};
+ghost use Rattle.tinystr_packed.specs.Reading.{map_of};
 ghost use Rattle.tinystr_packed.specs.Rising.{IsRising};
 
 use crate::sorted::{NotRising, SortedTable};
@@ -72,6 +74,7 @@ impl<'a, const N: usize, const M: usize> PackedMap<'a, N, M> {
             ↔ ((entries : List (List ℕ × List ℕ)) × ArePacked entries keys.now values.now N M) }
         ensures entries { IfOk result (λ map. ArePacked map keys.now values.now N M) }
         ensures fault { IfErr result (λ e. RefusesMap e keys.now values.now N M) }
+        ensures value { result_ok result ≡ map_of N M keys.now values.now }
     {
         let table = match Table::new(keys) {
             Ok(table) => table,

@@ -2,7 +2,9 @@
 
 ghost use Rattle.std.specs.Prelude.{◌≡◌, ◌<◌, ◌≤◌, ◌-◌, ◌^◌, ◌↔◌, ℕ, List, IsOk, IsSome, IsTrue, IfOk, IfErr, IfSome, Some, Contains, drop, filter, length, nat_eq, slice_get, take};
 ghost use Rattle.std.specs.List.{starts_with};
+ghost use Rattle.std.specs.Result.{result_ok};
 ghost use Rattle.tinystr_words.specs.Text.{IsStrictText};
+ghost use Rattle.tinystr_packed.specs.Reading.{sorted_of};
 ghost use Rattle.tinystr_packed.specs.Rising.{IsRising, IsFirstFall, IsPlaceFor, IsFirstNotBelow, IsPrefixRange};
 ghost use Rattle.tinystr_packed.specs.Sorting.{ArePackedRising, RefusesSorted};
 
@@ -72,6 +74,7 @@ impl<'a, const N: usize> SortedTable<'a, N> {
         ensures rising { IsOk result ↔ IsRising table.entry }
         ensures texts { IfOk result (λ sorted. sorted ≡ table.entry) }
         ensures first { IfErr result (λ e. IsFirstFall table.entry e.index) }
+        ensures value { result_ok result ≡ sorted_of table.entry }
     {
         match table.first_fall() {
             None => Ok(SortedTable { table }),

@@ -3,9 +3,11 @@
 ghost use Rattle.std.specs.Prelude.{◌≡◌, ◌<◌, ◌≤◌, ◌↔◌, ◌^◌, ◌-◌, [], length, map, take, drop, All, IsOk, IsNone, IfSome, IsTrue, IfOk, IfErr, Some, slice_get, slice_index_or};
 ghost use Rattle.std.specs.Iterator.{YieldsFirst, item_count};
 ghost use Rattle.std.specs.List.{flat_map};
+ghost use Rattle.std.specs.Result.{result_ok};
 ghost use Rattle.tinystr_words.specs.Packed.{IsPacked};
 ghost use Rattle.tinystr_words.specs.Text.{IsStrictText, IsPaddedText, pad, text_of};
 ghost use Rattle.tinystr.specs.Records.{RefusesRecords};
+ghost use Rattle.tinystr_packed.specs.Reading.{table_of};
 ghost use Rattle.tinystr_packed.specs.Rising.{IsRising, IsFirstFall};
 
 use crate::record::{holds_same_text, is_below};
@@ -54,6 +56,7 @@ impl<'a, const N: usize> Table<'a, N> {
         ensures bytes { IfOk result (λ table. bytes.now ≡ flat_map (λ t. pad t N) table) }
         ensures texts { IfOk result (λ table. All (λ t. IsStrictText t N) table) }
         ensures fault { IfErr result (λ e. RefusesRecords e bytes.now N) }
+        ensures value { result_ok result ≡ table_of N bytes.now }
     {
         TinyAsciiStr::<N>::validate_bytes(bytes)?;
         // where there is no record, an array of `N` bytes may have no size

@@ -1,11 +1,13 @@
--- Case changes done twice, texts that they leave alone, and classes joined from others.
+-- Case changes done twice, texts that they leave alone, classes joined from others, and classes of characters.
 use Rattle.std.proofs.Common.{◌≡◌, ℕ, ◌↔◌, Bool, true, ◌&&◌, List, [], ◌∷◌, map, ap, ap₂, ◌∙◌, refl, arith}
 use Rattle.std.proofs.Math.Path.{fun_ext}
 use Rattle.std.proofs.lemmas.Simd.{map-map}
 use Rattle.std.proofs.lemmas.Bool.Decides.{nat_tests}
+use Rattle.std.proofs.lemmas.List.Elements.{All-cons, All-nil}
 use Rattle.std.specs.List.{list_all}
 use Rattle.tinystr_words.specs.Classes.{ask, is_not_lower, is_not_upper}
 use Rattle.tinystr_words.specs.Case.{lower, raise, lowercase, titlecase, uppercase}
+use Rattle.tinystr_words.specs.Text.{IsText, IsTextByte}
 use Rattle.tinystr_words.proofs.TextsByPieces.{ask-same}
 
 -- ---- done twice
@@ -70,3 +72,15 @@ ask-joined first others class first_case others_case at_first at_others (b ∷ t
     let e = at_first b in
     let r = list_all-joined others class others_case at_others t in
     grind arith
+
+-- ---- classes of characters
+
+-- each byte is of a class of characters
+IsText-list_all : (p : ℕ → Bool) → ((b : ℕ) → p b ≡ true → IsTextByte b) → (t : List ℕ) → list_all p t ≡ true → IsText t
+IsText-list_all p each [] h = All-nil IsTextByte
+IsText-list_all p each (b ∷ t) h = All-cons IsTextByte b t (each b (grind arith)) (IsText-list_all p each t (grind arith))
+
+-- so are the first byte and the others
+pub IsText-asked : (first others : ℕ → Bool) → ((b : ℕ) → first b ≡ true → IsTextByte b) → ((b : ℕ) → others b ≡ true → IsTextByte b) → (t : List ℕ) → ask first others t ≡ true → IsText t
+IsText-asked first others one each [] h = All-nil IsTextByte
+IsText-asked first others one each (b ∷ t) h = All-cons IsTextByte b t (one b (grind arith)) (IsText-list_all others each t (grind arith))

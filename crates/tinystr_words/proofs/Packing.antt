@@ -139,6 +139,11 @@ IsFirstUnpadded-some records n i h padded = h.bad (padded i [] h.inside)
 
 -- ---- the records of bytes, as a list
 
+-- so many chunks
+pub length-first_chunks : (m k : ℕ) (xs : List ℕ) → length (first_chunks m k xs) ≡ k
+length-first_chunks m zero xs = refl
+length-first_chunks m (suc k) xs = ap suc (length-first_chunks m k (drop m xs))
+
 -- each of the first chunks is a record
 get_or-first_chunks : (n k : ℕ) (bytes : List ℕ) (i : ℕ) (d : List ℕ) → i < k → get_or (first_chunks n k bytes) i d ≡ record_at n bytes i
 get_or-first_chunks n zero bytes i d h = absurd (omega arith)

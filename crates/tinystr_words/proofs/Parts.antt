@@ -1,13 +1,16 @@
 -- Parts of texts: cut at a place, split at a byte, and joined by one.
-use Rattle.std.proofs.Common.{◌≡◌, ◌≢◌, ℕ, zero, suc, ◌+◌, ◌<◌, ◌≤◌, ◌==◌, Bool, true, false, cond, Some, None, inl, inr, List, [], ◌∷◌, ◌++◌, length, get_or, take, drop, refl, sym, ap, ◌∙◌, arith, add-one, append_assoc}
-use Rattle.std.specs.List.{All, before_first, after_first, join_with_byte, onto_first, position, position_or_len, slice_split, sum_by}
+use Rattle.std.proofs.Common.{◌≡◌, ◌≢◌, ℕ, zero, suc, ◌+◌, ◌<◌, ◌≤◌, ◌==◌, Bool, true, false, cond, Some, None, inl, inr, List, [], ◌∷◌, ◌++◌, length, get_or, take, drop, map, refl, sym, ap, ◌∙◌, arith, add-one, append_assoc}
+use Rattle.std.specs.List.{All, before_first, after_first, join_with_byte, list_all, onto_first, position, position_or_len, slice_split, sum_by}
 use Rattle.std.proofs.lemmas.Bool.{cases_lt}
 use Rattle.std.proofs.lemmas.Bool.Decides.{nat_tests}
-use Rattle.std.proofs.lemmas.List.{length-append, length-drop, length-take}
+use Rattle.std.proofs.lemmas.List.{length-append, length-drop, length-take, map-append}
+use Rattle.std.proofs.lemmas.List.Folds.{list_all-append}
 use Rattle.std.proofs.lemmas.List.Sums.{count_by-le-length, fails_before_first, sum_by-cons, sum_by_more_le}
-use Rattle.std.proofs.lemmas.List.Elements.{All-cons, All-drop, All-head, All-nil, All-tail, All-take, All-weaker}
+use Rattle.std.proofs.lemmas.List.Elements.{All-append, All-cons, All-drop, All-head, All-nil, All-tail, All-take, All-weaker}
 use Rattle.std.proofs.lemmas.List.Splits.{length-slice_split, slice_split_at, slice_split_first, slice_split_none}
+use Rattle.tinystr_words.specs.Classes.{ask}
 use Rattle.tinystr_words.specs.Text.{IsStrictText, IsText, IsTextByte}
+use Rattle.tinystr_words.proofs.TextsByPieces.{ask-same}
 
 -- ---- cut at a place
 
@@ -121,6 +124,34 @@ joined-suc c t (s ∷ ts) (suc i) d inside =
 
 pub joined-more : (c : ℕ) (t : List ℕ) (ts : List (List ℕ)) (i : ℕ) (d : List ℕ) → i < length ts → join_with_byte c (t ∷ take (i + 1) ts) ≡ join_with_byte c (t ∷ take i ts) ++ (c ∷ get_or ts i d)
 joined-more c t ts i d inside = rw add-one (joined-suc c t ts i d inside)
+
+-- joined characters and texts are a text
+pub IsText-joined : (c : ℕ) (ts : List (List ℕ)) → IsTextByte c → All IsText ts → IsText (join_with_byte c ts)
+IsText-joined c [] h each = All-nil IsTextByte
+IsText-joined c (t ∷ []) h each = All-head IsText t [] each
+IsText-joined c (t ∷ s ∷ ts) h each =
+    All-append IsTextByte t (c ∷ join_with_byte c (s ∷ ts)) (All-head IsText t (s ∷ ts) each)
+    (All-cons IsTextByte c (join_with_byte c (s ∷ ts)) h (IsText-joined c (s ∷ ts) h (All-tail IsText t (s ∷ ts) each)))
+
+-- they are of the class of all
+list_all-joined : (p : ℕ → Bool) (c : ℕ) (ts : List (List ℕ)) → p c ≡ true → All (λ t. list_all p t ≡ true) ts → list_all p (join_with_byte c ts) ≡ true
+list_all-joined p c [] h each = refl
+list_all-joined p c (t ∷ []) h each = All-head (λ t. list_all p t ≡ true) t [] each
+list_all-joined p c (t ∷ s ∷ ts) h each =
+    rw (list_all-append p t (c ∷ join_with_byte c (s ∷ ts)), All-head (λ t. list_all p t ≡ true) t (s ∷ ts) each, h)
+    (list_all-joined p c (s ∷ ts) h (All-tail (λ t. list_all p t ≡ true) t (s ∷ ts) each))
+
+pub ask-joined_texts : (p : ℕ → Bool) (c : ℕ) (ts : List (List ℕ)) → p c ≡ true → All (λ t. ask p p t ≡ true) ts → ask p p (join_with_byte c ts) ≡ true
+ask-joined_texts p c ts h each =
+    ask-same p (join_with_byte c ts)
+    ∙ list_all-joined p c ts h (All-weaker (λ t. ask p p t ≡ true) (λ t. list_all p t ≡ true) (λ t k. sym (ask-same p t) ∙ k) ts each)
+
+-- and a change of each byte is one of the texts and of what stands between them
+pub map-joined : (f : ℕ → ℕ) (c : ℕ) (ts : List (List ℕ)) → map f (join_with_byte c ts) ≡ join_with_byte (f c) (map (λ t. map f t) ts)
+map-joined f c [] = refl
+map-joined f c (t ∷ []) = refl
+map-joined f c (t ∷ s ∷ ts) =
+    map-append f t (c ∷ join_with_byte c (s ∷ ts)) ∙ ap (λ (l : List ℕ). map f t ++ (f c ∷ l)) (map-joined f c (s ∷ ts))
 
 -- each part of a text that is split
 pub ruleset first_parts = (IsStrictText-take, IsStrictText-drop, length-slice_split-le)

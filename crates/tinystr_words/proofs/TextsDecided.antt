@@ -1,15 +1,17 @@
--- The tests of strict and of padded texts are true exactly of these, and what a strict reader gives is `strict_of`.
-use Rattle.std.proofs.Common.{◌≡◌, ◌↔◌, ℕ, ◌≤◌, nat_lt, nat_le, true, false, List, length, refl, arith}
+-- The tests of strict and of padded texts and of packed records are true exactly of these, and what a strict reader gives is `strict_of`.
+use Rattle.std.proofs.Common.{◌≡◌, ◌↔◌, ℕ, ◌<◌, ◌≤◌, ◌/◌, ◌%◌, ◌==◌, nat_lt, nat_le, true, false, List, length, refl, arith}
 use Rattle.std.specs.Bool.{Decides, one_answer}
 use Rattle.std.specs.List.{list_all}
 use Rattle.std.specs.Result.{IsOk, IfOk, result_ok}
 use Rattle.std.specs.declared.result.Result.{Result}
 use Rattle.std.specs.declared.result.Result.TheVariants.{Ok, Err}
 use Rattle.std.specs.Str.{bytes_eq}
-use Rattle.std.proofs.lemmas.Bool.Decides.{Decides-and, Decides-by_and, Decides-like, Decides-ltb, nat_tests}
+use Rattle.std.proofs.lemmas.Bool.Decides.{Decides-and, Decides-by_and, Decides-eqb, Decides-like, Decides-ltb, nat_tests}
 use Rattle.std.proofs.lemmas.Slice.Eq.{bytes_eq-Decides}
 use Rattle.tinystr_words.specs.Text.{IsText, IsTextByte, IsStrictText, IsPaddedText, text_of, pad, is_text_byte, is_strict_text, is_padded_text}
+use Rattle.tinystr_words.specs.Packed.{IsPacked, is_packed, records_of}
 use Rattle.tinystr_words.specs.Reading.{strict_of}
+use Rattle.tinystr_words.proofs.Packing.{AllPadded-packed, AreRecords, IsPacked-length, IsPacked-records, length-first_chunks}
 
 -- of a byte of a text
 pub is_text_byte-Decides : (b : ℕ) → Decides (is_text_byte b) (IsTextByte b)
@@ -37,6 +39,18 @@ is_padded_text-Decides bytes n =
     (λ h. record { text = h.0.text; fits = h.0.fits; padded = h.1 }) (λ h. (record { text = h.text; fits = h.fits }, h.padded))
     (Decides-and (is_strict_text (text_of bytes) n) (bytes_eq bytes (pad (text_of bytes) n))
     (is_strict_text-Decides (text_of bytes) n) (bytes_eq-Decides bytes (pad (text_of bytes) n)))
+
+-- of packed records
+AreRecords-all : (bytes : List ℕ) (n : ℕ) → length bytes % n ≡ 0 → AreRecords (records_of n bytes) bytes n
+AreRecords-all bytes n whole = record { are = refl; count = length-first_chunks n (length bytes / n) bytes; whole = whole }
+
+pub is_packed-Decides : (bytes : List ℕ) (n : ℕ) → 0 < n → Decides (is_packed bytes n) (IsPacked bytes n)
+is_packed-Decides bytes n some =
+    Decides-like (is_packed bytes n)
+    (λ h. IsPacked-records (records_of n bytes) bytes n (AreRecords-all bytes n h.0) h.1)
+    (λ h. let whole = IsPacked-length bytes n h in (whole, AllPadded-packed (records_of n bytes) bytes n (AreRecords-all bytes n whole) some h))
+    (Decides-and (length bytes % n == 0) (list_all (λ raw. is_padded_text raw n) (records_of n bytes)) (Decides-eqb (length bytes % n) 0)
+    (Decides-by_and (λ raw. is_padded_text raw n) (λ raw. IsPaddedText raw n) (list_all (λ raw. is_padded_text raw n)) (λ raw. is_padded_text-Decides raw n) refl (λ _ _. refl) (records_of n bytes)))
 
 -- a reader that takes exactly the strict texts, each as it is, gives `strict_of`
 pub result_ok-strict_of : {E : Type 0} (r : Result (List ℕ) E) (units : List ℕ) (n : ℕ) → (IsOk r ↔ IsStrictText units n) → IfOk r (λ t. t ≡ units) → result_ok r ≡ strict_of n units

@@ -1,7 +1,8 @@
 -- Packed records: padded texts, one behind another.
-use Rattle.std.specs.Prelude.{◌≡◌, ℕ, ◌*◌, ◌<◌, List, [], length, take, drop, slice_index_or, All}
-use Rattle.std.specs.List.{flat_map}
-use Rattle.tinystr_words.specs.Text.{IsStrictText, IsPaddedText, pad}
+use Rattle.std.specs.Prelude.{◌≡◌, ℕ, ◌*◌, ◌/◌, ◌%◌, ◌<◌, ◌==◌, ◌&&◌, Bool, List, [], length, take, drop, slice_index_or, All}
+use Rattle.std.specs.List.{flat_map, list_all}
+use Rattle.std.specs.Simd.{first_chunks}
+use Rattle.tinystr_words.specs.Text.{IsStrictText, IsPaddedText, pad, is_padded_text}
 
 -- the bytes are the padded forms of some texts of at most n bytes
 pub record IsPacked (bytes : List ℕ) (n : ℕ) : Type 0 where
@@ -12,6 +13,14 @@ pub record IsPacked (bytes : List ℕ) (n : ℕ) : Type 0 where
 -- the n bytes of record i
 abbrev pub record_at : ℕ → List ℕ → ℕ → List ℕ
 record_at n bytes i = take n (drop (i * n) bytes)
+
+-- the records of bytes, in order, each of n bytes
+abbrev pub records_of : ℕ → List ℕ → List (List ℕ)
+records_of n bytes = first_chunks n (length bytes / n) bytes
+
+-- that the bytes are packed, as a test that computes
+abbrev pub is_packed : List ℕ → ℕ → Bool
+is_packed bytes n = length bytes % n == 0 && list_all (λ raw. is_padded_text raw n) (records_of n bytes)
 
 -- record i is the first that isn't a padded text
 pub record IsFirstBad (bytes : List ℕ) (n i : ℕ) : Type 0 where

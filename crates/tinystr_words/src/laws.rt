@@ -1,11 +1,11 @@
 //! Facts of the definitions alone. Each function computes nothing, and its contract is its law.
 
-ghost use Rattle.std.specs.Prelude.{IsTrue, ◌≡◌, ◌≢◌, ◌==◌, ◌<◌, ◌≤◌, ◌^◌, ◌/◌, ◌↔◌, ◌⊎◌, ℕ, List, ◌++◌, length, take, ◌+◌, ◌-◌, ◌*◌, Bool, [], ◌&&◌, All, slice_index, slice_index_or, map, replicate, None};
+ghost use Rattle.std.specs.Prelude.{IsTrue, ◌≡◌, ◌≢◌, ◌==◌, ◌<◌, ◌≤◌, ◌^◌, ◌/◌, ◌↔◌, ◌⊎◌, ℕ, List, ◌++◌, length, take, ◌+◌, ◌-◌, ◌*◌, Bool, [], ◌&&◌, ◌∷◌, All, slice_index, slice_index_or, position, map, replicate, drop, Some, None};
 ghost use Rattle.std.specs.Cmp.Lexicographic.{slice_cmp};
 ghost use Rattle.std.specs.Char.{is_ascii_alphabetic, is_ascii_alphanumeric, is_ascii_digit, is_ascii_lowercase, is_ascii_uppercase, to_ascii_lowercase, to_ascii_uppercase};
 ghost use Rattle.std.specs.Fmt.{char_count, decimal, padded, spec_fill, styled_text, take_chars};
 ghost use Rattle.std.specs.Int.{IsInRange};
-ghost use Rattle.std.specs.List.{flat_map, join_with_byte, list_all, slice_split};
+ghost use Rattle.std.specs.List.{after_first, before_first, flat_map, join_with_byte, list_all, slice_split};
 ghost use Rattle.std.specs.Ordering.{nat_cmp};
 ghost use Rattle.std.specs.Str.{str_to_ascii_lowercase, str_to_ascii_uppercase};
 ghost use Rattle.std.specs.declared.cmp.Ordering.TheVariants.{Less, Equal};
@@ -14,14 +14,14 @@ ghost use Rattle.tinystr_words.specs.Case.{lower, raise, lowercase, titlecase, u
 ghost use Rattle.tinystr_words.specs.Classes.{ask, is_alphabetic, is_alphanumeric, is_digit, is_lower, is_upper, is_not_lower, is_not_upper};
 ghost use Rattle.tinystr_words.specs.Decimal.{IsDecimalOf};
 ghost use Rattle.tinystr_words.specs.Order.{IsBefore};
-ghost use Rattle.tinystr_words.specs.Packed.{IsPacked, record_at};
-ghost use Rattle.tinystr_words.specs.Reading.{fault_in};
+ghost use Rattle.tinystr_words.specs.Packed.{IsPacked, is_packed, record_at};
+ghost use Rattle.tinystr_words.specs.Reading.{fault_in, strict_of};
 ghost use Rattle.tinystr_words.specs.Reading.Fault.{non_ascii};
 ghost use Rattle.tinystr_words.specs.Text.{IsStrictText, pad, IsText, IsTextByte, IsPaddedText, text_of, is_text_byte, is_strict_text, is_padded_text};
 ghost use Rattle.tinystr_words.specs.Words.{word, lane};
 
 /// Of two lists one comes before the other, or they are one list, and padded texts are in the order of the texts.
-#[tactic(auto, using(crate::proofs::Before::before_or_same, crate::proofs::Before::before_not_same, crate::proofs::Before::before_one_way))]
+#[tactic(auto, using(crate::proofs::ForCallers::order_total))]
 pub fn order_total()
     ensures one { (t s : List ℕ) → (t ≡ s) ⊎ (IsBefore t s ⊎ IsBefore s t) }
     ensures alone { (t s : List ℕ) → (t ≡ s → ¬ IsBefore t s) × (IsBefore t s → ¬ IsBefore s t) }
@@ -30,14 +30,14 @@ pub fn order_total()
 {}
 
 /// The order is what std's comparison of lists answers.
-#[tactic(auto, using(crate::proofs::Before::cmp_is_before, crate::proofs::Before::cmp_is_same))]
+#[tactic(auto, using(crate::proofs::ForCallers::order_compared))]
 pub fn order_compared()
     ensures less { (t s : List ℕ) → (slice_cmp nat_cmp t s ≡ Less) ↔ IsBefore t s }
     ensures equal { (t s : List ℕ) → (slice_cmp nat_cmp t s ≡ Equal) ↔ (t ≡ s) }
 {}
 
 /// A case change of the front of a text is the front of the changed text.
-#[tactic(auto, using(crate::proofs::LawSets::changes_cut))]
+#[tactic(auto, using(crate::proofs::ForCallers::case_cut))]
 pub fn case_cut()
     ensures lower { (m : ℕ) (t : List ℕ) → lowercase (take m t) ≡ take m (lowercase t) }
     ensures title { (m : ℕ) (t : List ℕ) → titlecase (take m t) ≡ take m (titlecase t) }
@@ -45,6 +45,7 @@ pub fn case_cut()
 {}
 
 /// A case change keeps the length, done twice it is done once, and lowercase forgets an uppercase before it.
+#[tactic(auto, using(crate::proofs::ForCallers::case_twice))]
 pub fn case_twice()
     ensures lower { (t : List ℕ) → (length (lowercase t) ≡ length t) × (lowercase (lowercase t) ≡ lowercase t) }
     ensures title { (t : List ℕ) → (length (titlecase t) ≡ length t) × (titlecase (titlecase t) ≡ titlecase t) }
@@ -53,7 +54,7 @@ pub fn case_twice()
 {}
 
 /// A case change leaves alone exactly the texts of its case.
-#[tactic(auto, using(crate::proofs::LawSets::texts_left_alone))]
+#[tactic(auto, using(crate::proofs::ForCallers::case_fixed))]
 pub fn case_fixed()
     ensures lower { (t : List ℕ) → (lowercase t ≡ t) ↔ IsTrue (ask is_not_upper is_not_upper t) }
     ensures title { (t : List ℕ) → (titlecase t ≡ t) ↔ IsTrue (ask is_not_lower is_not_upper t) }
@@ -61,6 +62,7 @@ pub fn case_fixed()
 {}
 
 /// A text is of letters in a case exactly if it is of letters and of that case.
+#[tactic(auto, using(crate::proofs::ForCallers::class_joined))]
 pub fn class_joined()
     ensures lower { (t : List ℕ) → ask is_lower is_lower t
         ≡ (ask is_alphabetic is_alphabetic t && ask is_not_upper is_not_upper t) }
@@ -71,32 +73,33 @@ pub fn class_joined()
 {}
 
 /// Texts joined and cut in either order have one front.
-#[tactic(auto, using(crate::proofs::Cutting::take_join_cut))]
+#[tactic(auto, using(crate::proofs::ForCallers::join_cut))]
 pub fn join_cut()
     ensures { (a b c : List ℕ) (p q r : ℕ) → q ≤ p → q ≤ r →
         take q (take p (a ++ b) ++ c) ≡ take q (a ++ take r (b ++ c)) }
 {}
 
 /// Texts that fit are joined whole.
-#[tactic(auto, using(crate::proofs::LawSets::joins_that_fit))]
+#[tactic(auto, using(crate::proofs::ForCallers::join_fits))]
 pub fn join_fits()
     ensures { (a b : List ℕ) (q : ℕ) → length a + length b ≤ q → take q (a ++ b) ≡ a ++ b }
 {}
 
 /// A number of 32 bits has at most ten digits.
-#[tactic(auto, using(crate::proofs::LawSets::ten_digits))]
+#[tactic(auto, using(crate::proofs::ForCallers::digits_ten))]
 pub fn digits_ten()
     ensures { (n : ℕ) → n ≤ 4294967295 → length (decimal n) ≤ 10 }
 {}
 
 /// std's decimal text of a number is its only shortest one.
+#[tactic(auto, using(crate::proofs::ForCallers::digits_shortest))]
 pub fn digits_shortest()
     ensures is { (n : ℕ) → n < 2 ^ 64 → IsDecimalOf n (decimal n) }
     ensures only { (n : ℕ) (ds : List ℕ) → n < 2 ^ 64 → IsDecimalOf n ds → ds ≡ decimal n }
 {}
 
 /// Where no lane is above 0x7f, no lane of a sum carries into the next.
-#[tactic(auto, using(crate::proofs::WordLaws::lane_sum_is))]
+#[tactic(auto, using(crate::proofs::ForCallers::lane_sum))]
 pub fn lane_sum()
     ensures { (a c : List ℕ) → length a ≡ length c → All (λ b. b ≤ 0x7f) a → All (λ b. b ≤ 0x7f) c →
         (word a + word c < 256 ^ length a)
@@ -104,13 +107,14 @@ pub fn lane_sum()
 {}
 
 /// The size of a word tells the length of the text that it holds.
-#[tactic(auto, using(crate::proofs::WordLaws::word_length_is))]
+#[tactic(auto, using(crate::proofs::ForCallers::word_length))]
 pub fn word_length()
     ensures { (w : ℕ) (t : List ℕ) → IsText t → length t ≤ w →
         (word (pad t w) < 256 ^ length t) × ((k : ℕ) → word (pad t w) < 256 ^ k → length t ≤ k) }
 {}
 
 /// Two sums tell which lanes lie in their ranges.
+#[tactic(auto, using(crate::proofs::ForCallers::lane_class))]
 pub fn lane_class()
     ensures { (a low high : List ℕ) → length low ≡ length a → length high ≡ length a →
         All (λ b. b ≤ 0x7f) a →
@@ -123,6 +127,7 @@ pub fn lane_class()
 {}
 
 /// The questions and the case changes of a text, from those of its first sixteen bytes and of the others.
+#[tactic(auto, using(crate::proofs::ForCallers::word_join))]
 pub fn word_join()
     ensures asked { (first others : ℕ → Bool) (a b : List ℕ) → (length a ≡ 16) ⊎ (b ≡ []) →
         ask first others (a ++ b) ≡ (ask first others a && ask others others b) }
@@ -132,7 +137,7 @@ pub fn word_join()
 {}
 
 /// A text has a padded form, and no other text has the same.
-#[tactic(auto, using(crate::proofs::LawSets::padded_forms))]
+#[tactic(auto, using(crate::proofs::ForCallers::pad_once))]
 pub fn pad_once()
     ensures padded { (t : List ℕ) (n : ℕ) → IsStrictText t n → IsPaddedText (pad t n) n }
     ensures once { (t s : List ℕ) (n : ℕ) → IsStrictText t n → IsStrictText s n →
@@ -140,14 +145,43 @@ pub fn pad_once()
 {}
 
 /// The tests that compute are true of exactly what the definitions say.
-#[tactic(auto, using(crate::proofs::LawSets::tests))]
+#[tactic(auto, using(crate::proofs::ForCallers::tests_decide))]
 pub fn tests_decide()
     ensures byte { (b : ℕ) → IsTrue (is_text_byte b) ↔ IsTextByte b }
     ensures strict { (t : List ℕ) (n : ℕ) → IsTrue (is_strict_text t n) ↔ IsStrictText t n }
     ensures padded { (bytes : List ℕ) (n : ℕ) → IsTrue (is_padded_text bytes n) ↔ IsPaddedText bytes n }
+    ensures packed { (bytes : List ℕ) (n : ℕ) → 0 < n → IsTrue (is_packed bytes n) ↔ IsPacked bytes n }
+{}
+
+/// A strict reader takes a text that fits as it is, and nothing else.
+#[tactic(auto, using(crate::proofs::ForCallers::strict_read))]
+pub fn strict_read()
+    ensures taken { (t : List ℕ) (n : ℕ) → IsStrictText t n → strict_of n t ≡ Some t }
+    ensures refused { (t : List ℕ) (n : ℕ) → ¬ IsStrictText t n → strict_of n t ≡ None }
+{}
+
+/// The front and the back of a text that fits fit, and so does what stands before the first byte of a kind, and behind it.
+#[tactic(auto, using(crate::proofs::ForCallers::strict_parts))]
+pub fn strict_parts()
+    ensures front { (k : ℕ) (t : List ℕ) (n : ℕ) → IsStrictText t n → IsStrictText (take k t) n }
+    ensures back { (k : ℕ) (t : List ℕ) (n : ℕ) → IsStrictText t n → IsStrictText (drop k t) n }
+    ensures before { (p : ℕ → Bool) (t : List ℕ) (n : ℕ) → IsStrictText t n → IsStrictText (before_first p t) n }
+    ensures behind { (p : ℕ → Bool) (t : List ℕ) (n : ℕ) → IsStrictText t n → IsStrictText (after_first p t) n }
+{}
+
+/// Letters and digits, letters in a case and digits alone are texts.
+#[tactic(auto, using(crate::proofs::ForCallers::class_texts))]
+pub fn class_texts()
+    ensures alphanumeric { (t : List ℕ) → IsTrue (ask is_alphanumeric is_alphanumeric t) → IsText t }
+    ensures alphabetic { (t : List ℕ) → IsTrue (ask is_alphabetic is_alphabetic t) → IsText t }
+    ensures digit { (t : List ℕ) → IsTrue (ask is_digit is_digit t) → IsText t }
+    ensures lower { (t : List ℕ) → IsTrue (ask is_lower is_lower t) → IsText t }
+    ensures title { (t : List ℕ) → IsTrue (ask is_upper is_lower t) → IsText t }
+    ensures upper { (t : List ℕ) → IsTrue (ask is_upper is_upper t) → IsText t }
 {}
 
 /// A padded form reads back, whatever stands behind it.
+#[tactic(auto, using(crate::proofs::ForCallers::bytes_back))]
 pub fn bytes_back()
     ensures clean { (t rest : List ℕ) (n : ℕ) → IsStrictText t n →
         byte_fault n (pad t n ++ rest) ≡ None }
@@ -155,10 +189,13 @@ pub fn bytes_back()
         take n (pad t n ++ rest) ≡ pad t n }
     ensures strict { (t : List ℕ) (n : ℕ) → IsText t → length t ≤ n → IsStrictText t n }
     ensures alone { (bytes : List ℕ) (n : ℕ) → IsPaddedText bytes n → byte_fault n bytes ≡ None }
+    ensures front { (input : List ℕ) (n : ℕ) → n ≤ length input → IsPaddedText (take n input) n →
+        byte_fault n input ≡ None }
 {}
 
 /// Texts without the separator, joined by it and split at it, are the same texts, and the parts of a text, joined, are the
 /// text. Each part of a text that fits is one.
+#[tactic(auto, using(crate::proofs::ForCallers::split_joined))]
 pub fn split_joined()
     ensures back { (c : ℕ) (ts : List (List ℕ)) → 0 < length ts → All (λ t. All (λ b. b ≢ c) t) ts →
         slice_split (λ b. b == c) (join_with_byte c ts) ≡ ts }
@@ -167,21 +204,49 @@ pub fn split_joined()
         All (λ part. IsStrictText part n) (slice_split p t) }
 {}
 
+/// The place of the first byte of a kind cuts a text into what stands before the byte, and what stands behind it. Where no
+/// byte is of the kind, the text is one part.
+#[tactic(auto, using(crate::proofs::ForCallers::split_found))]
+pub fn split_found()
+    ensures inside { (p : ℕ → Bool) (t : List ℕ) (at : ℕ) → position p t ≡ Some at → at < length t }
+    ensures before { (p : ℕ → Bool) (t : List ℕ) (at : ℕ) → position p t ≡ Some at →
+        before_first p t ≡ take at t }
+    ensures behind { (p : ℕ → Bool) (t : List ℕ) (at : ℕ) → position p t ≡ Some at →
+        after_first p t ≡ drop (at + 1) t }
+    ensures parts { (p : ℕ → Bool) (t : List ℕ) (at : ℕ) → position p t ≡ Some at →
+        slice_split p t ≡ take at t ∷ slice_split p (drop (at + 1) t) }
+    ensures whole { (p : ℕ → Bool) (t : List ℕ) → position p t ≡ None → before_first p t ≡ t }
+    ensures one { (p : ℕ → Bool) (t : List ℕ) → position p t ≡ None → slice_split p t ≡ t ∷ [] }
+{}
+
+/// Texts joined by a byte are of the class and the case of all of them and of the byte.
+#[tactic(auto, using(crate::proofs::ForCallers::joined_texts))]
+pub fn joined_texts()
+    ensures text { (c : ℕ) (ts : List (List ℕ)) → IsTextByte c → All IsText ts → IsText (join_with_byte c ts) }
+    ensures asked { (p : ℕ → Bool) (c : ℕ) (ts : List (List ℕ)) → IsTrue (p c) → All (λ t. IsTrue (ask p p t)) ts →
+        IsTrue (ask p p (join_with_byte c ts)) }
+    ensures lower { (c : ℕ) (ts : List (List ℕ)) →
+        lowercase (join_with_byte c ts) ≡ join_with_byte (lower c) (map lowercase ts) }
+    ensures upper { (c : ℕ) (ts : List (List ℕ)) →
+        uppercase (join_with_byte c ts) ≡ join_with_byte (raise c) (map uppercase ts) }
+{}
+
 /// Bytes of 255 are refused as `NonAscii`.
+#[tactic(auto, using(crate::proofs::ForCallers::niche_fault))]
 pub fn niche_fault()
     ensures refused { (n : ℕ) → 0 < n → ¬ IsPaddedText (replicate n 255) n }
     ensures fault { (n : ℕ) → 0 < n → fault_in n (replicate n 255) ≡ non_ascii }
 {}
 
 /// Each record of packed records is a padded text.
-#[tactic(auto, using(crate::proofs::LawSets::records))]
+#[tactic(auto, using(crate::proofs::ForCallers::packed_records))]
 pub fn packed_records()
     ensures { (bytes : List ℕ) (n i : ℕ) → IsPacked bytes n → i * n < length bytes →
         IsPaddedText (record_at n bytes i) n }
 {}
 
 /// Texts that are padded and joined are packed records, as many as the texts, and each record holds its text.
-#[tactic(auto, using(crate::proofs::LawSets::packed_texts))]
+#[tactic(auto, using(crate::proofs::ForCallers::texts_packed))]
 pub fn texts_packed()
     ensures packed { (n : ℕ) (ts : List (List ℕ)) → All (λ t. IsStrictText t n) ts →
         IsPacked (flat_map (λ t. pad t n) ts) n }
@@ -193,7 +258,7 @@ pub fn texts_packed()
 
 /// The classes and the case changes are those of std's calls on a `u8`, a `char` and a `str`, and a question of one class
 /// asks each byte.
-#[tactic(auto, using(crate::proofs::LawSets::same_as_std))]
+#[tactic(auto, using(crate::proofs::ForCallers::same_as_std))]
 pub fn same_as_std()
     ensures upper { (b : ℕ) → is_upper b ≡ is_ascii_uppercase b }
     ensures lower { (b : ℕ) → is_lower b ≡ is_ascii_lowercase b }
@@ -210,6 +275,7 @@ pub fn same_as_std()
 /// A text has a character a byte. Under a style that doesn't cut it, and whose fill is a character of ASCII, it is filled
 /// up to the width: behind it where no side is named and under `<`, by halves under `^`, the lesser in front, and in
 /// front of it under `>`. For these `align` is 0, 1, 2 and 3.
+#[tactic(auto, using(crate::proofs::ForCallers::print_width))]
 pub fn print_width()
     ensures chars { (t : List ℕ) → IsText t → char_count t ≡ length t }
     ensures cut { (n : ℕ) (t : List ℕ) → IsText t → take_chars n t ≡ take n t }

@@ -5,6 +5,7 @@ ghost use Rattle.std.specs.Result.{result_ok};
 ghost use Rattle.tinystr_words.specs.Text.{text_of, IsTextByte, IsStrictText, IsPaddedText};
 ghost use Rattle.tinystr_words.specs.Reading.{fault_in, lossy, strict_of};
 ghost use Rattle.tinystr.specs.Error.{fault_of};
+ghost use Rattle.tinystr.specs.Reading.{read_of, read_raw_of};
 
 use crate::ascii::{TinyAsciiStr, strict};
 use crate::error::ParseError;
@@ -28,6 +29,7 @@ impl<const N: usize> TinyAsciiStr<N> {
         ensures text { IfOk result (λ t. t ≡ s.now) }
         ensures fault { IfErr result (λ e. fault_of e ≡ fault_in N s.now) }
         ensures value { result_ok result ≡ strict_of N s.now }
+        ensures read { result ≡ read_of N s.now }
     {
         Self::try_from_utf8(s.as_bytes())
     }
@@ -44,6 +46,7 @@ impl<const N: usize> TinyAsciiStr<N> {
         ensures text { IfOk result (λ t. t ≡ code_units.now) }
         ensures fault { IfErr result (λ e. fault_of e ≡ fault_in N code_units.now) }
         ensures value { result_ok result ≡ strict_of N code_units.now }
+        ensures read { result ≡ read_of N code_units.now }
     {
         strict::read::<u8, N>(code_units)
     }
@@ -61,6 +64,7 @@ impl<const N: usize> TinyAsciiStr<N> {
         ensures text { IfOk result (λ t. t ≡ code_units.now) }
         ensures fault { IfErr result (λ e. fault_of e ≡ fault_in N code_units.now) }
         ensures value { result_ok result ≡ strict_of N code_units.now }
+        ensures read { result ≡ read_of N code_units.now }
     {
         strict::read::<u16, N>(code_units)
     }
@@ -79,6 +83,7 @@ impl<const N: usize> TinyAsciiStr<N> {
         ensures accepted { IsOk result ↔ IsPaddedText raw.entry N }
         ensures text { IfOk result (λ t. t ≡ text_of raw.entry) }
         ensures fault { IfErr result (λ e. fault_of e ≡ fault_in N raw.entry) }
+        ensures read { result ≡ read_raw_of N raw.entry }
     {
         strict::read_padded(raw)
     }

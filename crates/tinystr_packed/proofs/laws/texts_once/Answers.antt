@@ -1,5 +1,5 @@
-use Rattle.tinystr_packed.proofs.PackedTexts.{packed_injective}
+use Rattle.tinystr_packed.proofs.ForCallers.{texts_once}
 use Rattle.tinystr_packed.proofs.laws.texts_once.Goals as goal
 
 pub returns : goal.returns
-returns c = packed_injective
+returns c = texts_once

@@ -1,5 +1,5 @@
-use Rattle.tinystr_words.proofs.Numerals.{IsDecimalOf-decimal, IsDecimalOf-only}
+use Rattle.tinystr_words.proofs.ForCallers.{digits_shortest_is}
 use Rattle.tinystr_words.proofs.laws.digits_shortest.Goals as goal
 
-pub returns : goal.returns
-returns c = record { is = IsDecimalOf-decimal; only = IsDecimalOf-only }
+pub returns-clause-is : goal.returns-clause-is
+returns-clause-is c = digits_shortest_is

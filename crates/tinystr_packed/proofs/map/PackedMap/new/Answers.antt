@@ -2,6 +2,7 @@ use Rattle.std.proofs.Common.{◌≡◌, ◌≢◌, ◌*◌, ◌/◌, [], length
 use Rattle.std.proofs.Math.Nat.{div-add-mod, mul-mod_left, mul-div_cancel}
 use Rattle.std.specs.List.{zip}
 use Rattle.tinystr_packed.specs.Rising.{IsRising}
+use Rattle.tinystr_packed.proofs.Computed.{map_of-other}
 use Rattle.tinystr_packed.proofs.PackedTexts.{AllStrict, packed}
 use Rattle.tinystr_packed.proofs.PackedMaps.{ArePacked-new, unsorted-no_entries, unmatched-no_entries}
 use Rattle.tinystr_packed.proofs.map.PackedMap.new.Goals.{then-len-ne0-via-then-len-ne0, then-len-ne0-via-else-len-ne0+then-len-count}
@@ -39,6 +40,11 @@ returns-then-len-ne0-clause-accepted g c =
       λ e. absurd (true≢false (sym e)),
       λ found. absurd (unmatched-no_entries c.in-Ok.table c.args.keys.now c.args.values.now g.row.N g.row.M c.requires.keys c.in-Ok.ensures.texts c.in-Ok.ensures.bytes other found),
     )
+
+pub returns-then-len-ne0-clause-value : goal.returns-then-len-ne0-clause-value
+returns-then-len-ne0-clause-value g c =
+    map_of-other c.args.keys.now c.args.values.now g.row.N g.row.M c.requires.keys c.requires.values
+    (λ found. true≢false (sym ((returns-then-len-ne0-clause-accepted g c).1 found)))
 
 pub returns-then-is_empty-clause-accepted : goal.returns-then-is_empty-clause-accepted
 returns-then-is_empty-clause-accepted g c =

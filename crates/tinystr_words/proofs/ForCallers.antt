@@ -1,0 +1,390 @@
+-- The laws as lemmas over plain variables, for callers: a law's clause `c` is `LAW_c`, and the set `LAW` holds them all. The
+-- functions of `laws` rest on them, and they keep their names and statements.
+use Rattle.std.proofs.Common.{◌≡◌, ◌≢◌, ◌==◌, ◌<◌, ◌≤◌, ◌^◌, ◌/◌, ◌↔◌, ◌⊎◌, ◌+◌, ◌-◌, ◌*◌, ◌++◌, ◌∷◌, ◌&&◌, ◌∙◌, [], ℕ, Bool, List, All, IsTrue, Some, None, ap, arith, drop, length, map, refl, replicate, take}
+use Rattle.std.specs.Char.{is_ascii_alphabetic, is_ascii_alphanumeric, is_ascii_digit, is_ascii_lowercase, is_ascii_uppercase, to_ascii_lowercase, to_ascii_uppercase}
+use Rattle.std.specs.Cmp.Lexicographic.{slice_cmp}
+use Rattle.std.specs.Fmt.{char_count, decimal, padded, spec_fill, styled_text, take_chars}
+use Rattle.std.specs.Int.{IsInRange}
+use Rattle.std.specs.List.{after_first, before_first, flat_map, join_with_byte, list_all, position, position_or_len, slice_index, slice_index_or, slice_split}
+use Rattle.std.specs.Ordering.{nat_cmp}
+use Rattle.std.specs.Str.{str_to_ascii_lowercase, str_to_ascii_uppercase}
+use Rattle.std.specs.declared.cmp.Ordering.TheVariants.{Less, Equal}
+use Rattle.std.proofs.lemmas.Bool.Decides.{nat_tests}
+use Rattle.std.proofs.lemmas.List.{append-nil, get_or-replicate, length-append, length-map, length-replicate, map-append, take_all, take_at}
+use Rattle.std.proofs.lemmas.List.Splits.{join_with_byte-slice_split}
+use Rattle.tinystr_words.specs.ByteForm.{byte_fault}
+use Rattle.tinystr_words.specs.Case.{lower, raise, lowercase, titlecase, uppercase}
+use Rattle.tinystr_words.specs.Classes.{ask, is_alphabetic, is_alphanumeric, is_digit, is_lower, is_upper, is_not_lower, is_not_upper}
+use Rattle.tinystr_words.specs.Decimal.{IsDecimalOf}
+use Rattle.tinystr_words.specs.Order.{IsBefore}
+use Rattle.tinystr_words.specs.Packed.{IsPacked, is_packed, record_at}
+use Rattle.tinystr_words.specs.Reading.{fault_in, first_fault, strict_of}
+use Rattle.tinystr_words.specs.Reading.Fault.{non_ascii}
+use Rattle.tinystr_words.specs.Text.{IsPaddedText, IsStrictText, IsText, IsTextByte, is_padded_text, is_strict_text, is_text_byte, pad, text_of}
+use Rattle.tinystr_words.specs.Words.{lane, word}
+use Rattle.tinystr_words.specs.declared.question.Case.TheVariants.{Title}
+use Rattle.tinystr_words.proofs.Before.{before_not_same, before_one_way, before_or_same, before_padded, cmp_is_before, cmp_is_same}
+use Rattle.tinystr_words.proofs.ByteForms.{byte_fault-first_padded, byte_fault-padded}
+use Rattle.tinystr_words.proofs.CaseFacts.{IsText-asked, ask-joined, lowercase-alone, map-map_same, titlecase-alone, titlecase-twice, uppercase-alone}
+use Rattle.tinystr_words.proofs.Cutting.{lowercase-take, take_join_cut, titlecase-take, uppercase-take}
+use Rattle.tinystr_words.proofs.Numerals.{IsDecimalOf-decimal, IsDecimalOf-only, length-decimal-le_ten}
+use Rattle.tinystr_words.proofs.Packing.{IsPacked-joined, IsPacked-record, length-joined, text_of-record}
+use Rattle.tinystr_words.proofs.Parts.{IsStrictText-after_first, IsStrictText-before_first, IsStrictText-drop, IsStrictText-slice_split, IsStrictText-take, IsText-joined, ask-joined_texts, map-joined, slice_split-found, slice_split-joined, slice_split-missed}
+use Rattle.tinystr_words.proofs.Printing.{char_count-text, length-padded, padded-before, padded-behind, padded-between, styled-padded, take_chars-text}
+use Rattle.tinystr_words.proofs.Readers.{IsScanned-none, fault_in-fits, first_fault-high}
+use Rattle.tinystr_words.proofs.SameAsStd.{is_alphanumeric-std, lower-std, lowercase-std, raise-std, uppercase-std}
+use Rattle.tinystr_words.proofs.Texts.{IsAscii-padded, IsPaddedText-pad, length-pad}
+use Rattle.tinystr_words.proofs.Texts as texts
+use Rattle.tinystr_words.proofs.TextsByPieces.{ask-append, ask-same, in_case-append, length-in_case}
+use Rattle.tinystr_words.proofs.TextsDecided.{is_packed-Decides, is_padded_text-Decides, is_strict_text-Decides, is_text_byte-Decides}
+use Rattle.tinystr_words.proofs.WordLaws.{lane_class_is, lane_sum_is, word_length_is}
+
+-- Of two lists one comes before the other, or they are one list, and padded texts are in the order of the texts.
+pub order_total_one : (t s : List ℕ) → (t ≡ s) ⊎ (IsBefore t s ⊎ IsBefore s t)
+order_total_one = before_or_same
+
+pub order_total_alone : (t s : List ℕ) → (t ≡ s → ¬ IsBefore t s) × (IsBefore t s → ¬ IsBefore s t)
+order_total_alone t s = (before_not_same t s, before_one_way t s)
+
+pub order_total_padded : (t s : List ℕ) (n : ℕ) → IsStrictText t n → IsStrictText s n → IsBefore (pad t n) (pad s n) ↔ IsBefore t s
+order_total_padded = before_padded
+
+pub ruleset order_total = (order_total_one, order_total_alone, order_total_padded)
+
+-- The order is what std's comparison of lists answers.
+pub order_compared_less : (t s : List ℕ) → (slice_cmp nat_cmp t s ≡ Less) ↔ IsBefore t s
+order_compared_less = cmp_is_before
+
+pub order_compared_equal : (t s : List ℕ) → (slice_cmp nat_cmp t s ≡ Equal) ↔ (t ≡ s)
+order_compared_equal = cmp_is_same
+
+pub ruleset order_compared = (order_compared_less, order_compared_equal)
+
+-- A case change of the front of a text is the front of the changed text.
+pub case_cut_lower : (m : ℕ) (t : List ℕ) → lowercase (take m t) ≡ take m (lowercase t)
+case_cut_lower = lowercase-take
+
+pub case_cut_title : (m : ℕ) (t : List ℕ) → titlecase (take m t) ≡ take m (titlecase t)
+case_cut_title = titlecase-take
+
+pub case_cut_upper : (m : ℕ) (t : List ℕ) → uppercase (take m t) ≡ take m (uppercase t)
+case_cut_upper = uppercase-take
+
+pub ruleset case_cut = (case_cut_lower, case_cut_title, case_cut_upper)
+
+-- A case change keeps the length, done twice it is done once, and lowercase forgets an uppercase before it.
+pub case_twice_lower : (t : List ℕ) → (length (lowercase t) ≡ length t) × (lowercase (lowercase t) ≡ lowercase t)
+case_twice_lower t = (length-map t lower, map-map_same lower lower lower (λ b. grind (arith, nat_tests)) t)
+
+pub case_twice_title : (t : List ℕ) → (length (titlecase t) ≡ length t) × (titlecase (titlecase t) ≡ titlecase t)
+case_twice_title t = (length-in_case Title t, titlecase-twice t)
+
+pub case_twice_upper : (t : List ℕ) → (length (uppercase t) ≡ length t) × (uppercase (uppercase t) ≡ uppercase t)
+case_twice_upper t = (length-map t raise, map-map_same raise raise raise (λ b. grind (arith, nat_tests)) t)
+
+pub case_twice_lower_upper : (t : List ℕ) → lowercase (uppercase t) ≡ lowercase t
+case_twice_lower_upper = map-map_same lower raise lower (λ b. grind (arith, nat_tests))
+
+pub ruleset case_twice = (case_twice_lower, case_twice_title, case_twice_upper, case_twice_lower_upper)
+
+-- A case change leaves alone exactly the texts of its case.
+pub case_fixed_lower : (t : List ℕ) → (lowercase t ≡ t) ↔ IsTrue (ask is_not_upper is_not_upper t)
+case_fixed_lower = lowercase-alone
+
+pub case_fixed_title : (t : List ℕ) → (titlecase t ≡ t) ↔ IsTrue (ask is_not_lower is_not_upper t)
+case_fixed_title = titlecase-alone
+
+pub case_fixed_upper : (t : List ℕ) → (uppercase t ≡ t) ↔ IsTrue (ask is_not_lower is_not_lower t)
+case_fixed_upper = uppercase-alone
+
+pub ruleset case_fixed = (case_fixed_lower, case_fixed_title, case_fixed_upper)
+
+-- A text is of letters in a case exactly if it is of letters and of that case.
+pub class_joined_lower : (t : List ℕ) → ask is_lower is_lower t ≡ (ask is_alphabetic is_alphabetic t && ask is_not_upper is_not_upper t)
+class_joined_lower = ask-joined is_lower is_lower is_alphabetic is_not_upper is_not_upper (λ b. grind (arith, nat_tests)) (λ b. grind (arith, nat_tests))
+
+pub class_joined_title : (t : List ℕ) → ask is_upper is_lower t ≡ (ask is_alphabetic is_alphabetic t && ask is_not_lower is_not_upper t)
+class_joined_title = ask-joined is_upper is_lower is_alphabetic is_not_lower is_not_upper (λ b. grind (arith, nat_tests)) (λ b. grind (arith, nat_tests))
+
+pub class_joined_upper : (t : List ℕ) → ask is_upper is_upper t ≡ (ask is_alphabetic is_alphabetic t && ask is_not_lower is_not_lower t)
+class_joined_upper = ask-joined is_upper is_upper is_alphabetic is_not_lower is_not_lower (λ b. grind (arith, nat_tests)) (λ b. grind (arith, nat_tests))
+
+pub ruleset class_joined = (class_joined_lower, class_joined_title, class_joined_upper)
+
+-- Texts joined and cut in either order have one front.
+pub join_cut : (a b c : List ℕ) (p q r : ℕ) → q ≤ p → q ≤ r → take q (take p (a ++ b) ++ c) ≡ take q (a ++ take r (b ++ c))
+join_cut = take_join_cut
+
+-- Texts that fit are joined whole.
+pub join_fits : (a b : List ℕ) (q : ℕ) → length a + length b ≤ q → take q (a ++ b) ≡ a ++ b
+join_fits a b q fits = take_all q (a ++ b) (omega (arith, length-append a b))
+
+-- A number of 32 bits has at most ten digits.
+pub digits_ten : (n : ℕ) → n ≤ 4294967295 → length (decimal n) ≤ 10
+digits_ten = length-decimal-le_ten
+
+-- std's decimal text of a number is its only shortest one.
+pub digits_shortest_is : (n : ℕ) → n < 2 ^ 64 → IsDecimalOf n (decimal n)
+digits_shortest_is = IsDecimalOf-decimal
+
+pub digits_shortest_only : (n : ℕ) (ds : List ℕ) → n < 2 ^ 64 → IsDecimalOf n ds → ds ≡ decimal n
+digits_shortest_only = IsDecimalOf-only
+
+pub ruleset digits_shortest = (digits_shortest_is, digits_shortest_only)
+
+-- Where no lane is above 0x7f, no lane of a sum carries into the next.
+pub lane_sum : (a c : List ℕ) → length a ≡ length c → All (λ b. b ≤ 0x7f) a → All (λ b. b ≤ 0x7f) c → (word a + word c < 256 ^ length a) × ((i : ℕ) → i < length a → lane (word a + word c) i ≡ slice_index a i + slice_index c i)
+lane_sum = lane_sum_is
+
+-- The size of a word tells the length of the text that it holds.
+pub word_length : (w : ℕ) (t : List ℕ) → IsText t → length t ≤ w → (word (pad t w) < 256 ^ length t) × ((k : ℕ) → word (pad t w) < 256 ^ k → length t ≤ k)
+word_length = word_length_is
+
+-- Two sums tell which lanes lie in their ranges.
+pub lane_class : (a low high : List ℕ) → length low ≡ length a → length high ≡ length a → All (λ b. b ≤ 0x7f) a → ((i : ℕ) → i < length a → (1 ≤ slice_index low i) × (slice_index low i ≤ slice_index high i) × (slice_index high i ≤ 0x7f)) → let p = map (λ b. 0x80 - b) low in let q = map (λ b. 0x7f - b) high in (i : ℕ) → i < length a → (IsInRange (slice_index low i) (slice_index high i) (slice_index a i)) ↔ ((0x80 ≤ lane (word a + word p) i) × (lane (word a + word q) i < 0x80))
+lane_class = lane_class_is
+
+-- The questions and the case changes of a text, from those of its first sixteen bytes and of the others.
+pub word_join_asked : (first others : ℕ → Bool) (a b : List ℕ) → (length a ≡ 16) ⊎ (b ≡ []) → ask first others (a ++ b) ≡ (ask first others a && ask others others b)
+word_join_asked first others = ask-append first others 15
+
+pub word_join_lower : (a b : List ℕ) → lowercase (a ++ b) ≡ lowercase a ++ lowercase b
+word_join_lower = map-append lower
+
+pub word_join_upper : (a b : List ℕ) → uppercase (a ++ b) ≡ uppercase a ++ uppercase b
+word_join_upper = map-append raise
+
+pub word_join_title : (a b : List ℕ) → (length a ≡ 16) ⊎ (b ≡ []) → titlecase (a ++ b) ≡ titlecase a ++ lowercase b
+word_join_title = in_case-append Title 15
+
+pub ruleset word_join = (word_join_asked, word_join_lower, word_join_upper, word_join_title)
+
+-- A text has a padded form, and no other text has the same.
+pub pad_once_padded : (t : List ℕ) (n : ℕ) → IsStrictText t n → IsPaddedText (pad t n) n
+pad_once_padded = IsPaddedText-pad
+
+pub pad_once_once : (t s : List ℕ) (n : ℕ) → IsStrictText t n → IsStrictText s n → pad t n ≡ pad s n → t ≡ s
+pad_once_once t s n h k = texts.pad_once t s n h.text k.text
+
+pub ruleset pad_once = (pad_once_padded, pad_once_once)
+
+-- The tests that compute are true of exactly what the definitions say.
+pub tests_decide_byte : (b : ℕ) → IsTrue (is_text_byte b) ↔ IsTextByte b
+tests_decide_byte = is_text_byte-Decides
+
+pub tests_decide_strict : (t : List ℕ) (n : ℕ) → IsTrue (is_strict_text t n) ↔ IsStrictText t n
+tests_decide_strict = is_strict_text-Decides
+
+pub tests_decide_padded : (bytes : List ℕ) (n : ℕ) → IsTrue (is_padded_text bytes n) ↔ IsPaddedText bytes n
+tests_decide_padded = is_padded_text-Decides
+
+pub tests_decide_packed : (bytes : List ℕ) (n : ℕ) → 0 < n → IsTrue (is_packed bytes n) ↔ IsPacked bytes n
+tests_decide_packed = is_packed-Decides
+
+pub ruleset tests_decide = (tests_decide_byte, tests_decide_strict, tests_decide_padded, tests_decide_packed)
+
+-- A strict reader takes a text that fits as it is, and nothing else.
+pub strict_read_taken : (t : List ℕ) (n : ℕ) → IsStrictText t n → strict_of n t ≡ Some t
+strict_read_taken t n h = rw ((is_strict_text-Decides t n).1 h) refl
+
+pub strict_read_refused : (t : List ℕ) (n : ℕ) → ¬ IsStrictText t n → strict_of n t ≡ None
+strict_read_refused t n other = grind (arith, is_strict_text-Decides)
+
+pub ruleset strict_read = (strict_read_taken, strict_read_refused)
+
+-- The front and the back of a text that fits fit, and so does what stands before the first byte of a kind, and behind it.
+pub strict_parts_front : (k : ℕ) (t : List ℕ) (n : ℕ) → IsStrictText t n → IsStrictText (take k t) n
+strict_parts_front = IsStrictText-take
+
+pub strict_parts_back : (k : ℕ) (t : List ℕ) (n : ℕ) → IsStrictText t n → IsStrictText (drop k t) n
+strict_parts_back = IsStrictText-drop
+
+pub strict_parts_before : (p : ℕ → Bool) (t : List ℕ) (n : ℕ) → IsStrictText t n → IsStrictText (before_first p t) n
+strict_parts_before = IsStrictText-before_first
+
+pub strict_parts_behind : (p : ℕ → Bool) (t : List ℕ) (n : ℕ) → IsStrictText t n → IsStrictText (after_first p t) n
+strict_parts_behind = IsStrictText-after_first
+
+pub ruleset strict_parts = (strict_parts_front, strict_parts_back, strict_parts_before, strict_parts_behind)
+
+-- Letters and digits, letters in a case and digits alone are texts.
+pub class_texts_alphanumeric : (t : List ℕ) → IsTrue (ask is_alphanumeric is_alphanumeric t) → IsText t
+class_texts_alphanumeric t h = IsText-asked is_alphanumeric is_alphanumeric (λ b k. grind (arith, nat_tests)) (λ b k. grind (arith, nat_tests)) t h
+
+pub class_texts_alphabetic : (t : List ℕ) → IsTrue (ask is_alphabetic is_alphabetic t) → IsText t
+class_texts_alphabetic t h = IsText-asked is_alphabetic is_alphabetic (λ b k. grind (arith, nat_tests)) (λ b k. grind (arith, nat_tests)) t h
+
+pub class_texts_digit : (t : List ℕ) → IsTrue (ask is_digit is_digit t) → IsText t
+class_texts_digit t h = IsText-asked is_digit is_digit (λ b k. grind (arith, nat_tests)) (λ b k. grind (arith, nat_tests)) t h
+
+pub class_texts_lower : (t : List ℕ) → IsTrue (ask is_lower is_lower t) → IsText t
+class_texts_lower t h = IsText-asked is_lower is_lower (λ b k. grind (arith, nat_tests)) (λ b k. grind (arith, nat_tests)) t h
+
+pub class_texts_title : (t : List ℕ) → IsTrue (ask is_upper is_lower t) → IsText t
+class_texts_title t h = IsText-asked is_upper is_lower (λ b k. grind (arith, nat_tests)) (λ b k. grind (arith, nat_tests)) t h
+
+pub class_texts_upper : (t : List ℕ) → IsTrue (ask is_upper is_upper t) → IsText t
+class_texts_upper t h = IsText-asked is_upper is_upper (λ b k. grind (arith, nat_tests)) (λ b k. grind (arith, nat_tests)) t h
+
+pub ruleset class_texts = (class_texts_alphanumeric, class_texts_alphabetic, class_texts_digit, class_texts_lower, class_texts_title, class_texts_upper)
+
+-- A padded form reads back, whatever stands behind it.
+pub bytes_back_clean : (t rest : List ℕ) (n : ℕ) → IsStrictText t n → byte_fault n (pad t n ++ rest) ≡ None
+bytes_back_clean = byte_fault-padded
+
+pub bytes_back_first : (t rest : List ℕ) (n : ℕ) → IsStrictText t n → take n (pad t n ++ rest) ≡ pad t n
+bytes_back_first t rest n h = take_at (pad t n) rest n (length-pad t n h.fits)
+
+pub bytes_back_strict : (t : List ℕ) (n : ℕ) → IsText t → length t ≤ n → IsStrictText t n
+bytes_back_strict t n text fits = record { text = text; fits = fits }
+
+pub bytes_back_alone : (bytes : List ℕ) (n : ℕ) → IsPaddedText bytes n → byte_fault n bytes ≡ None
+bytes_back_alone bytes n h =
+    let clean : byte_fault n (pad (text_of bytes) n) ≡ None = rw (append-nil (pad (text_of bytes) n)) at (byte_fault-padded (text_of bytes) [] n (record { text = h.text; fits = h.fits })) in
+    ap (byte_fault n) h.padded ∙ clean
+
+pub bytes_back_front : (input : List ℕ) (n : ℕ) → n ≤ length input → IsPaddedText (take n input) n → byte_fault n input ≡ None
+bytes_back_front input n = byte_fault-first_padded n input
+
+pub ruleset bytes_back = (bytes_back_clean, bytes_back_first, bytes_back_strict, bytes_back_alone, bytes_back_front)
+
+-- Texts without the separator, joined by it and split at it, are the same texts, and the parts of a text, joined, are the text. Each part of a text that fits is one.
+pub split_joined_back : (c : ℕ) (ts : List (List ℕ)) → 0 < length ts → All (λ t. All (λ b. b ≢ c) t) ts → slice_split (λ b. b == c) (join_with_byte c ts) ≡ ts
+split_joined_back = slice_split-joined
+
+pub split_joined_joined : (c : ℕ) (t : List ℕ) → join_with_byte c (slice_split (λ b. b == c) t) ≡ t
+split_joined_joined = join_with_byte-slice_split
+
+pub split_joined_strict : (p : ℕ → Bool) (t : List ℕ) (n : ℕ) → IsStrictText t n → All (λ part. IsStrictText part n) (slice_split p t)
+split_joined_strict = IsStrictText-slice_split
+
+pub ruleset split_joined = (split_joined_back, split_joined_joined, split_joined_strict)
+
+-- The place of the first byte of a kind cuts a text into what stands before the byte, and what stands behind it. Where no byte is of the kind, the text is one part.
+pub split_found_inside : (p : ℕ → Bool) (t : List ℕ) (at : ℕ) → position p t ≡ Some at → at < length t
+split_found_inside p t i at = grind (arith, nat_tests)
+
+pub split_found_before : (p : ℕ → Bool) (t : List ℕ) (at : ℕ) → position p t ≡ Some at → before_first p t ≡ take at t
+split_found_before p t i at = let first : position_or_len p t ≡ i = grind (arith, nat_tests) in rw first refl
+
+pub split_found_behind : (p : ℕ → Bool) (t : List ℕ) (at : ℕ) → position p t ≡ Some at → after_first p t ≡ drop (at + 1) t
+split_found_behind p t i at = let first : position_or_len p t ≡ i = grind (arith, nat_tests) in rw first refl
+
+pub split_found_parts : (p : ℕ → Bool) (t : List ℕ) (at : ℕ) → position p t ≡ Some at → slice_split p t ≡ take at t ∷ slice_split p (drop (at + 1) t)
+split_found_parts = slice_split-found
+
+pub split_found_whole : (p : ℕ → Bool) (t : List ℕ) → position p t ≡ None → before_first p t ≡ t
+split_found_whole p t none = take_all (position_or_len p t) t (grind (arith, nat_tests))
+
+pub split_found_one : (p : ℕ → Bool) (t : List ℕ) → position p t ≡ None → slice_split p t ≡ t ∷ []
+split_found_one = slice_split-missed
+
+pub ruleset split_found = (split_found_inside, split_found_before, split_found_behind, split_found_parts, split_found_whole, split_found_one)
+
+-- Texts joined by a byte are of the class and the case of all of them and of the byte.
+pub joined_texts_text : (c : ℕ) (ts : List (List ℕ)) → IsTextByte c → All IsText ts → IsText (join_with_byte c ts)
+joined_texts_text = IsText-joined
+
+pub joined_texts_asked : (p : ℕ → Bool) (c : ℕ) (ts : List (List ℕ)) → IsTrue (p c) → All (λ t. IsTrue (ask p p t)) ts → IsTrue (ask p p (join_with_byte c ts))
+joined_texts_asked = ask-joined_texts
+
+pub joined_texts_lower : (c : ℕ) (ts : List (List ℕ)) → lowercase (join_with_byte c ts) ≡ join_with_byte (lower c) (map lowercase ts)
+joined_texts_lower = map-joined lower
+
+pub joined_texts_upper : (c : ℕ) (ts : List (List ℕ)) → uppercase (join_with_byte c ts) ≡ join_with_byte (raise c) (map uppercase ts)
+joined_texts_upper = map-joined raise
+
+pub ruleset joined_texts = (joined_texts_text, joined_texts_asked, joined_texts_lower, joined_texts_upper)
+
+-- Bytes of 255 are refused as `NonAscii`.
+pub niche_fault_refused : (n : ℕ) → 0 < n → ¬ IsPaddedText (replicate n 255) n
+niche_fault_refused n some padded =
+    let low = IsAscii-padded (replicate n 255) n padded 0 in
+    let first = get_or-replicate {A = ℕ} n 0 255 0 some in
+    omega arith
+
+pub niche_fault_fault : (n : ℕ) → 0 < n → fault_in n (replicate n 255) ≡ non_ascii
+niche_fault_fault n some =
+    let long = length-replicate {A = ℕ} n 255 in
+    let first = get_or-replicate {A = ℕ} n 0 255 0 some in
+    let high : first_fault (replicate n 255) ≡ Some non_ascii =
+    first_fault-high (replicate n 255) 0 _ (IsScanned-none (replicate n 255)) (omega arith) (omega arith) in
+    rw (fault_in-fits n (replicate n 255) (omega arith), high) refl
+
+pub ruleset niche_fault = (niche_fault_refused, niche_fault_fault)
+
+-- Each record of packed records is a padded text.
+pub packed_records : (bytes : List ℕ) (n i : ℕ) → IsPacked bytes n → i * n < length bytes → IsPaddedText (record_at n bytes i) n
+packed_records = IsPacked-record
+
+-- Texts that are padded and joined are packed records, as many as the texts, and each record holds its text.
+pub texts_packed_packed : (n : ℕ) (ts : List (List ℕ)) → All (λ t. IsStrictText t n) ts → IsPacked (flat_map (λ t. pad t n) ts) n
+texts_packed_packed = IsPacked-joined
+
+pub texts_packed_len : (n : ℕ) (ts : List (List ℕ)) → All (λ t. IsStrictText t n) ts → length (flat_map (λ t. pad t n) ts) ≡ length ts * n
+texts_packed_len = length-joined
+
+pub texts_packed_text : (n : ℕ) (ts : List (List ℕ)) (i : ℕ) → All (λ t. IsStrictText t n) ts → i < length ts → text_of (record_at n (flat_map (λ t. pad t n) ts) i) ≡ slice_index_or ts i []
+texts_packed_text = text_of-record
+
+pub ruleset texts_packed = (texts_packed_packed, texts_packed_len, texts_packed_text)
+
+-- The classes and the case changes are those of std's calls on a `u8`, a `char` and a `str`, and a question of one class asks each byte.
+pub same_as_std_upper : (b : ℕ) → is_upper b ≡ is_ascii_uppercase b
+same_as_std_upper b = refl
+
+pub same_as_std_lower : (b : ℕ) → is_lower b ≡ is_ascii_lowercase b
+same_as_std_lower b = refl
+
+pub same_as_std_digit : (b : ℕ) → is_digit b ≡ is_ascii_digit b
+same_as_std_digit b = refl
+
+pub same_as_std_letter : (b : ℕ) → is_alphabetic b ≡ is_ascii_alphabetic b
+same_as_std_letter b = refl
+
+pub same_as_std_letter_or_digit : (b : ℕ) → is_alphanumeric b ≡ is_ascii_alphanumeric b
+same_as_std_letter_or_digit = is_alphanumeric-std
+
+pub same_as_std_lowered : (b : ℕ) → lower b ≡ to_ascii_lowercase b
+same_as_std_lowered = lower-std
+
+pub same_as_std_raised : (b : ℕ) → raise b ≡ to_ascii_uppercase b
+same_as_std_raised = raise-std
+
+pub same_as_std_lowercase : (t : List ℕ) → lowercase t ≡ str_to_ascii_lowercase t
+same_as_std_lowercase = lowercase-std
+
+pub same_as_std_uppercase : (t : List ℕ) → uppercase t ≡ str_to_ascii_uppercase t
+same_as_std_uppercase = uppercase-std
+
+pub same_as_std_each : (p : ℕ → Bool) (t : List ℕ) → ask p p t ≡ list_all p t
+same_as_std_each = ask-same
+
+pub ruleset same_as_std = (same_as_std_upper, same_as_std_lower, same_as_std_digit, same_as_std_letter, same_as_std_letter_or_digit, same_as_std_lowered, same_as_std_raised, same_as_std_lowercase, same_as_std_uppercase, same_as_std_each)
+
+-- A text has a character a byte. Under a style that doesn't cut it, and whose fill is a character of ASCII, it is filled up to the width: behind it where no side is named and under `<`, by halves under `^`, the lesser in front, and in front of it under `>`. For these `align` is 0, 1, 2 and 3.
+pub print_width_chars : (t : List ℕ) → IsText t → char_count t ≡ length t
+print_width_chars = char_count-text
+
+pub print_width_cut : (n : ℕ) (t : List ℕ) → IsText t → take_chars n t ≡ take n t
+print_width_cut = take_chars-text
+
+pub print_width_styled : (s : _) (t : List ℕ) → IsText t → length t ≤ 2 ^ 64 - 1 → styled_text s t ≡ padded s t
+print_width_styled = styled-padded
+
+pub print_width_no_side : (s : _) (t : List ℕ) → IsText t → spec_fill s < 128 → s.align ≡ 0 → length t ≤ s.precision → padded s t ≡ t ++ replicate (s.width - length t) s.fill
+print_width_no_side s t h low side = padded-behind s t h low (rw side refl)
+
+pub print_width_left : (s : _) (t : List ℕ) → IsText t → spec_fill s < 128 → s.align ≡ 1 → length t ≤ s.precision → padded s t ≡ t ++ replicate (s.width - length t) s.fill
+print_width_left s t h low side = padded-behind s t h low (rw side refl)
+
+pub print_width_center : (s : _) (t : List ℕ) → IsText t → spec_fill s < 128 → s.align ≡ 2 → length t ≤ s.precision → let short = s.width - length t in padded s t ≡ replicate (short / 2) s.fill ++ (t ++ replicate (short - short / 2) s.fill)
+print_width_center s t h low side = padded-between s t h low (rw side refl)
+
+pub print_width_right : (s : _) (t : List ℕ) → IsText t → spec_fill s < 128 → s.align ≡ 3 → length t ≤ s.precision → padded s t ≡ replicate (s.width - length t) s.fill ++ t
+print_width_right s t h low side = padded-before s t h low (rw side refl)
+
+pub print_width_width : (s : _) (t : List ℕ) → IsText t → spec_fill s < 128 → length t ≤ s.precision → length t ≤ s.width → length (padded s t) ≡ s.width
+print_width_width = length-padded
+
+pub ruleset print_width = (print_width_chars, print_width_cut, print_width_styled, print_width_no_side, print_width_left, print_width_center, print_width_right, print_width_width)
