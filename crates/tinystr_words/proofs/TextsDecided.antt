@@ -1,4 +1,5 @@
--- The tests of strict and of padded texts and of packed records are true exactly of these, and what a strict reader gives is `strict_of`.
+-- The tests of strict and of padded texts and of packed records are true exactly of these, and what a strict reader gives
+-- is `strict_of`.
 use Rattle.std.proofs.Common.{◌≡◌, ◌↔◌, ℕ, ◌<◌, ◌≤◌, ◌/◌, ◌%◌, ◌==◌, nat_lt, nat_le, true, false, List, length, refl, arith}
 use Rattle.std.specs.Bool.{Decides, one_answer}
 use Rattle.std.specs.List.{list_all}
