@@ -8,8 +8,8 @@ use crate::digest::Digest;
 use crate::random::{LOWERCASE, MIXED, Random, letters_of};
 use std::alloc::{AllocError, Global};
 use subtags::{LangId, LangIdError};
-use tinystr::ule::UleError;
 use tinystr::TinyAsciiStr;
+use tinystr::ule::UleError;
 use tinystr_lines::engine::{RunError, run as answer};
 use tinystr_packed::{SortedTable, Table, pack, pack_sorted};
 
