@@ -1,0 +1,94 @@
+//! What is written by hand, beside the proved calls.
+#![cfg(feature = "alloc")]
+
+use std::borrow::Borrow;
+use std::collections::HashMap;
+use std::error::Error;
+use tinystr::subtags::{LangId, Language};
+use tinystr::{ParseError, TinyAsciiStr, TinyStr8, tinystr};
+
+fn read_alike<const N: usize>(units: &[u8]) {
+    let numbers: Vec<u16> = units.iter().map(|unit| (*unit).into()).collect();
+    assert_eq!(TinyAsciiStr::<N>::try_from_utf8_const(units), TinyAsciiStr::try_from_utf8(units), "{units:?} at {N}");
+    assert_eq!(TinyAsciiStr::<N>::try_from_utf16_const(&numbers), TinyAsciiStr::try_from_utf16(&numbers), "{units:?} at {N}");
+    if let Ok(s) = str::from_utf8(units) {
+        assert_eq!(TinyAsciiStr::<N>::try_from_str_const(s), TinyAsciiStr::try_from_str(s), "{s:?} at {N}");
+    }
+    if let Ok(raw) = units.try_into() {
+        assert_eq!(TinyAsciiStr::<N>::try_from_raw_const(raw), TinyAsciiStr::try_from_raw(raw), "{units:?}");
+    }
+}
+
+/// All lists of at most two bytes, and of longer ones each that has one of three kinds of bytes at each place.
+#[test]
+fn the_constant_readers_are_the_readers() {
+    read_alike::<0>(&[]);
+    for a in 0..=255 {
+        read_alike::<0>(&[a]);
+        read_alike::<1>(&[a]);
+        for b in 0..=255 {
+            read_alike::<1>(&[a, b]);
+            read_alike::<2>(&[a, b]);
+            read_alike::<9>(&[a, b]);
+        }
+    }
+    for len in 0..=9u32 {
+        for kinds in 0..3usize.pow(len) {
+            let units: Vec<u8> = (0..len).map(|at| [0, b'a', 0x80][kinds / 3usize.pow(at) % 3]).collect();
+            read_alike::<4>(&units);
+            read_alike::<8>(&units);
+            read_alike::<9>(&units);
+            read_alike::<17>(&units);
+        }
+    }
+}
+
+#[test]
+fn a_number_whose_low_byte_is_a_letter_is_no_character() {
+    for number in 0x80..=0xffff {
+        assert_eq!(TinyAsciiStr::<4>::try_from_utf16_const(&[0x45, number]), Err(ParseError::NonAscii));
+    }
+}
+
+const EURO: TinyAsciiStr<3> = tinystr!(3, "EUR");
+static EMPTY: TinyStr8 = TinyAsciiStr::EMPTY;
+const CODES: [TinyAsciiStr<3>; 2] = [tinystr!(3, "CHF"), EURO];
+const FIRST: Option<u8> = EURO.get_byte(0);
+
+#[test]
+fn constants_stand_in_any_place() {
+    assert!(EMPTY.is_empty() && EMPTY == TinyAsciiStr::default());
+    assert_eq!(CODES.map(|code| code.len()), [3, 3]);
+    assert_eq!(FIRST, Some(b'E'));
+    assert!(matches!(tinystr!(4, "Latn").as_str(), "Latn"));
+}
+
+#[test]
+fn a_value_equals_strings_both_ways() {
+    let (word, other) = (String::from("EUR"), String::from("EU"));
+    assert_eq!([EURO == "EUR", EURO == *"EUR", EURO == word], [true; 3]);
+    assert_eq!(["EUR" == EURO, *"EUR" == EURO, word == EURO], [true; 3]);
+    assert_eq!([EURO == "EU", EURO == *"EU", EURO == other], [false; 3]);
+    assert_eq!(["EU" == EURO, *"EU" == EURO, other == EURO], [false; 3]);
+    let (id, language) = ("EN_gb".parse::<LangId>().unwrap(), "EN".parse::<Language>().unwrap());
+    assert_eq!([id == "en-GB", id == "en", language == "en", language == "EN"], [true, false, true, false]);
+    assert_eq!((AsRef::<str>::as_ref(&id), AsRef::<str>::as_ref(&language)), ("en-GB", "en"));
+}
+
+#[test]
+fn a_value_lends_its_text() {
+    let lent: &str = EURO.borrow();
+    assert_eq!(lent, "EUR");
+    let places: HashMap<TinyAsciiStr<3>, u8> = [(EURO, 2), (tinystr!(3, "JPY"), 0)].into();
+    assert_eq!(places.get(&EURO), Some(&2));
+}
+
+#[test]
+fn an_error_is_one_of_std() {
+    let error: Box<dyn Error> = Box::new("euros".parse::<TinyAsciiStr<3>>().unwrap_err());
+    assert_eq!(error.downcast_ref(), Some(&ParseError::TooLong { max: 3, len: 5 }));
+    let texts = [ParseError::TooLong { max: 3, len: 5 }, ParseError::ContainsNull, ParseError::NonAscii].map(|it| it.to_string());
+    assert_eq!(texts[0], "found string of larger length 5 when constructing string of length 3");
+    assert_eq!(texts[1], "tinystr types do not support strings with null bytes");
+    assert_eq!(texts[2], "attempted to construct TinyAsciiStr from a non-ASCII string");
+}

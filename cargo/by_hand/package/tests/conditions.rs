@@ -1,0 +1,62 @@
+//! What stands for a condition that is proved at each call in Rattle: a panic.
+
+use std::panic::catch_unwind;
+use tinystr::packed::{PackedMap, Table};
+use tinystr::{TinyAsciiStr, UnvalidatedTinyAsciiStr, tinystr};
+
+/// Each is a call whose condition doesn't hold, by its name.
+const REFUSED: [(&str, fn()); 21] = [
+    ("from_utf8_lossy by 0", || ignore(TinyAsciiStr::<2>::from_utf8_lossy(b"a", 0))),
+    ("from_utf8_lossy by 128", || ignore(TinyAsciiStr::<2>::from_utf8_lossy(b"a", 128))),
+    ("from_utf16_lossy by 0", || ignore(TinyAsciiStr::<2>::from_utf16_lossy(&[0x61], 0))),
+    ("from_utf16_lossy by 255", || ignore(TinyAsciiStr::<2>::from_utf16_lossy(&[0x61], 255))),
+    ("join by 0", || ignore(TinyAsciiStr::join::<4>(&[tinystr!(2, "a")], 0))),
+    ("join of nothing by 128", || ignore(TinyAsciiStr::<2>::join::<4>(&[], 128))),
+    ("slice that begins behind its end", || ignore(tinystr!(4, "Latn").slice::<4>(backward(2, 1)))),
+    ("slice that begins behind its end, past the text", || ignore(tinystr!(16, "Latn").slice::<4>(backward(9, 8)))),
+    ("write_bytes to fewer", || tinystr!(4, "GB").write_bytes(&mut [0; 3])),
+    ("validate_bytes at 0", || ignore(TinyAsciiStr::<0>::validate_bytes(b""))),
+    ("validate_bytes at 0 of a byte", || ignore(TinyAsciiStr::<0>::validate_bytes(b"a"))),
+    ("unvalidated validate_bytes at 0", || ignore(UnvalidatedTinyAsciiStr::<0>::validate_bytes(b""))),
+    ("Table::new at 0", || ignore(Table::<0>::new(b""))),
+    ("text_at past the end", || ignore(table().text_at(2))),
+    ("slice of a table past the end", || ignore(table().slice(1..3))),
+    ("slice of a table that begins behind its end", || ignore(table().slice(backward(2, 1)))),
+    ("slice of a table wholly past the end", || ignore(table().slice(3..3))),
+    ("PackedMap::new of keys at 0", || ignore(PackedMap::<0, 1>::new(b"", &[]))),
+    ("PackedMap::new of values at 0", || ignore(PackedMap::<3, 0>::new(b"EUR", &[]))),
+    ("PackedMap::new of no values at 0", || ignore(PackedMap::<3, 0>::new(b"", &[]))),
+    ("PackedMap::new of both at 0", || ignore(PackedMap::<0, 0>::new(b"", &[]))),
+];
+
+fn table() -> Table<'static, 3> {
+    Table::new(b"EURGB\0").unwrap()
+}
+
+fn ignore<T>(_: T) {}
+
+fn backward(start: usize, end: usize) -> std::ops::Range<usize> {
+    start..end
+}
+
+#[test]
+fn a_call_whose_condition_does_not_hold_panics() {
+    std::panic::set_hook(Box::new(|_| {}));
+    let taken: Vec<&str> = REFUSED.iter().filter(|(_, call)| catch_unwind(call).is_ok()).map(|(name, _)| *name).collect();
+    let _ = std::panic::take_hook();
+    assert!(taken.is_empty(), "no panic: {taken:?}");
+}
+
+#[test]
+fn a_call_at_the_edge_of_its_condition_answers() {
+    assert_eq!(TinyAsciiStr::<2>::from_utf8_lossy(b"\0a", 127).as_str(), "\x7fa");
+    assert_eq!(TinyAsciiStr::<2>::from_utf16_lossy(&[0x61, 0x161], 1).as_str(), "a\x01");
+    assert_eq!(TinyAsciiStr::join::<3>(&[tinystr!(2, "a"), tinystr!(2, "b")], 1).unwrap().as_str(), "a\x01b");
+    assert_eq!(tinystr!(4, "Latn").slice::<4>(2..2), "");
+    assert_eq!(tinystr!(4, "Latn").slice::<4>(9..9), "");
+    let mut bytes = [1; 2];
+    tinystr!(2, "a").write_bytes(&mut bytes);
+    assert_eq!(bytes, *b"a\0");
+    assert_eq!(table().text_at(1), "GB");
+    assert_eq!(table().slice(2..2).len(), 0);
+}

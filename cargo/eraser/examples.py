@@ -1,0 +1,92 @@
+"""The examples of doc comments as doc tests, and those of private modules as tests of a module."""
+
+import re
+
+from eraser import Stopped
+
+EXAMPLE = re.compile(r"^( *)/// ```rust\n((?: *///(?! ```).*\n)+) */// ```\n", re.M)
+
+# Where the names that examples use stand.
+NAMES = {
+    "tinystr": "ParseError TinyAsciiStr TinyStr4 TinyStr8 TinyStr16 UnvalidatedTinyAsciiStr Question Case tinystr",
+    "tinystr::forms": "BytesReadError FormWriteError",
+    "tinystr::ule": "UleError",
+    "tinystr::subtags": "LangId LangIdError Language Region Script",
+    "tinystr::subtags::language": "LanguageKind",
+    "tinystr::subtags::region": "RegionKind",
+    "tinystr::subtags::script": "ScriptKind",
+    "tinystr::subtags::subtag": "Subtag SubtagKind",
+    "tinystr::packed": "MapError NotRising PackedMap SortedTable Table pack pack_map pack_sorted unpack",
+    "std::collections": "BTreeMap",
+    "crate::words": "CodeUnit decimal_fits",
+    "crate::words::int_ops": "Aligned4 Aligned8 Aligned16",
+}
+
+# A call that needs a trait's name besides.
+OF_TRAIT = {"SubtagKind": r"Kind::read\("}
+
+# What an example writes otherwise in Rust: macros take no handle of the host, and nothing is passed an allocator.
+IN_RUST = [
+    (r"\b(assert(?:_eq|_ne)?!)\(rt; ", r"\1("),
+    (r"\bformat!\(in rt\.alloc\(\); (.*)\)\?", r"format!(\1)"),
+    (r"\bBTreeMap::new\(rt\.alloc\(\)\)", "BTreeMap::new()"),
+    (r"(\bplaces\.insert\(.*\))\?;", r"\1;"),
+    (r"\b(pack\w*|unpack)\(rt\.alloc\(\), (.*?)\)\?(?=[;.])", r"\1(\2)"),
+]
+
+
+def in_rust(body, file):
+    for old, new in IN_RUST:
+        body = re.sub(old, new, body)
+    if left := re.search(r"\brt\b.*", body):
+        raise Stopped(f"{file}: an example has no form in Rust: {left[0]}")
+    return body
+
+
+def uses(body, own):
+    """The lines that an example needs for its names. The crate calls itself `own`."""
+    code = re.sub(r'"(?:\\.|[^"\\])*"', "", body)
+    lines = []
+    for module, names in NAMES.items():
+        wanted = ((it, OF_TRAIT.get(it, rf"(?<![\w:.]){it}\b")) for it in names.split())
+        found = sorted(it for it, pattern in wanted if re.search(pattern, code))
+        path = module.replace("tinystr", own, 1)
+        if found:
+            lines.append(f"use {path}::{found[0]};" if len(found) == 1 else f"use {path}::{{{', '.join(found)}}};")
+    return lines
+
+
+def with_doc_tests(text, file):
+    """The text with each example as a doc test, which begins with the names that it uses."""
+
+    def doc_test(found):
+        indent, body = found[1], in_rust(found[2], file)
+        front = "".join(f"{indent}/// {it}\n" for it in uses(body, "tinystr"))
+        end = f"{indent}/// # Ok::<(), Box<dyn std::error::Error>>(())\n" if "?" in re.sub(r'"[^"]*"|b\'\?\'', "", body) else ""
+        return f"{indent}/// ```\n{front}{indent}///\n{body}{end}{indent}/// ```\n"
+
+    return EXAMPLE.sub(doc_test, text)
+
+
+def without_examples(text, file, tests):
+    """The text of a private module with its examples as words, each of which goes to a list of tests."""
+
+    def kept(found):
+        body = in_rust("".join(f"{line.strip()[4:]}\n" for line in found[2].splitlines()), file)
+        tests.append((re.sub(r"\W", "_", file.removesuffix(".rt").partition("/")[2]), body))
+        shown = "".join(f"{found[1]}/// {line}".rstrip() + "\n" for line in body.splitlines())
+        return f"{found[1]}/// ```text\n{shown}{found[1]}/// ```\n"
+
+    return EXAMPLE.sub(kept, text)
+
+
+def module_of_tests(tests):
+    """The examples of a private module, each as a test."""
+    functions = []
+    for number, (name, body) in enumerate(tests, 1):
+        lines = [*uses(body, "crate"), "", *body.splitlines()] if uses(body, "crate") else body.splitlines()
+        is_tried = "?" in re.sub(r'"[^"]*"', "", body)
+        head = f"fn {name}_{number}()" + (" -> Result<(), Box<dyn std::error::Error>>" if is_tried else "")
+        inside = "".join(f"    {line}".rstrip() + "\n" for line in [*lines, *(["Ok(())"] if is_tried else [])])
+        functions.append(f"#[test]\n{head} {{\n{inside}}}\n")
+    return "//! The examples of this module's comments.\n\n" + "\n".join(functions)

@@ -1,0 +1,78 @@
+"""Where the crates stand in the one that is made, and what its functions are called by."""
+
+import re
+
+from eraser import Stopped
+from eraser.text import TOKEN
+
+# The module of each crate, in order. That of the type is the root.
+MODULES = {"tinystr_words": "words", "tinystr": "", "subtags": "subtags", "tinystr_packed": "packed"}
+
+# Crates whose functions no caller reaches: the module is private, so what they require is met by the proved callers.
+PRIVATE = {"tinystr_words"}
+
+# Functions whose bodies Rust can run at compile time, by file.
+CONST = {
+    "tinystr/ascii.rt": ["default() -> Self"],
+    "tinystr/ascii/views.rt": ["is_empty(", "get_byte(", "all_bytes("],
+    "tinystr/ascii/readers.rt": ["from_utf8_unchecked("],
+    "tinystr/forms.rt": ["to_bytes(&self) -> [u8; N]"],
+    "tinystr/ule.rt": ["niche_bit_pattern("],
+    "tinystr/unvalidated.rt": ["default() -> Self", "from_utf8_unchecked(", "to_unvalidated("],
+}
+
+# Calls of the one `unsafe fn`, by file: their number. Each stands where the proof has shown its condition, or in an example.
+UNSAFE_CALLS = {"tinystr/ascii/readers.rt": 1, "tinystr_packed/table.rt": 2}
+UNSAFE_CALL = re.compile(r"(?<!Unvalidated)\bTinyAsciiStr::from_utf8_unchecked(\([^()]*\))")
+
+# (an array's type has a semicolon)
+SIGNATURE = r"(?:[^{};\[]|\[[^\]]*\])"
+FUNCTION = re.compile(rf"^( *)pub (?:const )?(?:unsafe )?fn \w+{SIGNATURE}*? -> (?P<result>{SIGNATURE}*?) \{{", re.M)
+
+
+def with_paths(text, crate):
+    """The paths of the code, with `crate::` and the other crates' names as modules of the one crate."""
+    made = [it if kind in ("comment", "string") else with_modules(it, crate) for kind, it in pieces(text)]
+    return "".join(made)
+
+
+def pieces(text):
+    """The text cut into comments, strings and the code between these."""
+    code = []
+    for it in TOKEN.finditer(text):
+        if it.lastgroup in ("comment", "string"):
+            yield "code", "".join(code)
+            yield it.lastgroup, it.group()
+            code = []
+        else:
+            code.append(it.group())
+    yield "code", "".join(code)
+
+
+def with_modules(code, crate):
+    code = re.sub(r"\bcrate::", path_of(crate), code)
+    for other in MODULES:
+        code = re.sub(rf"(?<![\w:]){other}::", path_of(other), code)
+    return code
+
+
+def path_of(crate):
+    return f"crate::{MODULES[crate]}::" if MODULES[crate] else "crate::"
+
+
+def with_signatures(text, file, is_private):
+    """Functions as Rust's callers have them: `const` and `unsafe` where they can or must be, and `#[must_use]`."""
+    for function in CONST.get(file, []):
+        text, count = re.subn(rf"pub (unsafe )?fn {re.escape(function)}", lambda it: it[0].replace("pub ", "pub const "), text)
+        if count != 1:
+            raise Stopped(f"{file}: `pub fn {function}` stands {count} times, and not once")
+    text, count = UNSAFE_CALL.subn(r"unsafe { TinyAsciiStr::from_utf8_unchecked\1 }", text)
+    if count != UNSAFE_CALLS.get(file, 0):
+        raise Stopped(f"{file}: {count} calls of `from_utf8_unchecked`, and not {UNSAFE_CALLS.get(file, 0)}")
+    return text if is_private else FUNCTION.sub(must_use, text)
+
+
+def must_use(found):
+    """The function with `#[must_use]`, where it gives something that Rust doesn't ask to be used already."""
+    is_told = found["result"].startswith("Result<") or "&mut " in found[0]
+    return found[0] if is_told else f"{found[1]}#[must_use]\n{found[0]}"

@@ -1,0 +1,113 @@
+"""The package: which sources go into it, each through all steps, and what is written by hand beside them."""
+
+import re
+from pathlib import Path
+
+from eraser import Stopped
+from eraser.contracts import Contracts
+from eraser.examples import module_of_tests, with_doc_tests, without_examples
+from eraser.ghosts import without_ghosts
+from eraser.items import with_derives, without_items
+from eraser.modules import MODULES, PRIVATE, with_paths, with_signatures
+from eraser.rules import Rules, stop_at_what_is_left
+from eraser.text import unmatched_bracket
+
+# Sources that are left out, each with the reason.
+LEFT_OUT = {
+    "tinystr/forms/json.rt": "feature `serde` has its place",
+    "tinystr/macros.rt": "`constants.rs` has `tinystr!` as a constant",
+    **{f"{crate}/laws.rt": "laws are for proofs" for crate in MODULES},
+}
+# The crate's first lines, by hand, which stand in the place of those of its source.
+FRONT = "lib.rs"
+# A link to another page of the repository, which isn't in the package.
+LINK = re.compile(r"\[([^\]]*)\]\((?!http|#)[^)]*\)")
+
+
+class Package:
+    """The files of the package, by their paths in it."""
+
+    def __init__(self, top, by_hand):
+        self.top = top
+        self.by_hand = by_hand
+        self.contracts = Contracts()
+        self.rules = Rules()
+        self.tests = []
+
+    def files(self):
+        """All files: those that are made, those by hand, and the copies of what stands elsewhere in the repository."""
+        made = {}
+        left_out = set(LEFT_OUT)
+        for crate in MODULES:
+            for file, path in sources(self.top / "crates" / crate):
+                if file in LEFT_OUT:
+                    left_out.discard(file)
+                else:
+                    made[place_of(file)] = self.rust_of(read(path), crate, file)
+        for file in left_out:
+            raise Stopped(f"{file} is left out, and isn't there")
+        self.contracts.finish()
+        self.rules.finish()
+        made["src/words/examples.rs"] = module_of_tests(self.tests)
+        made["src/words.rs"] += "\n#[cfg(test)]\nmod examples;\n"
+        made["src/lib.rs"] = read(self.by_hand / FRONT) + made["src/lib.rs"].partition("\n\n")[2]
+        for path in sorted(it for it in self.by_hand.rglob("*") if it.is_file()):
+            inner = path.relative_to(self.by_hand)
+            if inner.parts[0] == "package":
+                made[str(inner.relative_to("package"))] = read(path)
+            elif str(inner) != FRONT:
+                made[f"src/{inner}"] = read(path)
+        made["LICENSE"] = read(self.top / "LICENSE")
+        made["DEFINITIONS.md"] = LINK.sub(r"\1", read(self.top / "docs/DEFINITIONS.md"))
+        return made
+
+    def rust_of(self, text, crate, file):
+        """A source as Rust."""
+        is_private = crate in PRIVATE
+        if line := unmatched_bracket(text):
+            raise Stopped(f"{file}:{line}: a bracket has no partner")
+        text = without_items(without_ghosts(text), file)
+        text = self.contracts.place(text, file, is_private)
+        text = with_derives(text, file)
+        text = self.rules.apply(with_paths(text, crate), file)
+        text = with_signatures(text, file, is_private)
+        text = without_examples(text, file, self.tests) if is_private else with_doc_tests(text, file)
+        stop_at_what_is_left(text, file)
+        return tidy(text)
+
+
+def sources(crate):
+    """The sources of a crate, each as CRATE/FILE with its path."""
+    found = sorted(it for it in (crate / "src").rglob("*") if it.is_file())
+    if not found:
+        raise Stopped(f"{crate.name}: no source")
+    for path in found:
+        if path.suffix != ".rt":
+            raise Stopped(f"{path}: not a source in Rattle")
+        yield f"{crate.name}/{path.relative_to(crate / 'src')}", path
+
+
+def read(path):
+    try:
+        return path.read_text(encoding="utf-8")
+    except (OSError, UnicodeDecodeError) as why:
+        raise Stopped(f"{path}: can't be read: {why}") from None
+
+
+def place_of(file):
+    """Where the Rust of a source stands in the package."""
+    crate, _, inner = file.partition("/")
+    inner = Path(inner).with_suffix(".rs")
+    module = MODULES[crate]
+    if str(inner) == "lib.rs":
+        return f"src/{module or 'lib'}.rs"
+    return str(Path("src") / module / inner)
+
+
+def tidy(text):
+    """Without the empty lines that what is left out leaves."""
+    text = re.sub(r"[ \t]+\n", "\n", text)
+    text = re.sub(r"\n{3,}", "\n\n", text)
+    text = re.sub(r"\{\n\n+", "{\n", text)
+    text = re.sub(r"\n\n+( *\})", r"\n\1", text)
+    return text.strip("\n") + "\n"

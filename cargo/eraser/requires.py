@@ -1,0 +1,58 @@
+"""What stands for each `requires` of a public function, since nothing proves it at a call in Rust.
+
+The keys are a file and a clause, since a clause of the same words may need a check in one place and none in another.
+"""
+
+from dataclasses import dataclass
+
+
+@dataclass(frozen=True)
+class Panics:
+    """The call panics `when` the condition doesn't hold: by `check`, or by its own body where there is none."""
+
+    when: str
+    check: str = ""
+
+
+@dataclass(frozen=True)
+class Unsafe:
+    """The function is an `unsafe fn`, whose caller has to see to it."""
+
+    condition: str
+
+
+def asserted(condition, when, message):
+    return Panics(when, f'assert!({condition}, "{message}");')
+
+
+CHARACTER = "matches!({}, 1..=127)"
+# the original's words
+NO_CHARACTER = "{} must be a non-null ASCII byte (1..=127)"
+NO_RECORD = asserted("N > 0", "`N` is 0", "a record has at least one byte")
+
+STANDS_FOR = {
+    ("tinystr/ascii/readers.rt", "IsTextByte replacement"): asserted(
+        CHARACTER.format("replacement"), "the replacement isn't from 1 to 127", NO_CHARACTER.format("replacement")
+    ),
+    ("tinystr/ascii/readers.rt", "IsPaddedText code_units N"): Unsafe(
+        "The array has to be bytes from 1 to 127 and then NULs: `as_str` trusts it."
+    ),
+    ("tinystr/ascii/joining.rt", "IsTextByte separator"): asserted(
+        CHARACTER.format("separator"), "the separator isn't from 1 to 127", NO_CHARACTER.format("separator")
+    ),
+    # without a check a range that begins behind its end would give a text
+    ("tinystr/ascii/slicing.rt", "range.start ≤ range.end"): asserted(
+        "range.start <= range.end", "the range begins behind its end", "the range begins behind its end"
+    ),
+    # its index panics
+    ("tinystr/forms.rt", "N ≤ length out.old"): Panics("the slice has fewer than `N` bytes"),
+    ("tinystr/ule.rt", "0 < N"): NO_RECORD,
+    ("tinystr_packed/table.rt", "0 < N"): NO_RECORD,
+    # its `unwrap` panics
+    ("tinystr_packed/table.rt", "index < length self.now"): Panics("the index isn't below the number of texts"),
+    # its index panics, in both cases
+    ("tinystr_packed/table.rt", "range.start ≤ range.end"): Panics("the range begins behind its end"),
+    ("tinystr_packed/table.rt", "range.end ≤ length self.now"): Panics("the range ends behind the last text"),
+    ("tinystr_packed/map.rt", "0 < N"): NO_RECORD,
+    ("tinystr_packed/map.rt", "0 < M"): asserted("M > 0", "`M` is 0", "a value has at least one byte"),
+}

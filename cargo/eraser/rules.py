@@ -1,0 +1,177 @@
+"""What Rattle writes and Rust writes otherwise: the old text, the new one, and why.
+
+A rule of `EVERYWHERE` is a pattern, and has to fit somewhere. One of a file is the text itself, and has to stand there
+as often as it says.
+"""
+
+import re
+from dataclasses import dataclass
+
+from eraser import Stopped
+from eraser.text import code_of
+
+
+@dataclass(frozen=True)
+class Rule:
+    old: str
+    new: str
+    why: str
+    times: int = 1
+
+
+EVERYWHERE = [
+    Rule(
+        r"fn fmt<W: ((?:fmt::)?)Write>\(&self, f: &mut (?:fmt::)?Formatter<W>\)",
+        r"fn fmt(&self, f: &mut \1Formatter<'_>)",
+        "the kit's formatter is generic over what it writes to",
+    ),
+    Rule(r"(use std::fmt::\{.*), Write\};", r"\1};", "and so it is not named"),
+    Rule(r"use std::marker::\{Model, PhantomData\};", "use std::marker::PhantomData;", "`Model` is for the prover"),
+    Rule(r"use std::marker::Model;\n", "", "`Model` is for the prover"),
+    Rule(r"use std::convert::\{AsSlice, AsStr\};\n", "", "the kit's traits of views: `strings.rs` has Rust's"),
+    Rule(r"use thiserror::Error;\n", "", "its texts are written out"),
+    Rule(r"use std::simd::prelude::\*;", "use crate::simd::*;", "vectors of stable Rust"),
+    Rule(r"Copy \+ Drop\b", "Copy", "what is `Copy` has no `Drop`"),
+    Rule(r"^ *crate::(?:\w+::)?laws::\w+\(\);\n", "", "a law's call brings a fact into a proof, and does nothing"),
+    Rule(r"^pub mod (?:laws|macros);\n", "", "files that are left out"),
+    Rule(r'(tinystr!\(\d+, "[^"]*"\))(?:\?|\.unwrap\(\))', r"\1", "`tinystr!` gives the text, and refuses at compile time"),
+    Rule(r"\bstd::", "core::", "the crate is `no_std`"),
+]
+
+OF_FEATURE = "what allocates is feature `alloc`"
+OF_ALLOCATOR = "Rust's vectors and maps name no allocator"
+WANT_OF_MEMORY = "want of memory ends a program in Rust, and is no error"
+NOT_PROVED_HERE = "in Rust nothing proves a condition at a call"
+NAMED_AS_STR = "`Deref` to `str` has this name, and the original's callers use that"
+
+IN_FILE = {
+    "tinystr/error.rt": [Rule("pub enum ParseError", "#[non_exhaustive]\npub enum ParseError", "as in the original")],
+    "tinystr/ascii.rt": [
+        Rule("pub struct TinyAsciiStr", "#[repr(transparent)]\npub struct TinyAsciiStr", "as in the original"),
+    ],
+    "tinystr/ascii/readers.rt": [
+        Rule("it runs: the condition is\n    /// proved at the call.", "it\n    /// runs.", NOT_PROVED_HERE),
+    ],
+    "tinystr/forms.rt": [
+        Rule(
+            "//! Texts as JSON values and as `N` bytes, and back: the errors, and the bytes. Values stand in `json`.",
+            "//! Texts as `N` bytes, and back.",
+            "JSON is left out",
+        ),
+        Rule("mod json;\n", "", "JSON is left out"),
+        Rule("use std::alloc::AllocError;\n", "", WANT_OF_MEMORY),
+        Rule("    /// There was no memory for the JSON string.\n    Memory(AllocError),\n", "", WANT_OF_MEMORY),
+        Rule(" It never answers `Memory`.", "", WANT_OF_MEMORY),
+        Rule("bytes.to_json(rt.alloc())", "bytes.to_bytes()", "an example of the error without JSON"),
+    ],
+    "tinystr/ascii/views.rt": [
+        Rule("pub fn get(", "pub fn get_byte(", NAMED_AS_STR),
+        Rule(".get(", ".get_byte(", NAMED_AS_STR, 2),
+    ],
+    "tinystr/ascii/splitting.rt": [
+        Rule("pub fn find(", "pub fn find_byte(", NAMED_AS_STR),
+        Rule("text.find(byte)", "text.find_byte(byte)", NAMED_AS_STR),
+        Rule("text.get(0)", "text.get_byte(0)", NAMED_AS_STR),
+        Rule("tag.find(", "tag.find_byte(", NAMED_AS_STR, 2),
+        Rule("pub fn split(", "pub fn split_byte(", NAMED_AS_STR),
+        Rule("tag.split(", "tag.split_byte(", NAMED_AS_STR, 2),
+    ],
+    "subtags/places.rt": [
+        Rule(".find(b'-')", ".find_byte(b'-')", NAMED_AS_STR),
+        Rule("text.get(place)", "text.get_byte(place)", NAMED_AS_STR),
+    ],
+    "subtags/subtag.rt": [
+        Rule(
+            "pub trait SubtagKind<const N: usize> {",
+            "pub trait SubtagKind<const N: usize>: crate::sealed::Sealed {",
+            "what a kind gives is proved of the three that there are, so no caller adds one",
+        ),
+    ],
+    "tinystr_packed/lib.rt": [
+        Rule("mod packing;", '#[cfg(feature = "alloc")]\nmod packing;', OF_FEATURE),
+        Rule("mod sorting;", '#[cfg(feature = "alloc")]\nmod sorting;', OF_FEATURE),
+        Rule("pub use packing::", '#[cfg(feature = "alloc")]\npub use packing::', OF_FEATURE),
+        Rule("pub use sorting::", '#[cfg(feature = "alloc")]\npub use sorting::', OF_FEATURE),
+    ],
+    "tinystr_packed/packing.rt": [
+        Rule("use std::alloc::{AllocError, Global};\n", "use alloc::vec::Vec;\n", OF_ALLOCATOR),
+        Rule(" Only memory can stop it.", "", WANT_OF_MEMORY, 2),
+        Rule(" Only memory can\n/// stop it.", "", WANT_OF_MEMORY),
+        Rule("use std::collections::BTreeMap;", "use alloc::collections::BTreeMap;", OF_ALLOCATOR),
+        Rule("    alloc: Global,\n", "", OF_ALLOCATOR, 2),
+        Rule("(alloc: Global, ", "(", OF_ALLOCATOR),
+        Rule("with_capacity(alloc, ", "with_capacity(", OF_ALLOCATOR, 4),
+        Rule("texts.len() * N)?;", "texts.len() * N);", WANT_OF_MEMORY),
+        Rule("saturating_mul(N))?;", "saturating_mul(N));", WANT_OF_MEMORY),
+        Rule("saturating_mul(M))?;", "saturating_mul(M));", WANT_OF_MEMORY),
+        Rule("table.len())?;", "table.len());", WANT_OF_MEMORY),
+        Rule("all_bytes())?;", "all_bytes());", WANT_OF_MEMORY, 2),
+        Rule("extend_from_slice(value)?;", "extend_from_slice(value);", WANT_OF_MEMORY),
+        Rule("push(text)?;", "push(text);", WANT_OF_MEMORY),
+        Rule("Result<Vec<u8>, AllocError>", "Vec<u8>", WANT_OF_MEMORY),
+        Rule("Result<Vec<TinyAsciiStr<N>>, AllocError>", "Vec<TinyAsciiStr<N>>", WANT_OF_MEMORY),
+        Rule("Result<(Vec<u8>, Vec<u8>), AllocError>", "(Vec<u8>, Vec<u8>)", WANT_OF_MEMORY),
+        Rule("    Ok(bytes)\n", "    bytes\n", WANT_OF_MEMORY),
+        Rule("    Ok(texts)\n", "    texts\n", WANT_OF_MEMORY),
+        Rule("    Ok((keys, values))\n", "    (keys, values)\n", WANT_OF_MEMORY),
+    ],
+    "tinystr_packed/sorting.rt": [
+        Rule(" Only memory can stop it.", "", WANT_OF_MEMORY),
+        Rule("use std::alloc::{AllocError, Global};\n", "use alloc::vec::Vec;\n", OF_ALLOCATOR),
+        Rule("    alloc: Global,\n", "", OF_ALLOCATOR),
+        Rule("Vec::new(alloc)", "Vec::new()", OF_ALLOCATOR),
+        Rule("pack(alloc, ", "pack(", OF_ALLOCATOR),
+        Rule("extend_from_slice(texts)?;", "extend_from_slice(texts);", WANT_OF_MEMORY),
+        Rule("Result<Vec<u8>, AllocError>", "Vec<u8>", WANT_OF_MEMORY),
+    ],
+    "tinystr_words/decimal.rt": [
+        Rule("for i in 0..4u32", "for _ in 0..4u32", "the proof alone names the counter"),
+    ],
+    "tinystr_words/padded/concatenation.rt": [
+        Rule(
+            "front_len <= LONGEST && back_len <= LONGEST",
+            'cfg!(target_feature = "ssse3") && front_len <= LONGEST && back_len <= LONGEST',
+            "without a shuffle another of the proved ways serves, and gives the same",
+        ),
+    ],
+}
+
+# What may not stand in code that is made: whatever is left of Rattle.
+LEFT = re.compile(
+    r"\b(?:ghost|requires|ensures|tactic|invariant|Model|AsStr|AsSlice|AllocError|Global|derive_where|thiserror|serde_json"
+    r"|std|rt|tinystr_words|tinystr_packed)\b|[^\x00-\x7f]"
+)
+
+
+class Rules:
+    """Applies the rules, and tells which fitted."""
+
+    def __init__(self):
+        self.used = set()
+
+    def apply(self, text, file):
+        """The text of a file by its own rules, and then by those of all files."""
+        for rule in IN_FILE.get(file, []):
+            count = text.count(rule.old)
+            if count != rule.times:
+                raise Stopped(f"{file}: a rule's text stands {count} times, and not {rule.times}: {rule.old!r}")
+            text = text.replace(rule.old, rule.new)
+        self.used.add(file)
+        for rule in EVERYWHERE:
+            text, count = re.subn(rule.old, rule.new, text, flags=re.M)
+            if count:
+                self.used.add(rule.old)
+        return text
+
+    def finish(self):
+        for name in [*IN_FILE, *(it.old for it in EVERYWHERE)]:
+            if name not in self.used:
+                raise Stopped(f"a rule fits nothing: {name}")
+
+
+def stop_at_what_is_left(text, file):
+    """Stops where a file that is made has a word of Rattle or of the kit in its code."""
+    code = code_of(text)
+    for number, line in enumerate(code.splitlines(), 1):
+        if found := LEFT.search(line):
+            raise Stopped(f"{file}: no rule fits `{found[0]}`, line {number} of what is made: {text.splitlines()[number - 1]}")

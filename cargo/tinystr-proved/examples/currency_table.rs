@@ -1,0 +1,45 @@
+//! A table of currencies, asked by their codes in any case: `cargo run --example currency_table -- eur jpy xyz`.
+
+use std::collections::BTreeMap;
+use tinystr::{TinyAsciiStr, tinystr};
+
+type Code = TinyAsciiStr<3>;
+
+/// Each currency, and how many decimal places an amount has.
+const CURRENCIES: [(Code, &str, u8); 4] = [
+    (tinystr!(3, "CHF"), "Swiss franc", 2),
+    (tinystr!(3, "EUR"), "Euro", 2),
+    (tinystr!(3, "JPY"), "Yen", 0),
+    (tinystr!(3, "KWD"), "Kuwaiti dinar", 3),
+];
+
+fn answer(table: &BTreeMap<Code, (&str, u8)>, asked: &str) -> String {
+    let code: Code = match asked.parse() {
+        Ok(code) => code,
+        Err(fault) => return format!("{asked}: {fault}"),
+    };
+    let code = code.to_ascii_uppercase();
+    match table.get(&code) {
+        Some((name, places)) => format!("{code}: {name}, {places} decimal places"),
+        None => format!("{code}: not in the table"),
+    }
+}
+
+fn main() {
+    let table = CURRENCIES.into_iter().map(|(code, name, places)| (code, (name, places))).collect();
+    let mut asked: Vec<String> = std::env::args().skip(1).collect();
+    if asked.is_empty() {
+        asked = ["eur", "Jpy", "xyz", "euros"].map(String::from).to_vec();
+    }
+    for it in asked {
+        println!("{}", answer(&table, &it));
+    }
+}
+
+#[test]
+fn codes_are_found_in_any_case() {
+    let table = [(tinystr!(3, "EUR"), ("Euro", 2))].into();
+    assert_eq!(answer(&table, "eUr"), "EUR: Euro, 2 decimal places");
+    assert_eq!(answer(&table, "xyz"), "XYZ: not in the table");
+    assert_eq!(answer(&table, "euros"), "euros: found string of larger length 5 when constructing string of length 3");
+}

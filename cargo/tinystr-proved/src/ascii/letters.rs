@@ -1,0 +1,59 @@
+//! The letters that bytes begin with.
+
+use crate::ascii::TinyAsciiStr;
+use crate::ascii::lanes::first_lanes;
+use crate::simd::*;
+use crate::words::word::Word;
+
+impl TinyAsciiStr<8> {
+    /// Reads the letters that the bytes begin with, at most eight, in lowercase, and tells how many they are.
+    ///
+    /// ```
+    /// use tinystr::TinyStr8;
+    ///
+    /// let (language, len) = TinyStr8::read_letters(b"ZH-hant");
+    /// assert_eq!(language.as_str(), "zh");
+    /// assert_eq!(len, 2);
+    /// ```
+    ///
+    /// # Contract
+    ///
+    /// ```text
+    /// ensures len { result.1 ≡ prefix_len is_alphabetic (take 8 code_units.now) }
+    /// ensures fits { result.1 ≤ 8 }
+    /// ensures text { result.0 ≡ lowercase (take result.1 code_units.now) }
+    /// ```
+    #[inline]
+    #[must_use]
+    pub fn read_letters(code_units: &[u8]) -> (Self, usize) {
+        // the bit that an uppercase letter lacks makes a letter of no other byte
+        let lowered = front_lanes(code_units) | u8x8::splat(0x20);
+        let len = lowercase_lanes(lowered);
+        let letters = first_lanes(lowered, len).to_array();
+        (TinyAsciiStr::from_padded(letters), len)
+    }
+}
+
+// The first eight bytes, or all and then NULs.
+// Proved:
+//     ensures { result ≡ pad (take 8 units.now) 8 }
+#[inline(always)]
+fn front_lanes(units: &[u8]) -> u8x8 {
+    let front = &units[..units.len().min(8)];
+    u8x8::from_array(<u64 as Word<8>>::load(front).to_le_bytes())
+}
+
+// How many lanes in front are lowercase letters. From 'a' to 'z' are 25 steps.
+// Proved:
+//     ensures len { result ≡ prefix_len is_lower lanes }
+//     ensures fits { result ≤ 8 }
+#[inline(always)]
+fn lowercase_lanes(lanes: u8x8) -> usize {
+    let others = u8x8::splat(25)
+        .simd_lt(lanes - u8x8::splat(b'a'))
+        .to_bitmask();
+    if others == 0 {
+        return 8;
+    }
+    others.trailing_zeros() as usize
+}

@@ -1,0 +1,67 @@
+//! Parts of a text by their places.
+
+use crate::ascii::TinyAsciiStr;
+use crate::ascii::lanes::first_lanes;
+use core::ops::Range;
+use crate::simd::*;
+use crate::words::padded::{cut, resize};
+
+impl<const N: usize> TinyAsciiStr<N> {
+    /// The bytes of the text at a range of indices, at another capacity: as many as stand there, and at most `M`. The
+    /// range may end, or begin, past the text. It may not begin behind its end.
+    ///
+    /// ```
+    /// use tinystr::tinystr;
+    ///
+    /// let tag = tinystr!(16, "zh-Hant-TW");
+    /// assert_eq!(tag.slice::<4>(3..7).as_str(), "Hant");
+    /// assert_eq!(tag.slice::<8>(8..16).as_str(), "TW");
+    /// assert_eq!(tag.slice::<2>(3..7).as_str(), "Ha");
+    /// ```
+    ///
+    /// # Contract
+    ///
+    /// ```text
+    /// requires { range.start ≤ range.end }
+    /// ensures { result ≡ take M (take (range.end - range.start) (drop range.start self.now)) }
+    /// ```
+    ///
+    /// # Panics
+    ///
+    /// Where the range begins behind its end.
+    #[inline]
+    #[must_use]
+    pub fn slice<const M: usize>(&self, range: Range<usize>) -> TinyAsciiStr<M> {
+        assert!(range.start <= range.end, "the range begins behind its end");
+        self.behind::<M>(range.start).front(range.end - range.start)
+    }
+
+    // What stands behind the first bytes, as much as there is room for. Where `M` bytes of the array stand there, they are
+    // copied at once.
+    // Proved:
+    //     ensures { result ≡ take M (drop start self.now) }
+    #[inline(always)]
+    fn behind<const M: usize>(&self, start: usize) -> TinyAsciiStr<M> {
+        let bytes = &self.bytes[..];
+        if M <= N && start <= N - M {
+            return TinyAsciiStr::from_padded(cut(&bytes[start..start + M]));
+        }
+        TinyAsciiStr::from_padded(cut(&bytes[start.min(N)..]))
+    }
+
+    // The first bytes. Up to eight stay in a vector.
+    // Proved:
+    //     ensures { result ≡ take len self.entry }
+    #[inline(always)]
+    fn front(self, len: usize) -> Self {
+        if len >= N {
+            return self;
+        }
+        let bytes = &self.bytes[..];
+        if N > 8 {
+            return TinyAsciiStr::from_padded(cut(&bytes[..len]));
+        }
+        let lanes = first_lanes(u8x8::from_array(resize(bytes)), len);
+        TinyAsciiStr::from_padded(resize(&lanes.to_array()[..]))
+    }
+}

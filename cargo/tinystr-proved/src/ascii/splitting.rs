@@ -1,0 +1,265 @@
+//! A byte found in a text, and texts split at it.
+
+use crate::ascii::TinyAsciiStr;
+use crate::simd::*;
+use crate::words::int_ops::{Aligned8, Aligned16};
+use crate::words::padded::{cut, resize};
+use crate::words::word::Word;
+
+/// The parts of a text, in order. A clause sees those that are left.
+///
+/// ```
+/// use tinystr::tinystr;
+///
+/// let tag = tinystr!(8, "en-US");
+/// assert_eq!(tag.split_byte(b'-').last(), Some(tinystr!(8, "US")));
+/// ```
+#[derive(Clone)]
+pub struct Parts<'a, const N: usize> {
+    // what stands behind the parts that were handed out, if there is another: at capacities up to 8 the text itself, and
+    // else all bytes, with the NULs behind the text
+    short: Option<TinyAsciiStr<8>>,
+    rest: Option<&'a [u8]>,
+    separator: u8,
+}
+
+impl<const N: usize> TinyAsciiStr<N> {
+    /// The index of the first byte of the text that is `byte`, or `None` where none is.
+    ///
+    /// ```
+    /// use tinystr::tinystr;
+    ///
+    /// let tag = tinystr!(16, "zh-Hant-TW");
+    /// assert_eq!(tag.find_byte(b'-'), Some(2));
+    /// assert_eq!(tag.find_byte(b'_'), None);
+    /// ```
+    ///
+    /// # Contract
+    ///
+    /// ```text
+    /// ensures place { result ≡ position (λ b. b == byte) self.now }
+    /// ensures inside { IfSome result (λ at. at < N) }
+    /// ```
+    #[inline]
+    #[must_use]
+    pub fn find_byte(&self, byte: u8) -> Option<usize> {
+        let bytes = &self.bytes[..];
+        let found = find_in_sixteen(first_sixteen(bytes), byte);
+        if found.is_none() && N > 16 && bytes[16] != 0 {
+            return find(bytes, byte);
+        }
+        found
+    }
+
+    /// The parts before, between and behind the bytes that are the separator, in order. A text without one is one part,
+    /// and so is the empty text.
+    ///
+    /// ```
+    /// use tinystr::tinystr;
+    ///
+    /// let tag = tinystr!(16, "zh-Hant--TW");
+    /// let mut parts = tag.split_byte(b'-');
+    /// assert_eq!(parts.next(), Some(tinystr!(16, "zh")));
+    /// assert_eq!(parts.next(), Some(tinystr!(16, "Hant")));
+    /// assert_eq!(parts.next(), Some(tinystr!(16, "")));
+    /// assert_eq!(parts.next(), Some(tinystr!(16, "TW")));
+    /// assert_eq!(parts.next(), None);
+    /// ```
+    ///
+    /// # Contract
+    ///
+    /// ```text
+    /// ensures parts { result ≡ slice_split (λ b. b == separator) self.now }
+    /// ensures bound { length result ≤ N + 1 }
+    /// ```
+    #[must_use]
+    pub fn split_byte(&self, separator: u8) -> Parts<'_, N> {
+        let mut parts = Parts {
+            short: None,
+            rest: None,
+            separator,
+        };
+        if N <= 8 {
+            let bytes = Aligned8::from_ascii_bytes(&self.bytes).to_bytes();
+            parts.short = Some(TinyAsciiStr::from_padded(bytes));
+        } else {
+            parts.rest = Some(&self.bytes[..]);
+        }
+        parts
+    }
+}
+
+impl<'a, const N: usize> Iterator for Parts<'a, N> {
+    type Item = TinyAsciiStr<N>;
+
+    fn next(&mut self) -> Option<TinyAsciiStr<N>> {
+        if N <= 8 {
+            let (part, rest) = split_first_of_eight(self.short?, self.separator);
+            self.short = rest;
+            return Some(part.resize());
+        }
+        let (part, rest) = split_first(self.rest?, self.separator);
+        self.rest = rest;
+        Some(part)
+    }
+
+    fn size_hint(&self) -> (usize, Option<usize>) {
+        (0, None)
+    }
+}
+
+// The first part of a text of at most eight bytes, and what stands behind its separator, if there is one. Both stay in
+// registers: a short rest is dear to load.
+// Proved:
+//     ensures parts { slice_split (λ b. b == separator) text ≡ result.0 ∷ parts_left separator result.1 }
+//     ensures part { length result.0 ≤ length text }
+//     ensures rest { IfSome result.1 (λ rest. length rest ≤ length text) }
+#[inline(always)]
+fn split_first_of_eight(
+    text: TinyAsciiStr<8>,
+    separator: u8,
+) -> (TinyAsciiStr<8>, Option<TinyAsciiStr<8>>) {
+    match find_in_eight(text, separator) {
+        Some(at) => {
+            let (part, rest) = around(text, at);
+            (part, Some(rest))
+        }
+        None => (text, None),
+    }
+}
+
+// Where the byte first stands. The first byte is asked by itself, so that what stands behind an empty part waits for no
+// search.
+// Proved:
+//     ensures place { result ≡ position (λ b. b == byte) text }
+//     ensures inside { IfSome result (λ at. at < 8) }
+#[inline(always)]
+fn find_in_eight(text: TinyAsciiStr<8>, byte: u8) -> Option<usize> {
+    match text.get_byte(0) {
+        Some(first) if first == byte => Some(0),
+        _ => text.find_byte(byte),
+    }
+}
+
+// What stands in front of a byte, and what stands behind it, by shifts of the word.
+// Proved:
+//     requires { at < 8 }
+//     ensures part { result.0 ≡ take at text }
+//     ensures rest { result.1 ≡ drop (at + 1) text }
+#[inline(always)]
+fn around(text: TinyAsciiStr<8>, at: usize) -> (TinyAsciiStr<8>, TinyAsciiStr<8>) {
+    let word = <u64 as Word<8>>::from_le_bytes(&text.bytes);
+    let bits = 8 * at;
+    let part = word % (1 << bits);
+    let rest = (word >> 8) >> bits;
+    (
+        TinyAsciiStr::from_padded(part.to_le_bytes()),
+        TinyAsciiStr::from_padded(rest.to_le_bytes()),
+    )
+}
+
+// The first part of padded bytes, and what stands behind its separator, if there is one. A part that ends in the first
+// sixteen bytes stays in a vector.
+// Proved:
+//     requires padded { IsPadded bytes.now }
+//     requires fits { length bytes.now ≤ N }
+//     ensures parts { slice_split (λ b. b == separator) (text_of bytes.now) ≡ result.0 ∷ parts_left separator (option_map text_of (option_copied result.1)) }
+//     ensures rest { IfSome result.1 (λ rest. IsPadded rest.now × (length rest.now ≤ N)) }
+#[inline(always)]
+fn split_first<const N: usize>(bytes: &[u8], separator: u8) -> (TinyAsciiStr<N>, Option<&[u8]>) {
+    let lanes = first_sixteen(bytes);
+    match find_in_sixteen(lanes, separator) {
+        Some(at) => (text_of_lanes(kept(lanes, at)), Some(&bytes[at + 1..])),
+        None if bytes.len() <= 16 || bytes[16] == 0 => (text_of_lanes(lanes), None),
+        None => split_first_by_copy(bytes, separator),
+    }
+}
+
+// The same where the first sixteen bytes have no separator: the part is copied.
+// Proved:
+//     requires padded { IsPadded bytes.now }
+//     requires fits { length bytes.now ≤ N }
+//     requires missed { position (λ b. b == separator) (take 16 (text_of bytes.now)) ≡ None }
+//     ensures parts { slice_split (λ b. b == separator) (text_of bytes.now) ≡ result.0 ∷ parts_left separator (option_map text_of (option_copied result.1)) }
+//     ensures rest { IfSome result.1 (λ rest. IsPadded rest.now × (length rest.now ≤ N)) }
+fn split_first_by_copy<const N: usize>(
+    bytes: &[u8],
+    separator: u8,
+) -> (TinyAsciiStr<N>, Option<&[u8]>) {
+    match find(bytes, separator) {
+        Some(at) => (
+            TinyAsciiStr::from_padded(cut(&bytes[..at])),
+            Some(&bytes[at + 1..]),
+        ),
+        None => (TinyAsciiStr::from_padded(cut(bytes)), None),
+    }
+}
+
+// Where the byte first stands in the text, by sixteen bytes at once. The first sixteen were asked already.
+// Proved:
+//     requires padded { IsPadded bytes.now }
+//     requires missed { position (λ b. b == byte) (take 16 (text_of bytes.now)) ≡ None }
+//     ensures { result ≡ position (λ b. b == byte) (text_of bytes.now) }
+fn find(bytes: &[u8], byte: u8) -> Option<usize> {
+    let mut start = 16;
+    while start < bytes.len() {
+        if let Some(at) = find_in_sixteen(first_sixteen(&bytes[start..]), byte) {
+            return Some(start + at);
+        }
+        start += 16;
+    }
+    None
+}
+
+// The first sixteen bytes of the text, and then NULs.
+// Proved:
+//     requires { IsPadded bytes.now }
+//     ensures len { length result ≡ 16 }
+//     ensures padded { IsPadded result }
+//     ensures text { text_of result ≡ take 16 (text_of bytes.now) }
+#[inline(always)]
+fn first_sixteen(bytes: &[u8]) -> u8x16 {
+    match bytes.first_chunk::<16>() {
+        Some(sixteen) => u8x16::from_array(*sixteen),
+        None => Aligned16::from_padded(bytes).to_lanes(),
+    }
+}
+
+// Where the byte first stands in a text of at most sixteen bytes, all asked at once. A NUL stands behind it alone.
+// Proved:
+//     requires len { length lanes ≡ 16 }
+//     requires padded { IsPadded lanes }
+//     ensures { result ≡ position (λ b. b == byte) (text_of lanes) }
+#[inline(always)]
+fn find_in_sixteen(lanes: u8x16, byte: u8) -> Option<usize> {
+    let equal = lanes.simd_eq(u8x16::splat(byte)).to_bitmask();
+    if equal == 0 || byte == 0 {
+        return None;
+    }
+    Some(equal.trailing_zeros() as usize)
+}
+
+// So many of the first bytes of a text, and then NULs. Sixteen lanes are compared with their places; for eight, `lanes` has
+// a table.
+// Proved:
+//     requires len { length lanes ≡ 16 }
+//     requires padded { IsPadded lanes }
+//     requires count { count ≤ 16 }
+//     ensures padded { IsPadded result }
+//     ensures text { text_of result ≡ take count (text_of lanes) }
+#[inline(always)]
+fn kept(lanes: u8x16, count: usize) -> u8x16 {
+    let places = u8x16::from_array([0, 1, 2, 3, 4, 5, 6, 7, 8, 9, 10, 11, 12, 13, 14, 15]);
+    let is_kept = places.simd_lt(u8x16::splat(count as u8));
+    is_kept.select(lanes, u8x16::splat(0))
+}
+
+// The text in the lanes, which has to fit.
+// Proved:
+//     requires padded { IsPadded lanes }
+//     requires fits { length (text_of lanes) ≤ N }
+//     ensures { result ≡ text_of lanes }
+#[inline(always)]
+fn text_of_lanes<const N: usize>(lanes: u8x16) -> TinyAsciiStr<N> {
+    TinyAsciiStr::from_padded(resize(&lanes.to_array()[..]))
+}

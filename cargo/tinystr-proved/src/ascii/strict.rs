@@ -1,0 +1,142 @@
+//! The strict readers' way from code units to a value, or to the first fault.
+
+use crate::ascii::TinyAsciiStr;
+use crate::error::ParseError;
+use crate::words::int_ops::{Aligned8, Aligned16};
+use crate::words::padded::{self, Width, cut, width_of};
+use crate::words::{CodeUnit, are_characters};
+
+/// The text of the code units, or its fault. The value is made where its bytes are: an array in an `Option` or a
+/// `Result` of its own would be moved once more.
+///
+/// # Contract
+///
+/// ```text
+/// ensures accepted { IsOk result ↔ IsStrictText (map U.number units.now) N }
+/// ensures text { IfOk result (λ t. t ≡ map U.number units.now) }
+/// ensures fault { IfErr result (λ e. fault_of e ≡ fault_in N (map U.number units.now)) }
+/// ```
+#[inline(always)]
+pub(crate) fn read<U: CodeUnit, const N: usize>(units: &[U]) -> Result<TinyAsciiStr<N>, ParseError> {
+    if N > 16 && units.len() > 16 {
+        return read_pieces(units);
+    }
+    if units.len() <= N {
+        match width_of(N) {
+            // up to 8 code units: one register
+            Width::Four | Width::Eight => {
+                if let Some(text) = Aligned8::try_from_text(units) {
+                    return Ok(TinyAsciiStr::from_padded(cut(&text.to_bytes())));
+                }
+            }
+            // up to 16, at larger capacities too: more are read by pieces
+            Width::Sixteen | Width::Many => {
+                if let Some(text) = Aligned16::try_from_text(units) {
+                    return Ok(TinyAsciiStr::from_padded(cut(&text.to_bytes())));
+                }
+            }
+        }
+    }
+    Err(fault::<U, N>(units))
+}
+
+/// The text of bytes, or why they aren't padded. The value is made where its bytes are, as in `read`.
+///
+/// # Contract
+///
+/// ```text
+/// ensures accepted { IsOk result ↔ IsPaddedText raw.entry N }
+/// ensures text { IfOk result (λ t. t ≡ text_of raw.entry) }
+/// ensures fault { IfErr result (λ e. fault_of e ≡ fault_in N raw.entry) }
+/// ```
+#[inline(always)]
+pub(crate) fn read_padded<const N: usize>(raw: [u8; N]) -> Result<TinyAsciiStr<N>, ParseError> {
+    match width_of(N) {
+        // 9 to 16 bytes: the word's own, since the array would be moved in pieces that fit no register
+        Width::Sixteen => {
+            if let Some(text) = Aligned16::try_from_padded(&raw[..]) {
+                return Ok(TinyAsciiStr::from_padded(cut(&text.to_bytes())));
+            }
+        }
+        // the array as it was given, in one register, or in memory
+        Width::Four | Width::Eight | Width::Many => {
+            if padded::is_padded(&raw) {
+                return Ok(TinyAsciiStr::from_padded(raw));
+            }
+        }
+    }
+    Err(fault::<u8, N>(&raw[..]))
+}
+
+/// Whether all records are padded texts. There is no early exit, so that the compiler asks several at once.
+///
+/// # Contract
+///
+/// ```text
+/// ensures { IsTrue result ↔ All (λ bytes. IsPaddedText bytes N) records.now }
+/// ```
+#[inline(always)]
+pub(crate) fn are_padded<const N: usize>(records: &[[u8; N]]) -> bool {
+    let mut are_padded = true;
+    for bytes in records {
+        are_padded &= padded::is_padded(bytes);
+    }
+    are_padded
+}
+
+// The text of the code units, read by pieces, or its fault.
+// Proved:
+//     ensures accepted { IsOk result ↔ IsStrictText (map U.number units.now) N }
+//     ensures text { IfOk result (λ t. t ≡ map U.number units.now) }
+//     ensures fault { IfErr result (λ e. fault_of e ≡ fault_in N (map U.number units.now)) }
+#[inline(always)]
+fn read_pieces<U: CodeUnit, const N: usize>(units: &[U]) -> Result<TinyAsciiStr<N>, ParseError> {
+    if units.len() > N {
+        return Err(fault::<U, N>(units));
+    }
+    if units.len() == N {
+        if !are_characters(units) {
+            return Err(fault::<U, N>(units));
+        }
+        return Ok(TinyAsciiStr::from_padded(padded::low_bytes(units)));
+    }
+    let mut bytes = [0; N];
+    if padded::read_all(&mut bytes[..], units, 0) {
+        return Err(fault::<U, N>(units));
+    }
+    Ok(TinyAsciiStr::from_padded(bytes))
+}
+
+// The fault at the first position whose code unit is above 127, or is a character after a NUL. Where a code unit is
+// both, it is above 127: `forms::find_byte_fault` has the other order, that of the byte form.
+// Proved:
+//     ensures { option_map fault_of result ≡ first_fault (map U.number units.now) }
+fn find_fault<U: CodeUnit>(units: &[U]) -> Option<ParseError> {
+    let mut is_after_nul = false;
+    for unit in units {
+        let code = unit.code();
+        if code > 127 {
+            return Some(ParseError::NonAscii);
+        }
+        if code == 0 {
+            is_after_nul = true;
+        } else if is_after_nul {
+            return Some(ParseError::ContainsNull);
+        }
+    }
+    None
+}
+
+// Why the code units aren't a text of at most `N`.
+// Proved:
+//     ensures { fault_of result ≡ fault_in N (map U.number units.now) }
+#[inline(always)]
+fn fault<U: CodeUnit, const N: usize>(units: &[U]) -> ParseError {
+    if units.len() > N {
+        return ParseError::TooLong {
+            max: N,
+            len: units.len(),
+        };
+    }
+    find_fault(units).unwrap_or(ParseError::ContainsNull)
+}

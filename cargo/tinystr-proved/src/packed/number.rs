@@ -1,0 +1,70 @@
+//! Numbers that bytes of a record spell.
+
+use crate::packed::record::number_at;
+
+/// The number that bytes of a record spell from a place on, the first the most significant. In 64 bits these are eight bytes,
+/// with NULs past the end. In 128 bits the next eight follow, or the record's last eight where fewer are left.
+pub(crate) trait Number<const N: usize>: Copy {
+    /// That of a record from `start` on.
+    ///
+    /// # Contract
+    ///
+    /// ```text
+    /// requires { start ≤ N - 8 }
+    /// ensures { value result ≡ spelled start raw.now }
+    /// ```
+    fn at(raw: &[u8; N], start: usize) -> Self;
+
+    /// Whether it is below another.
+    ///
+    /// # Contract
+    ///
+    /// ```text
+    /// ensures { result ≡ nat_lt (value self) (value other) }
+    /// ```
+    fn is_below(self, other: Self) -> bool;
+
+    /// Whether both are the same number.
+    ///
+    /// # Contract
+    ///
+    /// ```text
+    /// ensures { result ≡ nat_eq (value self) (value other) }
+    /// ```
+    fn is_same(self, other: Self) -> bool;
+}
+
+impl<const N: usize> Number<N> for u64 {
+    #[inline(always)]
+    fn at(raw: &[u8; N], start: usize) -> u64 {
+        number_at(raw, start)
+    }
+
+    #[inline(always)]
+    fn is_below(self, other: u64) -> bool {
+        self < other
+    }
+
+    #[inline(always)]
+    fn is_same(self, other: u64) -> bool {
+        self == other
+    }
+}
+
+impl<const N: usize> Number<N> for u128 {
+    #[inline(always)]
+    fn at(raw: &[u8; N], start: usize) -> u128 {
+        let next = (start + 8).min(N.saturating_sub(8));
+        u128::from(number_at(raw, start)) * (1 << 64) + u128::from(number_at(raw, next))
+    }
+
+    #[inline(always)]
+    fn is_below(self, other: u128) -> bool {
+        self < other
+    }
+
+    #[inline(always)]
+    fn is_same(self, other: u128) -> bool {
+        self == other
+    }
+}

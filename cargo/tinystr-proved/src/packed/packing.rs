@@ -1,0 +1,97 @@
+//! Texts and maps packed, and texts read back.
+
+use crate::packed::table::Table;
+use alloc::vec::Vec;
+use alloc::collections::BTreeMap;
+use crate::TinyAsciiStr;
+
+/// The texts, packed.
+///
+/// ```
+/// use tinystr::tinystr;
+/// use tinystr::packed::pack;
+///
+/// let bytes = pack(&[tinystr!(3, "EUR"), tinystr!(3, "GB")]);
+/// assert_eq!(bytes.as_slice(), b"EURGB\0".as_slice());
+/// ```
+///
+/// # Contract
+///
+/// ```text
+/// ensures packed { IfOk result (λ made. IsPacked made.items N) }
+/// ensures each { IfOk result (λ _. All (λ t. IsStrictText t N) texts.now) }
+/// ensures bytes { IfOk result (λ made. made.items ≡ flat_map (λ t. pad t N) texts.now) }
+/// ```
+#[must_use]
+pub fn pack<const N: usize>(texts: &[TinyAsciiStr<N>]) -> Vec<u8> {
+    let mut bytes = Vec::with_capacity(texts.len() * N);
+    for text in texts {
+        // Its contract says that the text fits.
+        let _ = text.as_utf8();
+        bytes.extend_from_slice(text.all_bytes());
+    }
+    bytes
+}
+
+/// The texts of a table, in a vector.
+///
+/// ```
+/// use tinystr::tinystr;
+/// use tinystr::packed::{Table, unpack};
+///
+/// let texts = unpack(&Table::<3>::new(b"EURGB\0").unwrap());
+/// assert_eq!(texts.as_slice(), [tinystr!(3, "EUR"), tinystr!(3, "GB")].as_slice());
+/// ```
+///
+/// # Contract
+///
+/// ```text
+/// ensures { IfOk result (λ made. made.items ≡ table.now) }
+/// ```
+#[must_use]
+pub fn unpack<const N: usize>(
+    table: &Table<'_, N>,
+) -> Vec<TinyAsciiStr<N>> {
+    let mut texts = Vec::with_capacity(table.len());
+    for text in table.iter() {
+        texts.push(text);
+    }
+    texts
+}
+
+/// The bytes of the keys and the bytes of the values of a map, each packed: what `PackedMap::new` takes.
+///
+/// ```
+/// use tinystr::tinystr;
+/// use tinystr::packed::pack_map;
+/// use std::collections::BTreeMap;
+///
+/// let mut places = BTreeMap::new();
+/// places.insert(tinystr!(3, "JPY"), [0]);
+/// places.insert(tinystr!(3, "EUR"), [2]);
+/// let (keys, values) = pack_map(&places);
+/// assert_eq!(keys.as_slice(), b"EURJPY".as_slice());
+/// assert_eq!(values.as_slice(), [2, 0].as_slice());
+/// ```
+///
+/// # Contract
+///
+/// ```text
+/// ensures { IfOk result (λ made. ArePacked map.now.entries made.0.items made.1.items N M) }
+/// ```
+#[must_use]
+pub fn pack_map<const N: usize, const M: usize>(
+    map: &BTreeMap<TinyAsciiStr<N>, [u8; M]>,
+) -> (Vec<u8>, Vec<u8>) {
+    // Its contract says that the keys rise.
+    let count = map.len();
+    let mut keys = Vec::with_capacity(count.saturating_mul(N));
+    let mut values = Vec::with_capacity(count.saturating_mul(M));
+    for (key, value) in map {
+        // Its contract says that the text fits.
+        let _ = key.as_utf8();
+        keys.extend_from_slice(key.all_bytes());
+        values.extend_from_slice(value);
+    }
+    (keys, values)
+}

@@ -1,0 +1,208 @@
+//! The search among records that rise.
+
+use crate::packed::number::Number;
+use crate::packed::record::{compare, is_below, number_at};
+use core::cmp::Ordering;
+use core::hint::select_unpredictable;
+use core::ops::Range;
+use crate::TinyAsciiStr;
+
+// Below this number, records of more than sixteen bytes are compared whole: to narrow their range first takes longer.
+const FEW: usize = 32;
+
+/// The index of the first record that isn't below a key, or the number of records.
+// One number is all of a record of at most sixteen bytes. A longer one is told from most others by eight bytes behind those
+// that all records share, from most of the rest by sixteen, and from the last few by all.
+///
+/// # Contract
+///
+/// ```text
+/// requires records { AreRisingRecords N records.now }
+/// requires key { IsRecord N key.now }
+/// ensures { IsFirstNotBelow key.now records.now result }
+/// ```
+#[inline(always)]
+pub(crate) fn first_not_below<const N: usize>(records: &[[u8; N]], key: &[u8; N]) -> usize {
+    let all = 0..records.len();
+    if N <= 8 {
+        return narrow::<N, u64>(records, key, 0, all).start;
+    }
+    if N <= 16 {
+        return narrow::<N, u128>(records, key, 0, all).start;
+    }
+    if records.len() < FEW {
+        return first_not_below_by_halves(records, key);
+    }
+    first_not_below_of_many(records, key)
+}
+
+// The place of a key among many records of more than sixteen bytes. It isn't inlined, so that a search among few doesn't save
+// the registers that only this one takes.
+// Proved:
+//     requires long { 16 < N }
+//     requires records { AreRisingRecords N records.now }
+//     requires key { IsRecord N key.now }
+//     ensures { IsFirstNotBelow key.now records.now result }
+#[inline(never)]
+fn first_not_below_of_many<const N: usize>(records: &[[u8; N]], key: &[u8; N]) -> usize {
+    let start = shared_len(records, key);
+    let range = narrow::<N, u64>(records, key, start, 0..records.len());
+    let range = narrow::<N, u128>(records, key, start, range);
+    first_not_below_within(records, key, range)
+}
+
+/// How many records begin with a text, where none is below it.
+// They are those below the text with its last byte raised by one, which is at most 128. Mostly they are few.
+///
+/// # Contract
+///
+/// ```text
+/// requires records { AreRisingRecords N records.now }
+/// requires not_below { IsFirstNotBelow (pad beginning.now N) records.now 0 }
+/// ensures bound { result ≤ length records.now }
+/// ensures count { IsPartitionPoint (λ raw. starts_with nat_eq raw beginning.now ≡ true) (λ raw. starts_with nat_eq raw beginning.now ≡ false) records.now result }
+/// ```
+#[inline(always)]
+pub(crate) fn count_with_prefix<const N: usize>(
+    records: &[[u8; N]],
+    beginning: &TinyAsciiStr<N>,
+) -> usize {
+    let Some(last) = beginning.len().checked_sub(1) else {
+        return records.len();
+    };
+    let mut above = *beginning.all_bytes();
+    above[last] += 1;
+    first_not_below_near_start(records, &above)
+}
+
+// The place of a key: behind all where the last record is below the key, and else in time that grows as the logarithm of the
+// place. Steps that grow eight times pass the place, and the records that the last step passed are searched.
+// Proved:
+//     requires records { AreRisingRecords N records.now }
+//     requires key { IsRecord N key.now }
+//     ensures { IsFirstNotBelow key.now records.now result }
+#[inline(always)]
+fn first_not_below_near_start<const N: usize>(records: &[[u8; N]], key: &[u8; N]) -> usize {
+    let len = records.len();
+    if len > 0 && is_below_at(records, len - 1, key) {
+        return len;
+    }
+    let mut start: usize = 0;
+    while is_below_at(records, start.saturating_mul(8), key) {
+        start = 8 * start + 1;
+    }
+    let end = len.min(start.saturating_mul(8));
+    start + first_not_below(&records[start..end], key)
+}
+
+// Whether there is a record at an index, and it is below a key.
+// Proved:
+//     ensures { IsTrue result ↔ ((index < length records.now) × (order (text_at records.now index) key.now ≡ Less)) }
+#[inline(always)]
+fn is_below_at<const N: usize>(records: &[[u8; N]], index: usize, key: &[u8; N]) -> bool {
+    index < records.len() && is_below(&records[index][..], &key[..])
+}
+
+// Narrows a range that holds a key's place, by the numbers of its records from `start` on: to nothing at the place or, past
+// sixteen bytes, to a range whose middle has the key's number and may still differ from the key. For speed, no test for the
+// order is a branch, and both records that the next step may ask are read before this step's test is done.
+// Proved:
+//     requires start { start ≤ N - 8 }
+//     requires records { AreRisingRecords N records.now }
+//     requires tells { Tells (T.spelled start) key.now records.now }
+//     requires whole { N ≤ 16 → (k : ℕ) → k < length records.now → T.spelled start (text_at records.now k) ≡ T.spelled start key.now → order (text_at records.now k) key.now ≢ Less }
+//     requires within { IsFirstNotBelowWithin key.now records.now range.start range.end }
+//     ensures within { IsFirstNotBelowWithin key.now records.now result.start result.end }
+//     ensures place { N ≤ 16 → result.start ≡ result.end }
+#[inline(always)]
+fn narrow<const N: usize, T: Number<N>>(
+    records: &[[u8; N]],
+    key: &[u8; N],
+    start: usize,
+    range: Range<usize>,
+) -> Range<usize> {
+    if range.is_empty() {
+        return range;
+    }
+    let wanted = T::at(key, start);
+    let mut base = range.start;
+    let mut size = range.end - base;
+    let mut number = T::at(&records[base + size / 2], start);
+    while size > 1 {
+        let half = size / 2;
+        let next = (size - half) / 2;
+        let low = T::at(&records[base + next], start);
+        let high = T::at(&records[base + half + next], start);
+        if N > 16 && number.is_same(wanted) {
+            return base..base + size;
+        }
+        size -= half;
+        let is_below = number.is_below(wanted);
+        base = select_unpredictable(is_below, base + half, base);
+        number = select_unpredictable(is_below, high, low);
+    }
+    if N > 16 && number.is_same(wanted) {
+        return base..base + 1;
+    }
+    let place = base + usize::from(number.is_below(wanted));
+    place..place
+}
+
+// The place of a key within a range that holds the place, by whole records. The middle is first: where `narrow` ends, it is
+// mostly the key.
+// Proved:
+//     requires records { AreRisingRecords N records.now }
+//     requires within { IsFirstNotBelowWithin key.now records.now range.start range.end }
+//     ensures { IsFirstNotBelow key.now records.now result }
+#[inline(always)]
+fn first_not_below_within<const N: usize>(
+    records: &[[u8; N]],
+    key: &[u8; N],
+    range: Range<usize>,
+) -> usize {
+    let Range { start, end } = range;
+    if start == end {
+        return start;
+    }
+    let middle = start + (end - start) / 2;
+    match compare(&records[middle][..], &key[..]) {
+        Ordering::Less => middle + 1 + first_not_below_by_halves(&records[middle + 1..end], key),
+        Ordering::Equal => middle,
+        Ordering::Greater => start + first_not_below_by_halves(&records[start..middle], key),
+    }
+}
+
+// The place of a key, by halves.
+// Proved:
+//     requires records { AreRisingRecords N records.now }
+//     ensures { IsFirstNotBelow key.now records.now result }
+#[inline(always)]
+fn first_not_below_by_halves<const N: usize>(records: &[[u8; N]], key: &[u8; N]) -> usize {
+    records.partition_point(
+        |raw| -> bool { is_below(&raw[..], &key[..]) },
+    )
+}
+
+// How many bytes the key and all records share in front, counted by eights, and at most all but the last eight. It only
+// guides: by a lower number the same place is found.
+// Proved:
+//     requires long { 8 < N }
+//     requires records { AreRisingRecords N records.now }
+//     requires key { IsRecord N key.now }
+//     ensures bound { result ≤ N - 8 }
+//     ensures alike { BeginAlike result key.now records.now }
+#[inline(always)]
+fn shared_len<const N: usize>(records: &[[u8; N]], key: &[u8; N]) -> usize {
+    let (Some(first), Some(last)) = (records.first(), records.last()) else {
+        return 0;
+    };
+    let mut len = 0;
+    while len < N - 8 {
+        let number = number_at(key, len);
+        if number_at(first, len) != number || number_at(last, len) != number {
+            return len;
+        }
+        len += 8;
+    }
+    N - 8
+}

@@ -1,0 +1,261 @@
+//! Tables of packed records, and the iterator over their texts.
+
+use crate::packed::record::{holds_same_text, is_below};
+use core::ops::Range;
+use crate::TinyAsciiStr;
+use crate::ule::UleError;
+
+/// Packed records of `N` bytes. A clause sees their texts.
+///
+/// ```
+/// use tinystr::tinystr;
+/// use tinystr::packed::Table;
+///
+/// let table = Table::<3>::new(b"EURGB\0").unwrap();
+/// assert_eq!(table.len(), 2);
+/// assert_eq!(table.get(1), Some(tinystr!(3, "GB")));
+/// ```
+#[derive(Clone)]
+pub struct Table<'a, const N: usize> {
+    records: &'a [[u8; N]],
+}
+
+impl<'a, const N: usize> Table<'a, N> {
+    /// The table of bytes, which are checked here alone. `N` has to be above 0.
+    ///
+    /// The error is that of `TinyAsciiStr::validate_bytes`: `Length` where `N` doesn't divide the number of bytes, else
+    /// `Parse`, the first record that isn't a padded text.
+    ///
+    /// ```
+    /// use tinystr::ule::UleError;
+    /// use tinystr::packed::Table;
+    ///
+    /// assert!(Table::<3>::new(b"EURJPY").is_ok());
+    /// assert_eq!(Table::<3>::new(b"EURJP").err(), Some(UleError::Length { len: 5 }));
+    /// ```
+    ///
+    /// # Contract
+    ///
+    /// ```text
+    /// requires { 0 < N }
+    /// ensures packed { IsOk result ↔ IsPacked bytes.now N }
+    /// ensures bytes { IfOk result (λ table. bytes.now ≡ flat_map (λ t. pad t N) table) }
+    /// ensures texts { IfOk result (λ table. All (λ t. IsStrictText t N) table) }
+    /// ensures fault { IfErr result (λ e. RefusesRecords e bytes.now N) }
+    /// ```
+    ///
+    /// # Panics
+    ///
+    /// Where `N` is 0.
+    pub fn new(bytes: &'a [u8]) -> Result<Self, UleError> {
+        assert!(N > 0, "a record has at least one byte");
+        TinyAsciiStr::<N>::validate_bytes(bytes)?;
+        // where there is no record, an array of `N` bytes may have no size
+        if bytes.is_empty() {
+            return Ok(Table { records: &[] });
+        }
+        Ok(Table {
+            records: bytes.as_chunks().0,
+        })
+    }
+
+    /// How many texts.
+    ///
+    /// # Contract
+    ///
+    /// ```text
+    /// ensures len { result ≡ length self.now }
+    /// ensures strict { All (λ t. IsStrictText t N) self.now }
+    /// ```
+    #[must_use]
+    pub fn len(&self) -> usize {
+        self.records.len()
+    }
+
+    /// Whether there is no text.
+    ///
+    /// # Contract
+    ///
+    /// ```text
+    /// ensures { IsTrue result ↔ (self.now ≡ []) }
+    /// ```
+    #[must_use]
+    pub fn is_empty(&self) -> bool {
+        self.records.is_empty()
+    }
+
+    /// The text at an index, counted from 0, in constant time, or `None` past the end.
+    ///
+    /// # Contract
+    ///
+    /// ```text
+    /// ensures text { result ≡ slice_get self.now index }
+    /// ensures strict { All (λ t. IsStrictText t N) self.now }
+    /// ```
+    #[must_use]
+    pub fn get(&self, index: usize) -> Option<TinyAsciiStr<N>> {
+        let raw = self.records.get(index)?;
+        Some(unsafe { TinyAsciiStr::from_utf8_unchecked(*raw) })
+    }
+
+    /// The text at an index below the number of texts.
+    ///
+    /// # Contract
+    ///
+    /// ```text
+    /// requires { index < length self.now }
+    /// ensures { result ≡ slice_index_or self.now index [] }
+    /// ```
+    ///
+    /// # Panics
+    ///
+    /// Where the index isn't below the number of texts.
+    #[must_use]
+    pub fn text_at(&self, index: usize) -> TinyAsciiStr<N> {
+        self.get(index).unwrap()
+    }
+
+    /// The first text, if there is one.
+    ///
+    /// # Contract
+    ///
+    /// ```text
+    /// ensures { result ≡ slice_get self.now 0 }
+    /// ```
+    #[must_use]
+    pub fn first(&self) -> Option<TinyAsciiStr<N>> {
+        self.get(0)
+    }
+
+    /// The last text, if there is one.
+    ///
+    /// # Contract
+    ///
+    /// ```text
+    /// ensures { result ≡ slice_get self.now (length self.now - 1) }
+    /// ```
+    #[must_use]
+    pub fn last(&self) -> Option<TinyAsciiStr<N>> {
+        self.get(self.len().checked_sub(1)?)
+    }
+
+    /// The table of the texts at a range of indices.
+    ///
+    /// ```
+    /// use tinystr::tinystr;
+    /// use tinystr::packed::Table;
+    ///
+    /// let table = Table::<3>::new(b"CHFEURJPYUSD").unwrap();
+    /// assert_eq!(table.slice(1..3).first(), Some(tinystr!(3, "EUR")));
+    /// assert_eq!(table.slice(1..3).last(), Some(tinystr!(3, "JPY")));
+    /// ```
+    ///
+    /// # Contract
+    ///
+    /// ```text
+    /// requires start { range.start ≤ range.end }
+    /// requires end { range.end ≤ length self.now }
+    /// ensures { result ≡ take (range.end - range.start) (drop range.start self.now) }
+    /// ```
+    ///
+    /// # Panics
+    ///
+    /// Where the range begins behind its end or the range ends behind the last text.
+    #[must_use]
+    pub fn slice(&self, range: Range<usize>) -> Table<'a, N> {
+        let records = self.records;
+        Table {
+            records: &records[range],
+        }
+    }
+
+    /// The texts in order.
+    ///
+    /// ```
+    /// use tinystr::packed::Table;
+    ///
+    /// let table = Table::<3>::new(b"EURJPYUSD").unwrap();
+    /// assert!(table.iter().all(|text| text.is_ascii_uppercase()));
+    /// ```
+    ///
+    /// # Contract
+    ///
+    /// ```text
+    /// ensures texts { result ≡ self.now }
+    /// ensures strict { All (λ t. IsStrictText t N) self.now }
+    /// ensures bound { length result < 2 ^ 64 }
+    /// ```
+    #[must_use]
+    pub fn iter(&self) -> Texts<'a, N> {
+        Texts {
+            records: self.records,
+        }
+    }
+
+    // The index of the first text that isn't above the one before it.
+    // Proved:
+    //     ensures rising { IsNone result ↔ IsRising self.now }
+    //     ensures first { IfSome result (λ index. IsFirstFall self.now index) }
+    pub(crate) fn first_fall(&self) -> Option<usize> {
+        let (first, rest) = self.records.split_first()?;
+        let mut before = first;
+        for (index, raw) in rest.iter().enumerate() {
+            if !is_below(&before[..], &raw[..]) {
+                return Some(index + 1);
+            }
+            before = raw;
+        }
+        None
+    }
+
+    // Whether a text stands at an index. It is compared in place: a copy would be stored first, and its loads would wait for
+    // that.
+    // Proved:
+    //     ensures { IsTrue result ↔ (slice_get self.now index ≡ Some text.now) }
+    #[inline(always)]
+    pub(crate) fn has_text_at(&self, index: usize, text: &TinyAsciiStr<N>) -> bool {
+        match self.records.get(index) {
+            Some(raw) => holds_same_text(raw, text.all_bytes()),
+            None => false,
+        }
+    }
+
+    // The records themselves.
+    // Proved:
+    //     ensures texts { map text_of result.now ≡ self.now }
+    //     ensures padded { All (λ raw. IsPaddedText raw N) result.now }
+    #[inline(always)]
+    pub(crate) fn records(&self) -> &'a [[u8; N]] {
+        self.records
+    }
+}
+
+/// The texts of a table in order. A clause sees those that are left.
+///
+/// ```
+/// use tinystr::tinystr;
+/// use tinystr::packed::Table;
+///
+/// let table = Table::<3>::new(b"EURGB\0").unwrap();
+/// assert_eq!(table.iter().last(), Some(tinystr!(3, "GB")));
+/// ```
+#[derive(Clone)]
+pub struct Texts<'a, const N: usize> {
+    records: &'a [[u8; N]],
+}
+
+impl<'a, const N: usize> Iterator for Texts<'a, N> {
+    type Item = TinyAsciiStr<N>;
+
+    fn next(&mut self) -> Option<TinyAsciiStr<N>> {
+        let records = self.records;
+        let (raw, rest) = records.split_first()?;
+        self.records = rest;
+        Some(unsafe { TinyAsciiStr::from_utf8_unchecked(*raw) })
+    }
+
+    fn size_hint(&self) -> (usize, Option<usize>) {
+        let len = self.records.len();
+        (len, Some(len))
+    }
+}

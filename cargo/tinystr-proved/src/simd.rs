@@ -1,0 +1,257 @@
+//! The part of `std::simd` that the proved sources use, for stable Rust. Lanes are an array, which LLVM keeps in a vector.
+//! The calls on sixteen bytes are `machine`'s on x86-64, an instruction or two each, and else `portable`'s. Written by hand;
+//! `tests` has each call at all bytes that a lane can hold.
+#![allow(non_camel_case_types)]
+
+use core::ops::{Add, BitAnd, BitOr, BitXor, Not, Shr, Sub};
+
+#[cfg(all(target_arch = "x86_64", not(portable_lanes)))]
+mod machine;
+// on x86-64 its shuffle alone is called, where there is no SSSE3
+#[allow(dead_code)]
+mod portable;
+#[cfg(test)]
+mod tests;
+
+#[cfg(any(portable_lanes, not(target_arch = "x86_64")))]
+use portable as machine;
+
+/// `L` numbers, the lowest lane first.
+#[derive(Clone, Copy, Debug)]
+pub struct Lanes<T, const L: usize>([T; L]);
+
+pub type u8x4 = Lanes<u8, 4>;
+pub type u8x8 = Lanes<u8, 8>;
+pub type u8x16 = Lanes<u8, 16>;
+pub type u16x4 = Lanes<u16, 4>;
+pub type u16x8 = Lanes<u16, 8>;
+pub type u32x1 = Lanes<u32, 1>;
+pub type u64x1 = Lanes<u64, 1>;
+pub type u64x2 = Lanes<u64, 2>;
+
+/// A truth for each of sixteen lanes: 255 or 0.
+#[derive(Clone, Copy, Debug)]
+pub struct Mask16([u8; 16]);
+
+/// A truth for each of eight lanes: 255 or 0 in the first eight, and behind them 0.
+#[derive(Clone, Copy, Debug)]
+pub struct Mask8([u8; 16]);
+
+impl<T: Copy, const L: usize> Lanes<T, L> {
+    #[inline(always)]
+    pub fn from_array(array: [T; L]) -> Self {
+        Lanes(array)
+    }
+
+    #[inline(always)]
+    pub fn to_array(self) -> [T; L] {
+        self.0
+    }
+
+    /// The first `L` of at least as many: fewer panic.
+    #[inline(always)]
+    pub fn from_slice(slice: &[T]) -> Self {
+        Lanes(*slice.first_chunk().unwrap())
+    }
+
+    #[inline(always)]
+    pub fn splat(value: T) -> Self {
+        Lanes([value; L])
+    }
+
+    #[inline(always)]
+    fn zip(self, other: Self, op: impl Fn(T, T) -> T) -> Self {
+        Lanes(core::array::from_fn(|i| op(self.0[i], other.0[i])))
+    }
+}
+
+/// The operators on 64-bit numbers, lane by lane.
+macro_rules! on_numbers {
+    ($($trait:ident $call:ident $by:expr;)*) => {$(
+        impl<const L: usize> $trait for Lanes<u64, L> {
+            type Output = Self;
+
+            #[inline(always)]
+            fn $call(self, other: Self) -> Self {
+                self.zip(other, $by)
+            }
+        }
+    )*};
+}
+
+on_numbers! {
+    Add add |a, b| a.wrapping_add(b);
+    BitAnd bitand |a, b| a & b;
+    BitOr bitor |a, b| a | b;
+    BitXor bitxor |a, b| a ^ b;
+    Shr shr |a, b| a >> b;
+}
+
+impl<const L: usize> Not for Lanes<u64, L> {
+    type Output = Self;
+
+    #[inline(always)]
+    fn not(self) -> Self {
+        Lanes(self.0.map(|a| !a))
+    }
+}
+
+/// The operators on bytes. Eight are the first half of sixteen.
+macro_rules! on_bytes {
+    ($($trait:ident $call:ident;)*) => {$(
+        impl $trait for u8x16 {
+            type Output = Self;
+
+            #[inline(always)]
+            fn $call(self, other: Self) -> Self {
+                Lanes(machine::$call(self.0, other.0))
+            }
+        }
+
+        impl $trait for u8x8 {
+            type Output = Self;
+
+            #[inline(always)]
+            fn $call(self, other: Self) -> Self {
+                Lanes(first_half(machine::$call(self.widened(), other.widened())))
+            }
+        }
+    )*};
+}
+
+on_bytes! {
+    Sub sub;
+    BitAnd bitand;
+    BitOr bitor;
+}
+
+#[inline(always)]
+fn first_half(bytes: [u8; 16]) -> [u8; 8] {
+    (u128::from_le_bytes(bytes) as u64).to_le_bytes()
+}
+
+impl u8x8 {
+    /// The lanes at these places, of which each caller knows when it is compiled which they are.
+    #[inline(always)]
+    pub fn swizzle(self, places: [usize; 4]) -> u8x4 {
+        if matches!(places, [0, 2, 4, 6]) {
+            let [a, b, c, d, ..] = machine::even(self.widened());
+            return Lanes([a, b, c, d]);
+        }
+        Lanes(places.map(|place| self.0[place]))
+    }
+
+    /// Its bytes, and zeros behind them.
+    #[inline(always)]
+    fn widened(self) -> [u8; 16] {
+        u128::from(u64::from_le_bytes(self.0)).to_le_bytes()
+    }
+
+    #[inline(always)]
+    pub fn simd_lt(self, other: Self) -> Mask8 {
+        Mask8(machine::less(self.widened(), other.widened()))
+    }
+}
+
+impl Mask8 {
+    /// The truth of lane `i` in bit `i`.
+    #[inline(always)]
+    pub fn to_bitmask(self) -> u64 {
+        machine::bits(self.0)
+    }
+}
+
+impl u8x16 {
+    #[inline(always)]
+    pub fn simd_eq(self, other: Self) -> Mask16 {
+        Mask16(machine::equal(self.0, other.0))
+    }
+
+    #[inline(always)]
+    pub fn simd_lt(self, other: Self) -> Mask16 {
+        Mask16(machine::less(self.0, other.0))
+    }
+
+    /// The lanes at these places.
+    #[inline(always)]
+    pub fn swizzle(self, places: [usize; 8]) -> u8x8 {
+        if matches!(places, [0, 2, 4, 6, 8, 10, 12, 14]) {
+            return Lanes(machine::even(self.0));
+        }
+        Lanes(places.map(|place| self.0[place]))
+    }
+
+    /// The lanes at these places of this and the other, one behind the other.
+    #[inline(always)]
+    pub fn shuffle(self, other: Self, places: [usize; 16]) -> Self {
+        if matches!(places, [1, 2, 3, 4, 5, 6, 7, 8, 9, 10, 11, 12, 13, 14, 15, 16]) {
+            return Lanes(machine::next(self.0, other.0));
+        }
+        Lanes(places.map(|place| if place < 16 { self.0[place] } else { other.0[place - 16] }))
+    }
+
+    /// For each lane of `places` the lane at that place, or 0 past the last.
+    #[inline(always)]
+    pub fn swizzle_dyn(self, places: Self) -> Self {
+        Lanes(machine::shuffle(self.0, places.0))
+    }
+}
+
+// All lanes at once.
+impl PartialEq for u8x16 {
+    #[inline(always)]
+    fn eq(&self, other: &Self) -> bool {
+        self.simd_eq(*other).to_bitmask() == 0xffff
+    }
+}
+
+impl Mask16 {
+    /// The truth of lane `i` in bit `i`.
+    #[inline(always)]
+    pub fn to_bitmask(self) -> u64 {
+        machine::bits(self.0)
+    }
+
+    /// Each lane of the one where it is true, else of the other.
+    #[inline(always)]
+    pub fn select(self, one: u8x16, other: u8x16) -> u8x16 {
+        Lanes(machine::select(self.0, one.0, other.0))
+    }
+}
+
+impl u16x4 {
+    #[inline(always)]
+    pub fn to_le_bytes(self) -> u8x8 {
+        let [a, b, c, d] = self.0.map(u64::from);
+        Lanes((a | b << 16 | c << 32 | d << 48).to_le_bytes())
+    }
+}
+
+impl u16x8 {
+    #[inline(always)]
+    pub fn to_le_bytes(self) -> u8x16 {
+        Lanes(machine::bytes_of(self.0))
+    }
+}
+
+impl u64x2 {
+    #[inline(always)]
+    pub fn to_le_bytes(self) -> u8x16 {
+        let number = u128::from(self.0[0]) | u128::from(self.0[1]) << 64;
+        Lanes(number.to_le_bytes())
+    }
+}
+
+impl u32x1 {
+    #[inline(always)]
+    pub fn from_le_bytes(bytes: u8x4) -> Self {
+        Lanes([u32::from_le_bytes(bytes.0)])
+    }
+}
+
+impl u64x1 {
+    #[inline(always)]
+    pub fn from_le_bytes(bytes: u8x8) -> Self {
+        Lanes([u64::from_le_bytes(bytes.0)])
+    }
+}

@@ -1,0 +1,85 @@
+//! What is an instruction or two of x86-64: the calls of `portable`, on sixteen bytes in a vector.
+
+use core::arch::x86_64::*;
+
+#[inline(always)]
+fn vector(bytes: [u8; 16]) -> __m128i {
+    // SAFETY: it is sixteen bytes, and each pattern of bits is a value of it.
+    unsafe { core::mem::transmute(bytes) }
+}
+
+#[inline(always)]
+fn bytes(vector: __m128i) -> [u8; 16] {
+    // SAFETY: as above.
+    unsafe { core::mem::transmute(vector) }
+}
+
+#[inline(always)]
+pub fn equal(a: [u8; 16], b: [u8; 16]) -> [u8; 16] {
+    // SAFETY, here and below: each x86-64 processor has SSE2.
+    bytes(unsafe { _mm_cmpeq_epi8(vector(a), vector(b)) })
+}
+
+/// There is a comparison of signed bytes alone. Which is less stays as it is with the high bits turned.
+#[inline(always)]
+pub fn less(a: [u8; 16], b: [u8; 16]) -> [u8; 16] {
+    let turned = |bytes| unsafe { _mm_xor_si128(vector(bytes), _mm_set1_epi8(-128)) };
+    bytes(unsafe { _mm_cmplt_epi8(turned(a), turned(b)) })
+}
+
+#[inline(always)]
+pub fn sub(a: [u8; 16], b: [u8; 16]) -> [u8; 16] {
+    bytes(unsafe { _mm_sub_epi8(vector(a), vector(b)) })
+}
+
+#[inline(always)]
+pub fn bitand(a: [u8; 16], b: [u8; 16]) -> [u8; 16] {
+    bytes(unsafe { _mm_and_si128(vector(a), vector(b)) })
+}
+
+#[inline(always)]
+pub fn bitor(a: [u8; 16], b: [u8; 16]) -> [u8; 16] {
+    bytes(unsafe { _mm_or_si128(vector(a), vector(b)) })
+}
+
+#[inline(always)]
+pub fn select(mask: [u8; 16], one: [u8; 16], other: [u8; 16]) -> [u8; 16] {
+    bitor(bitand(mask, one), bytes(unsafe { _mm_andnot_si128(vector(mask), vector(other)) }))
+}
+
+#[inline(always)]
+pub fn bits(mask: [u8; 16]) -> u64 {
+    // it sets no bits above the sixteen
+    unsafe { _mm_movemask_epi8(vector(mask)) as u64 }
+}
+
+#[inline(always)]
+pub fn bytes_of(units: [u16; 8]) -> [u8; 16] {
+    // SAFETY: it is sixteen bytes. The low byte of a number is the first on x86-64.
+    unsafe { core::mem::transmute(units) }
+}
+
+#[inline(always)]
+pub fn even(a: [u8; 16]) -> [u8; 8] {
+    let low = unsafe { _mm_and_si128(vector(a), _mm_set1_epi16(0xff)) };
+    // each number of sixteen bits is below 256, and is packed as it is
+    let packed = unsafe { _mm_cvtsi128_si64(_mm_packus_epi16(low, low)) };
+    packed.to_le_bytes()
+}
+
+#[inline(always)]
+pub fn next(a: [u8; 16], b: [u8; 16]) -> [u8; 16] {
+    bytes(unsafe { _mm_or_si128(_mm_srli_si128::<1>(vector(a)), _mm_slli_si128::<15>(vector(b))) })
+}
+
+/// The instruction gives 0 where the high bit of a place is set, and else takes its low four bits. With 0x70 added, and
+/// 255 for what is larger, each place from 16 on has the high bit.
+#[cfg(target_feature = "ssse3")]
+#[inline(always)]
+pub fn shuffle(a: [u8; 16], places: [u8; 16]) -> [u8; 16] {
+    // SAFETY: the processor has SSSE3, as `cfg` says.
+    bytes(unsafe { _mm_shuffle_epi8(vector(a), _mm_adds_epu8(vector(places), _mm_set1_epi8(0x70))) })
+}
+
+#[cfg(not(target_feature = "ssse3"))]
+pub use super::portable::shuffle;

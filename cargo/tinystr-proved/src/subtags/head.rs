@@ -1,0 +1,57 @@
+//! What an input begins with: a language, and where a subtag ends.
+
+use crate::subtags::language::{Language, is_language_length};
+use crate::TinyStr8;
+
+// Proved:
+//     ensures { result ≡ is_separator byte }
+#[inline]
+fn is_separator(byte: u8) -> bool {
+    byte == b'-' || byte == b'_'
+}
+
+/// Whether a subtag may end at a place: all ends there, or a separator stands there.
+///
+/// # Contract
+///
+/// ```text
+/// ensures { result ≡ ends_at place units.now }
+/// ```
+#[inline]
+pub(crate) fn ends_at(units: &[u8], place: usize) -> bool {
+    units.len() == place || units.len() > place && is_separator(units[place])
+}
+
+/// What stands behind a subtag that ends at a place, if anything stands there.
+///
+/// # Contract
+///
+/// ```text
+/// requires { place ≤ length units.now }
+/// ensures { option_copied result ≡ behind place units.now }
+/// ```
+#[inline]
+pub(crate) fn behind(units: &[u8], place: usize) -> Option<&[u8]> {
+    units.get(place + 1..)
+}
+
+/// Takes the first subtag off, where it is a language: that and what stands behind its separator.
+///
+/// # Contract
+///
+/// ```text
+/// ensures accepted { is_some result ≡ is_language (first_subtag units.now) }
+/// ensures language { IfSome result (λ parts. parts.0 ≡ lowercase (first_subtag units.now)) }
+/// ensures rest { IfSome result (λ parts. option_copied parts.1 ≡ behind (length (first_subtag units.now)) units.now) }
+/// ```
+#[inline]
+pub(crate) fn take_language(units: &[u8]) -> Option<(Language, Option<&[u8]>)> {
+    let (text, len) = TinyStr8::read_letters(units);
+    if !is_language_length(len) {
+        return None;
+    }
+    if !ends_at(units, len) {
+        return None;
+    }
+    Some((Language::from_canonical(text), behind(units, len)))
+}

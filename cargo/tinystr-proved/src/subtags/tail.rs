@@ -1,0 +1,46 @@
+//! What stands behind the language, read from the front: a script, a region, both or nothing.
+
+use crate::subtags::error::LangIdError;
+use crate::subtags::head::{behind, ends_at};
+use crate::subtags::region::Region;
+use crate::subtags::script::Script;
+
+/// Takes the first subtag off, where it is a script.
+///
+/// # Contract
+///
+/// ```text
+/// ensures script { result.0 ≡ leading_script (subtags_behind (option_copied rest.entry)) }
+/// ensures rest { subtags_behind (option_copied result.1) ≡ behind_script (subtags_behind (option_copied rest.entry)) }
+/// ```
+#[inline]
+pub(crate) fn take_script(rest: Option<&[u8]>) -> (Option<Script>, Option<&[u8]>) {
+    let Some(units) = rest else {
+        return (None, None);
+    };
+    if !ends_at(units, 4) {
+        return (None, rest);
+    }
+    match Script::try_from_utf8(&units[..4]) {
+        Some(script) => (Some(script), behind(units, 4)),
+        None => (None, rest),
+    }
+}
+
+/// Reads what is left: a region, or nothing.
+///
+/// # Contract
+///
+/// ```text
+/// ensures { result ≡ last_region (subtags_behind (option_copied rest.entry)) }
+/// ```
+#[inline]
+pub(crate) fn last_region(rest: Option<&[u8]>) -> Result<Option<Region>, LangIdError> {
+    let Some(units) = rest else {
+        return Ok(None);
+    };
+    match Region::try_from_utf8(units) {
+        Some(region) => Ok(Some(region)),
+        None => Err(LangIdError::InvalidSubtag),
+    }
+}

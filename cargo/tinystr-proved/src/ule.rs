@@ -1,0 +1,144 @@
+//! Packed records: padded texts of `N` bytes, one behind another, which are checked once and then read in place. ULE is
+//! zerovec's word for what is read so: an unaligned little-endian form.
+
+use crate::ascii::{TinyAsciiStr, are_padded};
+use crate::error::ParseError;
+use crate::unvalidated::UnvalidatedTinyAsciiStr;
+
+// How many records are asked together: enough that the compiler takes several at once, and few to search for a bad one.
+const BLOCK: usize = 64;
+
+/// Why bytes aren't packed records.
+///
+/// ```
+/// use tinystr::TinyAsciiStr;
+/// use tinystr::ule::UleError;
+///
+/// assert_eq!(TinyAsciiStr::<3>::validate_bytes(b"EURJP"), Err(UleError::Length { len: 5 }));
+/// ```
+#[derive(Clone, Copy, Debug, PartialEq, Eq)]
+pub enum UleError {
+    /// The number of bytes, `len`, isn't divisible by the size of a record.
+    Length { len: usize },
+    /// Record `index`, counted from 0, is the first that isn't a padded text, and has this fault.
+    Parse { index: usize, fault: ParseError },
+}
+
+impl<const N: usize> TinyAsciiStr<N> {
+    /// Whether the bytes are packed records of `N` bytes, each a text and then NULs. `N` has to be above 0.
+    ///
+    /// The error is `Length` where `N` doesn't divide the number of bytes. Else it is `Parse`: the first record that is no
+    /// padded text, counted from 0, and its fault, as `try_from_raw` tells it.
+    ///
+    /// ```
+    /// use tinystr::{ParseError, TinyAsciiStr};
+    /// use tinystr::ule::UleError;
+    ///
+    /// assert!(TinyAsciiStr::<3>::validate_bytes(b"EURGB\0").is_ok());
+    /// let fault = ParseError::ContainsNull;
+    /// assert_eq!(TinyAsciiStr::<3>::validate_bytes(b"EURG\0B"), Err(UleError::Parse { index: 1, fault }));
+    /// ```
+    ///
+    /// # Contract
+    ///
+    /// ```text
+    /// requires { 0 < N }
+    /// ensures accepted { IsOk result ↔ IsPacked bytes.now N }
+    /// ensures length { IsErrOf result (UleError.Length (length bytes.now)) ↔ (length bytes.now % N ≢ 0) }
+    /// ensures fault { IfErr result (λ e. RefusesRecords e bytes.now N) }
+    /// ```
+    ///
+    /// # Panics
+    ///
+    /// Where `N` is 0.
+    pub fn validate_bytes(bytes: &[u8]) -> Result<(), UleError> {
+        assert!(N > 0, "a record has at least one byte");
+        UnvalidatedTinyAsciiStr::<N>::validate_bytes(bytes)?;
+        // where there is no record, an array of `N` bytes may have no size
+        if bytes.is_empty() {
+            return Ok(());
+        }
+        Self::validate_records(bytes.as_chunks::<N>().0)
+    }
+
+    // Whether all records are padded texts, and else the first that isn't and its fault.
+    // Proved:
+    //     ensures accepted { IsOk result ↔ All (λ raw. IsPaddedText raw N) records.now }
+    //     ensures fault { IfErr result (λ e. RefusesOneOf e records.now N) }
+    #[inline]
+    fn validate_records(records: &[[u8; N]]) -> Result<(), UleError> {
+        let mut index = Self::skip_padded(records);
+        let (_, rest) = records.split_at(index);
+        for raw in rest {
+            if let Err(fault) = Self::try_from_raw(*raw) {
+                return Err(UleError::Parse { index, fault });
+            }
+            index += 1;
+        }
+        Ok(())
+    }
+
+    // How many records at the beginning are padded texts, as far as whole blocks tell.
+    // Proved:
+    //     ensures inside { result ≤ length records.now }
+    //     ensures padded { All (λ raw. IsPaddedText raw N) (take result records.now) }
+    #[inline]
+    fn skip_padded(records: &[[u8; N]]) -> usize {
+        let mut rest = records;
+        let mut index = 0;
+        while !rest.is_empty() {
+            let (block, after) = rest.split_at(rest.len().min(BLOCK));
+            if !are_padded(block) {
+                break;
+            }
+            rest = after;
+            index += block.len();
+        }
+        index
+    }
+
+    /// `N` bytes of 255, which no value has if `N` is above 0.
+    ///
+    /// ```
+    /// use tinystr::{ParseError, TinyAsciiStr};
+    ///
+    /// let pattern = TinyAsciiStr::<3>::niche_bit_pattern();
+    /// assert_eq!(pattern, [255, 255, 255]);
+    /// assert_eq!(TinyAsciiStr::try_from_raw(pattern), Err(ParseError::NonAscii));
+    /// ```
+    ///
+    /// # Contract
+    ///
+    /// ```text
+    /// ensures { result ≡ replicate N 255 }
+    /// ```
+    #[inline]
+    #[must_use]
+    pub const fn niche_bit_pattern() -> [u8; N] {
+        [255; N]
+    }
+}
+
+impl<const N: usize> UnvalidatedTinyAsciiStr<N> {
+    /// Whether the bytes are records of `N` bytes, whatever these are. `N` has to be above 0. The error is `Length`.
+    ///
+    /// # Contract
+    ///
+    /// ```text
+    /// requires { 0 < N }
+    /// ensures accepted { IsOk result ↔ (length bytes.now % N ≡ 0) }
+    /// ensures fault { IfErr result (λ e. e ≡ UleError.Length (length bytes.now)) }
+    /// ```
+    ///
+    /// # Panics
+    ///
+    /// Where `N` is 0.
+    pub fn validate_bytes(bytes: &[u8]) -> Result<(), UleError> {
+        assert!(N > 0, "a record has at least one byte");
+        let len = bytes.len();
+        if len % N != 0 {
+            return Err(UleError::Length { len });
+        }
+        Ok(())
+    }
+}

@@ -1,0 +1,22 @@
+//! Bounded ASCII texts: the definitions in which the contracts of the crates above speak, in `specs/`, and padded
+//! texts in words of 32, 64 and 128 bits.
+
+mod code_unit;
+mod decimal;
+pub mod int_ops;
+#[doc(hidden)]
+pub mod kernel;
+#[doc(hidden)]
+pub mod padded;
+mod question;
+#[doc(hidden)]
+pub mod word;
+
+pub use code_unit::CodeUnit;
+#[doc(hidden)]
+pub use code_unit::are_characters;
+pub use decimal::decimal_fits;
+pub use question::{Case, Question};
+
+#[cfg(test)]
+mod examples;

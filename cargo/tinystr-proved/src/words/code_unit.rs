@@ -1,0 +1,191 @@
+//! Units that readers take, and whether they are characters.
+
+use crate::words::word::Word;
+use crate::simd::*;
+
+/// A code unit that a reader takes: a byte, or a 16-bit number.
+///
+/// ```text
+/// assert_eq!(CodeUnit::code(b'E'), 0x45);
+/// assert!(!CodeUnit::is_character(0x20acu16));
+/// ```
+pub trait CodeUnit: Copy {
+    /// The code unit as a number: 0 to 255 of a byte, else all 16 bits.
+    ///
+    /// # Contract
+    ///
+    /// ```text
+    /// ensures { result ≡ number self }
+    /// ```
+    fn code(self) -> u16;
+
+    /// Whether it is from 1 to 127.
+    ///
+    /// # Contract
+    ///
+    /// ```text
+    /// ensures { IsTrue result ↔ IsTextByte (number self) }
+    /// ```
+    fn is_character(self) -> bool;
+
+    /// The lowest eight bits, which are all of a character.
+    ///
+    /// # Contract
+    ///
+    /// ```text
+    /// ensures { result ≡ number self % 256 }
+    /// ```
+    fn low_byte(self) -> u8;
+
+    /// The code units as bytes, if that is their type.
+    ///
+    /// # Contract
+    ///
+    /// ```text
+    /// ensures { IfSome result (λ bytes. bytes.now ≡ map number units.now) }
+    /// ```
+    fn as_bytes(units: &[Self]) -> Option<&[u8]>;
+
+    /// The lowest eight bits of each of four code units, as a little-endian word. There have to be four.
+    ///
+    /// # Contract
+    ///
+    /// ```text
+    /// requires { length units.now ≡ 4 }
+    /// ensures { result ≡ word (map (λ unit. number unit % 256) units.now) }
+    /// ```
+    fn word_of_four(units: &[Self]) -> u32;
+
+    /// The lowest eight bits of each of eight code units. There have to be eight.
+    ///
+    /// # Contract
+    ///
+    /// ```text
+    /// requires { length units.now ≡ 8 }
+    /// ensures { result ≡ map (λ unit. number unit % 256) units.now }
+    /// ```
+    fn eight_low_bytes(units: &[Self]) -> [u8; 8];
+}
+
+/// How many code units from 1 on are characters.
+pub(crate) const CHARACTERS: u8 = 0x7f;
+
+impl CodeUnit for u8 {
+    #[inline(always)]
+    fn code(self) -> u16 {
+        u16::from(self)
+    }
+
+    #[inline(always)]
+    fn is_character(self) -> bool {
+        self.wrapping_sub(1) < CHARACTERS
+    }
+
+    #[inline(always)]
+    fn low_byte(self) -> u8 {
+        self
+    }
+
+    #[inline(always)]
+    fn as_bytes(units: &[u8]) -> Option<&[u8]> {
+        Some(units)
+    }
+
+    #[inline(always)]
+    fn word_of_four(units: &[u8]) -> u32 {
+        u32::from_le_bytes(*units.first_chunk::<4>().unwrap())
+    }
+
+    #[inline(always)]
+    fn eight_low_bytes(units: &[u8]) -> [u8; 8] {
+        let mut bytes = [0; 8];
+        bytes.copy_from_slice(units);
+        bytes
+    }
+}
+
+impl CodeUnit for u16 {
+    #[inline(always)]
+    fn code(self) -> u16 {
+        self
+    }
+
+    #[inline(always)]
+    fn is_character(self) -> bool {
+        self.wrapping_sub(1) < u16::from(CHARACTERS)
+    }
+
+    #[inline(always)]
+    fn low_byte(self) -> u8 {
+        (self % 256) as u8
+    }
+
+    #[inline(always)]
+    fn as_bytes(_: &[u16]) -> Option<&[u8]> {
+        None
+    }
+
+    // Every other byte of a vector: as an array on its way to the word, the compiler would take each byte by itself.
+    #[inline(always)]
+    fn word_of_four(units: &[u16]) -> u32 {
+        let bytes = u16x4::from_slice(units).to_le_bytes();
+        u32x1::from_le_bytes(bytes.swizzle([0, 2, 4, 6])).to_array()[0]
+    }
+
+    // By way of a number: bytes of a vector would be put into the array one by one.
+    #[inline(always)]
+    fn eight_low_bytes(units: &[u16]) -> [u8; 8] {
+        let bytes = u16x8::from_slice(units).to_le_bytes();
+        let word = u64x1::from_le_bytes(bytes.swizzle([0, 2, 4, 6, 8, 10, 12, 14])).to_array()[0];
+        Word::to_bytes_in_registers(word)
+    }
+}
+
+/// Whether all code units are characters. There is no early exit, so that the compiler can test a known number of them
+/// at once.
+///
+/// # Contract
+///
+/// ```text
+/// ensures { IsTrue result ↔ IsText (map U.number units.now) }
+/// ```
+#[inline(always)]
+pub fn are_characters<U: CodeUnit>(units: &[U]) -> bool {
+    let mut are_characters = true;
+    for unit in units {
+        are_characters &= unit.is_character();
+    }
+    are_characters
+}
+
+// By the first and the last `count` code units, which are all.
+// Proved:
+//     requires least { count ≤ length units.now }
+//     requires most { length units.now ≤ 2 * count }
+//     ensures { IsTrue result ↔ IsText (map U.number units.now) }
+#[inline(always)]
+fn is_text_by_ends<U: CodeUnit>(units: &[U], count: usize) -> bool {
+    are_characters(&units[..count]) & are_characters(&units[units.len() - count..])
+}
+
+/// Whether at most sixteen code units are a text.
+///
+/// # Contract
+///
+/// ```text
+/// requires { length units.now ≤ 16 }
+/// ensures { IsTrue result ↔ IsText (map U.number units.now) }
+/// ```
+#[inline(always)]
+pub(crate) fn is_text<U: CodeUnit>(units: &[U]) -> bool {
+    let len = units.len();
+    if len > 8 {
+        is_text_by_ends(units, 8)
+    } else if len >= 4 {
+        is_text_by_ends(units, 4)
+    } else if len >= 2 {
+        is_text_by_ends(units, 2)
+    } else {
+        len == 0 || is_text_by_ends(units, 1)
+    }
+}

@@ -1,0 +1,87 @@
+//! The decimal digits of a number: how many, and in a word.
+
+/// Whether the decimal text of a number has at most so many digits.
+///
+/// ```text
+/// assert!(decimal_fits(999, 3));
+/// assert!(!decimal_fits(1000, 3));
+/// ```
+///
+/// # Contract
+///
+/// ```text
+/// ensures { IsTrue result ↔ (length (decimal number) ≤ most) }
+/// ```
+#[inline(always)]
+pub fn decimal_fits(number: u32, most: usize) -> bool {
+    most >= 10 || (most > 0 && number < 10u32.pow(most as u32))
+}
+
+// The two digits of a number below 100 in two lanes, the tens lowest.
+// Proved:
+//     requires { number < 100 }
+//     ensures { result ≡ (48 + number / 10) + 256 * (48 + number % 10) }
+#[inline(always)]
+fn two_digits(number: u32) -> u32 {
+    number / 10 + 256 * (number % 10) + 0x3030
+}
+
+/// The shortest decimal text of a number, its first digit in the lowest lane. Four steps at most leave a number below
+/// 100.
+///
+/// # Contract
+///
+/// ```text
+/// ensures { result ≡ word (decimal number) }
+/// ```
+#[inline(always)]
+pub(crate) fn decimal_word(number: u32) -> u128 {
+    let mut last = 0u64;
+    let mut rest = number;
+    for _ in 0..4u32 {
+        if rest < 100 {
+            break;
+        }
+        last = 65536 * last + u64::from(two_digits(rest % 100));
+        rest /= 100;
+    }
+    if rest < 10 {
+        256 * u128::from(last) + u128::from(rest + 0x30)
+    } else {
+        65536 * u128::from(last) + u128::from(two_digits(rest))
+    }
+}
+
+// Four digits as two numbers below 100 in lanes of 16 bits, the first digits lowest.
+// Proved:
+//     requires { number < 10 ^ 4 }
+//     ensures { result ≡ number / 100 + 65536 * (number % 100) }
+#[inline(always)]
+fn two_pairs(number: u32) -> u32 {
+    number / 100 + 65536 * (number % 100)
+}
+
+// Eight digits as four such numbers.
+// Proved:
+//     requires { number < 10 ^ 8 }
+//     ensures { result ≡ number / 10 ^ 6 + 65536 * (number / 10 ^ 4 % 100 + 65536 * (number / 100 % 100 + 65536 * (number % 100))) }
+#[inline(always)]
+fn four_pairs(number: u32) -> u64 {
+    u64::from(two_pairs(number / 10000)) + (u64::from(two_pairs(number % 10000)) << 32)
+}
+
+/// Eight digits, zeros in front among them, the first in the lowest lane; to each 0x30 is to be added. The tens of all
+/// pairs are made at once: below 100 a tenth is 103 parts of 1024, and no product leaves its lane.
+///
+/// # Contract
+///
+/// ```text
+/// requires { number < 10 ^ 8 }
+/// ensures { result + 0x3030303030303030 ≡ word (decimal (10 ^ 8 + number)) / 256 }
+/// ```
+#[inline(always)]
+pub(crate) fn eight_digits(number: u32) -> u64 {
+    let pairs = four_pairs(number);
+    let tens = ((pairs * 103) >> 10) & 0x000f_000f_000f_000f;
+    tens + 256 * (pairs - 10 * tens)
+}

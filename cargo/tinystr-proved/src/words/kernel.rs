@@ -1,0 +1,154 @@
+//! The kernels: a word of lanes is asked and changed by a few sums over the whole word.
+
+use crate::words::word::Word;
+
+/// A range of bytes below 0x80, by what is added to a byte so that its high bit says where it lies.
+#[derive(Clone, Copy)]
+pub struct Range {
+    /// Sets the high bit from the range's first byte on: 0x80 less that byte.
+    pub low: u8,
+    /// Sets the high bit past the range's last byte: 0x7f less that byte.
+    pub high: u8,
+}
+
+/// `A` to `Z`.
+pub const UPPER: Range = Range {
+    low: 0x3f,
+    high: 0x25,
+};
+
+/// `a` to `z`.
+pub const LOWER: Range = Range {
+    low: 0x1f,
+    high: 0x05,
+};
+
+/// `0` to `9`.
+pub const DIGIT: Range = Range {
+    low: 0x50,
+    high: 0x46,
+};
+
+/// What is added to a byte below 0x80 so that its high bit says that it isn't NUL.
+pub const NOT_NUL: u8 = 0x7f;
+
+/// The high bit of each lane that isn't NUL.
+///
+/// # Contract
+///
+/// ```text
+/// requires { HasLowLanes (T.number text) }
+/// ensures { T.number result ≡ bit_and (T.number text + word (first_then LEN NOT_NUL NOT_NUL)) (word (first_then LEN 0x80 0x80)) }
+/// ```
+#[inline(always)]
+pub fn present<T: Word<LEN>, const LEN: usize>(text: T) -> T {
+    text.plus(T::splat(NOT_NUL)).and(T::splat(0x80))
+}
+
+/// The high bit of each lane whose lower bits aren't all clear.
+///
+/// # Contract
+///
+/// ```text
+/// ensures { T.number result ≡ bit_and (bit_and (T.number bytes) (word (first_then LEN 0x7f 0x7f)) + word (first_then LEN NOT_NUL NOT_NUL)) (word (first_then LEN 0x80 0x80)) }
+/// ```
+#[inline(always)]
+pub fn marks<T: Word<LEN>, const LEN: usize>(bytes: T) -> T {
+    present(bytes.and(T::splat(0x7f)))
+}
+
+/// The high bits of the lanes, and the marks of those that stand after a lane without one.
+///
+/// # Contract
+///
+/// ```text
+/// ensures { T.number result ≡ bit_or (bit_and (T.number bytes) (word (first_then LEN 0x80 0x80))) (bit_and (T.number marks / 256) (256 ^ LEN - 1 - T.number marks)) }
+/// ```
+#[inline(always)]
+pub fn unpadded<T: Word<LEN>, const LEN: usize>(bytes: T, marks: T) -> T {
+    let late = marks.next_lanes().and(marks.not());
+    bytes.and(T::splat(0x80)).or(late)
+}
+
+/// The high bit of each lane whose byte is outside its range.
+///
+/// # Contract
+///
+/// ```text
+/// requires { HasLowLanes (T.number text) }
+/// ensures { T.number result ≡ bit_or (256 ^ LEN - 1 - (T.number text + word (first_then LEN first.low others.low))) (T.number text + word (first_then LEN first.high others.high)) }
+/// ```
+#[inline(always)]
+pub fn outside<T: Word<LEN>, const LEN: usize>(text: T, first: Range, others: Range) -> T {
+    let below = text.plus(T::first_then(first.low, others.low)).not();
+    let above = text.plus(T::first_then(first.high, others.high));
+    below.or(above)
+}
+
+/// The high bit of each lane whose byte is in its range: past a range both sums have it. It takes a step less than
+/// `outside`.
+///
+/// # Contract
+///
+/// ```text
+/// requires { HasLowLanes (T.number text) }
+/// ensures { T.number result ≡ bit_xor (T.number text + word (first_then LEN first.low others.low)) (T.number text + word (first_then LEN first.high others.high)) }
+/// ```
+#[inline(always)]
+pub fn inside<T: Word<LEN>, const LEN: usize>(text: T, first: Range, others: Range) -> T {
+    let not_below = text.plus(T::first_then(first.low, others.low));
+    let above = text.plus(T::first_then(first.high, others.high));
+    not_below.xor(above)
+}
+
+/// The case bit, 0x20, of each lane whose byte is in its range.
+///
+/// # Contract
+///
+/// ```text
+/// requires { HasLowLanes (T.number text) }
+/// ensures { T.number result ≡ bit_and (256 ^ LEN - 1 - bit_or (256 ^ LEN - 1 - (T.number text + word (first_then LEN first.low others.low))) (T.number text + word (first_then LEN first.high others.high))) (word (first_then LEN 0x80 0x80)) / 4 }
+/// ```
+#[inline(always)]
+pub fn case_bits<T: Word<LEN>, const LEN: usize>(text: T, first: Range, others: Range) -> T {
+    outside(text, first, others).not().high_bits_as_case_bits()
+}
+
+/// The text with the case bit set in each lane: its letters in lowercase, and some of its other bytes changed.
+///
+/// # Contract
+///
+/// ```text
+/// requires { HoldsText LEN (T.number text) }
+/// ensures bits { T.number result ≡ bit_or (T.number text) (word (first_then LEN 0x20 0x20)) }
+/// ensures low { HasLowLanes (T.number result) }
+/// ```
+#[inline(always)]
+pub fn with_case_bits<T: Word<LEN>, const LEN: usize>(text: T) -> T {
+    text.or(T::splat(0x20))
+}
+
+/// Whether no character's lane is marked. A NUL's lane may be.
+///
+/// # Contract
+///
+/// ```text
+/// requires { HasLowLanes (T.number text) }
+/// ensures { result ≡ (bit_and (T.number marks) (bit_and (T.number text + word (first_then LEN NOT_NUL NOT_NUL)) (word (first_then LEN 0x80 0x80))) == word (first_then LEN 0 0)) }
+/// ```
+#[inline(always)]
+pub fn no_character_marked<T: Word<LEN>, const LEN: usize>(marks: T, text: T) -> bool {
+    marks.and(present(text)).equals(T::splat(0))
+}
+
+/// Whether no lane is marked.
+///
+/// # Contract
+///
+/// ```text
+/// ensures { result ≡ (bit_and (T.number marks) (word (first_then LEN 0x80 0x80)) == word (first_then LEN 0 0)) }
+/// ```
+#[inline(always)]
+pub fn no_lane_marked<T: Word<LEN>, const LEN: usize>(marks: T) -> bool {
+    marks.and(T::splat(0x80)).equals(T::splat(0))
+}

@@ -1,0 +1,206 @@
+//! Padded bytes of any length, a text and then NULs: what `tinystr` calls. `width_of` tells the narrowest words that take
+//! them, and each call here hands them to these: to `Aligned4`, `Aligned8` and `Aligned16` of `int_ops` up to 16 bytes, and
+//! past them to the module below that is named for what it does.
+
+mod code_units;
+mod concatenation;
+mod copying;
+mod equality;
+mod order;
+mod padding;
+mod replacing;
+mod words;
+
+use crate::words::decimal::decimal_fits;
+use crate::words::int_ops::{Aligned4, Aligned8, Aligned16};
+use crate::words::{Case, Question};
+pub use code_units::{lossy, low_bytes, read_all};
+use concatenation::{concat_in_memory, concat_in_vectors, concat_in_word, fit_vectors};
+pub use copying::{cut, resize};
+pub use order::{compare, number};
+
+/// The words that take padded bytes: the narrowest that holds all, since it is loaded and asked in the fewest steps.
+#[derive(Clone, Copy)]
+pub enum Width {
+    /// One of 32 bits.
+    Four,
+    /// One of 64 bits, the widest that a register holds.
+    Eight,
+    /// One of 128 bits, the widest integer.
+    Sixteen,
+    /// As many of 128 bits as there are.
+    Many,
+}
+
+/// The words that take so many bytes. The number is known at compile time, and no test of it is left.
+///
+/// # Contract
+///
+/// ```text
+/// ensures { IsWidthOf result len }
+/// ```
+#[inline(always)]
+pub fn width_of(len: usize) -> Width {
+    if len <= 4 {
+        Width::Four
+    } else if len <= 8 {
+        Width::Eight
+    } else if len <= 16 {
+        Width::Sixteen
+    } else {
+        Width::Many
+    }
+}
+
+/// Whether the bytes are a text and then NULs.
+///
+/// # Contract
+///
+/// ```text
+/// ensures { IsTrue result ↔ IsPaddedText bytes.now N }
+/// ```
+#[inline(always)]
+pub fn is_padded<const N: usize>(bytes: &[u8; N]) -> bool {
+    match width_of(N) {
+        Width::Four => Aligned4::try_from_padded(&bytes[..]).is_some(),
+        Width::Eight => Aligned8::try_from_padded(&bytes[..]).is_some(),
+        Width::Sixteen => Aligned16::try_from_padded(&bytes[..]).is_some(),
+        Width::Many => padding::is_padded(&bytes[..]),
+    }
+}
+
+/// The decimal text of a number as padded bytes, or its last `N` digits where it has more.
+///
+/// # Contract
+///
+/// ```text
+/// ensures ok { IsOk result ↔ (length (decimal number) ≤ N) }
+/// ensures digits { IfOk result (λ bytes. IsPaddedText bytes N × (text_of bytes ≡ decimal number)) }
+/// ensures last_digits { IfErr result (λ bytes. IsPaddedText bytes N × (text_of bytes ≡ last N (decimal number))) }
+/// ```
+#[inline(always)]
+pub fn decimal<const N: usize>(number: u32) -> Result<[u8; N], [u8; N]> {
+    let fits = decimal_fits(number, N);
+    match width_of(N) {
+        // 5 to 8 digits, made at once
+        Width::Eight => {
+            let digits = cut(&Aligned8::from_number(number, N).to_bytes());
+            if fits { Ok(digits) } else { Err(digits) }
+        }
+        // of others, two at a time
+        _ if fits => Ok(cut(&Aligned16::from_decimal(number).to_bytes())),
+        _ => Err(cut(&Aligned16::from_last_digits(number, N).to_bytes())),
+    }
+}
+
+/// The length of the text.
+///
+/// # Contract
+///
+/// ```text
+/// requires { IsPaddedText bytes.now N }
+/// ensures { result ≡ length (text_of bytes.now) }
+/// ```
+#[inline(always)]
+pub fn len<const N: usize>(bytes: &[u8; N]) -> usize {
+    match width_of(N) {
+        Width::Four => Aligned4::from_ascii_bytes(bytes).len(),
+        Width::Eight => Aligned8::from_ascii_bytes(bytes).len(),
+        Width::Sixteen | Width::Many => words::len(bytes),
+    }
+}
+
+/// Whether two texts are one.
+///
+/// # Contract
+///
+/// ```text
+/// requires left { IsPaddedText left.now N }
+/// requires right { IsPaddedText right.now N }
+/// ensures { result ≡ bytes_eq (text_of left.now) (text_of right.now) }
+/// ```
+#[inline(always)]
+pub fn equals<const N: usize>(left: &[u8; N], right: &[u8; N]) -> bool {
+    match width_of(N) {
+        Width::Four => Aligned4::from_ascii_bytes(left).equals(&Aligned4::from_ascii_bytes(right)),
+        Width::Eight => Aligned8::from_ascii_bytes(left).equals(&Aligned8::from_ascii_bytes(right)),
+        // 9 to 15 bytes, which no vector loads
+        Width::Sixteen if N < 16 => Aligned16::from_ascii_bytes(left).equals(
+            &Aligned16::from_ascii_bytes(right),
+        ),
+        // vectors of sixteen bytes
+        Width::Sixteen | Width::Many => equality::equal(&left[..], &right[..]),
+    }
+}
+
+/// The answer to a question about the text.
+///
+/// # Contract
+///
+/// ```text
+/// requires { IsPaddedText bytes.now N }
+/// ensures { result ≡ ask_question question (text_of bytes.now) }
+/// ```
+#[inline(always)]
+pub fn ask<const N: usize>(bytes: &[u8; N], question: Question) -> bool {
+    match width_of(N) {
+        Width::Four => Aligned4::from_ascii_bytes(bytes).ask(question),
+        Width::Eight => Aligned8::from_ascii_bytes(bytes).ask(question),
+        Width::Sixteen | Width::Many => words::ask(bytes, question),
+    }
+}
+
+/// Changes the case of the text in place.
+///
+/// # Contract
+///
+/// ```text
+/// requires { IsPaddedText bytes.old N }
+/// ensures { bytes.new ≡ pad (in_case case (text_of bytes.old)) N }
+/// ```
+#[inline(always)]
+pub fn put_in_case<const N: usize>(bytes: &mut [u8; N], case: Case) {
+    match width_of(N) {
+        Width::Four => {
+            let word = Aligned4::from_ascii_bytes(bytes).in_case(case);
+            bytes.copy_from_slice(&word[..N]);
+        }
+        Width::Eight => {
+            let word = Aligned8::from_ascii_bytes(bytes).in_case(case);
+            bytes.copy_from_slice(&word[..N]);
+        }
+        Width::Sixteen | Width::Many => words::put_in_case(bytes, case),
+    }
+}
+
+/// The first `Q` bytes of the two texts joined. Which way is taken is known at compile time, but for whether the first text
+/// fills the result.
+///
+/// # Contract
+///
+/// ```text
+/// requires front { IsPaddedText front.now N }
+/// requires back { IsPaddedText back.now M }
+/// ensures padded { IsPaddedText result Q }
+/// ensures text { text_of result ≡ take Q (text_of front.now ++ text_of back.now) }
+/// ```
+#[inline(always)]
+pub fn concat<const N: usize, const M: usize, const Q: usize>(
+    front: &[u8; N],
+    back: &[u8; M],
+) -> [u8; Q] {
+    let first = &front[..N.min(Q)];
+    let second = &back[..M.min(Q)];
+    match width_of(Q) {
+        // short arrays to more than 8 bytes, as `concat::<8, 16>` of a text of at most 8
+        Width::Sixteen | Width::Many if fit_vectors(first.len(), second.len()) => {
+            concat_in_vectors(first, second)
+        }
+        // a first text that fills the result is copied as it is
+        _ if Q > 0 && Q <= N && front[Q - 1] != 0 => cut(front),
+        // to at most 8 bytes, as `concat::<4, 8>`
+        Width::Four | Width::Eight => concat_in_word(first, second),
+        // a long array, as `concat::<64, 128>`
+        Width::Sixteen | Width::Many => concat_in_memory(*front, len(front), back),
+    }
+}

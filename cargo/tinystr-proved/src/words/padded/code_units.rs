@@ -1,0 +1,180 @@
+//! Units read into bytes.
+
+use super::replacing::lossy_word;
+use crate::words::CodeUnit;
+
+// The byte of a character, or the replacement.
+// Proved:
+//     ensures { result ≡ lossy_byte replacement (U.number unit) }
+#[inline(always)]
+fn byte_or<U: CodeUnit>(unit: U, replacement: u8) -> u8 {
+    if unit.is_character() {
+        unit.low_byte()
+    } else {
+        replacement
+    }
+}
+
+// Reads `K` code units into the bytes at the same places, with the replacement for each that isn't a character, and
+// tells whether there is one. There is no early exit, so that the compiler can take all code units at once.
+// Proved:
+//     requires inside { at + K ≤ length units.now }
+//     requires room { length units.now ≤ length bytes.old }
+//     ensures read { IsReadPiece result bytes.old bytes.new (map U.number units.now) replacement at (at + K) }
+//     ensures len { length bytes.new ≡ length bytes.old }
+#[inline(always)]
+fn read_piece<U: CodeUnit, const K: usize>(
+    bytes: &mut [u8],
+    units: &[U],
+    replacement: u8,
+    at: usize,
+) -> bool {
+    let mut is_bad = false;
+    for i in at..at + K {
+        let unit = units[i];
+        is_bad |= !unit.is_character();
+        bytes[i] = byte_or(unit, replacement);
+    }
+    is_bad
+}
+
+// Two pieces, which may overlap, are all code units.
+// Proved:
+//     requires least { K ≤ length units.now }
+//     requires most { length units.now ≤ 2 * K }
+//     requires room { length units.now ≤ length bytes.old }
+//     ensures read { IsReadPiece result bytes.old bytes.new (map U.number units.now) replacement 0 (length units.now) }
+//     ensures len { length bytes.new ≡ length bytes.old }
+#[inline(always)]
+fn read_pair<U: CodeUnit, const K: usize>(bytes: &mut [u8], units: &[U], replacement: u8) -> bool {
+    let is_bad = read_piece::<U, K>(bytes, units, replacement, 0);
+    is_bad | read_piece::<U, K>(bytes, units, replacement, units.len() - K)
+}
+
+// Pieces of 32 code units, the last of which may overlap the one before it.
+// Proved:
+//     requires least { 32 ≤ length units.now }
+//     requires room { length units.now ≤ length bytes.old }
+//     ensures read { IsReadPiece result bytes.old bytes.new (map U.number units.now) replacement 0 (length units.now) }
+//     ensures len { length bytes.new ≡ length bytes.old }
+#[inline(always)]
+fn read_many<U: CodeUnit>(bytes: &mut [u8], units: &[U], replacement: u8) -> bool {
+    let last = units.len() - 32;
+    let mut is_bad = false;
+    let mut at = 0;
+    while at < last {
+        is_bad |= read_piece::<U, 32>(bytes, units, replacement, at);
+        at += 32;
+    }
+    is_bad | read_piece::<U, 32>(bytes, units, replacement, last)
+}
+
+/// Reads all code units, by pieces as large as they and the bytes allow, with the replacement for each that isn't a
+/// character, and tells whether there is one.
+///
+/// # Contract
+///
+/// ```text
+/// requires room { length units.now ≤ length bytes.old }
+/// ensures read { IsReadPiece result bytes.old bytes.new (map U.number units.now) replacement 0 (length units.now) }
+/// ensures len { length bytes.new ≡ length bytes.old }
+/// ```
+#[inline(always)]
+pub fn read_all<U: CodeUnit>(bytes: &mut [u8], units: &[U], replacement: u8) -> bool {
+    // The room is known at compile time: no code is left of what it has no place for.
+    let room = bytes.len();
+    let len = units.len();
+    if room >= 32 && len >= 32 {
+        read_many(bytes, units, replacement)
+    } else if room >= 16 && len >= 16 {
+        read_pair::<U, 16>(bytes, units, replacement)
+    } else if room >= 8 && len >= 8 {
+        read_pair::<U, 8>(bytes, units, replacement)
+    } else if room >= 4 && len >= 4 {
+        read_pair::<U, 4>(bytes, units, replacement)
+    } else if len >= 2 {
+        read_pair::<U, 2>(bytes, units, replacement)
+    } else {
+        len == 1 && read_pair::<U, 1>(bytes, units, replacement)
+    }
+}
+
+// The low bytes of all code units, eight at a time. The pieces end at 7, 15 and so on, where the compiler cuts a
+// `Result` of a text and an error of two numbers, so that each stays in a register.
+// Proved:
+//     requires least { 8 ≤ length units.now }
+//     requires len { length bytes.old ≡ length units.now }
+//     ensures { bytes.new ≡ map (λ unit. U.number unit % 256) units.now }
+#[inline(always)]
+fn put_low_bytes<U: CodeUnit>(bytes: &mut [u8], units: &[U]) {
+    let len = units.len();
+    let mut start = 0;
+    let mut end = 7;
+    while end < len {
+        let eight = U::eight_low_bytes(&units[start..start + 8]);
+        bytes[start..end].copy_from_slice(&eight[..end - start]);
+        start = end;
+        end += 8;
+    }
+    let eight = U::eight_low_bytes(&units[len - 8..]);
+    bytes[start..len].copy_from_slice(&eight[8 - (len - start)..]);
+}
+
+/// The low bytes of `N` code units. Of bytes it is one copy of a known length, which the compiler takes apart wherever
+/// a `Result` is cut. Of 16-bit code units a loop over each would put the bytes together one by one.
+///
+/// # Contract
+///
+/// ```text
+/// requires { length units.now ≡ N }
+/// ensures { result ≡ map (λ unit. U.number unit % 256) units.now }
+/// ```
+#[inline(always)]
+pub fn low_bytes<U: CodeUnit, const N: usize>(units: &[U]) -> [u8; N] {
+    let mut bytes = [0; N];
+    if N >= 8 && U::as_bytes(units).is_none() {
+        put_low_bytes(&mut bytes[..], units);
+        return bytes;
+    }
+    for i in 0..N {
+        bytes[i] = units[i].low_byte();
+    }
+    bytes
+}
+
+// `N` code units in an array of their own, which the compiler keeps in registers.
+// Proved:
+//     requires { length units.now ≡ N }
+//     ensures { result ≡ map (lossy_byte replacement) (map U.number units.now) }
+#[inline(always)]
+fn lossy_chunk<U: CodeUnit, const N: usize>(units: &[U], replacement: u8) -> [u8; N] {
+    let mut bytes = [0; N];
+    read_piece::<U, N>(&mut bytes[..], units, replacement, 0);
+    bytes
+}
+
+/// The first `N` code units, with the replacement for each that isn't a character, and then NULs.
+///
+/// # Contract
+///
+/// ```text
+/// ensures { result ≡ pad (lossy (map U.number units.now) replacement N) N }
+/// ```
+#[inline(always)]
+pub fn lossy<U: CodeUnit, const N: usize>(units: &[U], replacement: u8) -> [u8; N] {
+    if units.len() >= N {
+        // past 8 bytes the loop of a known length is faster
+        let front = &units[..N];
+        return match U::as_bytes(front) {
+            Some(bytes) if N <= 8 => lossy_word(bytes, replacement),
+            _ => lossy_chunk(front, replacement),
+        };
+    }
+    match U::as_bytes(units) {
+        Some(bytes) if bytes.len() <= 16 => return lossy_word(bytes, replacement),
+        _ => {}
+    }
+    let mut bytes = [0; N];
+    read_all(&mut bytes[..], units, replacement);
+    bytes
+}

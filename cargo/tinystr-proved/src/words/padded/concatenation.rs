@@ -1,0 +1,172 @@
+//! The ways in which two texts are joined in an array, the first one of `padded::concat` that serves.
+
+use super::copying::{append, cut, put, resize};
+use super::words;
+use crate::words::int_ops::{Aligned8, Aligned16};
+use crate::simd::*;
+
+/// The bytes of a vector.
+const LANES: usize = 16;
+
+/// The bytes of the longest array that `concat_in_vectors` takes: past two vectors its shuffles take as long as the wait
+/// for what is stored.
+const LONGEST: usize = 2 * LANES;
+
+// What stands in the table before the lanes' own places: as many as `moved` looks back over.
+const NULS_IN_FRONT: usize = 3 * LANES;
+
+// The lane that each byte of `moved` takes. 128 takes none, and gives a NUL.
+static TAKEN_LANES: [u8; 7 * LANES] = [
+    128, 128, 128, 128, 128, 128, 128, 128, 128, 128, 128, 128, 128, 128, 128, 128, //
+    128, 128, 128, 128, 128, 128, 128, 128, 128, 128, 128, 128, 128, 128, 128, 128, //
+    128, 128, 128, 128, 128, 128, 128, 128, 128, 128, 128, 128, 128, 128, 128, 128, //
+    0, 1, 2, 3, 4, 5, 6, 7, 8, 9, 10, 11, 12, 13, 14, 15, //
+    128, 128, 128, 128, 128, 128, 128, 128, 128, 128, 128, 128, 128, 128, 128, 128, //
+    128, 128, 128, 128, 128, 128, 128, 128, 128, 128, 128, 128, 128, 128, 128, 128, //
+    128, 128, 128, 128, 128, 128, 128, 128, 128, 128, 128, 128, 128, 128, 128, 128, //
+];
+
+/// Whether `concat_in_vectors` takes arrays of so many bytes. Where it doesn't, another way gives the same text.
+///
+/// # Contract
+///
+/// ```text
+/// ensures front { IsTrue result → front_len ≤ LONGEST }
+/// ensures back { IsTrue result → back_len ≤ LONGEST }
+/// ```
+#[inline(always)]
+pub(crate) fn fit_vectors(front_len: usize, back_len: usize) -> bool {
+    cfg!(target_feature = "ssse3") && front_len <= LONGEST && back_len <= LONGEST
+}
+
+/// The first `Q` bytes of two texts joined, in one word of eight bytes, which a register holds: for results of at most
+/// eight.
+///
+/// # Contract
+///
+/// ```text
+/// requires result_fits { Q ≤ 8 }
+/// requires front { IsPadded front.now }
+/// requires front_fits { length front.now ≤ 8 }
+/// requires back { IsPadded back.now }
+/// requires back_fits { length back.now ≤ 8 }
+/// ensures padded { IsPaddedText result Q }
+/// ensures text { text_of result ≡ take Q (text_of front.now ++ text_of back.now) }
+/// ```
+#[inline(always)]
+pub(crate) fn concat_in_word<const Q: usize>(front: &[u8], back: &[u8]) -> [u8; Q] {
+    let text = Aligned8::from_padded(front).concat(&Aligned8::from_padded(back));
+    cut(&text.to_bytes())
+}
+
+/// The first `Q` bytes of two texts joined, each in at most two vectors: for results past eight bytes. A shuffle moves the
+/// second text to its place, and each vector is stored at a place known at compile time, since a load of bytes stored
+/// elsewhere would wait for them.
+///
+/// # Contract
+///
+/// ```text
+/// requires front { IsPadded front.now }
+/// requires front_fits { length front.now ≤ LONGEST }
+/// requires back { IsPadded back.now }
+/// requires back_fits { length back.now ≤ LONGEST }
+/// ensures padded { IsPaddedText result Q }
+/// ensures text { text_of result ≡ take Q (text_of front.now ++ text_of back.now) }
+/// ```
+#[inline(always)]
+pub(crate) fn concat_in_vectors<const Q: usize>(front: &[u8], back: &[u8]) -> [u8; Q] {
+    let front_len = words::len(front);
+    let mut joined = [0; Q];
+    let bytes = &mut joined[..];
+    let mut at = 0;
+    while at < Q {
+        let lanes = joined_from(front, front_len, back, at).to_array();
+        let count = (Q - at).min(LANES);
+        bytes[at..at + count].copy_from_slice(&lanes[..count]);
+        at += count;
+    }
+    joined
+}
+
+// The sixteen bytes from `at` on of two texts joined.
+// Proved:
+//     requires front { IsPadded front.now }
+//     requires front_fits { length front.now ≤ LONGEST }
+//     requires front_len { front_len ≡ length (text_of front.now) }
+//     requires back { IsPadded back.now }
+//     requires back_fits { length back.now ≤ LONGEST }
+//     ensures { result ≡ sixteen_from (text_of front.now ++ text_of back.now) at }
+#[inline(always)]
+fn joined_from(front: &[u8], front_len: usize, back: &[u8], at: usize) -> u8x16 {
+    let mut lanes = lanes_from(front, at);
+    // the second text's first vector ends at most one behind the longest first text
+    if at < LONGEST + LANES {
+        lanes = lanes | moved(lanes_from(back, 0), NULS_IN_FRONT + at - front_len);
+    }
+    // and its second stands behind its first
+    if 0 < at && at < 2 * LONGEST {
+        let start = NULS_IN_FRONT - LANES + at - front_len;
+        lanes = lanes | moved(lanes_from(back, LANES), start);
+    }
+    lanes
+}
+
+// Sixteen bytes of a text from `at` on, with NULs where it has ended.
+// Proved:
+//     requires { IsPadded bytes.now }
+//     ensures { result ≡ sixteen_from (text_of bytes.now) at }
+#[inline(always)]
+fn lanes_from(bytes: &[u8], at: usize) -> u8x16 {
+    let start = at.min(bytes.len());
+    let count = (bytes.len() - start).min(LANES);
+    Aligned16::from_padded(&bytes[start..start + count]).to_lanes()
+}
+
+// Of `NULS_IN_FRONT` NULs, the lanes and then NULs, the sixteen bytes from `start` on.
+// Proved:
+//     requires len { length lanes ≡ 16 }
+//     requires start { start ≤ 6 * LANES }
+//     ensures { result ≡ sixteen_from (replicate NULS_IN_FRONT 0 ++ lanes) start }
+#[inline(always)]
+fn moved(lanes: u8x16, start: usize) -> u8x16 {
+    lanes.swizzle_dyn(u8x16::from_slice(&TAKEN_LANES[start..]))
+}
+
+/// The first `Q` bytes of the two texts joined, the second stored behind the first: for an array of more than `LONGEST`
+/// bytes.
+///
+/// # Contract
+///
+/// ```text
+/// requires front { IsPaddedText front N }
+/// requires front_len { front_len ≡ length (text_of front) }
+/// requires back { IsPaddedText back.now M }
+/// ensures padded { IsPaddedText result Q }
+/// ensures text { text_of result ≡ take Q (text_of front.entry ++ text_of back.now) }
+/// ```
+#[inline(always)]
+pub(crate) fn concat_in_memory<const N: usize, const M: usize, const Q: usize>(
+    front: [u8; N],
+    front_len: usize,
+    back: &[u8; M],
+) -> [u8; Q] {
+    if N % 8 == 0 && front_len == N {
+        // both places are known at compile time, so that no byte goes through memory
+        let mut bytes = [0; Q];
+        put_both(&mut bytes[..], &front[..], &back[..]);
+        return bytes;
+    }
+    let mut bytes = resize::<Q>(&front[..]);
+    append(&mut bytes[..], front_len.min(Q), &back[..]);
+    bytes
+}
+
+// Copies the bytes of one and then of another, as far as there is room.
+// Proved:
+//     ensures { bytes.new ≡ take (length bytes.old) (front.now ++ back.now) ++ drop (length (front.now ++ back.now)) bytes.old }
+#[inline(always)]
+fn put_both(bytes: &mut [u8], front: &[u8], back: &[u8]) {
+    put(bytes, front);
+    let end = front.len().min(bytes.len());
+    put(&mut bytes[end..], back);
+}

@@ -1,0 +1,78 @@
+//! Bytes copied into arrays, also behind a text. `put` and `append`, and with them `resize` and `cut`, copy the same. They
+//! differ by what the compiler makes of them.
+
+/// Copies the bytes that both have, eight at a time: where their number is known at compile time they go through
+/// registers, and a copy of all at once would keep the value in memory.
+///
+/// # Contract
+///
+/// ```text
+/// ensures { bytes.new ≡ take (length bytes.old) src.now ++ drop (length src.now) bytes.old }
+/// ```
+#[inline(always)]
+pub(crate) fn put(bytes: &mut [u8], src: &[u8]) {
+    let len = bytes.len().min(src.len());
+    let mut at = 0;
+    while len - at >= 8 {
+        bytes[at..at + 8].copy_from_slice(&src[at..at + 8]);
+        at += 8;
+    }
+    bytes[at..len].copy_from_slice(&src[at..len]);
+}
+
+/// The first `M` bytes, and NULs after them where there are fewer, eight at a time: for bytes in memory. `cut` copies
+/// those of a word.
+///
+/// # Contract
+///
+/// ```text
+/// ensures bytes { result ≡ pad (take M bytes.now) M }
+/// ensures padded { IsPadded bytes.now → IsPaddedText result M }
+/// ensures text { IsPadded bytes.now → text_of result ≡ take M (text_of bytes.now) }
+/// ```
+#[inline(always)]
+pub fn resize<const M: usize>(bytes: &[u8]) -> [u8; M] {
+    let mut resized = [0; M];
+    put(&mut resized[..], bytes);
+    resized
+}
+
+/// The first `M` bytes of a text, and NULs after them, by one copy: for bytes that a word has just given, in pieces, which
+/// the compiler takes apart as they were made. `resize` copies those in memory.
+///
+/// # Contract
+///
+/// ```text
+/// requires { IsPadded padded.now }
+/// ensures padded { IsPaddedText result M }
+/// ensures text { text_of result ≡ take M (text_of padded.now) }
+/// ```
+#[inline(always)]
+pub fn cut<const M: usize>(padded: &[u8]) -> [u8; M] {
+    let mut bytes = [0; M];
+    append(&mut bytes[..], 0, padded);
+    bytes
+}
+
+/// Appends as much of a padded text as fits. The place is known only at run time, and a copy of all at once is faster
+/// there than `put`.
+///
+/// # Contract
+///
+/// ```text
+/// requires padded { IsPadded bytes.old }
+/// requires at_end { len ≡ length (text_of bytes.old) }
+/// requires padded_text { IsPadded padded.now }
+/// ensures len { length bytes.new ≡ length bytes.old }
+/// ensures padded { IsPadded bytes.new }
+/// ensures text { text_of bytes.new ≡ take (length bytes.old) (text_of bytes.old ++ text_of padded.now) }
+/// ```
+#[inline(always)]
+pub(crate) fn append(bytes: &mut [u8], len: usize, padded: &[u8]) {
+    let room = bytes.len() - len;
+    if padded.len() <= room {
+        bytes[len..len + padded.len()].copy_from_slice(padded);
+    } else if room > 0 {
+        bytes[len..].copy_from_slice(&padded[..room]);
+    }
+}

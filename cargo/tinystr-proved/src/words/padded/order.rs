@@ -1,0 +1,44 @@
+//! The order of bytes, eight at a time.
+
+use crate::words::word::Word;
+use core::cmp::Ordering;
+
+/// The order of two lists of bytes that are equally long.
+///
+/// # Contract
+///
+/// ```text
+/// requires { length left.now ≡ length right.now }
+/// ensures { result ≡ slice_cmp nat_cmp left.now right.now }
+/// ```
+#[inline(always)]
+pub fn compare(left: &[u8], right: &[u8]) -> Ordering {
+    let mut left_rest = left;
+    let mut right_rest = right;
+    while left_rest.len() >= 8 {
+        let (a, left_more) = left_rest.split_at(8);
+        let (b, right_more) = right_rest.split_at(8);
+        let found = number(a).cmp(&number(b));
+        if found != Ordering::Equal {
+            return found;
+        }
+        left_rest = left_more;
+        right_rest = right_more;
+    }
+    number(left_rest).cmp(&number(right_rest))
+}
+
+/// The number that at most eight bytes spell with NULs behind them, the first the most significant.
+///
+/// # Contract
+///
+/// ```text
+/// requires { length bytes.now ≤ 8 }
+/// ensures { result ≡ from_be_bytes w64 (pad bytes.now 8) }
+/// ```
+#[inline(always)]
+pub fn number(bytes: &[u8]) -> u64 {
+    // `from_be_bytes` would be eight loads
+    let word: u64 = Word::<8>::load(bytes);
+    word.swap_bytes()
+}

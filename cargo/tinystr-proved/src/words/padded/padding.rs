@@ -1,0 +1,78 @@
+//! Whether bytes are a text and then NULs, sixteen at a time.
+
+use crate::words::word::Word;
+use crate::simd::*;
+
+/// Whether more than sixteen bytes are a text and then NULs. No sixteen bytes are loaded from a place inside another
+/// sixteen: behind a copy such a load would lie across two stores, and wait for both.
+///
+/// # Contract
+///
+/// ```text
+/// requires { 17 ≤ length bytes.now }
+/// ensures { IsTrue result ↔ IsPadded bytes.now }
+/// ```
+#[inline(always)]
+pub(crate) fn is_padded(bytes: &[u8]) -> bool {
+    let mut start = 0;
+    while bytes.len() - start >= 32 {
+        if !are_sixteen_padded(bytes, start) {
+            return false;
+        }
+        start += 16;
+    }
+    are_sixteen_padded(bytes, start) & are_sixteen_padded(bytes, start + 16)
+}
+
+// Whether sixteen bytes are below 128, and behind each NUL among them stands another. Bytes past the last are NULs.
+// Proved:
+//     requires { start ≤ length bytes.now }
+//     ensures { IsTrue result ↔ ArePaddedFrom bytes.now start 16 }
+#[inline(always)]
+fn are_sixteen_padded(bytes: &[u8], start: usize) -> bool {
+    let nuls = u8x16::splat(0);
+    let given = sixteen_at(bytes, start);
+    let following = sixteen_at(bytes, start + 16);
+    let next = given.shuffle(
+        following,
+        [1, 2, 3, 4, 5, 6, 7, 8, 9, 10, 11, 12, 13, 14, 15, 16],
+    );
+    let late = given.simd_eq(nuls).select(next, nuls);
+    let high = given & u8x16::splat(0x80);
+    (late | high) == nuls
+}
+
+// Sixteen bytes from `at` on, with NULs where they end.
+// Proved:
+//     ensures { result ≡ sixteen_from bytes.now at }
+#[inline(always)]
+fn sixteen_at(bytes: &[u8], at: usize) -> u8x16 {
+    let start = at.min(bytes.len());
+    if bytes.len() - start >= 16 {
+        u8x16::from_slice(&bytes[start..])
+    } else {
+        sixteen_of(&bytes[start..])
+    }
+}
+
+// At most sixteen bytes and then NULs.
+// Proved:
+//     requires { length bytes.now ≤ 16 }
+//     ensures { result ≡ pad bytes.now 16 }
+#[inline(always)]
+fn sixteen_of(bytes: &[u8]) -> u8x16 {
+    let (front, back) = bytes.split_at(bytes.len().min(8));
+    u64x2::from_array([eight_of(front), eight_of(back)]).to_le_bytes()
+}
+
+// At most eight bytes, the first lowest.
+// Proved:
+//     requires { length bytes.now ≤ 8 }
+//     ensures { result ≡ word bytes.now }
+#[inline(always)]
+fn eight_of(bytes: &[u8]) -> u64 {
+    let (front, back) = bytes.split_at(bytes.len().min(4));
+    let low = <u32 as Word<4>>::load(front);
+    let high = <u32 as Word<4>>::load(back);
+    u64::from(low) + (u64::from(high) << 32)
+}

@@ -1,0 +1,47 @@
+//! At most sixteen bytes in a vector, with a replacement for those that aren't characters. They are loaded in
+//! registers: a load of bytes that were stored in pieces would wait for them.
+
+use super::copying::resize;
+use crate::words::code_unit::CHARACTERS;
+use crate::words::word::{Word, lanes};
+use crate::simd::*;
+
+// Of sixteen lanes from a place on, those that are kept, and those that are cleared.
+static KEPT_LANES: [u8; 32] = [
+    255, 255, 255, 255, 255, 255, 255, 255, 255, 255, 255, 255, 255, 255, 255, 255, //
+    0, 0, 0, 0, 0, 0, 0, 0, 0, 0, 0, 0, 0, 0, 0, 0, //
+];
+
+/// At most sixteen bytes, with the replacement for each that isn't a character, and then NULs.
+///
+/// # Contract
+///
+/// ```text
+/// requires one_word { length bytes.now ≤ 16 }
+/// requires fits { length bytes.now ≤ N }
+/// ensures { result ≡ pad (map (lossy_byte replacement) bytes.now) N }
+/// ```
+#[inline(always)]
+pub(crate) fn lossy_word<const N: usize>(bytes: &[u8], replacement: u8) -> [u8; N] {
+    resize(&lossy_lanes(bytes, replacement).to_array()[..])
+}
+
+// The same in a vector.
+// Proved:
+//     requires { length bytes.now ≤ 16 }
+//     ensures { result ≡ pad (map (lossy_byte replacement) bytes.now) 16 }
+#[inline(always)]
+fn lossy_lanes(bytes: &[u8], replacement: u8) -> u8x16 {
+    let given = lanes(<u128 as Word<16>>::load(bytes));
+    let are_characters = (given - u8x16::splat(1)).simd_lt(u8x16::splat(CHARACTERS));
+    are_characters.select(given, replacements(replacement, bytes.len()))
+}
+
+// So many replacements, and then NULs.
+// Proved:
+//     requires { count ≤ 16 }
+//     ensures { result ≡ pad (replicate count replacement) 16 }
+#[inline(always)]
+fn replacements(replacement: u8, count: usize) -> u8x16 {
+    u8x16::splat(replacement) & u8x16::from_slice(&KEPT_LANES[16 - count..])
+}

@@ -1,0 +1,79 @@
+//! Padded bytes of any length, by words of sixteen.
+
+use crate::words::int_ops::Aligned16;
+use crate::words::{Case, Question};
+
+// The first sixteen bytes as a word, and the bytes behind them.
+// Proved:
+//     requires { IsPadded bytes.now }
+//     ensures { MatchOption result (length bytes.now < 16) (λ parts. IsFirstWord bytes.now parts.0 parts.1.now) }
+#[inline(always)]
+fn split_word(bytes: &[u8]) -> Option<(Aligned16, &[u8])> {
+    let (word, rest) = bytes.split_first_chunk::<16>()?;
+    Some((Aligned16::from_ascii_bytes(word), rest))
+}
+
+/// The length of the text in bytes: the sum over its words.
+///
+/// # Contract
+///
+/// ```text
+/// requires { IsPadded bytes.now }
+/// ensures { result ≡ length (text_of bytes.now) }
+/// ```
+#[inline(always)]
+pub(crate) fn len(bytes: &[u8]) -> usize {
+    let mut rest = bytes;
+    let mut sum = 0;
+    while let Some((word, after)) = split_word(rest) {
+        sum += word.len();
+        rest = after;
+    }
+    sum + Aligned16::from_padded(rest).len()
+}
+
+/// Whether each word passes, the later ones without a first character.
+///
+/// # Contract
+///
+/// ```text
+/// requires { IsPadded bytes.now }
+/// ensures { result ≡ ask_question question (text_of bytes.now) }
+/// ```
+#[inline(always)]
+pub(crate) fn ask(bytes: &[u8], question: Question) -> bool {
+    let mut rest = bytes;
+    let mut asked = question;
+    while let Some((word, after)) = split_word(rest) {
+        if !word.ask(asked) {
+            return false;
+        }
+        rest = after;
+        asked = question.of_later_words();
+    }
+    Aligned16::from_padded(rest).ask(asked)
+}
+
+/// Changes each word in place, the later ones without a first character. The NULs behind the text stay.
+///
+/// # Contract
+///
+/// ```text
+/// requires { IsPadded bytes.old }
+/// ensures { bytes.new ≡ pad (in_case case (text_of bytes.old)) (length bytes.old) }
+/// ```
+#[inline(always)]
+pub(crate) fn put_in_case(bytes: &mut [u8], case: Case) {
+    let mut start = 0;
+    let mut applied = case;
+    while bytes.len() - start >= 16 {
+        let end = start + 16;
+        let word = Aligned16::from_padded(&bytes[start..end]).in_case(applied);
+        bytes[start..end].copy_from_slice(&word);
+        start = end;
+        applied = case.of_later_words();
+    }
+    let count = bytes.len() - start;
+    let word = Aligned16::from_padded(&bytes[start..]).in_case(applied);
+    bytes[start..].copy_from_slice(&word[..count]);
+}
