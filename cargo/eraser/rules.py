@@ -42,9 +42,15 @@ OF_FEATURE = "what allocates is feature `alloc`"
 OF_ALLOCATOR = "Rust's vectors and maps name no allocator"
 WANT_OF_MEMORY = "want of memory ends a program in Rust, and is no error"
 NOT_PROVED_HERE = "in Rust nothing proves a condition at a call"
+AT_ROOT = "so that the documentation tells of it at its root"
 NAMED_AS_STR = "`Deref` to `str` has this name, and the original's callers use that"
 
 IN_FILE = {
+    "tinystr/lib.rt": [
+        Rule("pub use ascii::", "#[doc(inline)]\npub use ascii::", AT_ROOT),
+        Rule("pub use error::", "#[doc(inline)]\npub use error::", AT_ROOT),
+        Rule("pub use unvalidated::", "#[doc(inline)]\npub use unvalidated::", AT_ROOT),
+    ],
     "tinystr/error.rt": [Rule("pub enum ParseError", "#[non_exhaustive]\npub enum ParseError", "as in the original")],
     "tinystr/ascii.rt": [
         Rule("pub struct TinyAsciiStr", "#[repr(transparent)]\npub struct TinyAsciiStr", "as in the original"),
@@ -75,6 +81,13 @@ IN_FILE = {
         Rule("tag.find(", "tag.find_byte(", NAMED_AS_STR, 2),
         Rule("pub fn split(", "pub fn split_byte(", NAMED_AS_STR),
         Rule("tag.split(", "tag.split_byte(", NAMED_AS_STR, 2),
+    ],
+    "subtags/lib.rt": [
+        Rule("pub use error::", "#[doc(inline)]\npub use error::", AT_ROOT),
+        Rule("pub use lang_id::", "#[doc(inline)]\npub use lang_id::", AT_ROOT),
+        Rule("pub use language::", "#[doc(inline)]\npub use language::", AT_ROOT),
+        Rule("pub use region::", "#[doc(inline)]\npub use region::", AT_ROOT),
+        Rule("pub use script::", "#[doc(inline)]\npub use script::", AT_ROOT),
     ],
     "subtags/places.rt": [
         Rule(".find(b'-')", ".find_byte(b'-')", NAMED_AS_STR),

@@ -44,7 +44,10 @@ pub mod forms;
 pub mod ule;
 pub mod unvalidated;
 
+#[doc(inline)]
 pub use ascii::{Parts, TinyAsciiStr, TinyStr4, TinyStr8, TinyStr16};
+#[doc(inline)]
 pub use error::ParseError;
 pub use crate::words::{Case, Question};
+#[doc(inline)]
 pub use unvalidated::UnvalidatedTinyAsciiStr;
