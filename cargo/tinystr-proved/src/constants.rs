@@ -81,17 +81,18 @@ impl<const N: usize> TinyAsciiStr<N> {
 /// assert_eq!(CITY, "New York");
 /// ```
 ///
-/// ```compile_fail
-/// let euro = tinystr::tinystr!(2, "eur");
+/// ```compile_fail,E0080
+/// if false {
+///     let euro = tinystr::tinystr!(2, "eur");
+/// }
 /// ```
 #[macro_export]
 macro_rules! tinystr {
-    ($n:literal, $s:literal) => {
-        const {
-            match $crate::TinyAsciiStr::<$n>::try_from_utf8_const($s.as_bytes()) {
-                Ok(text) => text,
-                Err(_) => panic!(concat!("no text of capacity ", $n, ": ", $s)),
-            }
-        }
-    };
+    ($n:literal, $s:literal) => {{
+        const TEXT: $crate::TinyAsciiStr<$n> = match $crate::TinyAsciiStr::try_from_utf8_const($s.as_bytes()) {
+            Ok(text) => text,
+            Err(_) => panic!(concat!("no text of capacity ", $n, ": ", $s)),
+        };
+        TEXT
+    }};
 }
