@@ -4,6 +4,25 @@ use crate::subtags::language::LanguageKind;
 use crate::subtags::region::RegionKind;
 use crate::subtags::script::ScriptKind;
 
+/// A kind of a caller's own doesn't compile:
+///
+/// ```compile_fail,E0277
+/// use tinystr::TinyAsciiStr;
+/// use tinystr::subtags::LangIdError;
+/// use tinystr::subtags::subtag::SubtagKind;
+///
+/// struct Own;
+///
+/// impl SubtagKind<2> for Own {
+///     fn read(code_units: &[u8]) -> Option<TinyAsciiStr<2>> {
+///         TinyAsciiStr::try_from_utf8(code_units).ok()
+///     }
+///
+///     fn refusal() -> LangIdError {
+///         LangIdError::InvalidSubtag
+///     }
+/// }
+/// ```
 pub trait Sealed {}
 
 impl Sealed for LanguageKind {}

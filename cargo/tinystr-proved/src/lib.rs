@@ -23,6 +23,11 @@
 #[cfg(feature = "alloc")]
 extern crate alloc;
 
+// what its page shows is tested
+#[cfg(doctest)]
+#[doc = include_str!("../README.md")]
+struct Readme;
+
 mod constants;
 #[doc = include_str!("../DEFINITIONS.md")]
 #[cfg(doc)]
