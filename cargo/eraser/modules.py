@@ -1,6 +1,7 @@
 """Where the crates stand in the one that is made, and what its functions are called by."""
 
 import re
+from collections import Counter
 
 from eraser import Stopped
 from eraser.text import TOKEN
@@ -11,7 +12,7 @@ MODULES = {"tinystr_words": "words", "tinystr": "", "subtags": "subtags", "tinys
 # Crates whose functions no caller reaches: the module is private, so what they require is met by the proved callers.
 PRIVATE = {"tinystr_words"}
 
-# Functions whose bodies Rust can run at compile time, by file.
+# Functions whose bodies Rust can run at compile time, by file: each as often as it stands there.
 CONST = {
     "tinystr/ascii.rt": ["default() -> Self"],
     "tinystr/ascii/views.rt": ["is_empty(", "get_byte(", "all_bytes("],
@@ -19,6 +20,12 @@ CONST = {
     "tinystr/forms.rt": ["to_bytes(&self) -> [u8; N]"],
     "tinystr/ule.rt": ["niche_bit_pattern("],
     "tinystr/unvalidated.rt": ["default() -> Self", "from_utf8_unchecked(", "to_unvalidated("],
+    "subtags/lang_id.rt": ["to_text("],
+    "subtags/subtag.rt": ["to_text("],
+    "tinystr_packed/map.rt": ["len(", "is_empty(", "iter(", "keys(", "values("],
+    "tinystr_packed/sorted.rt": ["table("],
+    "tinystr_packed/table.rt": ["len(", "is_empty(", "iter("],
+    "tinystr_words/question.rt": ["of_later_words(", "of_later_words("],
 }
 
 # Calls of the one `unsafe fn`, by file: their number. Each stands where the proof has shown its condition, or in an example.
@@ -62,10 +69,10 @@ def path_of(crate):
 
 def with_signatures(text, file, is_private):
     """Functions as Rust's callers have them: `const` and `unsafe` where they can or must be, and `#[must_use]`."""
-    for function in CONST.get(file, []):
+    for function, times in Counter(CONST.get(file, [])).items():
         text, count = re.subn(rf"pub (unsafe )?fn {re.escape(function)}", lambda it: it[0].replace("pub ", "pub const "), text)
-        if count != 1:
-            raise Stopped(f"{file}: `pub fn {function}` stands {count} times, and not once")
+        if count != times:
+            raise Stopped(f"{file}: `pub fn {function}` stands {count} times, and not {times}")
     text, count = UNSAFE_CALL.subn(r"unsafe { TinyAsciiStr::from_utf8_unchecked\1 }", text)
     if count != UNSAFE_CALLS.get(file, 0):
         raise Stopped(f"{file}: {count} calls of `from_utf8_unchecked`, and not {UNSAFE_CALLS.get(file, 0)}")

@@ -100,7 +100,7 @@ impl<'a, const N: usize, const M: usize> PackedMap<'a, N, M> {
     /// ensures rising { IsRising (keys_of self.now) }
     /// ```
     #[must_use]
-    pub fn len(&self) -> usize {
+    pub const fn len(&self) -> usize {
         self.values.len()
     }
 
@@ -112,7 +112,7 @@ impl<'a, const N: usize, const M: usize> PackedMap<'a, N, M> {
     /// ensures { IsTrue result ↔ (self.now ≡ []) }
     /// ```
     #[must_use]
-    pub fn is_empty(&self) -> bool {
+    pub const fn is_empty(&self) -> bool {
         self.len() == 0
     }
 
@@ -151,7 +151,7 @@ impl<'a, const N: usize, const M: usize> PackedMap<'a, N, M> {
     /// ensures { result.now ≡ keys_of self.now }
     /// ```
     #[must_use]
-    pub fn keys(&self) -> &SortedTable<'a, N> {
+    pub const fn keys(&self) -> &SortedTable<'a, N> {
         &self.keys
     }
 
@@ -163,7 +163,7 @@ impl<'a, const N: usize, const M: usize> PackedMap<'a, N, M> {
     /// ensures { result.now ≡ values_of self.now }
     /// ```
     #[must_use]
-    pub fn values(&self) -> &'a [[u8; M]] {
+    pub const fn values(&self) -> &'a [[u8; M]] {
         self.values
     }
 
@@ -177,7 +177,7 @@ impl<'a, const N: usize, const M: usize> PackedMap<'a, N, M> {
     /// ensures bound { length result < 2 ^ 64 }
     /// ```
     #[must_use]
-    pub fn iter(&self) -> Entries<'a, N, M> {
+    pub const fn iter(&self) -> Entries<'a, N, M> {
         Entries {
             keys: self.keys.table().iter(),
             values: self.values,

@@ -65,7 +65,7 @@ impl<'a, const N: usize> SortedTable<'a, N> {
     /// ensures rising { IsRising self.now }
     /// ```
     #[must_use]
-    pub fn table(&self) -> &Table<'a, N> {
+    pub const fn table(&self) -> &Table<'a, N> {
         &self.table
     }
 

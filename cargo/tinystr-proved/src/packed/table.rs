@@ -68,7 +68,7 @@ impl<'a, const N: usize> Table<'a, N> {
     /// ensures strict { All (λ t. IsStrictText t N) self.now }
     /// ```
     #[must_use]
-    pub fn len(&self) -> usize {
+    pub const fn len(&self) -> usize {
         self.records.len()
     }
 
@@ -80,7 +80,7 @@ impl<'a, const N: usize> Table<'a, N> {
     /// ensures { IsTrue result ↔ (self.now ≡ []) }
     /// ```
     #[must_use]
-    pub fn is_empty(&self) -> bool {
+    pub const fn is_empty(&self) -> bool {
         self.records.is_empty()
     }
 
@@ -186,7 +186,7 @@ impl<'a, const N: usize> Table<'a, N> {
     /// ensures bound { length result < 2 ^ 64 }
     /// ```
     #[must_use]
-    pub fn iter(&self) -> Texts<'a, N> {
+    pub const fn iter(&self) -> Texts<'a, N> {
         Texts {
             records: self.records,
         }

@@ -98,7 +98,7 @@ impl LangId {
     /// ```
     #[inline]
     #[must_use]
-    pub fn to_text(&self) -> TinyAsciiStr<17> {
+    pub const fn to_text(&self) -> TinyAsciiStr<17> {
         self.text
     }
 

@@ -112,7 +112,7 @@ impl<K: SubtagKind<N>, const N: usize> Subtag<K, N> {
     /// ```
     #[inline]
     #[must_use]
-    pub fn to_text(&self) -> TinyAsciiStr<N> {
+    pub const fn to_text(&self) -> TinyAsciiStr<N> {
         self.text
     }
 }

@@ -38,7 +38,7 @@ impl Question {
     /// ensures { result ≡ later_question self }
     /// ```
     #[inline]
-    pub fn of_later_words(self) -> Question {
+    pub const fn of_later_words(self) -> Question {
         match self {
             Question::Titlecase => Question::Lowercase,
             Question::AlphabeticTitlecase => Question::AlphabeticLowercase,
@@ -71,7 +71,7 @@ impl Case {
     /// ensures { result ≡ later_case self }
     /// ```
     #[inline]
-    pub fn of_later_words(self) -> Case {
+    pub const fn of_later_words(self) -> Case {
         match self {
             Case::Title => Case::Lower,
             case => case,
