@@ -16,7 +16,7 @@
 //! out, and each contract stands in the comment of its function, in the words of [`definitions`].
 //!
 //! What is proved, what is only tested, and what is trusted, the crate's README tells. Written by hand are the vectors of
-//! stable Rust, constants, the traits of strings, and serde.
+//! stable Rust, constants, the traits of strings, the texts of errors, and serde.
 #![cfg_attr(not(test), no_std)]
 #![deny(unsafe_op_in_unsafe_fn)]
 
@@ -32,6 +32,7 @@ mod constants;
 #[doc = include_str!("../DEFINITIONS.md")]
 #[cfg(doc)]
 pub mod definitions {}
+mod errors;
 pub mod packed;
 mod sealed;
 #[cfg(feature = "serde")]

@@ -15,9 +15,8 @@ fn written() -> Result<Vec<u8>, Box<dyn Error>> {
 }
 
 /// The table of a file's bytes, or what is wrong with them.
-fn opened(bytes: &[u8]) -> Result<SortedTable<'_, 12>, String> {
-    let table = Table::new(bytes).map_err(|fault| format!("not packed records: {fault:?}"))?;
-    SortedTable::new(table).map_err(|fault| format!("record {} isn't above the one before it", fault.index))
+fn opened(bytes: &[u8]) -> Result<SortedTable<'_, 12>, Box<dyn Error>> {
+    Ok(SortedTable::new(Table::new(bytes)?)?)
 }
 
 fn main() -> Result<(), Box<dyn Error>> {
@@ -42,8 +41,9 @@ fn main() -> Result<(), Box<dyn Error>> {
 fn bytes_are_opened_or_refused() -> Result<(), Box<dyn Error>> {
     let bytes = written()?;
     assert_eq!(opened(&bytes)?.table().len(), 5);
-    assert_eq!(opened(&bytes[1..]).err(), Some("not packed records: Length { len: 59 }".into()));
+    let refused = |bytes: &[u8]| opened(bytes).err().map(|fault| fault.to_string());
+    assert_eq!(refused(&bytes[1..]), Some("59 bytes can't be divided into records".into()));
     let swapped = [&bytes[12..24], &bytes[..12]].concat();
-    assert_eq!(opened(&swapped).err(), Some("record 1 isn't above the one before it".into()));
+    assert_eq!(refused(&swapped), Some("record 1 isn't above the one before it".into()));
     Ok(())
 }

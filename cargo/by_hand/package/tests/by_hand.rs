@@ -4,8 +4,9 @@
 use std::borrow::Borrow;
 use std::collections::HashMap;
 use std::error::Error;
+use tinystr::packed::{PackedMap, SortedTable, Table};
 use tinystr::subtags::{LangId, Language};
-use tinystr::{ParseError, TinyAsciiStr, TinyStr8, tinystr};
+use tinystr::{ParseError, TinyAsciiStr, TinyStr8, UnvalidatedTinyAsciiStr, tinystr};
 
 fn read_alike<const N: usize>(units: &[u8]) {
     let numbers: Vec<u16> = units.iter().map(|unit| (*unit).into()).collect();
@@ -91,4 +92,28 @@ fn an_error_is_one_of_std() {
     assert_eq!(texts[0], "found string of larger length 5 when constructing string of length 3");
     assert_eq!(texts[1], "tinystr types do not support strings with null bytes");
     assert_eq!(texts[2], "attempted to construct TinyAsciiStr from a non-ASCII string");
+}
+
+fn told(error: impl Error) -> String {
+    error.to_string()
+}
+
+#[test]
+fn each_error_tells_what_is_wrong() {
+    let read = |bytes| TinyAsciiStr::<4>::read_bytes(bytes).map_err(told).unwrap_err();
+    assert_eq!(read(b"EUR"), "there are fewer than 4 bytes");
+    assert_eq!(read(b"G\0B\0"), "a byte other than NUL stands behind a NUL");
+    assert_eq!(read(b"caf\xe9"), "a byte is above 127");
+    let written = UnvalidatedTinyAsciiStr::from_utf8_unchecked(*b"\0GB").to_bytes().map_err(told);
+    assert_eq!(written, Err("the bytes aren't a text and then NULs".into()));
+    let table = |bytes| Table::<3>::new(bytes).map_err(told).map(|table| table.len());
+    assert_eq!(table(b"EURJP"), Err("5 bytes can't be divided into records".into()));
+    let fault = "record 1: attempted to construct TinyAsciiStr from a non-ASCII string";
+    assert_eq!(table(b"EURJP\xff"), Err(fault.into()));
+    let sorted = SortedTable::new(Table::<3>::new(b"CHFJPYEUR").unwrap()).map_err(told).map(|table| table.table().len());
+    assert_eq!(sorted, Err("record 2 isn't above the one before it".into()));
+    let map = |keys, values| PackedMap::<3, 1>::new(keys, values).map_err(told).map(|map| map.len());
+    assert_eq!(map(b"EU", &[2]), Err("keys: 2 bytes can't be divided into records".into()));
+    assert_eq!(map(b"JPYEUR", &[0, 2]), Err("keys: record 1 isn't above the one before it".into()));
+    assert_eq!(map(b"EURJPY", &[2]), Err("1 bytes aren't a value for each of 2 keys".into()));
 }

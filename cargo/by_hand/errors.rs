@@ -1,0 +1,60 @@
+//! The texts of the errors that the original doesn't have, and that each is an `Error` of std.
+
+use crate::forms::{BytesReadError, FormWriteError};
+use crate::packed::{MapError, NotRising};
+use crate::ule::UleError;
+use core::error::Error;
+use core::fmt::{Display, Formatter, Result};
+
+impl Display for BytesReadError {
+    fn fmt(&self, f: &mut Formatter<'_>) -> Result {
+        match self {
+            BytesReadError::Length { expected } => write!(f, "there are fewer than {expected} bytes"),
+            BytesReadError::Null => f.write_str("a byte other than NUL stands behind a NUL"),
+            BytesReadError::NonAscii => f.write_str("a byte is above 127"),
+        }
+    }
+}
+
+impl Error for BytesReadError {}
+
+impl Display for FormWriteError {
+    fn fmt(&self, f: &mut Formatter<'_>) -> Result {
+        match self {
+            FormWriteError::NotAscii => f.write_str("the bytes aren't a text and then NULs"),
+        }
+    }
+}
+
+impl Error for FormWriteError {}
+
+impl Display for UleError {
+    fn fmt(&self, f: &mut Formatter<'_>) -> Result {
+        match self {
+            UleError::Length { len } => write!(f, "{len} bytes can't be divided into records"),
+            UleError::Parse { index, fault } => write!(f, "record {index}: {fault}"),
+        }
+    }
+}
+
+impl Error for UleError {}
+
+impl Display for NotRising {
+    fn fmt(&self, f: &mut Formatter<'_>) -> Result {
+        write!(f, "record {} isn't above the one before it", self.index)
+    }
+}
+
+impl Error for NotRising {}
+
+impl Display for MapError {
+    fn fmt(&self, f: &mut Formatter<'_>) -> Result {
+        match self {
+            MapError::Keys(fault) => write!(f, "keys: {fault}"),
+            MapError::Order(fault) => write!(f, "keys: {fault}"),
+            MapError::Values { keys, len } => write!(f, "{len} bytes aren't a value for each of {keys} keys"),
+        }
+    }
+}
+
+impl Error for MapError {}
