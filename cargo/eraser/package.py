@@ -9,6 +9,7 @@ from eraser.examples import module_of_tests, with_doc_tests, without_examples
 from eraser.ghosts import without_ghosts
 from eraser.items import with_derives, without_items
 from eraser.modules import MODULES, PRIVATE, with_paths, with_signatures
+from eraser.names import stop_at_names_of_str
 from eraser.rules import Rules, stop_at_what_is_left
 from eraser.text import unmatched_bracket
 
@@ -73,6 +74,7 @@ class Package:
         text = with_signatures(text, file, is_private)
         text = without_examples(text, file, self.tests) if is_private else with_doc_tests(text, file)
         stop_at_what_is_left(text, file)
+        stop_at_names_of_str(text, file)
         return tidy(text)
 
 

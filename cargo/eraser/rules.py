@@ -32,7 +32,11 @@ EVERYWHERE = [
     Rule(r"use thiserror::Error;\n", "", "its texts are written out"),
     Rule(r"use std::simd::prelude::\*;", "use crate::simd::*;", "vectors of stable Rust"),
     Rule(r"Copy \+ Drop\b", "Copy", "what is `Copy` has no `Drop`"),
-    Rule(r"^ *crate::(?:\w+::)?laws::\w+\(\);\n", "", "a law's call brings a fact into a proof, and does nothing"),
+    Rule(
+        r"^(?:use crate::(?:\w+::)?laws;| *(?:\w+::)*laws::\w+\([\w., &]*\);)\n",
+        "",
+        "a law's call brings a fact into a proof, and does nothing",
+    ),
     Rule(r"^pub mod (?:laws|macros);\n", "", "files that are left out"),
     Rule(r'(tinystr!\(\d+, "[^"]*"\))(?:\?|\.unwrap\(\))', r"\1", "`tinystr!` gives the text, and refuses at compile time"),
     Rule(r"\bstd::", "core::", "the crate is `no_std`"),
