@@ -1,0 +1,96 @@
+"""The list of differences: what it says of files, of the text, and of what stands for each `requires`.
+
+An entry of the text is a line 'once: OLD' or 'N times: OLD', or 'N times in FILE: OLD', and below it '    becomes NEW' or
+'    goes'. What is new alone is 'once added in FILE: NEW', with no line below. `…` in OLD is any text without `;` or a brace
+of its own, and stands in NEW in the same order. Where OLD or NEW has more lines, each begins with eight spaces.
+"""
+
+import re
+from dataclasses import dataclass, field
+
+from texts import Unreadable, read
+
+ENTRY = re.compile(r"(?:once|(?P<count>\d+) times)(?P<added> added)?(?: in (?P<file>\S+))?: (?P<old>.*)")
+REQUIRES = re.compile(r"(?P<file>\S+\.rt): (?P<function>\w+) requires (?P<said>.*)")
+FILE = re.compile(r"(left out|by hand): (\S+)")
+PRIVATE = re.compile(r"private module: (\w+), of which callers have (.*)")
+STANDS = ("panics first with", "panics in its body at", "is unsafe")
+
+
+@dataclass
+class Entry:
+    """A difference: how often it is found and in which file, or in any; the tokens that stand there, and those made of
+    them; whether they stand in what is made alone; and its line in the list."""
+
+    line: int
+    count: int
+    file: str
+    is_added: bool
+    old: list
+    new: list
+    found: int = 0
+
+
+@dataclass
+class Stand:
+    """What stands for a `requires`: one of `STANDS`, and the text of the made function."""
+
+    line: int
+    kind: str
+    text: str
+
+
+@dataclass
+class Listed:
+    left_out: list = field(default_factory=list)
+    by_hand: list = field(default_factory=list)
+    entries: list = field(default_factory=list)
+    stands: dict = field(default_factory=dict)
+    private: dict = field(default_factory=dict)
+
+
+def tokens_of(text):
+    return read("the list", text).tokens
+
+
+def paragraphs(path):
+    """Lines with their numbers; those that eight spaces begin are part of the line above."""
+    found = []
+    for number, line in enumerate(path.read_text(encoding="utf-8").splitlines(), 1):
+        if line.startswith(" " * 8) and found:
+            found[-1][1] += "\n" + line.strip()
+        else:
+            found.append([number, line])
+    return found
+
+
+def read_list(path):
+    listed, open_entry, open_requires = Listed(), None, None
+    for number, line in paragraphs(path):
+        if entry := re.fullmatch(ENTRY.pattern, line, re.S):
+            open_entry = Entry(number, int(entry["count"] or 1), entry["file"] or "*", bool(entry["added"]), tokens_of(entry["old"]), [])
+            if open_entry.is_added:
+                listed.entries.append(open_entry)
+                open_entry = None
+        elif requires := REQUIRES.fullmatch(line):
+            open_requires = requires["file"], requires["function"], " ".join(tokens_of(requires["said"]))
+        elif file := FILE.fullmatch(line):
+            (listed.left_out if file[1] == "left out" else listed.by_hand).append(file[2])
+        elif private := PRIVATE.fullmatch(line):
+            listed.private[private[1]] = set(private[2].split(" and "))
+        elif line.startswith("    ") and open_entry:
+            becomes = line.strip()
+            if becomes != "goes" and not becomes.startswith("becomes "):
+                raise Unreadable(f"{path.name}:{number}: neither 'becomes' nor 'goes'")
+            open_entry.new = [] if becomes == "goes" else tokens_of(becomes.removeprefix("becomes "))
+            listed.entries.append(open_entry)
+            open_entry = None
+        elif line.startswith("    ") and open_requires:
+            kind = next((it for it in STANDS if line.strip().startswith(it)), None)
+            if kind is None:
+                raise Unreadable(f"{path.name}:{number}: it doesn't begin with one of: {', '.join(STANDS)}")
+            listed.stands.setdefault(open_requires, []).append(Stand(number, kind, line.strip().removeprefix(kind).strip()))
+            open_requires = None
+        elif open_entry or open_requires:
+            raise Unreadable(f"{path.name}:{number}: what becomes of the line above isn't said")
+    return listed

@@ -1,0 +1,64 @@
+"""Where the tokens of an entry stand in a text, and what becomes of them."""
+
+from difflib import SequenceMatcher
+
+HOLE = "…"
+
+
+def match(tokens, at, pattern):
+    """The place behind a pattern at a place, and what stands in its holes; None where it doesn't stand there."""
+    for number, wanted in enumerate(pattern):
+        if wanted == HOLE:
+            for end in hole_ends(tokens, at):
+                if rest := match(tokens, end, pattern[number + 1 :]):
+                    return rest[0], [tokens[at:end], *rest[1]]
+            return None
+        if tokens[at : at + 1] != [wanted]:
+            return None
+        at += 1
+    return at, []
+
+
+def hole_ends(tokens, at):
+    """Where a hole may end: in no bracket that opens in it, and before a brace, a semicolon or a bracket that closes."""
+    depth = 0
+    while at < len(tokens):
+        if depth == 0:
+            yield at
+        if tokens[at] in "{};" or depth == 0 and tokens[at] in ")]":
+            return
+        depth += (tokens[at] in "([") - (tokens[at] in ")]")
+        at += 1
+
+
+def replaced(text, entry):
+    """The tokens and their lines with each place of an entry turned; counts them in the entry."""
+    tokens, lines, at = [], [], 0
+    while at < len(text.tokens):
+        found = match(text.tokens, at, entry.old) if text.tokens[at] == entry.old[0] else None
+        if found is None:
+            tokens.append(text.tokens[at])
+            lines.append(text.lines[at])
+            at += 1
+            continue
+        end, holes = found
+        made = []
+        for token in entry.new:
+            made += holes.pop(0) if token == HOLE else [token]
+        tokens += made
+        lines += [text.lines[at]] * len(made)
+        entry.found += 1
+        at = end
+    text.tokens, text.lines = tokens, lines
+
+
+def differences(proved, made, most=8):
+    """What differs between two lists of tokens, in words, with what stands around it; None where nothing does."""
+    if proved.tokens == made.tokens:
+        return None
+    said = [f"{proved.name} and {made.name} differ in what isn't listed:"]
+    for kind, start, end, first, last in SequenceMatcher(None, proved.tokens, made.tokens, autojunk=False).get_opcodes():
+        if kind != "equal" and len(said) <= 3 * most:
+            around = lambda text, start, end: " ".join(text.tokens[max(start - 3, 0) : start] + [">>"] + text.tokens[start:end] + ["<<"] + text.tokens[end : end + 3])
+            said += [f"  line {proved.lines[min(start, len(proved.lines) - 1)]}", f"    {around(proved, start, end)}", f"    {around(made, first, last)}"]
+    return "\n".join(said)

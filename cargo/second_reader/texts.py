@@ -1,0 +1,122 @@
+"""The tokens of a proved source without what is ghost, those of a made file, and the functions of both. Nothing here is
+of the eraser."""
+
+import re
+from dataclasses import dataclass
+
+TOKEN = re.compile(
+    r"""(?P<comment>//[^\n]*)
+      | b?r\#"(?:.|\n)*?"\# | b?"(?:\\(?:.|\n)|[^"\\])*" | b?'(?:\\(?:x..|u\{[^}]*\}|.)|[^'\\])'
+      | '?\w+ | ◌ | [^\w\s]""",
+    re.X,
+)
+OPENING, CLOSING = "([{", ")]}"
+
+
+class Unreadable(Exception):
+    """What can't be read, in words."""
+
+
+@dataclass
+class Text:
+    """A file: its tokens, the line of each, and its comments by their lines."""
+
+    name: str
+    tokens: list
+    lines: list
+    comments: dict
+
+    def behind(self, at):
+        """The place behind the bracket that closes the one at a place."""
+        depth = 0
+        for place in range(at, len(self.tokens)):
+            depth += (self.tokens[place] in OPENING) - (self.tokens[place] in CLOSING)
+            if depth == 0:
+                return place + 1
+        raise Unreadable(f"{self.name}:{self.lines[at]}: nothing closes this bracket")
+
+    def next_of(self, at, marks):
+        """The next of some marks that stands in no bracket."""
+        while self.tokens[at] not in marks:
+            at = self.behind(at) if self.tokens[at] in OPENING else at + 1
+        return at
+
+    def said_above(self, at):
+        """The comments above an item's first token, between which attributes may stand."""
+        line, said = self.lines[at] - 1, ""
+        first = {line: token for token, line in zip(reversed(self.tokens), reversed(self.lines))}
+        while line in self.comments or first.get(line) == "#":
+            said += self.comments.get(line, "") + "\n"
+            line -= 1
+        return said
+
+
+def read(name, text):
+    tokens, lines, comments, line, at = [], [], {}, 1, 0
+    for found in TOKEN.finditer(text):
+        line += text.count("\n", at, found.start())
+        at = found.start()
+        if found["comment"]:
+            comments[line] = found[0]
+        else:
+            tokens.append(found[0])
+            lines.append(line)
+    return Text(name, tokens, lines, comments)
+
+
+@dataclass
+class Clause:
+    """What a function requires or ensures: the word, and behind it the clause as it is written but for space."""
+
+    kind: str
+    said: str
+
+
+def without_ghosts(text):
+    """A proved source without ghost items, contracts and tactics, and the clauses by the place where they stood."""
+    kept, lines, clauses, at = [], [], {}, 0
+    tokens = text.tokens
+    while at < len(tokens):
+        start = at
+        if tokens[at] == "ghost":
+            at = text.next_of(at, ";,") + 1
+        elif tokens[at] == "#" and "tactic" in tokens[at + 1 : at + 4]:
+            at = text.behind(tokens.index("[", at))
+        elif tokens[at] in ("requires", "ensures"):
+            at = text.behind(tokens.index("{", at))
+            clauses.setdefault(len(kept), []).append(Clause(tokens[start], " ".join(tokens[start + 1 : at])))
+        else:
+            kept.append(tokens[at])
+            lines.append(text.lines[at])
+            at += 1
+    return Text(text.name, kept, lines, text.comments), clauses
+
+
+@dataclass
+class Function:
+    """Its name, whether it is public by its own head or its trait's, where its head begins and its body stands."""
+
+    name: str
+    is_public: bool
+    head: int
+    start: int
+    end: int
+
+
+def functions(text):
+    """All functions that have a body, in their order."""
+    tokens, found, traits = text.tokens, [], []
+    for at, token in enumerate(tokens):
+        if token == "trait" and tokens[at - 1] == "pub":
+            start = text.next_of(at, "{")
+            traits.append((start, text.behind(start)))
+        if token == "fn" and at + 1 < len(tokens) and re.match(r"\w", tokens[at + 1]):
+            start = text.next_of(at, "{;")
+            head = at
+            while tokens[head - 1] in ("unsafe", "const", "pub") or tokens[head - 1] == ")" and tokens[head - 3 : head - 1] == ["(", "crate"]:
+                head -= 3 if tokens[head - 1] == ")" else 1
+            in_trait = any(first < at < last for first, last in traits)
+            is_public = in_trait or tokens[head] == "pub" and tokens[head + 1] != "("
+            end = text.behind(start) if tokens[start] == "{" else start + 1
+            found.append(Function(tokens[at + 1], is_public, head, start, end))
+    return found
