@@ -1,0 +1,49 @@
+//! Calls on one value at a time: which value it is, and what is made of it, the compiler doesn't know.
+
+use crate::original::COUNT;
+use std::hint::black_box;
+use tinystr::TinyAsciiStr;
+
+/// The calls, by their numbers.
+pub const CALLS: [&str; 6] = ["len", "is_ascii_alphabetic", "to_ascii_lowercase", "==", "as_str, its length", "cmp"];
+
+#[inline(never)]
+fn call_each<const N: usize>(rounds: usize, texts: &[TinyAsciiStr<N>], call: impl Fn(&TinyAsciiStr<N>, &TinyAsciiStr<N>) -> usize) -> usize {
+    let mut sum = 0usize;
+    for _ in 0..rounds {
+        for (text, next) in texts.iter().zip(texts.iter().cycle().skip(1)) {
+            sum = sum.wrapping_add(call(black_box(text), black_box(next)));
+        }
+    }
+    sum
+}
+
+fn batch<const N: usize>(call: usize, rounds: usize, texts: &[u8], answers: &mut [u8]) -> bool {
+    let read = |raw: &[u8]| TinyAsciiStr::<N>::try_from_raw(raw.try_into().unwrap()).unwrap();
+    let texts: Vec<TinyAsciiStr<N>> = texts.chunks_exact(N).take(COUNT).map(read).collect();
+    let sum = match call {
+        0 => call_each(rounds, &texts, |text, _| text.len()),
+        1 => call_each(rounds, &texts, |text, _| usize::from(text.is_ascii_alphabetic())),
+        2 => call_each(rounds, &texts, |text, _| usize::from(black_box(text.to_ascii_lowercase()).all_bytes()[0])),
+        3 => call_each(rounds, &texts, |text, next| usize::from(text == next)),
+        4 => call_each(rounds, &texts, |text, _| text.as_str().len()),
+        _ => call_each(rounds, &texts, |text, next| text.cmp(next) as usize),
+    };
+    answers[..8].copy_from_slice(&sum.to_le_bytes());
+    true
+}
+
+/// Sums up what a call gives of each text.
+pub fn single(capacity: usize, call: usize, rounds: usize, texts: &[u8], answers: &mut [u8]) -> bool {
+    match capacity {
+        3 => batch::<3>(call, rounds, texts, answers),
+        4 => batch::<4>(call, rounds, texts, answers),
+        8 => batch::<8>(call, rounds, texts, answers),
+        12 => batch::<12>(call, rounds, texts, answers),
+        16 => batch::<16>(call, rounds, texts, answers),
+        24 => batch::<24>(call, rounds, texts, answers),
+        32 => batch::<32>(call, rounds, texts, answers),
+        64 => batch::<64>(call, rounds, texts, answers),
+        _ => false,
+    }
+}
