@@ -68,8 +68,9 @@ def read_list(path):
     listed, open_entry, open_requires = Listed(), None, None
     for number, line in paragraphs(path):
         if entry := re.fullmatch(ENTRY.pattern, line, re.S):
-            open_entry = Entry(number, int(entry["count"] or 1), entry["file"] or "*", bool(entry["added"]), tokens_of(entry["old"]), [])
-            if open_entry.is_added:
+            count, file, is_added = int(entry["count"] or 1), entry["file"] or "*", bool(entry["added"])
+            open_entry = Entry(number, count, file, is_added, tokens_of(entry["old"]), [])
+            if is_added:
                 listed.entries.append(open_entry)
                 open_entry = None
         elif requires := REQUIRES.fullmatch(line):

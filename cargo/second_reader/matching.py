@@ -57,8 +57,13 @@ def differences(proved, made, most=8):
     if proved.tokens == made.tokens:
         return None
     said = [f"{proved.name} and {made.name} differ in what isn't listed:"]
+
+    def around(text, start, end):
+        parts = text.tokens[max(start - 3, 0) : start], [">>"], text.tokens[start:end], ["<<"], text.tokens[end : end + 3]
+        return f"    {' '.join(sum(parts, []))}"
+
     for kind, start, end, first, last in SequenceMatcher(None, proved.tokens, made.tokens, autojunk=False).get_opcodes():
         if kind != "equal" and len(said) <= 3 * most:
-            around = lambda text, start, end: " ".join(text.tokens[max(start - 3, 0) : start] + [">>"] + text.tokens[start:end] + ["<<"] + text.tokens[end : end + 3])
-            said += [f"  line {proved.lines[min(start, len(proved.lines) - 1)]}", f"    {around(proved, start, end)}", f"    {around(made, first, last)}"]
+            line = proved.lines[min(start, len(proved.lines) - 1)]
+            said += [f"  line {line}", around(proved, start, end), around(made, first, last)]
     return "\n".join(said)

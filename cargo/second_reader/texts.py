@@ -113,7 +113,7 @@ def functions(text):
         if token == "fn" and at + 1 < len(tokens) and re.match(r"\w", tokens[at + 1]):
             start = text.next_of(at, "{;")
             head = at
-            while tokens[head - 1] in ("unsafe", "const", "pub") or tokens[head - 1] == ")" and tokens[head - 3 : head - 1] == ["(", "crate"]:
+            while tokens[head - 1] in ("unsafe", "const", "pub") or tokens[head - 3 : head] == ["(", "crate", ")"]:
                 head -= 3 if tokens[head - 1] == ")" else 1
             in_trait = any(first < at < last for first, last in traits)
             is_public = in_trait or tokens[head] == "pub" and tokens[head + 1] != "("
