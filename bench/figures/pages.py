@@ -5,6 +5,7 @@ from textwrap import fill
 
 from ratios import FAILING, KINDS, mean_of, ratios_of_kind, slowest_of
 from figures import THERE
+from inlined import inlined_table, look_up_tables, slower_table
 from pictures import calls_description
 from tables import aligned, cells_of_table, geometric, ratio_table, rows_of, type_table
 
@@ -108,13 +109,21 @@ def types(figures):
     return "\n".join(f"{name}:\n\n{fenced(type_table(figures, name))}" for name in figures.tables())
 
 
+def inlined(make):
+    return lambda all_figures, _: fenced(make({"x86-64": all_figures["cargo"], "v2": all_figures["cargo-v2"]}))
+
+
+def look_ups(figures):
+    return "\n".join(f"{name}:\n\n{fenced(table)}" for name, table in look_up_tables(figures).items())
+
+
 def picture(name, alternative):
     return lambda _, folder: f"![{alternative}]({folder}/{name})\n"
 
 
-def calls_picture(all_figures, folder):
-    means = calls_description(all_figures["calls"])
-    return picture("calls.svg", f"Time of each call beside the Rust crate. {means}")(all_figures, folder)
+def calls_picture(all_figures, folder, name="calls", how=""):
+    means = calls_description(all_figures[name])
+    return picture(f"{name}.svg", f"Time of each call{how} beside the Rust crate. {means}")(all_figures, folder)
 
 
 def of(file, make, *more):
@@ -140,6 +149,11 @@ BLOCKS = {
     "types": of("types", types),
     "keys": of("keys", types),
     "machine": of("calls", machine),
+    "cargo.svg": lambda all_figures, folder: calls_picture(all_figures, folder, "cargo", " of the crate for Cargo"),
+    "inlined": inlined(inlined_table),
+    "slower inlined": inlined(slower_table),
+    "look-ups": of("cargo", look_ups),
+    "machine of inlined": of("cargo", machine),
 }
 
 

@@ -73,6 +73,8 @@ def arrow(x, y, step):
 CAPACITIES = {
     "4": "#e5484d", "8": "#e07b16", "12": "#b59b00", "16": "#3fa34d", "24": "#12a0a0", "32": "#3d84e6", "64": "#9c62dc"
 }  # fmt: skip
+# Those that a table of calls may have.
+COLORS = {"3": "#d6409f", **CAPACITIES}
 LEAST, MOST = 0.05, 1.5
 TICKS = [0.05, 0.1, 0.2, 0.3, 0.5, 0.7, 1.0, 1.5]
 LEFT, RIGHT, TOP, ROW = 262, 690, 74, 25
@@ -98,7 +100,7 @@ def outside(ratios, y, is_right):
         return []
     x, step, anchor = (RIGHT, 1, "start") if is_right else (LEFT, -1, "end")
     digits = 1 if is_right else 2
-    numbers = " ".join(f'<tspan fill="{CAPACITIES[it]}">{ratio:.{digits}f}</tspan>' for it, ratio in ratios.items())
+    numbers = " ".join(f'<tspan fill="{COLORS[it]}">{ratio:.{digits}f}</tspan>' for it, ratio in ratios.items())
     place = f'x="{x + 11 * step:.1f}" y="{y + 3.6:.1f}" text-anchor="{anchor}" font-size="10" font-weight="bold"'
     return [arrow(x, y, step), f"<text {place}>{numbers}</text>"]
 
@@ -110,15 +112,15 @@ def call_dots(call, kind, ratios, y, is_full):
     for capacity, ratio in ratios.items():
         if LEAST <= ratio <= MOST:
             tip = f"{call} at {capacity}, {kind}: {ratio:.2f}"
-            shapes.append(dot(call_x(ratio), y, CAPACITIES[capacity], tip, is_full))
+            shapes.append(dot(call_x(ratio), y, COLORS[capacity], tip, is_full))
     return shapes
 
 
-def call_legend():
+def call_legend(capacities):
     shapes = [text(12, 20, "Time of a call / the Rust crate's, by capacity:")]
     x = LEFT + 38
-    for capacity, color in CAPACITIES.items():
-        shapes += [dot(x, 16, color, capacity), text(x + 8, 20, capacity)]
+    for capacity in capacities:
+        shapes += [dot(x, 16, COLORS[capacity], capacity), text(x + 8, 20, capacity)]
         x += 38
     shapes += [dot(x + 14, 16, GREY, "full texts"), text(x + 22, 20, "full texts")]
     shapes += [dot(x + 96, 16, GREY, "mixed texts", False), text(x + 104, 20, "mixed texts")]
@@ -135,7 +137,8 @@ def calls_picture(figures):
     slowness = lambda call: geometric(kinds[call][0][1].values())
     calls = sorted(kinds, key=slowness, reverse=True)
     bottom = TOP + ROW * len(calls)
-    shapes = call_legend() + call_axis(bottom)
+    capacities = [it for it in COLORS if any(it in ratios for ratios in full.values())]
+    shapes = call_legend(capacities) + call_axis(bottom)
     for i, call in enumerate(calls):
         y = TOP + ROW * (i + 0.5)
         if i % 2 == 0:
