@@ -11,6 +11,8 @@ TOKEN = re.compile(
     re.X,
 )
 OPENING, CLOSING = "([{", ")]}"
+# What stands in no ghost item.
+CODE = {"pub", "impl", "struct", "enum", "trait", "mod", "const", "static", "for", "while", "#"}
 
 
 class Unreadable(Exception):
@@ -80,6 +82,9 @@ def without_ghosts(text):
         start = at
         if tokens[at] == "ghost":
             at = text.next_of(at, ";,") + 1
+            if found := CODE.intersection(tokens[start:at]):
+                place = f"{text.name}:{text.lines[start]}"
+                raise Unreadable(f"{place}: a ghost item has `{found.pop()}`, or doesn't end where it seems")
         elif tokens[at] == "#" and "tactic" in tokens[at + 1 : at + 4]:
             at = text.behind(tokens.index("[", at))
         elif tokens[at] in ("requires", "ensures"):
