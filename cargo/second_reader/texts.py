@@ -12,7 +12,7 @@ TOKEN = re.compile(
 )
 OPENING, CLOSING = "([{", ")]}"
 # What stands in no ghost item.
-CODE = {"pub", "impl", "struct", "enum", "trait", "mod", "const", "static", "for", "while", "#"}
+CODE = {"use", "pub", "impl", "struct", "enum", "trait", "mod", "const", "static", "for", "while", "#"}
 
 
 class Unreadable(Exception):
@@ -82,7 +82,7 @@ def without_ghosts(text):
         start = at
         if tokens[at] == "ghost":
             at = text.next_of(at, ";,") + 1
-            if found := CODE.intersection(tokens[start:at]):
+            if found := CODE.intersection(tokens[start + 2 : at]):
                 place = f"{text.name}:{text.lines[start]}"
                 raise Unreadable(f"{place}: a ghost item has `{found.pop()}`, or doesn't end where it seems")
         elif tokens[at] == "#" and "tactic" in tokens[at + 1 : at + 4]:
