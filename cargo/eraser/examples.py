@@ -16,7 +16,7 @@ NAMES = {
     "tinystr::subtags::region": "RegionKind",
     "tinystr::subtags::script": "ScriptKind",
     "tinystr::subtags::subtag": "Subtag SubtagKind",
-    "tinystr::packed": "MapError NotRising PackedMap SortedTable Table pack pack_map pack_sorted unpack",
+    "tinystr::packed": "MapError NotRising PackedMap SortedError SortedTable Table pack pack_map pack_sorted unpack",
     "std::collections": "BTreeMap",
     "crate::words": "CodeUnit decimal_fits",
     "crate::words::int_ops": "Aligned4 Aligned8 Aligned16",

@@ -53,6 +53,10 @@ STANDS_FOR = {
     # its index panics, in both cases
     ("tinystr_packed/table.rt", "range.start ≤ range.end"): Panics("the range begins behind its end"),
     ("tinystr_packed/table.rt", "range.end ≤ length self.now"): Panics("the range ends behind the last text"),
+    ("tinystr_packed/sorted.rt", "0 < N"): NO_RECORD,
+    # no array is longer, so that nothing of these is left when it is built
+    ("tinystr_packed/sorted.rt", "N < 2 ^ 63"): asserted("N <= isize::MAX as usize", "`N` is above `isize::MAX`", "no array is so long"),
+    ("tinystr_packed/sorted.rt", "M < 2 ^ 63"): asserted("M <= isize::MAX as usize", "`M` is above `isize::MAX`", "no array is so long"),
     ("tinystr_packed/map.rt", "0 < N"): NO_RECORD,
     ("tinystr_packed/map.rt", "0 < M"): asserted("M > 0", "`M` is 0", "a value has at least one byte"),
 }

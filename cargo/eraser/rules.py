@@ -85,6 +85,9 @@ IN_FILE = {
         Rule("tag.find(", "tag.find_byte(", NAMED_AS_STR, 2),
         Rule("pub fn split(", "pub fn split_byte(", NAMED_AS_STR),
         Rule("tag.split(", "tag.split_byte(", NAMED_AS_STR, 2),
+        Rule("pub fn split_once(", "pub fn split_once_byte(", NAMED_AS_STR),
+        Rule("tag.split_once(", "tag.split_once_byte(", NAMED_AS_STR, 2),
+        Rule("self.find(separator)", "self.find_byte(separator)", NAMED_AS_STR),
     ],
     "subtags/lib.rt": [
         Rule("pub use error::", "#[doc(inline)]\npub use error::", AT_ROOT),

@@ -1,7 +1,7 @@
 //! The texts of the errors that the original doesn't have, and that each is an `Error` of std.
 
 use crate::forms::{BytesReadError, FormWriteError};
-use crate::packed::{MapError, NotRising};
+use crate::packed::{MapError, NotRising, SortedError};
 use crate::ule::UleError;
 use core::error::Error;
 use core::fmt::{Display, Formatter, Result};
@@ -46,6 +46,17 @@ impl Display for NotRising {
 }
 
 impl Error for NotRising {}
+
+impl Display for SortedError {
+    fn fmt(&self, f: &mut Formatter<'_>) -> Result {
+        match self {
+            SortedError::Records(fault) => write!(f, "{fault}"),
+            SortedError::Order(fault) => write!(f, "{fault}"),
+        }
+    }
+}
+
+impl Error for SortedError {}
 
 impl Display for MapError {
     fn fmt(&self, f: &mut Formatter<'_>) -> Result {

@@ -15,7 +15,7 @@ mod table;
 pub use map::{Entries, MapError, PackedMap};
 #[cfg(feature = "alloc")]
 pub use packing::{pack, pack_map, unpack};
-pub use sorted::{NotRising, SortedTable};
+pub use sorted::{NotRising, SortedError, SortedTable};
 #[cfg(feature = "alloc")]
 pub use sorting::pack_sorted;
 pub use table::{Table, Texts};

@@ -112,6 +112,9 @@ fn each_error_tells_what_is_wrong() {
     assert_eq!(table(b"EURJP\xff"), Err(fault.into()));
     let sorted = SortedTable::new(Table::<3>::new(b"CHFJPYEUR").unwrap()).map_err(told).map(|table| table.table().len());
     assert_eq!(sorted, Err("record 2 isn't above the one before it".into()));
+    let opened = |bytes| SortedTable::<3>::from_bytes(bytes).map_err(told).map(|table| table.table().len());
+    assert_eq!(opened(b"EURJP"), Err("5 bytes can't be divided into records".into()));
+    assert_eq!(opened(b"JPYEUR"), Err("record 1 isn't above the one before it".into()));
     let map = |keys, values| PackedMap::<3, 1>::new(keys, values).map_err(told).map(|map| map.len());
     assert_eq!(map(b"EU", &[2]), Err("keys: 2 bytes can't be divided into records".into()));
     assert_eq!(map(b"JPYEUR", &[0, 2]), Err("keys: record 1 isn't above the one before it".into()));

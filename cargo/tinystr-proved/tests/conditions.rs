@@ -1,11 +1,11 @@
 //! What stands for a condition that is proved at each call in Rattle: a panic.
 
 use std::panic::catch_unwind;
-use tinystr::packed::{PackedMap, Table};
+use tinystr::packed::{PackedMap, SortedTable, Table};
 use tinystr::{TinyAsciiStr, UnvalidatedTinyAsciiStr, tinystr};
 
 /// Each is a call whose condition doesn't hold, by its name.
-const REFUSED: [(&str, fn()); 21] = [
+const REFUSED: [(&str, fn()); 22] = [
     ("from_utf8_lossy by 0", || ignore(TinyAsciiStr::<2>::from_utf8_lossy(b"a", 0))),
     ("from_utf8_lossy by 128", || ignore(TinyAsciiStr::<2>::from_utf8_lossy(b"a", 128))),
     ("from_utf16_lossy by 0", || ignore(TinyAsciiStr::<2>::from_utf16_lossy(&[0x61], 0))),
@@ -19,6 +19,7 @@ const REFUSED: [(&str, fn()); 21] = [
     ("validate_bytes at 0 of a byte", || ignore(TinyAsciiStr::<0>::validate_bytes(b"a"))),
     ("unvalidated validate_bytes at 0", || ignore(UnvalidatedTinyAsciiStr::<0>::validate_bytes(b""))),
     ("Table::new at 0", || ignore(Table::<0>::new(b""))),
+    ("SortedTable::from_bytes at 0", || ignore(SortedTable::<0>::from_bytes(b""))),
     ("text_at past the end", || ignore(table().text_at(2))),
     ("slice of a table past the end", || ignore(table().slice(1..3))),
     ("slice of a table that begins behind its end", || ignore(table().slice(backward(2, 1)))),

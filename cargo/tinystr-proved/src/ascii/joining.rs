@@ -4,7 +4,7 @@ use crate::ascii::TinyAsciiStr;
 use crate::words::padded;
 
 impl<const N: usize> TinyAsciiStr<N> {
-    /// The text at another capacity: its first `M` bytes where it is longer.
+    /// The text at another capacity: its first `M` bytes where it is longer. At an `M` of at least `N` nothing is cut.
     ///
     /// ```
     /// use tinystr::tinystr;
@@ -16,7 +16,8 @@ impl<const N: usize> TinyAsciiStr<N> {
     /// # Contract
     ///
     /// ```text
-    /// ensures { result ≡ take M self.entry }
+    /// ensures text { result ≡ take M self.entry }
+    /// ensures whole { N ≤ M → result ≡ self.entry }
     /// ```
     #[inline]
     #[must_use]

@@ -36,6 +36,27 @@ impl<const N: usize> TinyAsciiStr<N> {
         self.behind::<M>(range.start).front(range.end - range.start)
     }
 
+    /// The first bytes of the text, so many, or all where there are no more.
+    ///
+    /// ```
+    /// use tinystr::tinystr;
+    ///
+    /// let tag = tinystr!(16, "zh-Hant-TW");
+    /// assert_eq!(tag.take(2).as_str(), "zh");
+    /// assert_eq!(tag.take(99).as_str(), "zh-Hant-TW");
+    /// ```
+    ///
+    /// # Contract
+    ///
+    /// ```text
+    /// ensures { result ≡ take len self.now }
+    /// ```
+    #[inline]
+    #[must_use]
+    pub fn take(&self, len: usize) -> Self {
+        self.front(len)
+    }
+
     // What stands behind the first bytes, as much as there is room for. Where `M` bytes of the array stand there, they are
     // copied at once.
     // Proved:

@@ -39,6 +39,7 @@ impl<const N: usize> TinyAsciiStr<N> {
     /// ```text
     /// ensures place { result ≡ position (λ b. b == byte) self.now }
     /// ensures inside { IfSome result (λ at. at < N) }
+    /// ensures within { IfSome result (λ at. at < length self.now) }
     /// ```
     #[inline]
     #[must_use]
@@ -49,6 +50,33 @@ impl<const N: usize> TinyAsciiStr<N> {
             return find(bytes, byte);
         }
         found
+    }
+
+    /// What stands before the first byte that is the separator, and what stands behind it, or `None` where none is.
+    ///
+    /// ```
+    /// use tinystr::tinystr;
+    ///
+    /// let tag = tinystr!(16, "zh-Hant-TW");
+    /// let parts = tag.split_once_byte(b'-');
+    /// assert!(parts == Some((tinystr!(16, "zh"), tinystr!(16, "Hant-TW"))));
+    /// assert!(tag.split_once_byte(b'_').is_none());
+    /// ```
+    ///
+    /// # Contract
+    ///
+    /// ```text
+    /// ensures { SomeIff result (Contains self.now separator) (before_first (λ b. b == separator) self.now, after_first (λ b. b == separator) self.now) }
+    /// ```
+    #[inline]
+    #[must_use]
+    pub fn split_once_byte(&self, separator: u8) -> Option<(Self, Self)> {
+        let at = self.find_byte(separator)?;
+        if N <= 8 {
+            let (before, behind) = around(self.resize(), at);
+            return Some((before.resize(), behind.resize()));
+        }
+        Some((self.take(at), self.slice(at + 1..N)))
     }
 
     /// The parts before, between and behind the bytes that are the separator, in order. A text without one is one part,

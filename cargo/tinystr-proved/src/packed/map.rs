@@ -2,6 +2,7 @@
 
 use crate::packed::sorted::{NotRising, SortedTable};
 use crate::packed::table::{Table, Texts};
+use core::ops::Range;
 use crate::TinyAsciiStr;
 use crate::ule::UleError;
 
@@ -141,6 +142,33 @@ impl<'a, const N: usize, const M: usize> PackedMap<'a, N, M> {
     #[must_use]
     pub fn contains_key(&self, key: &TinyAsciiStr<N>) -> bool {
         self.keys.contains(key)
+    }
+
+    /// The entries whose keys begin with a text, as a map of them alone.
+    ///
+    /// ```
+    /// use tinystr::tinystr;
+    /// use tinystr::packed::PackedMap;
+    ///
+    /// let places = PackedMap::<3, 1>::new(b"CADCHFEUR", &[2, 2, 2]).unwrap();
+    /// let found = places.with_prefix(&tinystr!(3, "C"));
+    /// assert_eq!(found.len(), 2);
+    /// assert_eq!(found.get(&tinystr!(3, "EUR")), None);
+    /// ```
+    ///
+    /// # Contract
+    ///
+    /// ```text
+    /// ensures { result ≡ filter (λ e. starts_with nat_eq e.0 beginning.now) self.now }
+    /// ```
+    #[must_use]
+    pub fn with_prefix(&self, beginning: &TinyAsciiStr<N>) -> PackedMap<'a, N, M> {
+        let Range { start, end } = self.keys.prefix_range(beginning);
+        let values = self.values;
+        PackedMap {
+            keys: self.keys.slice(start..end),
+            values: &values[start..end],
+        }
     }
 
     /// The keys in order.

@@ -2,7 +2,9 @@
 
 use crate::packed::search::{count_with_prefix, first_not_below};
 use crate::packed::table::Table;
+use core::ops::Range;
 use crate::TinyAsciiStr;
+use crate::ule::UleError;
 
 /// A table whose texts rise, each above the one before it. A clause sees the texts.
 ///
@@ -32,6 +34,23 @@ pub struct NotRising {
     pub index: usize,
 }
 
+/// Why bytes aren't a sorted table.
+///
+/// ```
+/// use tinystr::ule::UleError;
+/// use tinystr::packed::{SortedError, SortedTable};
+///
+/// let fault = SortedTable::<3>::from_bytes(b"EURJP").err();
+/// assert_eq!(fault, Some(SortedError::Records(UleError::Length { len: 5 })));
+/// ```
+#[derive(Clone, Copy, Debug, PartialEq, Eq)]
+pub enum SortedError {
+    /// The bytes aren't packed records.
+    Records(UleError),
+    /// A text isn't above the one before it.
+    Order(NotRising),
+}
+
 impl<'a, const N: usize> SortedTable<'a, N> {
     /// The table, once each text is compared with the next.
     ///
@@ -53,6 +72,41 @@ impl<'a, const N: usize> SortedTable<'a, N> {
         match table.first_fall() {
             None => Ok(SortedTable { table }),
             Some(index) => Err(NotRising { index }),
+        }
+    }
+
+    /// The sorted table of bytes, which are checked here alone. `N` has to be above 0.
+    ///
+    /// ```
+    /// use tinystr::packed::{NotRising, SortedError, SortedTable};
+    ///
+    /// let codes = SortedTable::<3>::from_bytes(b"CHFEURJPY").unwrap();
+    /// assert_eq!(codes.table().len(), 3);
+    /// let fault = SortedTable::<3>::from_bytes(b"EURCHF").err();
+    /// assert_eq!(fault, Some(SortedError::Order(NotRising { index: 1 })));
+    /// ```
+    ///
+    /// # Contract
+    ///
+    /// ```text
+    /// requires { 0 < N }
+    /// ensures accepted { IsOk result ↔ ((texts : List (List ℕ)) × ArePackedRising texts bytes.now N) }
+    /// ensures texts { IfOk result (λ sorted. ArePackedRising sorted bytes.now N) }
+    /// ensures fault { IfErr result (λ e. RefusesSorted e bytes.now N) }
+    /// ```
+    ///
+    /// # Panics
+    ///
+    /// Where `N` is 0.
+    pub fn from_bytes(bytes: &'a [u8]) -> Result<Self, SortedError> {
+        assert!(N > 0, "a record has at least one byte");
+        let table = match Table::new(bytes) {
+            Ok(table) => table,
+            Err(fault) => return Err(SortedError::Records(fault)),
+        };
+        match SortedTable::new(table) {
+            Ok(sorted) => Ok(sorted),
+            Err(fault) => Err(SortedError::Order(fault)),
         }
     }
 
@@ -89,6 +143,39 @@ impl<'a, const N: usize> SortedTable<'a, N> {
         }
     }
 
+    /// The index of a text of any capacity, or `None` where it isn't one of them.
+    ///
+    /// ```
+    /// use tinystr::tinystr;
+    /// use tinystr::packed::SortedTable;
+    ///
+    /// let codes = SortedTable::<3>::from_bytes(b"CHFEURJPY").unwrap();
+    /// assert_eq!(codes.find_text(&tinystr!(8, "EUR")), Some(1));
+    /// assert_eq!(codes.find_text(&tinystr!(8, "EURO")), None);
+    /// ```
+    ///
+    /// # Contract
+    ///
+    /// ```text
+    /// requires texts { N < 2 ^ 63 }
+    /// requires key { M < 2 ^ 63 }
+    /// ensures found { IfSome result (λ index. slice_get self.now index ≡ Some key.now) }
+    /// ensures exact { IsSome result ↔ Contains self.now key.now }
+    /// ```
+    ///
+    /// # Panics
+    ///
+    /// Where `N` is above `isize::MAX` or `M` is above `isize::MAX`.
+    #[must_use]
+    pub fn find_text<const M: usize>(&self, key: &TinyAsciiStr<M>) -> Option<usize> {
+        assert!(N <= isize::MAX as usize, "no array is so long");
+        assert!(M <= isize::MAX as usize, "no array is so long");
+        // Its contract says that no text is longer than `N` bytes.
+        let _ = self.table.len();
+        let key = key.try_resize()?;
+        self.binary_search(&key).ok()
+    }
+
     /// Whether a text is one of them.
     ///
     /// # Contract
@@ -120,12 +207,28 @@ impl<'a, const N: usize> SortedTable<'a, N> {
     /// ```
     #[must_use]
     pub fn with_prefix(&self, beginning: &TinyAsciiStr<N>) -> SortedTable<'a, N> {
+        self.slice(self.prefix_range(beginning))
+    }
+
+    // The table of the texts at a range of indices.
+    // Proved:
+    //     requires start { range.start ≤ range.end }
+    //     requires end { range.end ≤ length self.now }
+    //     ensures { result ≡ take (range.end - range.start) (drop range.start self.now) }
+    pub(crate) fn slice(&self, range: Range<usize>) -> SortedTable<'a, N> {
+        SortedTable {
+            table: self.table.slice(range),
+        }
+    }
+
+    // The indices of the texts that begin with a text.
+    // Proved:
+    //     ensures { IsPrefixRange beginning.now self.now result.start result.end }
+    pub(crate) fn prefix_range(&self, beginning: &TinyAsciiStr<N>) -> Range<usize> {
         let start = self.first_not_below(beginning);
         let (_, rest) = self.table.records().split_at(start);
         let len = count_with_prefix(rest, beginning);
-        SortedTable {
-            table: self.table.slice(start..start + len),
-        }
+        start..start + len
     }
 
     // The index of the first text that isn't below a key, or the number of texts.
