@@ -16,7 +16,8 @@ NAMES = {
     "tinystr::subtags::region": "RegionKind",
     "tinystr::subtags::script": "ScriptKind",
     "tinystr::subtags::subtag": "Subtag SubtagKind",
-    "tinystr::packed": "MapError NotRising PackedMap SortedError SortedTable Table pack pack_map pack_sorted unpack",
+    "tinystr::packed": "MapError NotRising PackedMap SortedError SortedTable Table TextMap TextMapError"
+    " count_texts in_place pack pack_map pack_sorted pack_text_map unpack",
     "std::collections": "BTreeMap",
     "crate::words": "CodeUnit decimal_fits",
     "crate::words::int_ops": "Aligned4 Aligned8 Aligned16",
@@ -30,8 +31,8 @@ IN_RUST = [
     (r"\b(assert(?:_eq|_ne)?!)\(rt; ", r"\1("),
     (r"\bformat!\(in rt\.alloc\(\); (.*)\)\?", r"format!(\1)"),
     (r"\bBTreeMap::new\(rt\.alloc\(\)\)", "BTreeMap::new()"),
-    (r"(\bplaces\.insert\(.*\))\?;", r"\1;"),
-    (r"\b(pack\w*|unpack)\(rt\.alloc\(\), (.*?)\)\?(?=[;.])", r"\1(\2)"),
+    (r"(\b(?:places|currencies)\.insert\(.*\))\?;", r"\1;"),
+    (r"\b(pack\w*|unpack|count_texts)\(rt\.alloc\(\), (.*?)\)\?(?=[;.])", r"\1(\2)"),
 ]
 
 

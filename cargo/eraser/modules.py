@@ -25,6 +25,7 @@ CONST = {
     "tinystr_packed/map.rt": ["len(", "is_empty(", "iter(", "keys(", "values("],
     "tinystr_packed/sorted.rt": ["table("],
     "tinystr_packed/table.rt": ["len(", "is_empty(", "iter("],
+    "tinystr_packed/text_map.rt": ["len(", "is_empty(", "iter(", "keys(", "values("],
     "tinystr_words/question.rt": ["of_later_words(", "of_later_words("],
 }
 

@@ -29,6 +29,7 @@ CHARACTER = "matches!({}, 1..=127)"
 # the original's words
 NO_CHARACTER = "{} must be a non-null ASCII byte (1..=127)"
 NO_RECORD = asserted("N > 0", "`N` is 0", "a record has at least one byte")
+NO_VALUE = asserted("M > 0", "`M` is 0", "a value has at least one byte")
 
 STANDS_FOR = {
     ("tinystr/ascii/readers.rt", "IsTextByte replacement"): asserted(
@@ -58,5 +59,8 @@ STANDS_FOR = {
     ("tinystr_packed/sorted.rt", "N < 2 ^ 63"): asserted("N <= isize::MAX as usize", "`N` is above `isize::MAX`", "no array is so long"),
     ("tinystr_packed/sorted.rt", "M < 2 ^ 63"): asserted("M <= isize::MAX as usize", "`M` is above `isize::MAX`", "no array is so long"),
     ("tinystr_packed/map.rt", "0 < N"): NO_RECORD,
-    ("tinystr_packed/map.rt", "0 < M"): asserted("M > 0", "`M` is 0", "a value has at least one byte"),
+    ("tinystr_packed/map.rt", "0 < M"): NO_VALUE,
+    ("tinystr_packed/text_map.rt", "0 < N"): NO_RECORD,
+    ("tinystr_packed/text_map.rt", "0 < M"): NO_VALUE,
+    ("tinystr_packed/in_place.rt", "0 < N"): NO_RECORD,
 }

@@ -1,6 +1,9 @@
 //! Packed records: texts of at most `N` bytes, each padded with NULs to `N` bytes, one after another. Their bytes are
 //! checked once, and then read in place.
 
+#[cfg(feature = "alloc")]
+mod counting;
+pub mod in_place;
 mod map;
 mod number;
 #[cfg(feature = "alloc")]
@@ -11,11 +14,15 @@ mod sorted;
 #[cfg(feature = "alloc")]
 mod sorting;
 mod table;
+mod text_map;
 
+#[cfg(feature = "alloc")]
+pub use counting::count_texts;
 pub use map::{Entries, MapError, PackedMap};
 #[cfg(feature = "alloc")]
-pub use packing::{pack, pack_map, unpack};
+pub use packing::{pack, pack_map, pack_text_map, unpack};
 pub use sorted::{NotRising, SortedError, SortedTable};
 #[cfg(feature = "alloc")]
 pub use sorting::pack_sorted;
 pub use table::{Table, Texts};
+pub use text_map::{TextEntries, TextMap, TextMapError};

@@ -98,6 +98,7 @@ impl<const N: usize> UnvalidatedTinyAsciiStr<N> {
     /// ensures accepted { IsOk result ↔ IsPaddedText self.entry N }
     /// ensures text { IfOk result (λ t. t ≡ text_of self.entry) }
     /// ensures fault { IfErr result (λ e. fault_of e ≡ fault_in N self.entry) }
+    /// ensures read { result ≡ read_raw_of N self.entry }
     /// ```
     #[inline]
     pub fn try_into_tinystr(self) -> Result<TinyAsciiStr<N>, ParseError> {

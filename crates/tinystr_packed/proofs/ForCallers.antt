@@ -8,7 +8,9 @@ use Rattle.tinystr_packed.specs.Reading.{are_packed}
 use Rattle.tinystr_packed.specs.Rising.{IsRising, is_rising}
 use Rattle.tinystr_packed.proofs.Computed.{are_packed-Decides, is_rising-Decides, lengths-ArePacked}
 use Rattle.tinystr_packed.proofs.MapBytes.{packed_once}
+use Rattle.tinystr_packed.proofs.PackedTextMaps.{packed_texts_once}
 use Rattle.tinystr_packed.proofs.PackedTexts.{packed_injective}
+use Rattle.tinystr_packed.specs.TextMap.{ArePackedTexts}
 
 -- Packed bytes are those of one list of texts.
 pub texts_once : (n : ℕ) (ts ss : List (List ℕ)) → 0 < n → All (λ t. IsStrictText t n) ts → All (λ t. IsStrictText t n) ss → flat_map (λ t. pad t n) ts ≡ flat_map (λ t. pad t n) ss → ts ≡ ss
@@ -17,6 +19,10 @@ texts_once = packed_injective
 -- The bytes of keys and values are those of one map.
 pub map_once : (entries others : List (List ℕ × List ℕ)) (keys values : List ℕ) (n m : ℕ) → 0 < n → ArePacked entries keys values n m → ArePacked others keys values n m → entries ≡ others
 map_once = packed_once
+
+-- The bytes of keys and texts are those of one map of texts.
+pub text_map_once : (entries others : List (List ℕ × List ℕ)) (keys values : List ℕ) (n m : ℕ) → 0 < n → 0 < m → ArePackedTexts entries keys values n m → ArePackedTexts others keys values n m → entries ≡ others
+text_map_once = packed_texts_once
 
 -- There are `n` bytes for each key, and `m` for each value.
 pub map_len_keys : (entries : List (List ℕ × List ℕ)) (keys values : List ℕ) (n m : ℕ) → ArePacked entries keys values n m → length keys ≡ length entries * n

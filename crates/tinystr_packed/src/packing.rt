@@ -10,7 +10,7 @@ ghost use Rattle.tinystr_packed.specs.TextMap.{ArePackedTexts};
 use crate::table::Table;
 use std::alloc::{AllocError, Global};
 use std::collections::BTreeMap;
-use tinystr::{TinyAsciiStr, laws};
+use tinystr::TinyAsciiStr;
 
 /// The texts, packed. Only memory can stop it.
 ///
@@ -104,8 +104,8 @@ pub fn pack_text_map<const N: usize, const M: usize>(
     let mut keys = Vec::with_capacity(alloc, count.saturating_mul(N))?;
     let mut values = Vec::with_capacity(alloc, count.saturating_mul(M))?;
     for (key, value) in map {
-        laws::fits(key);
-        laws::fits(value);
+        tinystr::laws::fits(key);
+        tinystr::laws::fits(value);
         keys.extend_from_slice(key.all_bytes())?;
         values.extend_from_slice(value.all_bytes())?;
     }

@@ -40,7 +40,7 @@ pub(crate) fn first_not_below<const N: usize>(records: &[[u8; N]], key: &[u8; N]
 
 /// The place of a key among records of at most sixteen bytes. Where they don't rise, it is any index up to their number.
 #[inline(always)]
-pub fn first_not_below_by_number<const N: usize>(records: &[[u8; N]], key: &[u8; N]) -> usize
+pub(crate) fn first_not_below_by_number<const N: usize>(records: &[[u8; N]], key: &[u8; N]) -> usize
     requires { N ≤ 16 }
     ensures bound { result ≤ length records.now }
     ensures place { AreRisingRecords N records.now → IsRecord N key.now → IsFirstNotBelow key.now records.now result }
@@ -189,7 +189,7 @@ fn first_not_below_within<const N: usize>(
 
 /// The place of a key, by halves. Where the records don't rise, it is any index up to their number.
 #[inline(always)]
-pub fn first_not_below_by_halves<const N: usize>(records: &[[u8; N]], key: &[u8; N]) -> usize
+pub(crate) fn first_not_below_by_halves<const N: usize>(records: &[[u8; N]], key: &[u8; N]) -> usize
     ensures bound { result ≤ length records.now }
     ensures place { IsRising records.now → IsFirstNotBelow key.now records.now result }
 {

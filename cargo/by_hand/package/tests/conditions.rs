@@ -1,11 +1,11 @@
 //! What stands for a condition that is proved at each call in Rattle: a panic.
 
 use std::panic::catch_unwind;
-use tinystr::packed::{PackedMap, SortedTable, Table};
+use tinystr::packed::{PackedMap, SortedTable, Table, TextMap, in_place};
 use tinystr::{TinyAsciiStr, UnvalidatedTinyAsciiStr, tinystr};
 
 /// Each is a call whose condition doesn't hold, by its name.
-const REFUSED: [(&str, fn()); 22] = [
+const REFUSED: [(&str, fn()); 27] = [
     ("from_utf8_lossy by 0", || ignore(TinyAsciiStr::<2>::from_utf8_lossy(b"a", 0))),
     ("from_utf8_lossy by 128", || ignore(TinyAsciiStr::<2>::from_utf8_lossy(b"a", 128))),
     ("from_utf16_lossy by 0", || ignore(TinyAsciiStr::<2>::from_utf16_lossy(&[0x61], 0))),
@@ -28,6 +28,11 @@ const REFUSED: [(&str, fn()); 22] = [
     ("PackedMap::new of values at 0", || ignore(PackedMap::<3, 0>::new(b"EUR", &[]))),
     ("PackedMap::new of no values at 0", || ignore(PackedMap::<3, 0>::new(b"", &[]))),
     ("PackedMap::new of both at 0", || ignore(PackedMap::<0, 0>::new(b"", &[]))),
+    ("TextMap::new of keys at 0", || ignore(TextMap::<0, 1>::new(b"", b""))),
+    ("TextMap::new of texts at 0", || ignore(TextMap::<3, 0>::new(b"EUR", b""))),
+    ("TextMap::new of no texts at 0", || ignore(TextMap::<3, 0>::new(b"", b""))),
+    ("in_place::search at 0", || ignore(in_place::search::<0>(b"", &tinystr!(0, "")))),
+    ("in_place::with_prefix at 0", || ignore(in_place::with_prefix::<0>(b"", &tinystr!(0, "")))),
 ];
 
 fn table() -> Table<'static, 3> {

@@ -26,6 +26,7 @@ impl<const N: usize> TinyAsciiStr<N> {
     /// ensures text { IfOk result (λ t. t ≡ s.now) }
     /// ensures fault { IfErr result (λ e. fault_of e ≡ fault_in N s.now) }
     /// ensures value { result_ok result ≡ strict_of N s.now }
+    /// ensures read { result ≡ read_of N s.now }
     /// ```
     #[inline]
     pub fn try_from_str(s: &str) -> Result<Self, ParseError> {
@@ -48,6 +49,7 @@ impl<const N: usize> TinyAsciiStr<N> {
     /// ensures text { IfOk result (λ t. t ≡ code_units.now) }
     /// ensures fault { IfErr result (λ e. fault_of e ≡ fault_in N code_units.now) }
     /// ensures value { result_ok result ≡ strict_of N code_units.now }
+    /// ensures read { result ≡ read_of N code_units.now }
     /// ```
     #[inline]
     pub fn try_from_utf8(code_units: &[u8]) -> Result<Self, ParseError> {
@@ -71,6 +73,7 @@ impl<const N: usize> TinyAsciiStr<N> {
     /// ensures text { IfOk result (λ t. t ≡ code_units.now) }
     /// ensures fault { IfErr result (λ e. fault_of e ≡ fault_in N code_units.now) }
     /// ensures value { result_ok result ≡ strict_of N code_units.now }
+    /// ensures read { result ≡ read_of N code_units.now }
     /// ```
     #[inline]
     pub fn try_from_utf16(code_units: &[u16]) -> Result<Self, ParseError> {
@@ -96,6 +99,7 @@ impl<const N: usize> TinyAsciiStr<N> {
     /// ensures accepted { IsOk result ↔ IsPaddedText raw.entry N }
     /// ensures text { IfOk result (λ t. t ≡ text_of raw.entry) }
     /// ensures fault { IfErr result (λ e. fault_of e ≡ fault_in N raw.entry) }
+    /// ensures read { result ≡ read_raw_of N raw.entry }
     /// ```
     #[inline]
     pub fn try_from_raw(raw: [u8; N]) -> Result<Self, ParseError> {

@@ -61,6 +61,7 @@ impl<'a, const N: usize, const M: usize> PackedMap<'a, N, M> {
     /// ensures accepted { IsOk result ↔ ((entries : List (List ℕ × List ℕ)) × ArePacked entries keys.now values.now N M) }
     /// ensures entries { IfOk result (λ map. ArePacked map keys.now values.now N M) }
     /// ensures fault { IfErr result (λ e. RefusesMap e keys.now values.now N M) }
+    /// ensures value { result_ok result ≡ map_of N M keys.now values.now }
     /// ```
     ///
     /// # Panics

@@ -95,3 +95,38 @@ pub fn pack_map<const N: usize, const M: usize>(
     }
     (keys, values)
 }
+
+/// The bytes of the keys and the bytes of the values of a map, each packed: what `TextMap::new` takes.
+///
+/// ```
+/// use tinystr::tinystr;
+/// use tinystr::packed::pack_text_map;
+/// use std::collections::BTreeMap;
+///
+/// let mut currencies = BTreeMap::new();
+/// currencies.insert(tinystr!(2, "JP"), tinystr!(3, "JPY"));
+/// currencies.insert(tinystr!(2, "CH"), tinystr!(3, "CHF"));
+/// let (keys, values) = pack_text_map(&currencies);
+/// assert_eq!(keys.as_slice(), b"CHJP".as_slice());
+/// assert_eq!(values.as_slice(), b"CHFJPY".as_slice());
+/// ```
+///
+/// # Contract
+///
+/// ```text
+/// ensures { IfOk result (λ made. ArePackedTexts map.now.entries made.0.items made.1.items N M) }
+/// ```
+#[must_use]
+pub fn pack_text_map<const N: usize, const M: usize>(
+    map: &BTreeMap<TinyAsciiStr<N>, TinyAsciiStr<M>>,
+) -> (Vec<u8>, Vec<u8>) {
+    // Its contract says that the keys rise.
+    let count = map.len();
+    let mut keys = Vec::with_capacity(count.saturating_mul(N));
+    let mut values = Vec::with_capacity(count.saturating_mul(M));
+    for (key, value) in map {
+        keys.extend_from_slice(key.all_bytes());
+        values.extend_from_slice(value.all_bytes());
+    }
+    (keys, values)
+}

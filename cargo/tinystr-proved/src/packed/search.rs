@@ -23,17 +23,31 @@ const FEW: usize = 32;
 /// ```
 #[inline(always)]
 pub(crate) fn first_not_below<const N: usize>(records: &[[u8; N]], key: &[u8; N]) -> usize {
-    let all = 0..records.len();
-    if N <= 8 {
-        return narrow::<N, u64>(records, key, 0, all).start;
-    }
     if N <= 16 {
-        return narrow::<N, u128>(records, key, 0, all).start;
+        return first_not_below_by_number(records, key);
     }
     if records.len() < FEW {
         return first_not_below_by_halves(records, key);
     }
     first_not_below_of_many(records, key)
+}
+
+/// The place of a key among records of at most sixteen bytes. Where they don't rise, it is any index up to their number.
+///
+/// # Contract
+///
+/// ```text
+/// requires { N ≤ 16 }
+/// ensures bound { result ≤ length records.now }
+/// ensures place { AreRisingRecords N records.now → IsRecord N key.now → IsFirstNotBelow key.now records.now result }
+/// ```
+#[inline(always)]
+pub(crate) fn first_not_below_by_number<const N: usize>(records: &[[u8; N]], key: &[u8; N]) -> usize {
+    let all = 0..records.len();
+    if N <= 8 {
+        return narrow::<N, u64>(records, key, 0, all).start;
+    }
+    narrow::<N, u128>(records, key, 0, all).start
 }
 
 // The place of a key among many records of more than sixteen bytes. It isn't inlined, so that a search among few doesn't save
@@ -104,15 +118,16 @@ fn is_below_at<const N: usize>(records: &[[u8; N]], index: usize, key: &[u8; N])
 }
 
 // Narrows a range that holds a key's place, by the numbers of its records from `start` on: to nothing at the place or, past
-// sixteen bytes, to a range whose middle has the key's number and may still differ from the key. For speed, no test for the
-// order is a branch, and both records that the next step may ask are read before this step's test is done.
+// sixteen bytes, to a range whose middle has the key's number and may still differ from the key. Where the records don't rise,
+// a part of the range is left all the same. For speed, no test for the order is a branch, and both records that the next step
+// may ask are read before this step's test is done.
 // Proved:
 //     requires start { start ≤ N - 8 }
-//     requires records { AreRisingRecords N records.now }
-//     requires tells { Tells (T.spelled start) key.now records.now }
-//     requires whole { N ≤ 16 → (k : ℕ) → k < length records.now → T.spelled start (text_at records.now k) ≡ T.spelled start key.now → order (text_at records.now k) key.now ≢ Less }
-//     requires within { IsFirstNotBelowWithin key.now records.now range.start range.end }
-//     ensures within { IsFirstNotBelowWithin key.now records.now result.start result.end }
+//     requires ordered { range.start ≤ range.end }
+//     requires inside { range.end ≤ length records.now }
+//     ensures ordered { result.start ≤ result.end }
+//     ensures inside { result.end ≤ length records.now }
+//     ensures within { AreToldApart N (T.spelled start) key.now records.now → IsFirstNotBelowWithin key.now records.now range.start range.end → IsFirstNotBelowWithin key.now records.now result.start result.end }
 //     ensures place { N ≤ 16 → result.start ≡ result.end }
 #[inline(always)]
 fn narrow<const N: usize, T: Number<N>>(
@@ -130,13 +145,13 @@ fn narrow<const N: usize, T: Number<N>>(
     let mut number = T::at(&records[base + size / 2], start);
     while size > 1 {
         let half = size / 2;
-        let next = (size - half) / 2;
+        size -= half;
+        let next = size / 2;
         let low = T::at(&records[base + next], start);
         let high = T::at(&records[base + half + next], start);
         if N > 16 && number.is_same(wanted) {
-            return base..base + size;
+            return base..base + half + size;
         }
-        size -= half;
         let is_below = number.is_below(wanted);
         base = select_unpredictable(is_below, base + half, base);
         number = select_unpredictable(is_below, high, low);
@@ -172,12 +187,16 @@ fn first_not_below_within<const N: usize>(
     }
 }
 
-// The place of a key, by halves.
-// Proved:
-//     requires records { AreRisingRecords N records.now }
-//     ensures { IsFirstNotBelow key.now records.now result }
+/// The place of a key, by halves. Where the records don't rise, it is any index up to their number.
+///
+/// # Contract
+///
+/// ```text
+/// ensures bound { result ≤ length records.now }
+/// ensures place { IsRising records.now → IsFirstNotBelow key.now records.now result }
+/// ```
 #[inline(always)]
-fn first_not_below_by_halves<const N: usize>(records: &[[u8; N]], key: &[u8; N]) -> usize {
+pub(crate) fn first_not_below_by_halves<const N: usize>(records: &[[u8; N]], key: &[u8; N]) -> usize {
     records.partition_point(
         |raw| -> bool { is_below(&raw[..], &key[..]) },
     )

@@ -67,6 +67,7 @@ impl<'a, const N: usize> SortedTable<'a, N> {
     /// ensures rising { IsOk result ↔ IsRising table.entry }
     /// ensures texts { IfOk result (λ sorted. sorted ≡ table.entry) }
     /// ensures first { IfErr result (λ e. IsFirstFall table.entry e.index) }
+    /// ensures value { result_ok result ≡ sorted_of table.entry }
     /// ```
     pub fn new(table: Table<'a, N>) -> Result<Self, NotRising> {
         match table.first_fall() {

@@ -42,6 +42,7 @@ impl<'a, const N: usize> Table<'a, N> {
     /// ensures bytes { IfOk result (λ table. bytes.now ≡ flat_map (λ t. pad t N) table) }
     /// ensures texts { IfOk result (λ table. All (λ t. IsStrictText t N) table) }
     /// ensures fault { IfErr result (λ e. RefusesRecords e bytes.now N) }
+    /// ensures value { result_ok result ≡ table_of N bytes.now }
     /// ```
     ///
     /// # Panics

@@ -1,0 +1,117 @@
+//! Searches in the bytes of records that were checked before, and aren't checked again. Of any other bytes they answer too,
+//! with places inside them.
+
+use crate::packed::search::{first_not_below_by_halves, first_not_below_by_number};
+use crate::TinyAsciiStr;
+
+/// The index of a text among packed records whose texts rise, or where it is to be inserted, as
+/// `SortedTable::binary_search` answers. Of any other bytes the answer is a place inside them.
+///
+/// ```
+/// use tinystr::tinystr;
+/// use tinystr::packed::in_place;
+///
+/// assert_eq!(in_place::search(b"CHFEURJPY", &tinystr!(3, "EUR")), Ok(1));
+/// assert_eq!(in_place::search(b"CHFEURJPY", &tinystr!(3, "GBP")), Err(2));
+/// ```
+///
+/// # Contract
+///
+/// ```text
+/// requires { 0 < N }
+/// ensures inside { IfOk result (λ index. index < length bytes.now / N) }
+/// ensures bound { IfErr result (λ place. place ≤ length bytes.now / N) }
+/// ensures searched { (texts : List (List ℕ)) → ArePackedRising texts bytes.now N → IsSearched key.now texts result }
+/// ```
+///
+/// # Panics
+///
+/// Where `N` is 0.
+pub fn search<const N: usize>(bytes: &[u8], key: &TinyAsciiStr<N>) -> Result<usize, usize> {
+    assert!(N > 0, "a record has at least one byte");
+    // where there is no record, an array of `N` bytes may have no size
+    if bytes.is_empty() {
+        return Err(0);
+    }
+    search_records(bytes.as_chunks().0, key)
+}
+
+/// The range of the texts that begin with a text, among packed records whose texts rise: the index of the first, or where such
+/// a text is to be inserted, and how many there are. Of any other bytes the answer is a range inside them.
+///
+/// ```
+/// use tinystr::tinystr;
+/// use tinystr::packed::in_place;
+///
+/// assert_eq!(in_place::with_prefix(b"CADCHFCZKEUR", &tinystr!(3, "C")), (0, 3));
+/// ```
+///
+/// # Contract
+///
+/// ```text
+/// requires { 0 < N }
+/// ensures bound { result.0 + result.1 ≤ length bytes.now / N }
+/// ensures start { (texts : List (List ℕ)) → ArePackedRising texts bytes.now N → IsFirstNotBelow beginning.now texts result.0 }
+/// ensures range { (texts : List (List ℕ)) → ArePackedRising texts bytes.now N → take result.1 (drop result.0 texts) ≡ filter (λ t. starts_with nat_eq t beginning.now) texts }
+/// ```
+///
+/// # Panics
+///
+/// Where `N` is 0.
+#[must_use]
+pub fn with_prefix<const N: usize>(bytes: &[u8], beginning: &TinyAsciiStr<N>) -> (usize, usize) {
+    assert!(N > 0, "a record has at least one byte");
+    if bytes.is_empty() {
+        return (0, 0);
+    }
+    range_with_prefix(bytes.as_chunks().0, beginning)
+}
+
+// Proved:
+//     ensures inside { IfOk result (λ index. index < length records.now) }
+//     ensures bound { IfErr result (λ place. place ≤ length records.now) }
+//     ensures searched { All (λ raw. IsPaddedText raw N) records.now → IsRising (map text_of records.now) → IsSearched key.now (map text_of records.now) result }
+fn search_records<const N: usize>(
+    records: &[[u8; N]],
+    key: &TinyAsciiStr<N>,
+) -> Result<usize, usize> {
+    let place = first_not_below(records, key);
+    let Some(raw) = records.get(place) else {
+        return Err(place);
+    };
+    if raw == key.all_bytes() {
+        Ok(place)
+    } else {
+        Err(place)
+    }
+}
+
+// Proved:
+//     ensures bound { result.0 + result.1 ≤ length records.now }
+//     ensures start { All (λ raw. IsPaddedText raw N) records.now → IsRising (map text_of records.now) → IsFirstNotBelow beginning.now (map text_of records.now) result.0 }
+//     ensures range { All (λ raw. IsPaddedText raw N) records.now → IsRising (map text_of records.now) → take result.1 (drop result.0 (map text_of records.now)) ≡ filter (λ t. starts_with nat_eq t beginning.now) (map text_of records.now) }
+fn range_with_prefix<const N: usize>(
+    records: &[[u8; N]],
+    beginning: &TinyAsciiStr<N>,
+) -> (usize, usize) {
+    let start = first_not_below(records, beginning);
+    let (_, rest) = records.split_at(start);
+    let beginning = beginning.as_utf8();
+    let len = rest.partition_point(
+        |raw| -> bool { raw[..].starts_with(beginning) },
+    );
+    (start, len)
+}
+
+// The index of the first record that isn't below a key, or the number of records.
+// Proved:
+//     ensures bound { result ≤ length records.now }
+//     ensures place { All (λ raw. IsPaddedText raw N) records.now → IsRising (map text_of records.now) → IsFirstNotBelow key.now (map text_of records.now) result }
+#[inline(always)]
+fn first_not_below<const N: usize>(records: &[[u8; N]], key: &TinyAsciiStr<N>) -> usize {
+    let key = key.all_bytes();
+    if N <= 16 {
+        return first_not_below_by_number(records, key);
+    }
+    first_not_below_by_halves(records, key)
+}
