@@ -13,8 +13,7 @@ use Rattle.std.proofs.lemmas.Map.Keys.{Less-from_sorted}
 use Rattle.tinystr_words.specs.Text.{IsStrictText, pad}
 use Rattle.tinystr_packed.proofs.PackedTexts.{packed_injective}
 use Rattle.tinystr_packed.specs.Map.{ArePacked}
-use Rattle.tinystr_packed.specs.Rising.{IsRising}
-use Rattle.tinystr_packed.specs.Sorting.{ArePackedRising}
+use Rattle.tinystr_packed.specs.Rising.{ArePackedRising, IsRising}
 
 abbrev Entries : Type 0
 Entries = List (List ℕ × List ℕ)

@@ -7,7 +7,7 @@ use Rattle.std.proofs.lemmas.Map.Made.{keys_of-zip}
 use Rattle.std.proofs.lemmas.Slice.Zip.{seconds-zip}
 use Rattle.tinystr_packed.proofs.MapBytes.{same_entries}
 use Rattle.tinystr_packed.proofs.PackedTexts.{AllStrict, packed, packed_injective}
-use Rattle.tinystr_packed.specs.Sorting.{ArePackedRising}
+use Rattle.tinystr_packed.specs.Rising.{ArePackedRising}
 use Rattle.tinystr_packed.specs.TextMap.{ArePackedTexts}
 
 -- as many values as keys

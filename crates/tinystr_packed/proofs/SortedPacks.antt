@@ -15,8 +15,8 @@ use Rattle.std.proofs.lemmas.Map.Text.{is_eq-slice_cmp}
 use Rattle.std.proofs.lemmas.Slice.Eq.{bytes_eq-Decides}
 use Rattle.tinystr_words.specs.Text.{pad}
 use Rattle.tinystr_packed.proofs.PackedTexts.{AllStrict, packed, packed_injective}
-use Rattle.tinystr_packed.specs.Rising.{IsRising}
-use Rattle.tinystr_packed.specs.Sorting.{ArePackedInOrder, ArePackedRising}
+use Rattle.tinystr_packed.specs.Rising.{ArePackedRising, IsRising}
+use Rattle.tinystr_packed.specs.Sorting.{ArePackedInOrder}
 
 -- texts that are sorted, each kept once, rise
 IsRising-dedup : (texts : List (List ℕ)) → IsSorted (slice_cmp nat_cmp) texts → IsRising (dedup bytes_eq texts)

@@ -5,7 +5,8 @@ use Rattle.std.specs.Map.{keys_of, values_of}
 use Rattle.tinystr.specs.Records.{RefusesRecords}
 use Rattle.tinystr_words.specs.Packed.{IsPacked}
 use Rattle.tinystr_words.specs.Text.{IsStrictText, pad}
-use Rattle.tinystr_packed.specs.Sorting.{ArePackedRising, RefusesSorted}
+use Rattle.tinystr_packed.specs.Rising.{ArePackedRising}
+use Rattle.tinystr_packed.specs.Sorting.{RefusesSorted}
 use Rattle.tinystr_packed.specs.declared.text_map.TextMapError.{TextMapError}
 use Rattle.tinystr_packed.specs.declared.text_map.TextMapError.TheVariants.{Keys, Values, Count}
 

@@ -10,7 +10,7 @@ use crate::search::{first_not_below_by_halves, first_not_below_by_number};
 use tinystr::TinyAsciiStr;
 
 /// The index of a text among packed records whose texts rise, or where it is to be inserted, as
-/// `SortedTable::binary_search` answers. Of any other bytes the answer is a place inside them.
+/// `SortedTable::binary_search` answers. Of any other bytes the answer is a place inside them. `N` has to be above 0.
 ///
 /// ```rust
 /// assert_eq!(rt; in_place::search(b"CHFEURJPY", &tinystr!(3, "EUR")?), Ok(1));
@@ -30,7 +30,8 @@ pub fn search<const N: usize>(bytes: &[u8], key: &TinyAsciiStr<N>) -> Result<usi
 }
 
 /// The range of the texts that begin with a text, among packed records whose texts rise: the index of the first, or where such
-/// a text is to be inserted, and how many there are. Of any other bytes the answer is a range inside them.
+/// a text is to be inserted, and how many there are. Of any other bytes the answer is a range inside them. `N` has to be above
+/// 0.
 ///
 /// ```rust
 /// assert_eq!(rt; in_place::with_prefix(b"CADCHFCZKEUR", &tinystr!(3, "C")?), (0, 3));

@@ -5,8 +5,8 @@ ghost use Rattle.std.specs.List.{starts_with};
 ghost use Rattle.std.specs.Result.{result_ok};
 ghost use Rattle.tinystr_words.specs.Text.{IsStrictText};
 ghost use Rattle.tinystr_packed.specs.Reading.{sorted_of};
-ghost use Rattle.tinystr_packed.specs.Rising.{IsRising, IsFirstFall, IsPlaceFor, IsFirstNotBelow, IsPrefixRange};
-ghost use Rattle.tinystr_packed.specs.Sorting.{ArePackedRising, RefusesSorted};
+ghost use Rattle.tinystr_packed.specs.Rising.{IsRising, ArePackedRising, IsFirstFall, IsPlaceFor, IsFirstNotBelow, IsPrefixRange};
+ghost use Rattle.tinystr_packed.specs.Sorting.{RefusesSorted};
 
 use crate::search::{count_with_prefix, first_not_below};
 use crate::table::Table;
@@ -82,7 +82,8 @@ impl<'a, const N: usize> SortedTable<'a, N> {
         }
     }
 
-    /// The sorted table of bytes, which are checked here alone. `N` has to be above 0.
+    /// The sorted table of bytes, which are checked here alone: first whether they are packed records, then their order. `N` has
+    /// to be above 0.
     ///
     /// ```rust
     /// let codes = SortedTable::<3>::from_bytes(b"CHFEURJPY").unwrap();
@@ -130,7 +131,7 @@ impl<'a, const N: usize> SortedTable<'a, N> {
         }
     }
 
-    /// The index of a text of any capacity, or `None` where it isn't one of them.
+    /// The index of a text of any capacity, or `None` where it isn't one of them. Both capacities have to be below 2^63.
     ///
     /// ```rust
     /// let codes = SortedTable::<3>::from_bytes(b"CHFEURJPY").unwrap();

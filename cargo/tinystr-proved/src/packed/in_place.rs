@@ -5,7 +5,7 @@ use crate::packed::search::{first_not_below_by_halves, first_not_below_by_number
 use crate::TinyAsciiStr;
 
 /// The index of a text among packed records whose texts rise, or where it is to be inserted, as
-/// `SortedTable::binary_search` answers. Of any other bytes the answer is a place inside them.
+/// `SortedTable::binary_search` answers. Of any other bytes the answer is a place inside them. `N` has to be above 0.
 ///
 /// ```
 /// use tinystr::tinystr;
@@ -37,7 +37,8 @@ pub fn search<const N: usize>(bytes: &[u8], key: &TinyAsciiStr<N>) -> Result<usi
 }
 
 /// The range of the texts that begin with a text, among packed records whose texts rise: the index of the first, or where such
-/// a text is to be inserted, and how many there are. Of any other bytes the answer is a range inside them.
+/// a text is to be inserted, and how many there are. Of any other bytes the answer is a range inside them. `N` has to be above
+/// 0.
 ///
 /// ```
 /// use tinystr::tinystr;

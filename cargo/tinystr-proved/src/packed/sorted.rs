@@ -76,7 +76,8 @@ impl<'a, const N: usize> SortedTable<'a, N> {
         }
     }
 
-    /// The sorted table of bytes, which are checked here alone. `N` has to be above 0.
+    /// The sorted table of bytes, which are checked here alone: first whether they are packed records, then their order. `N` has
+    /// to be above 0.
     ///
     /// ```
     /// use tinystr::packed::{NotRising, SortedError, SortedTable};
@@ -144,7 +145,7 @@ impl<'a, const N: usize> SortedTable<'a, N> {
         }
     }
 
-    /// The index of a text of any capacity, or `None` where it isn't one of them.
+    /// The index of a text of any capacity, or `None` where it isn't one of them. Both capacities have to be below 2^63.
     ///
     /// ```
     /// use tinystr::tinystr;
