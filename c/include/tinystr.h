@@ -8,7 +8,8 @@
  *     `text` of tinystr_change_case, may be written too. The number is at most SSIZE_MAX.
  *   - A pointer isn't NULL, not even where the number is 0.
  *   - No byte that a call may write is a byte that another argument names: `out` overlaps no input.
- *   - No other thread writes these bytes while the call runs. Then any calls may run at once, in signal handlers too.
+ *   - While the call runs, no other thread writes these bytes, or reads those that the call may write. Then any calls may
+ *     run at once, in signal handlers too.
  * A table that was never checked, or was changed since, breaks nothing: the answer names a place inside it, which may be the
  * wrong one.
  *

@@ -91,7 +91,8 @@ macro_rules! tinystr {
     ($n:literal, $s:literal) => {{
         const TEXT: $crate::TinyAsciiStr<$n> = match $crate::TinyAsciiStr::try_from_utf8_const($s.as_bytes()) {
             Ok(text) => text,
-            Err(_) => panic!(concat!("no text of capacity ", $n, ": ", $s)),
+            // the literal may have braces, so it is no format
+            Err(_) => panic!("{}", concat!("no text of capacity ", $n, ": ", $s)),
         };
         TEXT
     }};

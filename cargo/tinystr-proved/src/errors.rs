@@ -1,7 +1,7 @@
 //! The texts of the errors that the original doesn't have, and that each is an `Error` of std.
 
 use crate::forms::{BytesReadError, FormWriteError};
-use crate::packed::{MapError, NotRising, SortedError};
+use crate::packed::{MapError, NotRising, SortedError, TextMapError};
 use crate::ule::UleError;
 use core::error::Error;
 use core::fmt::{Display, Formatter, Result};
@@ -69,3 +69,15 @@ impl Display for MapError {
 }
 
 impl Error for MapError {}
+
+impl Display for TextMapError {
+    fn fmt(&self, f: &mut Formatter<'_>) -> Result {
+        match self {
+            TextMapError::Keys(fault) => write!(f, "keys: {fault}"),
+            TextMapError::Values(fault) => write!(f, "values: {fault}"),
+            TextMapError::Count { keys, values } => write!(f, "{values} values aren't one for each of {keys} keys"),
+        }
+    }
+}
+
+impl Error for TextMapError {}

@@ -1,11 +1,12 @@
 //! The part of `std::simd` that the proved sources use, for stable Rust. Lanes are an array, which LLVM keeps in a vector.
-//! The calls on sixteen bytes are `machine`'s on x86-64, an instruction or two each, and else `portable`'s. Written by hand;
-//! `tests` has each call at all bytes that a lane can hold.
+//! The calls on sixteen bytes are `machine`'s on x86-64 with SSE2, an instruction or two each, and else `portable`'s. Written by
+//! hand; `tests` has each call at all bytes that a lane can hold.
 #![allow(non_camel_case_types)]
 
 use core::ops::{Add, BitAnd, BitOr, BitXor, Not, Shr, Sub};
 
-#[cfg(all(target_arch = "x86_64", not(portable_lanes)))]
+// (a target without an operating system may have no vectors)
+#[cfg(all(target_arch = "x86_64", target_feature = "sse2", not(portable_lanes)))]
 mod machine;
 // on x86-64 its shuffle alone is called, where there is no SSSE3
 #[allow(dead_code)]
@@ -13,7 +14,7 @@ mod portable;
 #[cfg(test)]
 mod tests;
 
-#[cfg(any(portable_lanes, not(target_arch = "x86_64")))]
+#[cfg(any(portable_lanes, not(all(target_arch = "x86_64", target_feature = "sse2"))))]
 use portable as machine;
 
 /// `L` numbers, the lowest lane first.

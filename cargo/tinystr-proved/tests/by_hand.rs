@@ -4,7 +4,7 @@
 use std::borrow::Borrow;
 use std::collections::HashMap;
 use std::error::Error;
-use tinystr::packed::{PackedMap, SortedTable, Table};
+use tinystr::packed::{PackedMap, SortedTable, Table, TextMap};
 use tinystr::subtags::{LangId, Language};
 use tinystr::{ParseError, TinyAsciiStr, TinyStr8, UnvalidatedTinyAsciiStr, tinystr};
 
@@ -62,6 +62,7 @@ fn constants_stand_in_any_place() {
     assert_eq!(CODES.map(|code| code.len()), [3, 3]);
     assert_eq!(FIRST, Some(b'E'));
     assert!(matches!(tinystr!(4, "Latn").as_str(), "Latn"));
+    assert_eq!(tinystr!(4, "{0}}"), "{0}}");
 }
 
 #[test]
@@ -119,4 +120,9 @@ fn each_error_tells_what_is_wrong() {
     assert_eq!(map(b"EU", &[2]), Err("keys: 2 bytes can't be divided into records".into()));
     assert_eq!(map(b"JPYEUR", &[0, 2]), Err("keys: record 1 isn't above the one before it".into()));
     assert_eq!(map(b"EURJPY", &[2]), Err("1 bytes aren't a value for each of 2 keys".into()));
+    let texts = |keys, values| TextMap::<2, 3>::new(keys, values).map_err(told).map(|map| map.len());
+    assert_eq!(texts(b"CHJ", b"CHF"), Err("keys: 3 bytes can't be divided into records".into()));
+    assert_eq!(texts(b"JPCH", b"JPYCHF"), Err("keys: record 1 isn't above the one before it".into()));
+    assert_eq!(texts(b"CHJP", b"CHFJP"), Err("values: 5 bytes can't be divided into records".into()));
+    assert_eq!(texts(b"CHJP", b"CHF"), Err("1 values aren't one for each of 2 keys".into()));
 }

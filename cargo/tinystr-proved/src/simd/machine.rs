@@ -16,7 +16,7 @@ fn bytes(vector: __m128i) -> [u8; 16] {
 
 #[inline(always)]
 pub fn equal(a: [u8; 16], b: [u8; 16]) -> [u8; 16] {
-    // SAFETY, here and below: each x86-64 processor has SSE2.
+    // SAFETY, here and below: the processor has SSE2, as `cfg` says where this module is named.
     bytes(unsafe { _mm_cmpeq_epi8(vector(a), vector(b)) })
 }
 
