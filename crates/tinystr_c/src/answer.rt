@@ -62,7 +62,7 @@ pub fn fault_code(fault: ParseError) -> u32
 }
 
 /// A fault, and where it is: the first NUL or byte above 127, or the number of bytes where they are too many.
-// A text that is refused for a NUL or a byte above 127 has one, so that no 0 is put in its place.
+// A text that is refused for a NUL or a byte above 127 has one, so a place is always found.
 pub fn fault_answer(fault: ParseError, bytes: &[u8]) -> TinystrResult
     ensures { result ≡ fault_answer (fault_of fault) bytes.now }
 {

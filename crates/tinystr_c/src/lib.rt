@@ -71,7 +71,7 @@ pub extern "C" fn tinystr_table_check(bytes: &[u8], capacity: usize) -> TinystrR
     crate::at_capacity!(capacity, table_check, answer(BAD_ARGUMENT, capacity), bytes)
 }
 
-/// Whether they are, and each text is above the one before it.
+/// Whether bytes are packed records of `capacity` bytes, and each text is above the one before it.
 #[unsafe(no_mangle)]
 pub extern "C" fn tinystr_sorted_check(bytes: &[u8], capacity: usize) -> TinystrResult
     ensures capacity { ¬ IsCapacity capacity → result ≡ answer BAD_ARGUMENT capacity }

@@ -1,4 +1,5 @@
-//! The numbers of `tinystr.h`. Those of specs/Codes.antt and specs/Texts.antt are the same, or else nothing is proved.
+//! The numbers of `tinystr.h`. The contracts have those of specs/Codes.antt and specs/Texts.antt, so the proofs fail where
+//! they differ.
 
 pub const VERSION: u32 = 100;
 

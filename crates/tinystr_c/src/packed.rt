@@ -27,7 +27,7 @@ macro_rules! at_capacity {
     };
 }
 
-/// How many records, or why they aren't.
+/// How many packed records the bytes are, or why they are none.
 pub fn table_check<const N: usize>(bytes: &[u8]) -> TinystrResult
     requires { 0 < N }
     ensures { ChecksTable result bytes.now N }
@@ -38,7 +38,7 @@ pub fn table_check<const N: usize>(bytes: &[u8]) -> TinystrResult
     }
 }
 
-/// How many records that rise, or why they aren't.
+/// How many packed records that rise the bytes are, or why they are none.
 pub fn sorted_check<const N: usize>(bytes: &[u8]) -> TinystrResult
     requires { 0 < N }
     ensures { ChecksSorted result bytes.now N }
@@ -86,7 +86,7 @@ pub fn sorted_prefix<const N: usize>(bytes: &[u8], beginning: &[u8]) -> TinystrR
     }
 }
 
-/// How many entries, or why they aren't, at one of the sizes of values.
+/// How many entries of a packed map the bytes are, or why they are none, at one of the sizes of values.
 pub fn map_check<const N: usize>(keys: &[u8], values: &[u8], value_size: usize) -> TinystrResult
     requires { 0 < N }
     ensures argument { ¬ IsValueSize value_size → result ≡ answer BAD_ARGUMENT value_size }
