@@ -93,13 +93,12 @@ fn have_exactly_those(file: &[u8], words: &str, prefix: &str) -> bool {
     let (mut entries, mut text_entries) = (begun.iter(), begun_texts.iter());
     for word in words.lines() {
         if word.starts_with(prefix) {
-            match (entries.next(), text_entries.next()) {
-                (Some((key, value)), Some((text, same)))
-                    if key.as_str() == word
-                        && key.all_bytes() == value
-                        && text == key
-                        && same == text => {}
-                _ => return false,
+            let (Some((key, value)), Some((text, same))) = (entries.next(), text_entries.next())
+            else {
+                return false;
+            };
+            if key.as_str() != word || key.all_bytes() != value || text != key || same != text {
+                return false;
             }
         }
     }

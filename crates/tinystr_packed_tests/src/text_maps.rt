@@ -77,7 +77,7 @@ fn entries_are_the_keys_with_their_texts_in_order(rt: HostRuntime) {
 }
 
 /// Whether the map has the first of the five entries and no more, and tells how many they are and how many are left.
-fn has_entries(keys: &[u8], values: &[u8], len: usize) -> bool {
+fn has_entries<'a>(keys: &'a [u8], values: &'a [u8], len: usize) -> bool {
     let Ok(map) = TextMap::<2, 3>::new(keys, values) else {
         return false;
     };
@@ -94,10 +94,11 @@ fn has_entries(keys: &[u8], values: &[u8], len: usize) -> bool {
         if entries.size_hint() != (left, Some(left)) {
             return false;
         }
-        match (entries.next(), map.values().get(index)) {
-            (Some((found, text)), Some(same))
-                if found.as_str() == key && text.as_str() == value && same == text => {}
-            _ => return false,
+        let (Some((found, text)), Some(same)) = (entries.next(), map.values().get(index)) else {
+            return false;
+        };
+        if found.as_str() != key || text.as_str() != value || same != text {
+            return false;
         }
         left = left.saturating_sub(1);
     }
