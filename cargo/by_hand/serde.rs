@@ -9,7 +9,8 @@ use serde::ser::{Error as _, Serialize, SerializeTuple, Serializer};
 
 impl<const N: usize> Serialize for TinyAsciiStr<N> {
     fn serialize<S: Serializer>(&self, serializer: S) -> Result<S::Ok, S::Error> {
-        if serializer.is_human_readable() {
+        let is_for_people = serializer.is_human_readable();
+        if is_for_people {
             return serializer.serialize_str(self.as_str());
         }
         let mut tuple = serializer.serialize_tuple(N)?;
@@ -22,7 +23,8 @@ impl<const N: usize> Serialize for TinyAsciiStr<N> {
 
 impl<'de, const N: usize> Deserialize<'de> for TinyAsciiStr<N> {
     fn deserialize<D: Deserializer<'de>>(deserializer: D) -> Result<Self, D::Error> {
-        if deserializer.is_human_readable() {
+        let is_for_people = deserializer.is_human_readable();
+        if is_for_people {
             return deserializer.deserialize_str(TextVisitor);
         }
         let (bytes, count) = deserializer.deserialize_tuple(N, BytesVisitor::<N>)?;
@@ -46,7 +48,8 @@ impl<const N: usize> Serialize for UnvalidatedTinyAsciiStr<N> {
 /// A text where the format is human-readable, and else any `N` bytes.
 impl<'de, const N: usize> Deserialize<'de> for UnvalidatedTinyAsciiStr<N> {
     fn deserialize<D: Deserializer<'de>>(deserializer: D) -> Result<Self, D::Error> {
-        if deserializer.is_human_readable() {
+        let is_for_people = deserializer.is_human_readable();
+        if is_for_people {
             return Ok(TinyAsciiStr::deserialize(deserializer)?.to_unvalidated());
         }
         let (bytes, count) = deserializer.deserialize_tuple(N, BytesVisitor::<N>)?;

@@ -7,30 +7,34 @@ use crate::error::ParseError;
 macro_rules! padded {
     ($code_units:expr, $nuls:expr) => {{
         let code_units = $code_units;
-        let len = code_units.len();
-        if len > N {
-            return Err(ParseError::TooLong { max: N, len });
-        }
+        let count = code_units.len();
         let mut bytes = [0; N];
+        let mut fault = None;
+        if count > N {
+            fault = Some(ParseError::TooLong { max: N, len: count });
+        }
         let mut at = 0;
         let mut is_after_nul = false;
-        while at < len {
+        while at < count && fault.is_none() {
             let code = code_units[at];
             if code > 127 {
-                return Err(ParseError::NonAscii);
-            }
-            if code == 0 {
+                fault = Some(ParseError::NonAscii);
+            } else if code == 0 {
                 is_after_nul = true;
             } else if is_after_nul {
-                return Err(ParseError::ContainsNull);
+                fault = Some(ParseError::ContainsNull);
+            } else {
+                bytes[at] = code as u8;
             }
-            bytes[at] = code as u8;
             at += 1;
         }
-        if is_after_nul && !$nuls {
-            return Err(ParseError::ContainsNull);
+        if is_after_nul && fault.is_none() && !$nuls {
+            fault = Some(ParseError::ContainsNull);
         }
-        bytes
+        match fault {
+            None => Ok(bytes),
+            Some(fault) => Err(fault),
+        }
     }};
 }
 
@@ -52,23 +56,29 @@ impl<const N: usize> TinyAsciiStr<N> {
 
     /// `try_from_utf8` at compile time. At run time `try_from_utf8` is faster.
     pub const fn try_from_utf8_const(code_units: &[u8]) -> Result<Self, ParseError> {
-        let bytes = padded!(code_units, false);
-        // SAFETY: `padded` gives bytes from 1 to 127 and then NULs
-        Ok(unsafe { Self::from_utf8_unchecked(bytes) })
+        match padded!(code_units, false) {
+            // SAFETY: `padded` gives bytes from 1 to 127 and then NULs
+            Ok(bytes) => Ok(unsafe { Self::from_utf8_unchecked(bytes) }),
+            Err(fault) => Err(fault),
+        }
     }
 
     /// `try_from_utf16` at compile time. At run time `try_from_utf16` is faster.
     pub const fn try_from_utf16_const(code_units: &[u16]) -> Result<Self, ParseError> {
-        let bytes = padded!(code_units, false);
-        // SAFETY: as above
-        Ok(unsafe { Self::from_utf8_unchecked(bytes) })
+        match padded!(code_units, false) {
+            // SAFETY: as above
+            Ok(bytes) => Ok(unsafe { Self::from_utf8_unchecked(bytes) }),
+            Err(fault) => Err(fault),
+        }
     }
 
     /// `try_from_raw` at compile time. At run time `try_from_raw` is faster.
     pub const fn try_from_raw_const(raw: [u8; N]) -> Result<Self, ParseError> {
-        let bytes = padded!(raw, true);
-        // SAFETY: as above
-        Ok(unsafe { Self::from_utf8_unchecked(bytes) })
+        match padded!(raw, true) {
+            // SAFETY: as above
+            Ok(bytes) => Ok(unsafe { Self::from_utf8_unchecked(bytes) }),
+            Err(fault) => Err(fault),
+        }
     }
 }
 
