@@ -1,0 +1,42 @@
+"""Copies crates to another folder, so that a check works beside `rt ci`: what `rt` reads of them, with their lines of
+crates.txt, and HANDLES. It reads the crates as they stand in the checkout, and prints nothing."""
+
+import re
+import shutil
+
+from sources import TOP, below
+
+READ_BY_RT = ("src", "specs", "proofs")
+
+
+def copy_all(folder):
+    """Copies what `rt` reads of all crates, but for what was proved of them."""
+    shutil.copy(TOP / "HANDLES", folder / "HANDLES")
+    shutil.copy(TOP / "crates.txt", folder / "crates.txt")
+    for crate in sorted(it for it in (TOP / "crates").iterdir() if it.is_dir()):
+        to = folder / "crates" / crate.name
+        to.mkdir(parents=True, exist_ok=True)
+        for part in READ_BY_RT:
+            if (crate / part).is_dir():
+                shutil.copytree(crate / part, to / part, symlinks=True, copy_function=shutil.copy, dirs_exist_ok=True)
+
+
+def copy_with_proofs(folder, crates):
+    """Copies the whole folders of some crates and of all that they stand on, with what was proved and when."""
+    names = {lower for crate in crates for lower in below(crate)} | set(crates)
+    shutil.copy(TOP / "HANDLES", folder / "HANDLES")
+    lines = (TOP / "crates.txt").read_text(encoding="utf-8").splitlines()
+    kept = [f"{it}\n" for it in lines if re.match(r"\w*", it)[0] in names]
+    (folder / "crates.txt").write_text("".join(kept), encoding="utf-8")
+    for name in sorted(names):
+        shutil.copytree(TOP / "crates" / name, folder / "crates" / name, symlinks=True, dirs_exist_ok=True)
+
+
+def add_crate(folder, name, uses, file, text):
+    """Adds a crate of one file to a copy, and returns its folder."""
+    crate = folder / "crates" / name
+    (crate / "src").mkdir(parents=True, exist_ok=True)
+    (crate / "src" / file).write_text(text, encoding="utf-8")
+    with open(folder / "crates.txt", "a", encoding="utf-8") as crates:
+        crates.write(f"{name}: {' '.join(uses)}\n")
+    return crate
