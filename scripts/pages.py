@@ -1,0 +1,73 @@
+#!/usr/bin/env python3
+"""Reads pages of Markdown: their fences, what stands between these, their anchors and links.
+
+scripts/pages.py PAGE KIND   prints what the first fence of a kind holds, and fails where a page has none
+"""
+
+import re
+import sys
+from dataclasses import dataclass
+from pathlib import Path
+
+
+@dataclass(frozen=True)
+class Fence:
+    """What stands between two lines of backticks: the word behind the first, the heading above it, and how many lines of
+    the page's prose are above it."""
+
+    kind: str
+    heading: str
+    above: int
+    text: str
+
+
+class Page:
+    """A page: all its lines, its fences in their order, and its prose, the lines that stand in no fence."""
+
+    def __init__(self, path):
+        self.path = path
+        self.lines = path.read_text(encoding="utf-8").splitlines()
+        self.fences, self.prose, self.anchors = [], [], set()
+        heading, kind, inside = "", None, []
+        for line in self.lines:
+            if kind is None and line.startswith("```"):
+                kind, inside = line[3:], []
+            elif line.startswith("```"):
+                self.fences.append(Fence(kind, heading, len(self.prose), "".join(f"{it}\n" for it in inside)))
+                kind = None
+            elif kind is not None:
+                inside.append(line)
+            else:
+                self.prose.append(line)
+                if line.startswith("## "):
+                    heading = line[3:]
+                if match := re.match(r"#+ +(.*)", line):
+                    self.anchors.add(self.new_anchor(match[1]))
+
+    def new_anchor(self, heading):
+        """The anchor of a heading: its small letters, digits, hyphens and underscores, a hyphen for each space, and a
+        number behind what was there before."""
+        words = re.sub(r"\]\([^)]*\)", "", heading).lower()
+        anchor = re.sub(r"[^a-z0-9 _-]", "", words).replace(" ", "-")
+        # (a third heading of a name gets the number 2)
+        numbered = (f"{anchor}-{number}" for number in range(1, len(self.anchors) + 1))
+        return next((it for it in (anchor, *numbered) if it not in self.anchors))
+
+    def fence(self, kind, number=1, heading=None):
+        """What the fence of a kind and a number holds, of all or of those below a heading; empty where there is none."""
+        found = [it.text for it in self.fences if it.kind == kind and heading in (None, it.heading)]
+        return found[number - 1] if number <= len(found) else ""
+
+    def links(self):
+        """Where the links of the page lead, in their order."""
+        return [target for line in self.lines for target in re.findall(r"\]\(([^)]+)\)", line)]
+
+
+def main():
+    text = Page(Path(sys.argv[1])).fence(sys.argv[2])
+    sys.stdout.write(text)
+    return not text
+
+
+if __name__ == "__main__":
+    sys.exit(main())
