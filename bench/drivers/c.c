@@ -62,7 +62,8 @@ static int by_hand(const char *in, size_t len, char *out, size_t room) {
 
 static int compare(const void *a, const void *b) { return memcmp(a, b, CAPACITY); }
 
-#define TIME(name, count, call) \
+/* Prints a line: a table, a call, a column without a name, whose call it is, and the nanoseconds. */
+#define TIME(name, whose, count, call) \
     do { \
         double least = 1e18; \
         int round; \
@@ -73,7 +74,7 @@ static int compare(const void *a, const void *b) { return memcmp(a, b, CAPACITY)
             each = (now() - begin) / (double)(count); \
             if (each < least) least = each; \
         } \
-        printf("%-42s %8.1f ns\n", name, least); \
+        printf("From C|%s||%s|%.2f\n", name, whose, least); \
     } while (0)
 
 static void read_names(const char *path) {
@@ -112,21 +113,21 @@ int main(int argc, char **argv) {
         if (tinystr_sorted_search(table, len, CAPACITY, record, record[2] ? 3 : 2).value != k) return 3;
         if (bsearch(record, table, record_count, CAPACITY, compare) != record) return 3;
     }
-    printf("%zu identifiers, %zu records\n", name_count, record_count);
-    TIME("tinystr_langid", name_count, tinystr_langid((uint8_t *)names[i], lens[i], text, sizeof text).value);
-    TIME("the same by hand", name_count, by_hand(names[i], lens[i], out, sizeof out));
+    printf("note|%zu identifiers, %zu records\n", name_count, record_count);
+    TIME("tinystr_langid", "here", name_count, tinystr_langid((uint8_t *)names[i], lens[i], text, sizeof text).value);
+    TIME("tinystr_langid", "by hand", name_count, by_hand(names[i], lens[i], out, sizeof out));
 #ifdef ICU
     {
         UErrorCode status;
-        TIME("ICU uloc_canonicalize", name_count, (status = U_ZERO_ERROR, uloc_canonicalize(names[i], out, sizeof out, &status)));
+        TIME("tinystr_langid", "ICU's uloc_canonicalize", name_count, (status = U_ZERO_ERROR, uloc_canonicalize(names[i], out, sizeof out, &status)));
     }
 #endif
 #define RECORD (table + CAPACITY * (i * 7919 % record_count))
-    TIME("tinystr_sorted_search", record_count, tinystr_sorted_search(table, len, CAPACITY, RECORD, RECORD[2] ? 3 : 2).value);
-    TIME("bsearch with memcmp", record_count, (uint8_t *)bsearch(RECORD, table, record_count, CAPACITY, compare) - table);
-    TIME("tinystr_sorted_prefix, of one byte", record_count, tinystr_sorted_prefix(table, len, CAPACITY, RECORD, 1).count);
-    TIME("tinystr_read and tinystr_change_case at 8", name_count,
+    TIME("tinystr_sorted_search", "here", record_count, tinystr_sorted_search(table, len, CAPACITY, RECORD, RECORD[2] ? 3 : 2).value);
+    TIME("tinystr_sorted_search", "bsearch with memcmp", record_count, (uint8_t *)bsearch(RECORD, table, record_count, CAPACITY, compare) - table);
+    TIME("tinystr_sorted_prefix, of one byte", "here", record_count, tinystr_sorted_prefix(table, len, CAPACITY, RECORD, 1).count);
+    TIME("tinystr_read and tinystr_change_case at 8", "here", name_count,
          (tinystr_read((uint8_t *)names[i], lens[i] < 8 ? lens[i] : 8, text, 8), tinystr_change_case(text, 8, TINYSTR_UPPER).value));
-    TIME("tinystr_ask at 8", name_count, tinystr_ask(text, 8, (uint32_t)(i & 7)).value);
+    TIME("tinystr_ask at 8", "here", name_count, tinystr_ask(text, 8, (uint32_t)(i & 7)).value);
     return 0;
 }

@@ -1,9 +1,11 @@
 //! Times questions of the original as a caller meets them, as the program of codes.txt does here with the same codes, and
-//! prints the ratio of that program's times to these. The argument is a file with what that program printed.
+//! prints that program's times and these, a line each, as the other drivers do. The argument is a file with what that
+//! program printed.
 
 use std::time::Instant;
 use tinystr::TinyAsciiStr;
 
+const TABLE: &str = "Questions about codes of 4 bytes";
 const CODES: usize = 4096;
 const TIMES: u64 = 200;
 const ROUNDS: usize = 25;
@@ -67,6 +69,8 @@ fn main() {
         };
         assert_eq!(sum.parse(), Ok(2 * answers), "{line}: other answers");
         let (here, each) = (nanos.parse::<f64>().unwrap(), CODES as f64 * TIMES as f64);
-        println!("{question:30} {call:15} {:.3} and {:.3} ns, ratio {:.2}", here / each, there / each, here / there);
+        for (whose, nanos) in [("here", here), ("there", there)] {
+            println!("{TABLE}|{question}, {call}||{whose}|{:.4}", nanos / each);
+        }
     }
 }

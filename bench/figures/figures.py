@@ -4,8 +4,10 @@ import csv
 from collections import defaultdict
 from statistics import median
 
+# Whose times they are: this crate's, the Rust crate's or those of a program over it, and this crate's of an older commit.
 HERE = "here"
 THERE = "there"
+START = "start"
 
 COLUMNS = ["run", "table", "call", "column", "whose", "nanoseconds", "instructions"]
 

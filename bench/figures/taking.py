@@ -1,0 +1,86 @@
+"""What the benches share that are Python: the head of their figures, how busy the machine was, and the tables and the CSV
+that they end with."""
+
+import argparse
+import os
+import subprocess
+import time
+from pathlib import Path
+
+from figures import Figures
+from tables import type_table
+
+BENCH = Path(__file__).resolve().parent.parent
+
+
+def parser_of(name, document):
+    """A parser of options that tells a bench's document as it stands, and takes --csv."""
+    parser = argparse.ArgumentParser(
+        prog=f"bench/{name}", description=document, formatter_class=argparse.RawDescriptionHelpFormatter
+    )
+    parser.add_argument("--csv", metavar="FILE", help="keep all figures")
+    return parser
+
+
+def said_by(*words, **more):
+    """What a command prints; where it fails, so does this."""
+    words = [str(word) for word in words]
+    return subprocess.run(words, stdout=subprocess.PIPE, text=True, check=True, **more).stdout
+
+
+def new_figures():
+    """Figures with what they are taken by."""
+    figures = Figures()
+    figures.head = said_by(BENCH / "figures/head").splitlines()
+    return figures
+
+
+def busy_seconds():
+    """The seconds that all programs took of all processors, since the machine began."""
+    words = Path("/proc/stat").read_text().split("\n", 1)[0].split()[1:]
+    user, nice, system, _idle, _waiting, interrupt, soft_interrupt = map(int, words[:7])
+    return (user + nice + system + interrupt + soft_interrupt) / os.sysconf("SC_CLK_TCK")
+
+
+def own_seconds():
+    """Those that this program took, with the programs that it started and that have ended."""
+    return sum(os.times()[:4])
+
+
+class Load:
+    """Counts how many programs ran beside, on average over what is done `with` it."""
+
+    def __init__(self):
+        self.wall = self.others = 0.0
+
+    def __enter__(self):
+        self.begin = time.monotonic(), busy_seconds() - own_seconds()
+
+    def __exit__(self, *_):
+        wall, others = self.begin
+        self.wall += time.monotonic() - wall
+        self.others += busy_seconds() - own_seconds() - others
+
+    def note(self):
+        return f"programs beside: {max(self.others / self.wall, 0):.2f} on average"
+
+
+def add_lines(figures, run, lines):
+    """Adds lines TABLE|CALL|COLUMN|WHOSE|NANOSECONDS."""
+    figures.read_times(f"{run}|0|{line}" for line in lines)
+
+
+def keep(figures, load, csv):
+    """Tells how busy the machine was, and writes the CSV where one is wanted."""
+    figures.head.append(load.note())
+    if csv:
+        with open(csv, "w", newline="") as file:
+            figures.write_csv(file)
+
+
+def finish(figures, load, csv):
+    """Prints the head and the tables, and keeps them."""
+    keep(figures, load, csv)
+    print("\n".join(figures.head))
+    for table in figures.tables():
+        print(f"\n{table}\n\n{type_table(figures, table)}")
