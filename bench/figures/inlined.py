@@ -1,6 +1,7 @@
-"""The tables of bench/cargo: the crate for Cargo beside the Rust crate, both inlined, for two processors."""
+"""The table and the picture of bench/cargo: the crate for Cargo beside the Rust crate, both inlined, for two processors."""
 
 from figures import THERE
+from heat_map import heat_map, means_of
 from tables import aligned, geometric, type_table
 
 # The tables of each kind of texts: of lists, and of one value at a time.
@@ -8,11 +9,9 @@ TABLES = {
     "full": ("Full texts", "Full texts, one at a time"),
     "mixed": ("Mixed texts", "Mixed texts, one at a time"),
 }
+ONE_AT_A_TIME = ", one at a time"
 LOOK_UPS = "Look-ups"
 CAPACITIES = ["3", "4", "8", "12", "16", "24", "32", "64"]
-
-# From which ratio on a call counts as slower than the Rust crate's: below it lies what another place of the code changes.
-SLOWER = 1.1
 
 
 def ratios_of(figures, table):
@@ -23,34 +22,55 @@ def ratios_of(figures, table):
     return found
 
 
+def rows_of_kind(figures, one_at_a_time):
+    """Ratios by call, kind of texts and capacity."""
+    of_kinds = {kind: ratios_of(figures, tables[one_at_a_time]) for kind, tables in TABLES.items()}
+    return {call: {kind: of_kinds[kind][call] for kind in TABLES} for call in of_kinds["full"]}
+
+
+def slowest_of(rows, call):
+    """Of all processors and kinds of texts."""
+    cells = [(ratio, it) for of in rows.values() for by_capacity in of[call].values() for it, ratio in by_capacity.items()]
+    ratio, capacity = max(cells)
+    return f"{ratio:.2f} at {capacity}"
+
+
 def inlined_table(all_figures):
     """A row for each call of lists and of one value: its means over all capacities, by processor and kind of texts, and the
     slowest of its cells. `all_figures` are by processor."""
     columns = [(processor, kind) for processor in all_figures for kind in TABLES]
     lines = [["call", *(f"{processor}, {kind}" for processor, kind in columns), "slowest"]]
-    for one_at_a_time, suffix in ((0, ""), (1, ", one at a time")):
-        of_columns = [ratios_of(all_figures[processor], TABLES[kind][one_at_a_time]) for processor, kind in columns]
-        for call in of_columns[0]:
-            ratio, capacity = max((ratio, capacity) for column in of_columns for capacity, ratio in column[call].items())
-            means = [f"{geometric(column[call].values()):.2f}" for column in of_columns]
-            lines.append([call + suffix, *means, f"{ratio:.2f} at {capacity}"])
-        means = [f"{geometric([it for row in column.values() for it in row.values()]):.2f}" for column in of_columns]
-        lines.append(["geometric mean" + suffix, *means, ""])
+    for one_at_a_time, suffix in ((0, ""), (1, ONE_AT_A_TIME)):
+        rows = {processor: rows_of_kind(figures, one_at_a_time) for processor, figures in all_figures.items()}
+        for call in next(iter(rows.values())):
+            means = [f"{geometric(rows[processor][call][kind].values()):.2f}" for processor, kind in columns]
+            lines.append([call + suffix, *means, slowest_of(rows, call)])
+        all_of = lambda processor, kind: [it for of in rows[processor].values() for it in of[kind].values()]
+        lines.append(["geometric mean" + suffix, *(f"{geometric(all_of(*column)):.2f}" for column in columns), ""])
     return aligned(lines)
 
 
-def slower_table(all_figures):
-    """The calls and capacities at which the crate for Cargo is slower, by processor and kind of texts."""
-    lines = [["call", *CAPACITIES]]
-    for processor, figures in all_figures.items():
-        for kind, tables in TABLES.items():
-            for table, suffix in zip(tables, ("", ", one at a time")):
-                for call, ratios in ratios_of(figures, table).items():
-                    slower = [f"{ratios[it]:.2f}" if ratios[it] > SLOWER else "" for it in CAPACITIES]
-                    if any(slower):
-                        lines.append([f"{call}{suffix}; {kind}, {processor}", *slower])
-    return aligned(lines)
+def look_ups(figures):
+    """Both sizes of table, one below the other."""
+    tables = [table for table in figures.tables() if table.startswith(LOOK_UPS)]
+    return "\n\n".join(f"{table}\n\n{type_table(figures, figures.cells(table))}" for table in tables)
 
 
-def look_up_tables(figures):
-    return {table: type_table(figures, table) for table in figures.tables() if table.startswith(LOOK_UPS)}
+def cargo_rows(figures):
+    """Lists and single values, by call, kind of texts and capacity."""
+    alone = {f"{call}{ONE_AT_A_TIME}": row for call, row in rows_of_kind(figures, 1).items()}
+    return {**rows_of_kind(figures, 0), **alone}
+
+
+def cargo_picture(figures):
+    title = "Crate for Cargo: time of each call divided by the Rust crate's, by capacity"
+    return heat_map(cargo_rows(figures), CAPACITIES, title, cargo_description(figures))
+
+
+def cargo_description(figures):
+    """The means, in one sentence for those who don't see the picture."""
+    means = means_of(cargo_rows(figures), CAPACITIES)
+    return (
+        f"Geometric means: {means['full']['mean']:.2f} on texts that fill their capacity, {means['mixed']['mean']:.2f} on texts"
+        " of all lengths. Below 1 is faster than the Rust crate."
+    )

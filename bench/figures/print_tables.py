@@ -35,7 +35,7 @@ def print_all_ratios(figures, options):
 
 def print_types(figures):
     for table in figures.tables():
-        print(f"\n{table}\n\n{type_table(figures, table)}")
+        print(f"\n{table}\n\n{type_table(figures, figures.cells(table))}")
 
 
 def noise(figures):
@@ -45,8 +45,8 @@ def noise(figures):
     others, medians, most = zip(*figures.steady)
     return [
         f"programs beside: {mean(others):.2f} on average",
-        f"third least time of a call: {100 * median(medians):.1f} % above its least in the median,"
-        f" {100 * max(most):.1f} % at most",
+        f"noise, third-fastest round over the fastest: +{100 * median(medians):.1f} % in the median,"
+        f" +{100 * max(most):.1f} % at worst",
     ]
 
 

@@ -1,9 +1,9 @@
-"""The ratios of bench/calls by call and capacity, gathered from its tables."""
+"""The ratios of bench/calls and bench/cargo by call and capacity, gathered from their tables."""
 
 from figures import THERE
 from tables import geometric
 
-# The tables with all seven capacities, each with the texts that its calls were given.
+# The tables with all capacities, each with the texts that its calls were given.
 KINDS = {
     "Full texts": "full",
     "Mixed texts": "mixed",
@@ -14,25 +14,31 @@ KINDS = {
     "Questions, full texts that fail at their first byte": "failing",
     "Mixed lists, each read once in a turn": "mixed, each read once",
 }
+CAPACITIES = ["4", "8", "12", "16", "24", "32", "64"]
 FAILING = "question failing at byte 1, slowest"
 
+# From which ratio on a call counts as slower than the Rust crate's.
+SLOWER = 1.05
 
-def name_of(call, kind):
-    return FAILING if kind == "failing" else call
+
+def cells_of_kind(figures, kind):
+    """By call and capacity. Of a call in two tables the first counts."""
+    found = {}
+    for cell in [cell for table in KINDS if KINDS[table] == kind for cell in figures.cells(table)]:
+        found.setdefault(cell[1], {}).setdefault(cell[2], cell)
+    return found
 
 
 def ratios_of_kind(figures, kind):
-    """By call and capacity; of questions that fail the slowest. Of a call in two tables the first counts."""
-    found = {}
-    for table in [it for it in KINDS if KINDS[it] == kind]:
-        for cell in figures.cells(table):
-            ratios = found.setdefault(name_of(cell[1], kind), {})
-            ratio = figures.ratio(cell, THERE)
-            if kind == "failing":
-                ratios[cell[2]] = max(ratio, ratios.get(cell[2], 0))
-            else:
-                ratios.setdefault(cell[2], ratio)
-    return found
+    """By call and capacity; of questions that fail the slowest."""
+    rows = {
+        call: {capacity: figures.ratio(cell, THERE) for capacity, cell in cells.items()}
+        for call, cells in cells_of_kind(figures, kind).items()
+    }
+    if kind != "failing":
+        return rows
+    capacities = dict.fromkeys(capacity for row in rows.values() for capacity in row)
+    return {FAILING: {it: max(row[it] for row in rows.values()) for it in capacities}}
 
 
 def mean_of(figures, kind, capacities=None):

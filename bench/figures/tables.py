@@ -2,11 +2,15 @@
 
 from itertools import zip_longest
 from math import exp, log
-from statistics import mean, median
+from statistics import mean
 
 from figures import HERE, THERE
 
-TYPES = {HERE: "here", THERE: "tinystr 0.8.5"}
+TYPES = {HERE: "this crate", THERE: "tinystr 0.8.5"}
+
+# Nanoseconds below which a time says no more than that it is short, and a ratio below which two digits have none.
+RESOLUTION = 0.05
+LEAST_RATIO = 0.01
 
 
 def aligned(lines):
@@ -16,11 +20,41 @@ def aligned(lines):
     return "\n".join("  ".join(cells(line)).rstrip() for line in lines)
 
 
-def said(ratios):
-    """The median of the runs, and the least and the most where they are more than a tenth of it apart."""
-    middle = median(ratios)
-    least, most = min(ratios), max(ratios)
-    return f"{middle:.2f}" if most - least <= middle / 10 else f"{middle:.2f} ({least:.2f}-{most:.2f})"
+def said_time(nanos):
+    return f"{nanos:.2f}" if nanos >= RESOLUTION else f"< {RESOLUTION}"
+
+
+def said_ratio(ratio):
+    return f"{ratio:.2f}" if ratio >= LEAST_RATIO else f"< {LEAST_RATIO}"
+
+
+def bounded_ratio(figures, cell, rival):
+    """The ratio, or a bound where this crate's time says no more than that it is short."""
+    here, there = figures.time(cell, HERE), figures.time(cell, rival)
+    if here >= RESOLUTION:
+        return said_ratio(here / there)
+    return f"< {max(LEAST_RATIO, RESOLUTION / there):.2f}" if there >= RESOLUTION else "-"
+
+
+def spread(figures, cell, rival):
+    """The least and the most ratio of the runs where they are more than a tenth apart, and two digits show it."""
+    least, most = min(figures.ratios(cell, rival)), max(figures.ratios(cell, rival))
+    ratio = figures.ratio(cell, rival)
+    return (least, most) if ratio >= 2 * LEAST_RATIO and most - least > ratio / 10 else None
+
+
+def in_brackets(ends):
+    return f" ({ends[0]:.2f}-{ends[1]:.2f})" if ends else ""
+
+
+def said(figures, cell, rival):
+    """The ratio, and its spread where there is one."""
+    return said_ratio(figures.ratio(cell, rival)) + in_brackets(spread(figures, cell, rival))
+
+
+def marked(figures, cell, rival=THERE):
+    """The ratio, with a mark where there is a spread."""
+    return said_ratio(figures.ratio(cell, rival)) + ("~" if spread(figures, cell, rival) else " ")
 
 
 def geometric(ratios):
@@ -48,16 +82,16 @@ def cell_lines(cell, rival, figures, times, instructions):
         pairs.append([figures.time(cell, whose) for whose in (HERE, rival)])
     if instructions:
         pairs.append([figures.instructions[cell][whose] for whose in (HERE, rival)])
-    return [said(figures.ratios(cell, rival)), *(f"{here:.2f} / {there:.2f}" for here, there in pairs)]
+    return [said(figures, cell, rival), *(f"{here:.2f} / {there:.2f}" for here, there in pairs)]
 
 
 def ratios_by_column(rows, columns, figures, rival):
-    """Of each column the medians of its cells."""
+    """Of each column the ratios of its cells."""
     return [[figures.ratio(cells[it], rival) for cells in rows.values() if it in cells] for it in columns]
 
 
 def ratio_table(rows, columns, figures, rival=THERE, times=False, instructions=False):
-    """Rows are of a call, and have cells by their columns. Means are of the medians."""
+    """Rows are of a call, and have cells by their columns."""
     lines = [["call", *columns]]
     for call, cells in rows.items():
         heads = [call] + ["  nanoseconds"] * times + ["  instructions"] * instructions
@@ -71,19 +105,21 @@ def type_cell(cell, whose, figures):
     """Bytes, or nanoseconds and the ratio of this crate's time to them."""
     if whose not in figures.times[cell]:
         return ""
+    time = figures.time(cell, whose)
     if cell[1].startswith("bytes"):
-        return f"{figures.time(cell, whose):.0f}"
-    time = f"{figures.time(cell, whose):.2f}"
-    return time if whose == HERE else f"{time}, {said(figures.ratios(cell, whose))}"
+        return f"{time:.0f}"
+    if whose == HERE:
+        return said_time(time)
+    ends = spread(figures, cell, whose) if figures.time(cell, HERE) >= RESOLUTION else None
+    return f"{said_time(time)}, {bounded_ratio(figures, cell, whose)}{in_brackets(ends)}"
 
 
 def types_of(figures, cells):
     return list(dict.fromkeys(whose for cell in cells for whose in figures.times[cell]))
 
 
-def type_table(figures, table):
-    """A column for each type."""
-    cells = figures.cells(table)
+def type_table(figures, cells):
+    """A row for each cell, and a column for each type."""
     types = types_of(figures, cells)
     lines = [["nanoseconds, ratio", *(TYPES.get(it, it) for it in types)]]
     for cell in cells:

@@ -83,4 +83,4 @@ def finish(figures, load, csv):
     keep(figures, load, csv)
     print("\n".join(figures.head))
     for table in figures.tables():
-        print(f"\n{table}\n\n{type_table(figures, table)}")
+        print(f"\n{table}\n\n{type_table(figures, figures.cells(table))}")

@@ -1,0 +1,101 @@
+"""The tables of bench/calls, and the heat map of them."""
+
+from figures import THERE
+from heat_map import heat_map
+from ratios import CAPACITIES, FAILING, KINDS, SLOWER, cells_of_kind, mean_of, ratios_of_kind
+from tables import aligned, cells_of_table, geometric, marked, ratio_table, rows_of
+
+LISTS = "mixed, each read once"
+
+
+def cell_pair(figures, cells):
+    """The ratios of two kinds, the first of full texts; nothing where there is no such cell."""
+    return ", ".join(marked(figures, cell, rival) for cell, rival in cells)
+
+
+def full_and_mixed(figures):
+    """A row for each of the calls over which the means are taken."""
+    full, mixed = cells_of_kind(figures, "full"), cells_of_kind(figures, "mixed")
+    pair = lambda *ratios: ", ".join(f"{it:.2f} " for it in ratios)
+    lines = [["full, mixed", *CAPACITIES, "mean"]]
+    mean = lambda cells: geometric([figures.ratio(cell, THERE) for cell in cells.values()])
+    for call in full:
+        in_order = [cell_pair(figures, [(full[call][it], THERE), (mixed[call][it], THERE)]) for it in CAPACITIES]
+        lines.append([call, *in_order, pair(mean(full[call]), mean(mixed[call]))])
+    groups = [*([it] for it in CAPACITIES), None]
+    means = [pair(mean_of(figures, "full", it), mean_of(figures, "mixed", it)) for it in groups]
+    return aligned([*lines, ["geometric mean", *means]])
+
+
+def lists_and_failing(figures):
+    """Readers of lists that can't be learned, and the questions that fail: the mean of all, the fastest and the slowest."""
+    lines = [["call", *CAPACITIES]]
+    for call, cells in cells_of_kind(figures, LISTS).items():
+        lines.append([f"{call}, each text once", *(marked(figures, cells[it]) for it in CAPACITIES)])
+    ratios = {it: [figures.ratio(cells[it], THERE) for cells in cells_of_kind(figures, "failing").values()] for it in CAPACITIES}
+    for name, of in (("mean", geometric), ("fastest", min), ("slowest", max)):
+        lines.append([f"nine questions that fail, {name}", *(f"{of(ratios[it]):.2f} " for it in CAPACITIES)])
+    return aligned(lines)
+
+
+def merged(call):
+    return "question, slowest" if call.startswith("is_ascii_") else call
+
+
+def slower_of(ratios):
+    """The questions as one, by the slowest of them, and of each call the capacities at which it is slower."""
+    found = {}
+    for call, by_capacity in ratios.items():
+        of_call = found.setdefault(merged(call), {})
+        for capacity, ratio in by_capacity.items():
+            if ratio > SLOWER:
+                of_call[capacity] = max(ratio, of_call.get(capacity, 0))
+    return {call: of_call for call, of_call in found.items() if of_call}
+
+
+def slower(figures):
+    """The slowest first."""
+    rows = {}
+    for kind in dict.fromkeys(KINDS.values()):
+        for call, ratios in slower_of(ratios_of_kind(figures, kind)).items():
+            rows[call if kind == "failing" else f"{call}; {kind}"] = ratios
+    heads = sorted(rows, key=lambda head: max(rows[head].values()), reverse=True)
+    line = lambda head: [head, *(f"{rows[head][it]:.2f}" if it in rows[head] else "" for it in CAPACITIES)]
+    return aligned([["call", *CAPACITIES], *map(line, heads)])
+
+
+def beside_others(figures):
+    """tinystr 0.3.2, which has three capacities, and vectors by hand, which are of sixteen bytes."""
+    columns = [("0.3.2", "4"), ("0.3.2", "8"), ("0.3.2", "16"), ("by hand", "16")]
+    kinds = [cells_of_kind(figures, kind) for kind in ("full", "mixed")]
+    has = lambda call, rival, it: it in kinds[0][call] and rival in figures.times[kinds[0][call][it]]
+    cells = lambda call, rival, it: cell_pair(figures, [(kind[call][it], rival) for kind in kinds])
+    lines = [["full, mixed", *(f"{rival} at {capacity}" for rival, capacity in columns)]]
+    for call in kinds[0]:
+        if any(has(call, *column) for column in columns):
+            lines.append([call, *(cells(call, *column) if has(call, *column) else "" for column in columns)])
+    return aligned(lines)
+
+
+def table(figures, name):
+    return ratio_table(*rows_of(cells_of_table(figures, name), lambda cell: cell[2]), figures)
+
+
+def calls_rows(figures):
+    """Ratios by call, kind of texts and capacity."""
+    full, mixed = ratios_of_kind(figures, "full"), ratios_of_kind(figures, "mixed")
+    rows = {call: {"full": full[call], "mixed": mixed[call]} for call in full}
+    return {**rows, FAILING: {"full": ratios_of_kind(figures, "failing")[FAILING]}}
+
+
+def calls_picture(figures):
+    title = "Time of each call divided by the Rust crate's, by capacity"
+    return heat_map(calls_rows(figures), CAPACITIES, title, calls_description(figures))
+
+
+def calls_description(figures):
+    """The means, in one sentence for those who don't see the picture."""
+    return (
+        f"Geometric means: {mean_of(figures, 'full'):.2f} on texts that fill their capacity,"
+        f" {mean_of(figures, 'mixed'):.2f} on texts of all lengths. Below 1 is faster than the Rust crate."
+    )

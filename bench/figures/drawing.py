@@ -1,0 +1,66 @@
+"""Shapes of SVG, and the colours of all pictures. A picture is a card with a background of its own, so that its text has a
+contrast of at least 4.5 on a light page and on a dark one."""
+
+from html import escape
+
+CARD = "#ffffff"
+BORDER = "#d0d7de"
+INK = "#0d1117"
+GREY = "#57606a"
+FAINT = "#afb8c1"
+BLUE = "#0969da"
+PALE_BLUE = "#9ac7f7"
+ORANGE = "#bc4c00"
+PALE_ORANGE = "#f3bd93"
+
+WIDTH = 860
+
+
+def svg(height, title, description, shapes):
+    size = f'viewBox="0 0 {WIDTH} {height:.0f}" width="{WIDTH}" height="{height:.0f}"'
+    lines = [
+        f'<svg xmlns="http://www.w3.org/2000/svg" {size} role="img" aria-labelledby="title description"',
+        f'  font-family="sans-serif" font-size="12" fill="{INK}">',
+        f'<title id="title">{escape(title)}</title>',
+        f'<desc id="description">{escape(description)}</desc>',
+        f'<rect x="0.5" y="0.5" width="{WIDTH - 1}" height="{height - 1:.0f}" rx="6" fill="{CARD}" stroke="{BORDER}"/>',
+        *shapes,
+        "</svg>",
+    ]
+    return "".join(f"{it}\n" for it in lines)
+
+
+def text(x, y, string, anchor="start", more=""):
+    return f'<text x="{x:.1f}" y="{y:.1f}" text-anchor="{anchor}"{more}>{escape(string)}</text>'
+
+
+def bold(x, y, string, anchor="start", more=""):
+    return text(x, y, string, anchor, f' font-weight="bold"{more}')
+
+
+def grey(x, y, string, anchor="start"):
+    return text(x, y, string, anchor, f' fill="{GREY}"')
+
+
+def line(x1, y1, x2, y2, color=FAINT, width=0.5):
+    return f'<path d="M{x1:.1f} {y1:.1f}L{x2:.1f} {y2:.1f}" stroke="{color}" stroke-width="{width}"/>'
+
+
+def polyline(points, color, width=2):
+    joined = " ".join(f"{x:.1f},{y:.1f}" for x, y in points)
+    return f'<polyline points="{joined}" fill="none" stroke="{color}" stroke-width="{width}" stroke-linejoin="round"/>'
+
+
+def rectangle(x, y, width, height, color, tip=""):
+    said = f"><title>{escape(tip)}</title></rect>" if tip else "/>"
+    return f'<rect x="{x:.1f}" y="{y:.1f}" width="{width:.1f}" height="{height:.1f}" fill="{color}"{said}'
+
+
+def dot(x, y, color, tip, radius=4):
+    return f'<circle cx="{x:.1f}" cy="{y:.1f}" r="{radius}" fill="{color}"><title>{escape(tip)}</title></circle>'
+
+
+def mixed(first, second, share):
+    """A colour between two, by the share of the second."""
+    channels = lambda color: [int(color[i : i + 2], 16) for i in (1, 3, 5)]
+    return "#" + "".join(f"{round(a + (b - a) * share):02x}" for a, b in zip(channels(first), channels(second)))

@@ -1,0 +1,91 @@
+"""Pictures of ratios as heat maps: a row for each call, full texts on the left and mixed ones on the right, a column for each
+capacity, and their mean in a last column."""
+
+from math import log
+
+from drawing import BORDER, CARD, WIDTH, bold, grey, mixed, rectangle, svg, text
+from tables import geometric
+
+# The colours of the fastest and of the slowest cells, on which text is legible, and from which ratios on they are full.
+FAST, FASTEST = "#58a6ff", 0.08
+SLOW, SLOWEST = "#f0883e", 2.0
+
+KINDS = ["full", "mixed"]
+LEFT, TOP, ROW, GAP = 224, 92, 20, 12
+LEGEND = [0.1, 0.2, 0.4, 0.7, 1.0, 1.2, 1.5, 2.0]
+MEAN = "geometric mean"
+
+
+def color_of(ratio):
+    """White where both crates take as long."""
+    if ratio <= 1:
+        return mixed(CARD, FAST, min(1, log(ratio) / log(FASTEST)))
+    return mixed(CARD, SLOW, min(1, log(ratio) / log(SLOWEST)))
+
+
+class Grid:
+    """Where the cells of a heat map lie: the columns of both kinds of texts."""
+
+    def __init__(self, capacities):
+        self.columns = [*capacities, "mean"]
+        self.width = (WIDTH - LEFT - 10 - GAP) / (2 * len(self.columns))
+
+    def x(self, kind, column):
+        return LEFT + KINDS.index(kind) * (len(self.columns) * self.width + GAP) + self.columns.index(column) * self.width
+
+    def y(self, row):
+        return TOP + ROW * row
+
+
+def cell_shapes(grid, row, name, kind, column, ratio):
+    x, y = grid.x(kind, column), grid.y(row)
+    write = bold if column == "mean" else text
+    said = f"{name}, {kind} texts, {'mean' if column == 'mean' else f'at {column}'}: {ratio:.2f}"
+    box = rectangle(x + 0.5, y + 0.5, grid.width - 1, ROW - 1, color_of(ratio), said)
+    return [box, write(x + grid.width / 2, y + 14, f"{ratio:.2f}", "middle", ' font-size="11"')]
+
+
+def row_shapes(grid, row, name, ratios):
+    """`ratios` are by kind and capacity."""
+    shapes = [(bold if name == MEAN else text)(LEFT - 8, grid.y(row) + 14, name, "end")]
+    for kind, by_capacity in ratios.items():
+        means = {"mean": geometric(by_capacity.values())} if "mean" not in by_capacity else {}
+        for column, ratio in {**by_capacity, **means}.items():
+            shapes += cell_shapes(grid, row, name, kind, column, ratio)
+    return shapes
+
+
+def means_of(rows, capacities):
+    """Of each column over all rows that have both kinds of texts, and of all of them."""
+    means = {}
+    for kind in KINDS:
+        of_kind = [row[kind] for row in rows.values() if len(row) == len(KINDS)]
+        means[kind] = {it: geometric([row[it] for row in of_kind if it in row]) for it in capacities}
+        means[kind]["mean"] = geometric([ratio for row in of_kind for ratio in row.values()])
+    return means
+
+
+def head_shapes(grid, title):
+    shapes = [bold(12, 22, title), grey(12, 42, "blue: this crate is faster; white: as fast; orange: slower")]
+    x = WIDTH - 10 - 40 * len(LEGEND)
+    for ratio in LEGEND:
+        shapes += [rectangle(x, 29, 39, 18, color_of(ratio)), text(x + 19.5, 42, f"{ratio:.1f}", "middle", ' font-size="11"')]
+        x += 40
+    for kind in KINDS:
+        shapes.append(bold(grid.x(kind, grid.columns[0]) + 4, 70, f"{kind} texts"))
+        middle = lambda column: grid.x(kind, column) + grid.width / 2
+        shapes += [(bold if it == "mean" else grey)(middle(it), 86, it, "middle") for it in grid.columns]
+    return shapes
+
+
+def heat_map(rows, capacities, title, description):
+    """`rows` are ratios by name, kind and capacity; the slowest comes first, and last the mean of those with both kinds."""
+    grid = Grid(capacities)
+    slowness = lambda name: geometric(rows[name]["full"].values())
+    names = sorted(rows, key=slowness, reverse=True)
+    shapes = head_shapes(grid, title)
+    for row, name in enumerate(names):
+        shapes += row_shapes(grid, row, name, rows[name])
+    below = rectangle(12, grid.y(len(names)) + 1, WIDTH - 24, 1, BORDER)
+    shapes += [below, *row_shapes(grid, len(names) + 0.2, MEAN, means_of(rows, capacities))]
+    return svg(grid.y(len(names) + 1.2) + 10, title, description, shapes)

@@ -1,0 +1,37 @@
+"""What the figures were taken by: what all files of figures say alike, a line for each file, and what single files say."""
+
+from tables import aligned
+
+COLUMNS = ["date", "commit", "programs beside"]
+
+# What stands in the files alone.
+LEFT_OUT = ["noise, third-fastest round over the fastest", "third least time of a call"]
+LONGEST = 12
+
+
+def shortened(name, value):
+    """A commit by its first digits."""
+    digits, comma, rest = value.partition(",")
+    return digits[:LONGEST] + comma + rest if name == "commit" else value.removesuffix(" on average")
+
+
+def heads_of(all_figures):
+    """By file, what stands behind each name."""
+    parted = lambda line: line.partition(": ")[::2]
+    return {f"{name}.csv": dict(map(parted, figures.head)) for name, figures in all_figures.items()}
+
+
+def machine(all_figures):
+    heads = heads_of(all_figures)
+    files_of = {}
+    for file, head in heads.items():
+        for name, value in head.items():
+            if name not in COLUMNS + LEFT_OUT:
+                files_of.setdefault(f"{name}: {value}" if value else name, []).append(file)
+    alike = [line for line, files in files_of.items() if len(files) == len(heads)]
+    notes = {}
+    for line, files in files_of.items():
+        if line not in alike:
+            notes.setdefault(", ".join(files), []).append(line)
+    rows = [["file", *COLUMNS], *([file, *(shortened(it, head.get(it, "-")) for it in COLUMNS)] for file, head in heads.items())]
+    return "\n".join([*alike, aligned(rows), *(f"{files}: {'; '.join(lines)}" for files, lines in notes.items())])

@@ -1,0 +1,55 @@
+"""The tables of bench/types, keys, loops, lines and c."""
+
+import re
+
+from figures import HERE, THERE
+from tables import TYPES, aligned, bounded_ratio, type_cell, type_table, types_of
+
+
+def by_call(cells):
+    calls = {}
+    for cell in cells:
+        calls.setdefault(cell[1], []).append(cell)
+    return calls
+
+
+def types(figures):
+    """A row for each call, and in a cell the ratios to a type at all four capacities."""
+    rivals = [it for it in types_of(figures, figures.times) if it != HERE]
+    capacities = [re.search(r"\d+", table)[0] for table in figures.tables()]
+    lines = [["at " + ", ".join(capacities), "nanoseconds", *(TYPES.get(it, it) for it in rivals)]]
+    for call, cells in by_call(figures.times).items():
+        is_size = call.startswith("bytes")
+        beside = (lambda cell, it: type_cell(cell, it, figures)) if is_size else (lambda cell, it: bounded_ratio(figures, cell, it))
+        of_here = ", ".join(type_cell(cell, HERE, figures) for cell in cells)
+        lines.append([call, of_here, *(", ".join(beside(cell, it) for cell in cells) for it in rivals)])
+    return aligned(lines)
+
+
+def all_cells(figures):
+    """A row for each call, whatever table it is of."""
+    return type_table(figures, list(figures.times))
+
+
+def loops(figures):
+    """Look-ups in a row; parts and maps beside std; questions, each of codes that are read and of codes that were."""
+    look_ups, parts, codes = (figures.cells(table) for table in figures.tables())
+    of_here = aligned([["look-up", *(cell[1] for cell in look_ups)], ["nanoseconds", *(type_cell(it, HERE, figures) for it in look_ups)]])
+    questions = {}
+    for cell in codes:
+        question, kind = cell[1].split(", ")
+        questions.setdefault(question, {})[kind] = f"{type_cell(cell, HERE, figures)} and {type_cell(cell, THERE, figures)}"
+    kinds = list(next(iter(questions.values())))
+    rows = [["this crate and tinystr 0.8.5, ratio", *kinds], *([it, *kept.values()] for it, kept in questions.items())]
+    return "\n\n".join([of_here, type_table(figures, parts), aligned(rows)])
+
+
+def lines(figures):
+    """Megabytes a second, by the median, the slowest and the fastest turn."""
+    [cell] = figures.times
+    speed = lambda nanos: f"{1000 / nanos:.0f}"
+    rows = [["MB/s", "median", "slowest", "fastest"]]
+    for whose, turns in figures.times[cell].items():
+        name = "the line program" if whose == HERE else whose
+        rows.append([name, *map(speed, (figures.time(cell, whose), max(turns.values()), min(turns.values())))])
+    return aligned(rows)
