@@ -6,22 +6,25 @@ from ratios import CAPACITIES, FAILING, KINDS, SLOWER, cells_of_kind, mean_of, r
 from tables import aligned, cells_of_table, geometric, marked, ratio_table, rows_of
 
 LISTS = "mixed, each read once"
+PAIR = "full, mixed"
+
+# Whose calls of "Full texts" and "Mixed texts" are timed too, and at which capacities.
+OTHERS = [("0.3.2", "4"), ("0.3.2", "8"), ("0.3.2", "16"), ("by hand", "16")]
 
 
-def cell_pair(figures, cells):
-    """The ratios of two kinds, the first of full texts; nothing where there is no such cell."""
-    return ", ".join(marked(figures, cell, rival) for cell, rival in cells)
+def marked_pair(figures, call, capacity, rival=THERE):
+    """The ratios of full and of mixed texts."""
+    return ", ".join(marked(figures, cells_of_kind(figures, kind)[call][capacity], rival) for kind in ("full", "mixed"))
 
 
 def full_and_mixed(figures):
     """A row for each of the calls over which the means are taken."""
-    full, mixed = cells_of_kind(figures, "full"), cells_of_kind(figures, "mixed")
-    pair = lambda *ratios: ", ".join(f"{it:.2f} " for it in ratios)
-    lines = [["full, mixed", *CAPACITIES, "mean"]]
-    mean = lambda cells: geometric([figures.ratio(cell, THERE) for cell in cells.values()])
+    lines = [[PAIR, *CAPACITIES, "mean"]]
+    pair = lambda full, mixed: f"{full:.2f},  {mixed:.2f}"
+    full, mixed = ratios_of_kind(figures, "full"), ratios_of_kind(figures, "mixed")
     for call in full:
-        in_order = [cell_pair(figures, [(full[call][it], THERE), (mixed[call][it], THERE)]) for it in CAPACITIES]
-        lines.append([call, *in_order, pair(mean(full[call]), mean(mixed[call]))])
+        in_order = [marked_pair(figures, call, it) for it in CAPACITIES]
+        lines.append([call, *in_order, pair(geometric(full[call].values()), geometric(mixed[call].values()))])
     groups = [*([it] for it in CAPACITIES), None]
     means = [pair(mean_of(figures, "full", it), mean_of(figures, "mixed", it)) for it in groups]
     return aligned([*lines, ["geometric mean", *means]])
@@ -34,7 +37,7 @@ def lists_and_failing(figures):
         lines.append([f"{call}, each text once", *(marked(figures, cells[it]) for it in CAPACITIES)])
     ratios = {it: [figures.ratio(cells[it], THERE) for cells in cells_of_kind(figures, "failing").values()] for it in CAPACITIES}
     for name, of in (("mean", geometric), ("fastest", min), ("slowest", max)):
-        lines.append([f"nine questions that fail, {name}", *(f"{of(ratios[it]):.2f} " for it in CAPACITIES)])
+        lines.append([f"nine questions that fail, {name}", *(f"{of(ratios[it]):.2f}" for it in CAPACITIES)])
     return aligned(lines)
 
 
@@ -66,14 +69,11 @@ def slower(figures):
 
 def beside_others(figures):
     """tinystr 0.3.2, which has three capacities, and vectors by hand, which are of sixteen bytes."""
-    columns = [("0.3.2", "4"), ("0.3.2", "8"), ("0.3.2", "16"), ("by hand", "16")]
-    kinds = [cells_of_kind(figures, kind) for kind in ("full", "mixed")]
-    has = lambda call, rival, it: it in kinds[0][call] and rival in figures.times[kinds[0][call][it]]
-    cells = lambda call, rival, it: cell_pair(figures, [(kind[call][it], rival) for kind in kinds])
-    lines = [["full, mixed", *(f"{rival} at {capacity}" for rival, capacity in columns)]]
-    for call in kinds[0]:
-        if any(has(call, *column) for column in columns):
-            lines.append([call, *(cells(call, *column) if has(call, *column) else "" for column in columns)])
+    lines = [[PAIR, *(f"{rival} at {capacity}" for rival, capacity in OTHERS)]]
+    for call, cells in cells_of_kind(figures, "full").items():
+        has = lambda rival, capacity: rival in figures.times[cells[capacity]]
+        if any(has(*column) for column in OTHERS):
+            lines.append([call, *(marked_pair(figures, call, it, rival) if has(rival, it) else "" for rival, it in OTHERS)])
     return aligned(lines)
 
 

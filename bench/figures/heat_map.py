@@ -46,13 +46,17 @@ def cell_shapes(grid, row, name, kind, column, ratio):
 
 
 def row_shapes(grid, row, name, ratios):
-    """`ratios` are by kind and capacity."""
+    """`ratios` are by kind and column."""
     shapes = [(bold if name == MEAN else text)(LEFT - 8, grid.y(row) + 14, name, "end")]
-    for kind, by_capacity in ratios.items():
-        means = {"mean": geometric(by_capacity.values())} if "mean" not in by_capacity else {}
-        for column, ratio in {**by_capacity, **means}.items():
+    for kind, by_column in ratios.items():
+        for column, ratio in by_column.items():
             shapes += cell_shapes(grid, row, name, kind, column, ratio)
     return shapes
+
+
+def with_means(row):
+    """A row with the mean of each kind in its last column."""
+    return {kind: {**by_capacity, "mean": geometric(by_capacity.values())} for kind, by_capacity in row.items()}
 
 
 def means_of(rows, capacities):
@@ -85,7 +89,7 @@ def heat_map(rows, capacities, title, description):
     names = sorted(rows, key=slowness, reverse=True)
     shapes = head_shapes(grid, title)
     for row, name in enumerate(names):
-        shapes += row_shapes(grid, row, name, rows[name])
+        shapes += row_shapes(grid, row, name, with_means(rows[name]))
     below = rectangle(12, grid.y(len(names)) + 1, WIDTH - 24, 1, BORDER)
     shapes += [below, *row_shapes(grid, len(names) + 0.2, MEAN, means_of(rows, capacities))]
     return svg(grid.y(len(names) + 1.2) + 10, title, description, shapes)

@@ -53,8 +53,8 @@ def said(figures, cell, rival):
 
 
 def marked(figures, cell, rival=THERE):
-    """The ratio, with a mark where there is a spread."""
-    return said_ratio(figures.ratio(cell, rival)) + ("~" if spread(figures, cell, rival) else " ")
+    """The ratio, with a mark in front where there is a spread."""
+    return ("~" if spread(figures, cell, rival) else " ") + said_ratio(figures.ratio(cell, rival))
 
 
 def geometric(ratios):
