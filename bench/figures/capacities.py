@@ -45,10 +45,10 @@ def named_shapes(name, ratios, color, width, label_y):
     shapes = [polyline(places_of(ratios), color, width)]
     for capacity, ratio in ratios.items():
         paint = ORANGE if ratio > SLOWER else color
-        shapes.append(dot(x_of(capacity), y_of(ratio), paint, f"{name} at {capacity}: {ratio:.2f}", 3 + width / 4))
+        shapes.append(dot(x_of(capacity), y_of(ratio), paint, 3 + width / 4))
     end = places_of(ratios)[-1]
     shapes.append(line(end[0] + 6, end[1], RIGHT + 6, label_y - 4, color, 0.8))
-    return [*shapes, (bold if width > 2 else text)(RIGHT + 10, label_y, name, "start", f' fill="{color}"')]
+    return [*shapes, (bold if width > 2 else text)(RIGHT + 10, label_y, name, "", f' fill="{color}"')]
 
 
 def slowest_shapes(ratios):

@@ -30,15 +30,21 @@ def svg(height, title, description, shapes):
     return "".join(f"{it}\n" for it in lines)
 
 
-def text(x, y, string, anchor="start", more=""):
-    return f'<text x="{x:.1f}" y="{y:.1f}" text-anchor="{anchor}"{more}>{escape(string)}</text>'
+def group(shapes, attributes):
+    """Shapes that share what they don't say themselves."""
+    return [f"<g {attributes}>", *shapes, "</g>"]
 
 
-def bold(x, y, string, anchor="start", more=""):
+def text(x, y, string, anchor="", more=""):
+    anchored = f' text-anchor="{anchor}"' if anchor else ""
+    return f'<text x="{x:.1f}" y="{y:.1f}"{anchored}{more}>{escape(string)}</text>'
+
+
+def bold(x, y, string, anchor="", more=""):
     return text(x, y, string, anchor, f' font-weight="bold"{more}')
 
 
-def grey(x, y, string, anchor="start"):
+def grey(x, y, string, anchor=""):
     return text(x, y, string, anchor, f' fill="{GREY}"')
 
 
@@ -51,13 +57,12 @@ def polyline(points, color, width=2):
     return f'<polyline points="{joined}" fill="none" stroke="{color}" stroke-width="{width}" stroke-linejoin="round"/>'
 
 
-def rectangle(x, y, width, height, color, tip=""):
-    said = f"><title>{escape(tip)}</title></rect>" if tip else "/>"
-    return f'<rect x="{x:.1f}" y="{y:.1f}" width="{width:.1f}" height="{height:.1f}" fill="{color}"{said}'
+def rectangle(x, y, width, height, color):
+    return f'<rect x="{x:.1f}" y="{y:.1f}" width="{width:.1f}" height="{height:.1f}" fill="{color}"/>'
 
 
-def dot(x, y, color, tip, radius=4):
-    return f'<circle cx="{x:.1f}" cy="{y:.1f}" r="{radius}" fill="{color}"><title>{escape(tip)}</title></circle>'
+def dot(x, y, color, radius):
+    return f'<circle cx="{x:.1f}" cy="{y:.1f}" r="{radius}" fill="{color}"/>'
 
 
 def mixed(first, second, share):

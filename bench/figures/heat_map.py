@@ -3,7 +3,7 @@ capacity, and their mean in a last column."""
 
 from math import log
 
-from drawing import BORDER, CARD, WIDTH, bold, grey, mixed, rectangle, svg, text
+from drawing import BORDER, CARD, WIDTH, bold, grey, group, mixed, rectangle, svg, text
 from tables import geometric
 
 # The colours of the fastest and of the slowest cells, on which text is legible, and from which ratios on they are full.
@@ -14,6 +14,7 @@ KINDS = ["full", "mixed"]
 LEFT, TOP, ROW, GAP = 224, 92, 20, 12
 LEGEND = [0.1, 0.2, 0.4, 0.7, 1.0, 1.2, 1.5, 2.0]
 MEAN = "geometric mean"
+CELLS = 'font-size="11" text-anchor="middle"'
 
 
 def color_of(ratio):
@@ -37,21 +38,18 @@ class Grid:
         return TOP + ROW * row
 
 
-def cell_shapes(grid, row, name, kind, column, ratio):
+def cell_shapes(grid, row, kind, column, ratio):
     x, y = grid.x(kind, column), grid.y(row)
     write = bold if column == "mean" else text
-    said = f"{name}, {kind} texts, {'mean' if column == 'mean' else f'at {column}'}: {ratio:.2f}"
-    box = rectangle(x + 0.5, y + 0.5, grid.width - 1, ROW - 1, color_of(ratio), said)
-    return [box, write(x + grid.width / 2, y + 14, f"{ratio:.2f}", "middle", ' font-size="11"')]
+    box = rectangle(x + 0.5, y + 0.5, grid.width - 1, ROW - 1, color_of(ratio))
+    return [box, write(x + grid.width / 2, y + 14, f"{ratio:.2f}")]
 
 
 def row_shapes(grid, row, name, ratios):
     """`ratios` are by kind and column."""
     shapes = [(bold if name == MEAN else text)(LEFT - 8, grid.y(row) + 14, name, "end")]
-    for kind, by_column in ratios.items():
-        for column, ratio in by_column.items():
-            shapes += cell_shapes(grid, row, name, kind, column, ratio)
-    return shapes
+    cells = [(kind, column, ratio) for kind, by_column in ratios.items() for column, ratio in by_column.items()]
+    return shapes + group([shape for cell in cells for shape in cell_shapes(grid, row, *cell)], CELLS)
 
 
 def with_means(row):
@@ -71,10 +69,9 @@ def means_of(rows, capacities):
 
 def head_shapes(grid, title):
     shapes = [bold(12, 22, title), grey(12, 42, "blue: this crate is faster; white: as fast; orange: slower")]
-    x = WIDTH - 10 - 40 * len(LEGEND)
-    for ratio in LEGEND:
-        shapes += [rectangle(x, 29, 39, 18, color_of(ratio)), text(x + 19.5, 42, f"{ratio:.1f}", "middle", ' font-size="11"')]
-        x += 40
+    places = [(WIDTH - 10 - 40 * (len(LEGEND) - i), ratio) for i, ratio in enumerate(LEGEND)]
+    boxes = [(rectangle(x, 29, 39, 18, color_of(ratio)), text(x + 19.5, 42, f"{ratio:.1f}")) for x, ratio in places]
+    shapes += group([shape for box in boxes for shape in box], CELLS)
     for kind in KINDS:
         shapes.append(bold(grid.x(kind, grid.columns[0]) + 4, 70, f"{kind} texts"))
         middle = lambda column: grid.x(kind, column) + grid.width / 2

@@ -30,7 +30,7 @@ def bars(figures, cell, top, longest):
         taken = seconds(figures, cell, whose)
         width = (WIDTH - LEFT - 60) * taken / longest
         y = top + BAR * i
-        shapes.append(rectangle(LEFT, y, width, BAR - 2, COLORS[whose], f"{cell[1]}, {NAMES[whose]}: {taken:.2f} s"))
+        shapes.append(rectangle(LEFT, y, width, BAR - 2, COLORS[whose]))
         shapes.append(text(LEFT + width + 6, y + 11, f"{taken:.2f}", more=' font-size="11"'))
     return shapes
 

@@ -32,7 +32,7 @@ def bars(figures, cell, types, left, top):
         nanos = figures.time(cell, whose)
         width = (PANEL - 60) * nanos / longest
         y = top + BAR * i
-        shapes.append(rectangle(left, y, width, BAR - 4, color_of(whose), f"{cell[1]}, {NAMES.get(whose, whose)}: {nanos:.0f} ns"))
+        shapes.append(rectangle(left, y, width, BAR - 4, color_of(whose)))
         shapes.append(text(left + width + 5, y + 10.5, f"{nanos:.0f}", more=SMALL))
     return shapes
 
