@@ -3,7 +3,7 @@
 from figures import THERE
 from heat_map import heat_map
 from ratios import CAPACITIES, FAILING, KINDS, SLOWER, cells_of_kind, mean_of, ratios_of_kind
-from tables import aligned, cells_of_table, geometric, marked, ratio_table, rows_of
+from tables import aligned, cells_of_table, geometric, marked, ratio_table, rows_of, said
 
 LISTS = "mixed, each read once"
 PAIR = "full, mixed"
@@ -35,7 +35,8 @@ def lists_and_failing(figures):
     lines = [["call", *CAPACITIES]]
     for call, cells in cells_of_kind(figures, LISTS).items():
         lines.append([f"{call}, each text once", *(marked(figures, cells[it]) for it in CAPACITIES)])
-    ratios = {it: [figures.ratio(cells[it], THERE) for cells in cells_of_kind(figures, "failing").values()] for it in CAPACITIES}
+    failing = cells_of_kind(figures, "failing").values()
+    ratios = {it: [figures.ratio(cells[it], THERE) for cells in failing] for it in CAPACITIES}
     for name, of in (("mean", geometric), ("fastest", min), ("slowest", max)):
         lines.append([f"nine questions that fail, {name}", *(f"{of(ratios[it]):.2f}" for it in CAPACITIES)])
     return aligned(lines)
@@ -79,6 +80,14 @@ def beside_others(figures):
 
 def table(figures, name):
     return ratio_table(*rows_of(cells_of_table(figures, name), lambda cell: cell[2]), figures)
+
+
+def in_a_row(figures, name):
+    """A table of one ratio for each call, with their mean."""
+    cells = cells_of_table(figures, name)
+    mean = geometric([figures.ratio(cell, THERE) for cell in cells])
+    head, ratios = [cell[1] for cell in cells], [said(figures, cell, THERE) for cell in cells]
+    return aligned([["call", *head, "geometric mean"], ["ratio", *ratios, f"{mean:.2f}"]])
 
 
 def calls_rows(figures):

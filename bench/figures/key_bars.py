@@ -42,7 +42,8 @@ def labels(types, top):
 
 
 def legend():
-    shapes = [bold(12, 22, TITLE), grey(12, 62, "Full colour: both kinds of TinyAsciiStr. Pale: other types. Each panel has its own scale.")]
+    pale = "Full colour: both kinds of TinyAsciiStr. Pale: other types. Each panel has its own scale."
+    shapes = [bold(12, 22, TITLE), grey(12, 62, pale)]
     for x, color, name in [
         (12, BLUE, "Rattle, with the maps of its kit"),
         (250, ORANGE, "Rust, with std's maps; the hasher of its HashMap is the benchmark's own, like the kit's"),

@@ -1,5 +1,7 @@
 """What the figures were taken by: what all files of figures say alike, a line for each file, and what single files say."""
 
+from textwrap import fill
+
 from tables import aligned
 
 COLUMNS = ["date", "commit", "programs beside"]
@@ -33,5 +35,6 @@ def machine(all_figures):
     for line, files in files_of.items():
         if line not in alike:
             notes.setdefault(", ".join(files), []).append(line)
-    rows = [["file", *COLUMNS], *([file, *(shortened(it, head.get(it, "-")) for it in COLUMNS)] for file, head in heads.items())]
-    return "\n".join([*alike, aligned(rows), *(f"{files}: {'; '.join(lines)}" for files, lines in notes.items())])
+    rows = [[file, *(shortened(it, head.get(it, "-")) for it in COLUMNS)] for file, head in heads.items()]
+    table = aligned([["file", *COLUMNS], *rows])
+    return "\n".join([fill("; ".join(alike), 120), table, *(f"{files}: {'; '.join(lines)}" for files, lines in notes.items())])

@@ -19,11 +19,14 @@ def types(figures):
     capacities = [re.search(r"\d+", table)[0] for table in figures.tables()]
     lines = [["at " + ", ".join(capacities), "nanoseconds", *(TYPES.get(it, it) for it in rivals)]]
     for call, cells in by_call(figures.times).items():
-        is_size = call.startswith("bytes")
-        beside = (lambda cell, it: type_cell(cell, it, figures)) if is_size else (lambda cell, it: bounded_ratio(figures, cell, it))
         of_here = ", ".join(type_cell(cell, HERE, figures) for cell in cells)
-        lines.append([call, of_here, *(", ".join(beside(cell, it) for cell in cells) for it in rivals)])
+        lines.append([call, of_here, *(", ".join(size_or_ratio(figures, cell, it) for cell in cells) for it in rivals)])
     return aligned(lines)
+
+
+def size_or_ratio(figures, cell, rival):
+    is_size = cell[1].startswith("bytes")
+    return type_cell(cell, rival, figures) if is_size else bounded_ratio(figures, cell, rival)
 
 
 def all_cells(figures):
@@ -34,7 +37,8 @@ def all_cells(figures):
 def loops(figures):
     """Look-ups in a row; parts and maps beside std; questions, each of codes that are read and of codes that were."""
     look_ups, parts, codes = (figures.cells(table) for table in figures.tables())
-    of_here = aligned([["look-up", *(cell[1] for cell in look_ups)], ["nanoseconds", *(type_cell(it, HERE, figures) for it in look_ups)]])
+    nanos = [type_cell(cell, HERE, figures) for cell in look_ups]
+    of_here = aligned([["look-up", *(cell[1] for cell in look_ups)], ["nanoseconds", *nanos]])
     questions = {}
     for cell in codes:
         question, kind = cell[1].split(", ")

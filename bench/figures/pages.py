@@ -3,7 +3,7 @@
 import re
 from textwrap import fill
 
-from call_tables import beside_others, calls_description, full_and_mixed, lists_and_failing, slower, table
+from call_tables import beside_others, calls_description, full_and_mixed, in_a_row, lists_and_failing, slower, table
 from capacities import capacities_description
 from figures import THERE
 from inlined import cargo_description, inlined_table, look_ups
@@ -62,7 +62,7 @@ BLOCKS = {
     "lists": fenced("calls", lists_and_failing),
     "beside others": fenced("calls", beside_others),
     "packed": fenced("calls", table, "Bytes in front of others, and packed records"),
-    "identifiers": fenced("calls", table, "Language identifiers"),
+    "identifiers": fenced("calls", in_a_row, "Language identifiers"),
     "types": fenced("types", types),
     "keys": fenced("keys", all_cells),
     "loops": fenced("loops", loops),
@@ -70,7 +70,8 @@ BLOCKS = {
     "c": fenced("c", all_cells),
     "machine": fenced_of_all(machine),
     "cargo.svg": picture(
-        "cargo.svg", lambda them: f"Time of each call of the crate for Cargo beside the Rust crate. {cargo_description(them['cargo'])}"
+        "cargo.svg",
+        lambda them: f"Time of each call of the crate for Cargo beside the Rust crate. {cargo_description(them['cargo'])}",
     ),
     "inlined": fenced_of_all(inlined),
     "look-ups": fenced("cargo", look_ups),
