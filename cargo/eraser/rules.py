@@ -70,7 +70,7 @@ IN_FILE = {
         ),
         Rule("mod json;\n", "", "JSON is left out"),
         Rule("use std::alloc::AllocError;\n", "", WANT_OF_MEMORY),
-        Rule("    /// There was no memory for the JSON string.\n    Memory(AllocError),\n", "", WANT_OF_MEMORY),
+        Rule("    /// The allocation of the JSON string failed.\n    Memory(AllocError),\n", "", WANT_OF_MEMORY),
         Rule(" It never answers `Memory`.", "", WANT_OF_MEMORY),
         Rule("bytes.to_json(rt.alloc())", "bytes.to_bytes()", "an example of the error without JSON"),
     ],
@@ -117,7 +117,7 @@ IN_FILE = {
     ],
     "tinystr_packed/counting.rt": [
         Rule("use std::alloc::{AllocError, Global};\n", "", OF_ALLOCATOR),
-        Rule(" Only memory can stop it.", "", WANT_OF_MEMORY),
+        Rule(" It fails only if an allocation fails.", "", WANT_OF_MEMORY),
         Rule("use std::collections::BTreeMap;", "use alloc::collections::BTreeMap;", OF_ALLOCATOR),
         Rule("    alloc: Global,\n", "", OF_ALLOCATOR),
         Rule("BTreeMap::new(alloc)", "BTreeMap::new()", OF_ALLOCATOR),
@@ -127,8 +127,7 @@ IN_FILE = {
     ],
     "tinystr_packed/packing.rt": [
         Rule("use std::alloc::{AllocError, Global};\n", "use alloc::vec::Vec;\n", OF_ALLOCATOR),
-        Rule(" Only memory can stop it.", "", WANT_OF_MEMORY, 2),
-        Rule(" Only memory can\n/// stop it.", "", WANT_OF_MEMORY, 2),
+        Rule(" It fails only if an allocation fails.", "", WANT_OF_MEMORY, 4),
         Rule("use std::collections::BTreeMap;", "use alloc::collections::BTreeMap;", OF_ALLOCATOR),
         Rule("    alloc: Global,\n", "", OF_ALLOCATOR, 3),
         Rule("(alloc: Global, ", "(", OF_ALLOCATOR),
@@ -148,7 +147,7 @@ IN_FILE = {
         Rule("    Ok((keys, values))\n", "    (keys, values)\n", WANT_OF_MEMORY, 2),
     ],
     "tinystr_packed/sorting.rt": [
-        Rule(" Only memory can stop it.", "", WANT_OF_MEMORY),
+        Rule(" It fails only if an allocation fails.", "", WANT_OF_MEMORY),
         Rule("use std::alloc::{AllocError, Global};\n", "use alloc::vec::Vec;\n", OF_ALLOCATOR),
         Rule("    alloc: Global,\n", "", OF_ALLOCATOR),
         Rule("Vec::new(alloc)", "Vec::new()", OF_ALLOCATOR),

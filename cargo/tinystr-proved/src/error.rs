@@ -1,7 +1,7 @@
 //! The error of every reader.
 
 /// Why code units aren't a text of the wanted capacity. Their number is tested first, and then each code unit in order.
-/// A code unit is a byte or a number of 16 bits.
+/// A code unit is a byte or a 16-bit number.
 ///
 /// ```
 /// use tinystr::{ParseError, TinyAsciiStr};
@@ -21,7 +21,7 @@ pub enum ParseError {
         /// How many code units there are.
         len: usize,
     },
-    /// A character stands behind a NUL, or there are NULs at the end where the reader takes none.
+    /// A character stands behind a NUL, or NULs stand at the end and the reader accepts none.
     ContainsNull,
     /// A code unit is above 127.
     NonAscii,

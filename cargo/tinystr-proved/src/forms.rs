@@ -22,7 +22,7 @@ pub enum BytesReadError {
     NonAscii,
 }
 
-/// Why bytes that may be no text aren't written.
+/// Why unvalidated bytes aren't written.
 ///
 /// ```
 /// use tinystr::UnvalidatedTinyAsciiStr;
@@ -59,7 +59,7 @@ impl<const N: usize> TinyAsciiStr<N> {
         *self.all_bytes()
     }
 
-    /// Writes all `N` bytes in front of a slice of at least as many, and leaves those behind them as they were.
+    /// Writes all `N` bytes to the front of `out`, which must have at least `N`, and leaves the others unchanged.
     ///
     /// ```
     /// use tinystr::tinystr;
@@ -89,10 +89,11 @@ impl<const N: usize> TinyAsciiStr<N> {
         out[..N].copy_from_slice(self.all_bytes());
     }
 
-    /// The text of the first `N` bytes, a text and then NULs, and the bytes behind them as a part of the input.
+    /// Reads the first `N` bytes, a text and then NULs, and gives the text and the rest of the input.
     ///
-    /// The error is that of the first of `N` positions that has one: the input has ended (`Length`), a byte behind a
-    /// NUL is no NUL (`Null`), or a byte is above 127 (`NonAscii`). A byte that is both is `Null`.
+    /// The error is the fault of the first of `N` positions that has one: the input has ended (`Length`), a byte behind
+    /// a NUL isn't NUL (`Null`), or a byte is above 127 (`NonAscii`). A byte with both of the last two faults is
+    /// `Null`.
     ///
     /// ```
     /// use tinystr::TinyAsciiStr;
@@ -124,7 +125,7 @@ impl<const N: usize> TinyAsciiStr<N> {
 }
 
 impl<const N: usize> UnvalidatedTinyAsciiStr<N> {
-    /// The bytes, where they are a text and then NULs, and else `NotAscii`: not all that `read_bytes` gives can be
+    /// The bytes if they are a text and then NULs, else the error `NotAscii`, so some values of `read_bytes` can't be
     /// written again.
     ///
     /// ```
@@ -148,8 +149,8 @@ impl<const N: usize> UnvalidatedTinyAsciiStr<N> {
         }
     }
 
-    /// The first `N` bytes, whatever they are, and the bytes behind them as a part of the input. The error is `Length`
-    /// where there are fewer.
+    /// Reads the first `N` bytes, whatever they are, and gives them and the rest of the input. The error is `Length` if
+    /// there are fewer.
     ///
     /// ```
     /// use tinystr::{ParseError, UnvalidatedTinyAsciiStr};
@@ -175,9 +176,9 @@ impl<const N: usize> UnvalidatedTinyAsciiStr<N> {
     }
 }
 
-// The fault at the first of `expected` positions that has one. Bytes are read in order, so the end of the input is told
-// where it comes, and a byte behind a NUL for that. `ascii::strict::find_fault` tells the first fault of code units that
-// were counted before, and one above 127 for that.
+// The fault at the first of `expected` positions that has one. Bytes are read in order, so the end of the input is a
+// fault where it comes, and a byte above 127 behind a NUL is `Null`. `ascii::strict::find_fault` gives the first fault
+// of code units that were counted before, and has `NonAscii` before `ContainsNull`.
 // Proved:
 //     ensures { option_map byte_fault_of result ≡ byte_fault expected input.now }
 fn find_byte_fault(input: &[u8], expected: usize) -> Option<BytesReadError> {

@@ -1,5 +1,5 @@
 //! Packed records: padded texts of `N` bytes, one behind another, which are checked once and then read in place. ULE is
-//! zerovec's word for what is read so: an unaligned little-endian form.
+//! zerovec's word for such a form: unaligned, little-endian.
 
 use crate::ascii::{TinyAsciiStr, are_padded};
 use crate::error::ParseError;
@@ -25,10 +25,10 @@ pub enum UleError {
 }
 
 impl<const N: usize> TinyAsciiStr<N> {
-    /// Whether the bytes are packed records of `N` bytes, each a text and then NULs. `N` has to be above 0.
+    /// Checks that the bytes are packed records of `N` bytes, each a text and then NULs. `N` must be above 0.
     ///
-    /// The error is `Length` where `N` doesn't divide the number of bytes. Else it is `Parse`: the first record that is no
-    /// padded text, counted from 0, and its fault, as `try_from_raw` tells it.
+    /// The error is `Length` if `N` doesn't divide the number of bytes. Else it is `Parse`: the index of the first
+    /// record that isn't a padded text, counted from 0, and its fault, as `try_from_raw` gives it.
     ///
     /// ```
     /// use tinystr::{ParseError, TinyAsciiStr};
@@ -120,7 +120,7 @@ impl<const N: usize> TinyAsciiStr<N> {
 }
 
 impl<const N: usize> UnvalidatedTinyAsciiStr<N> {
-    /// Whether the bytes are records of `N` bytes, whatever these are. `N` has to be above 0. The error is `Length`.
+    /// Checks that `N`, which must be above 0, divides the number of bytes. The error is `Length`.
     ///
     /// # Contract
     ///

@@ -1,4 +1,4 @@
-//! The type of bytes that may be no text.
+//! The type of bytes that may not be a text.
 
 use crate::ascii::TinyAsciiStr;
 use crate::error::ParseError;
@@ -49,7 +49,7 @@ impl<const N: usize> UnvalidatedTinyAsciiStr<N> {
         UnvalidatedTinyAsciiStr { bytes: [0; N] }
     }
 
-    /// The bytes and then NULs, up to `N`. The error is `TooLong` where there are more than `N` bytes.
+    /// Takes at most `N` bytes, whatever they are, and pads them with NULs. The error is `TooLong` if there are more.
     ///
     /// ```
     /// use tinystr::UnvalidatedTinyAsciiStr;
@@ -77,7 +77,7 @@ impl<const N: usize> UnvalidatedTinyAsciiStr<N> {
         }
     }
 
-    /// These bytes, whatever they are.
+    /// Takes `N` bytes, whatever they are.
     ///
     /// # Contract
     ///
@@ -90,7 +90,7 @@ impl<const N: usize> UnvalidatedTinyAsciiStr<N> {
         UnvalidatedTinyAsciiStr { bytes }
     }
 
-    /// The text, where the bytes are a text and then NULs. The errors are those of `TinyAsciiStr::try_from_raw`.
+    /// The text, if the bytes are a text and then NULs. The errors are those of `TinyAsciiStr::try_from_raw`.
     ///
     /// # Contract
     ///
@@ -107,7 +107,7 @@ impl<const N: usize> UnvalidatedTinyAsciiStr<N> {
 }
 
 impl<const N: usize> TinyAsciiStr<N> {
-    /// All `N` bytes, with the NULs behind the text.
+    /// All `N` bytes: the text and then NULs.
     ///
     /// ```
     /// use tinystr::{UnvalidatedTinyAsciiStr, tinystr};

@@ -9,11 +9,12 @@ use Rattle.subtags.proofs.CanonLemmas.{IsCanonical-canonical_text, fold_text-can
 use Rattle.subtags.proofs.ReadLemmas.{join_subtags-IsCanonical}
 use Rattle.subtags.proofs.SplitLemmas.{subtags_of-fold_text}
 
--- To fold an input and then split it at each dash is to split it at each separator and then fold its subtags.
+-- Folding an input and then splitting it at dashes gives the same as splitting it at separators and then folding each
+-- subtag.
 pub split_before_fold : (u : List ℕ) → subtags_of (fold_text u) ≡ map fold_text (slice_split is_separator u)
 split_before_fold = subtags_of-fold_text
 
--- A canonical text is accepted, is its own canonical text, and folds as the input does.
+-- The canonical text of an identifier is accepted, is its own canonical text, and folds as the input does.
 pub canonical_once_canonical : (u : List ℕ) → IsLangId u → IsCanonical (canonical_text u)
 canonical_once_canonical = IsCanonical-canonical_text
 
@@ -34,7 +35,7 @@ canonical_len_most t h = (length-IsCanonical t h).1
 
 pub ruleset canonical_len = (canonical_len_same, canonical_len_least, canonical_len_most)
 
--- Two inputs have the same canonical text exactly if they fold alike.
+-- Two inputs have the same canonical text exactly if their folds are equal.
 pub fold_tells_apart : (u v : List ℕ) → (canonical_text u ≡ canonical_text v) ↔ (fold_text u ≡ fold_text v)
 fold_tells_apart = same_canonical_text
 

@@ -3,7 +3,7 @@
 use std::error::Error;
 use std::fmt;
 
-/// Why an input isn't a language identifier, or isn't a language, script or region where one is parsed.
+/// Why an input isn't a language identifier, or isn't the language, script or region that was parsed.
 ///
 /// ```rust
 /// let error = "en-Latin".parse::<LangId>().unwrap_err();
@@ -15,8 +15,8 @@ use std::fmt;
 pub enum LangIdError {
     /// The first subtag isn't a language; or a `Language` was parsed, and the input isn't one.
     InvalidLanguage,
-    /// The first subtag is a language, and what stands behind it isn't accepted; or a script or a region was parsed,
-    /// and the input is none.
+    /// The first subtag is a language, and the rest isn't accepted; or a script or a region was parsed, and the input
+    /// isn't one.
     InvalidSubtag,
 }
 

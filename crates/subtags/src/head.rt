@@ -1,4 +1,4 @@
-//! What an input begins with: a language, and where a subtag ends.
+//! The front of an input: its language, and the end of a subtag.
 
 ghost use Rattle.std.specs.Prelude.{◌≡◌, ◌≤◌, IfSome, is_some, length};
 ghost use Rattle.std.specs.Option.{option_copied};
@@ -16,7 +16,7 @@ fn is_separator(byte: u8) -> bool
     byte == b'-' || byte == b'_'
 }
 
-/// Whether a subtag may end at a place: all ends there, or a separator stands there.
+/// Whether a subtag may end at a place: the input ends at it, or a separator stands at it.
 #[inline]
 pub(crate) fn ends_at(units: &[u8], place: usize) -> bool
     ensures { result ≡ ends_at place units.now }
@@ -24,7 +24,7 @@ pub(crate) fn ends_at(units: &[u8], place: usize) -> bool
     units.len() == place || units.len() > place && is_separator(units[place])
 }
 
-/// What stands behind a subtag that ends at a place, if anything stands there.
+/// The rest of the input behind a subtag that ends at a place and behind its separator, if there is any.
 #[inline]
 pub(crate) fn behind(units: &[u8], place: usize) -> Option<&[u8]>
     requires { place ≤ length units.now }
@@ -33,7 +33,7 @@ pub(crate) fn behind(units: &[u8], place: usize) -> Option<&[u8]>
     units.get(place + 1..)
 }
 
-/// Takes the first subtag off, where it is a language: that and what stands behind its separator.
+/// Takes off the first subtag if it is a language, and gives it with the rest behind its separator.
 #[inline]
 pub(crate) fn take_language(units: &[u8]) -> Option<(Language, Option<&[u8]>)>
     ensures accepted { is_some result ≡ is_language (first_subtag units.now) }

@@ -49,10 +49,10 @@ impl Model for LangId {
 }
 
 impl LangId {
-    /// Reads a language, and behind it a script, a region, both or nothing, in any case and with a `-` or a `_` before
-    /// each later subtag.
+    /// Reads a language and behind it a script, a region, both or nothing, in any case, with a `-` or a `_` before each
+    /// later subtag.
     ///
-    /// The error is `InvalidLanguage` where the first subtag isn't a language, else `InvalidSubtag`.
+    /// The error is `InvalidLanguage` if the first subtag isn't a language, else `InvalidSubtag`.
     ///
     /// ```rust
     /// assert_eq!(rt; LangId::try_from_utf8(b"EN_us")?.as_str(), "en-US");
@@ -75,7 +75,7 @@ impl LangId {
         Ok(Self::from_parts(language, script, region))
     }
 
-    /// The identifier of these subtags, which gives them back.
+    /// Makes the identifier of these subtags, which its other calls give back.
     ///
     /// ```rust
     /// let id = LangId::from_parts("ZH".parse()?, Some("hant".parse()?), Some("tw".parse()?));
@@ -103,7 +103,7 @@ impl LangId {
         self.text
     }
 
-    /// The canonical text, in the value itself.
+    /// Borrows the canonical text.
     #[inline]
     pub fn as_str(&self) -> &str
         ensures text { result.now ≡ self.now }

@@ -53,7 +53,7 @@ impl SubtagKind<8> for LanguageKind {
     }
 }
 
-/// Whether a language may have so many letters.
+/// Whether a language may have `len` letters.
 #[inline]
 pub(crate) fn is_language_length(len: usize) -> bool
     ensures { result ≡ is_language_length len }

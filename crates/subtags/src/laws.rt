@@ -14,13 +14,14 @@ use crate::lang_id::LangId;
 use crate::subtag::{Subtag, SubtagKind};
 use std::cmp::Ordering;
 
-/// To fold an input and then split it at each dash is to split it at each separator and then fold its subtags.
+/// Folding an input and then splitting it at dashes gives the same as splitting it at separators and then folding each
+/// subtag.
 #[tactic(auto, using(crate::proofs::ForCallers::split_before_fold))]
 pub fn split_before_fold()
     ensures { (u : List ℕ) → subtags_of (fold_text u) ≡ map fold_text (slice_split is_separator u) }
 {}
 
-/// A canonical text is accepted, is its own canonical text, and folds as the input does.
+/// The canonical text of an identifier is accepted, is its own canonical text, and folds as the input does.
 #[tactic(auto, using(crate::proofs::ForCallers::canonical_once))]
 pub fn canonical_once()
     ensures canonical { (u : List ℕ) → IsLangId u → IsCanonical (canonical_text u) }
@@ -35,7 +36,7 @@ pub fn canonical_len()
     ensures most { (t : List ℕ) → IsCanonical t → length t ≤ 17 }
 {}
 
-/// Two inputs have the same canonical text exactly if they fold alike.
+/// Two inputs have the same canonical text exactly if their folds are equal.
 #[tactic(auto, using(crate::proofs::ForCallers::fold_tells_apart))]
 pub fn fold_tells_apart()
     ensures { (u v : List ℕ) → (canonical_text u ≡ canonical_text v) ↔ (fold_text u ≡ fold_text v) }
@@ -71,7 +72,7 @@ pub fn identifier_order(id: &LangId, other: &LangId) -> (bool, Ordering, Option<
     )
 }
 
-/// The same of the subtags of a kind: of languages, of scripts, of regions.
+/// Languages, scripts and regions are equal exactly if their texts are, and are ordered as their texts.
 pub fn subtag_order<K: SubtagKind<N>, const N: usize>(
     subtag: &Subtag<K, N>,
     other: &Subtag<K, N>,

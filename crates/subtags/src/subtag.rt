@@ -12,8 +12,7 @@ use std::marker::{Model, PhantomData};
 use std::str::FromStr;
 use tinystr::TinyAsciiStr;
 
-/// What tells languages, scripts and regions apart: what is well-formed, the case that they are kept in, and the error of
-/// what isn't well-formed.
+/// A kind of subtag: which texts are well-formed, the case that they are kept in, and the error for any other text.
 ///
 /// ```rust
 /// assert!(rt; RegionKind::read(b"419").is_some());
@@ -26,12 +25,12 @@ pub trait SubtagKind<const N: usize> {
 
     ghost refusal: { LangIdError };
 
-    /// The text, in the case, where it is well-formed.
+    /// The text in the case of the kind, or `None` if it isn't well-formed.
     fn read(code_units: &[u8]) -> Option<TinyAsciiStr<N>>
         ensures text { SomeIff result (IsTrue (is_well_formed code_units.now)) (in_case code_units.now) }
         ensures canonical { IfSome result (λ text. IsCanonicalSubtag is_well_formed in_case text) };
 
-    /// The error of what isn't well-formed.
+    /// The error for a text that isn't well-formed.
     fn refusal() -> LangIdError
         ensures { result ≡ refusal };
 }
@@ -76,7 +75,7 @@ impl<K: SubtagKind<N>, const N: usize> Subtag<K, N> {
         })
     }
 
-    /// The subtag of a text that has to be canonical. Nothing is tested when it runs.
+    /// The subtag of a text, which must be canonical. Nothing is tested when it runs.
     #[inline]
     pub(crate) fn from_canonical(text: TinyAsciiStr<N>) -> Self
         requires { IsCanonicalSubtag K.is_well_formed K.in_case text }

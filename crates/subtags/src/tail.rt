@@ -1,4 +1,4 @@
-//! What stands behind the language, read from the front: a script, a region, both or nothing.
+//! The rest of an input behind its language, read from the front: a script, a region, both or nothing.
 
 ghost use Rattle.std.specs.Prelude.{◌≡◌};
 ghost use Rattle.std.specs.Option.{option_copied};
@@ -9,7 +9,7 @@ use crate::head::{behind, ends_at};
 use crate::region::Region;
 use crate::script::Script;
 
-/// Takes the first subtag off, where it is a script.
+/// Takes off the first subtag if it is a script.
 #[inline]
 pub(crate) fn take_script(rest: Option<&[u8]>) -> (Option<Script>, Option<&[u8]>)
     ensures script { result.0 ≡ leading_script (subtags_behind (option_copied rest.entry)) }

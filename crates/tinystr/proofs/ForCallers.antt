@@ -6,7 +6,7 @@ use Rattle.tinystr.specs.Error.{fault_of, parse_error_of}
 use Rattle.tinystr.specs.declared.error.ParseError.{ParseError}
 use Rattle.tinystr.proofs.Errors.{fault_of-parse_error_of, parse_error_of-fault_of}
 
--- An error and the fault that it names tell each other.
+-- Each `ParseError` names one fault, and each fault is named by one `ParseError`.
 pub error_back_error : (e : ParseError) → parse_error_of (fault_of e) ≡ e
 error_back_error = parse_error_of-fault_of
 

@@ -1,4 +1,4 @@
-//! The type of a bounded text: what a value is.
+//! The type of a text of bounded length.
 
 ghost use Rattle.std.specs.Prelude.{◌≡◌, []};
 ghost use Rattle.tinystr.specs.Reading.{IsStrictRead};

@@ -11,14 +11,14 @@ use crate::ascii::TinyAsciiStr;
 use crate::error::ParseError;
 use std::cmp::Ordering;
 
-/// An error and the fault that it names tell each other.
+/// Each `ParseError` names one fault, and each fault is named by one `ParseError`.
 #[tactic(auto, using(crate::proofs::ForCallers::error_back))]
 pub fn error_back()
     ensures error { (e : ParseError) → parse_error_of (fault_of e) ≡ e }
     ensures fault { (f : Fault) → fault_of (parse_error_of f) ≡ f }
 {}
 
-/// A value is a text that fits.
+/// The text of a value has at most `N` bytes, each from 1 to 127.
 #[inline]
 pub fn fits<const N: usize>(text: &TinyAsciiStr<N>)
     ensures { IsStrictText text.now N }
@@ -26,7 +26,7 @@ pub fn fits<const N: usize>(text: &TinyAsciiStr<N>)
     let _ = text.as_utf8();
 }
 
-/// Texts are equal exactly if they are one text, and one is less exactly if it stands before the other.
+/// `==` is true exactly of equal texts, and `cmp` is `Less` exactly if the first text comes before the second.
 pub fn text_order<const N: usize>(
     text: &TinyAsciiStr<N>,
     other: &TinyAsciiStr<N>,
@@ -39,7 +39,7 @@ pub fn text_order<const N: usize>(
     (text == other, text.cmp(other))
 }
 
-/// The bytes of a text, tested, give the text back.
+/// A text that is made unvalidated bytes and tested again comes back.
 pub fn unvalidated_back<const N: usize>(
     text: TinyAsciiStr<N>,
 ) -> Result<TinyAsciiStr<N>, ParseError>
@@ -48,7 +48,7 @@ pub fn unvalidated_back<const N: usize>(
     text.to_unvalidated().try_into_tinystr()
 }
 
-/// The bit pattern that no text has is refused as no ASCII.
+/// `niche_bit_pattern`, which no text has, is refused as `NonAscii`. `N` must be above 0.
 pub fn niche_refused<const N: usize>() -> Result<TinyAsciiStr<N>, ParseError>
     requires { 0 < N }
     ensures { result ≡ Err ParseError.NonAscii }

@@ -1,5 +1,5 @@
 //! Packed records: padded texts of `N` bytes, one behind another, which are checked once and then read in place. ULE is
-//! zerovec's word for what is read so: an unaligned little-endian form.
+//! zerovec's word for such a form: unaligned, little-endian.
 
 ghost use Rattle.std.specs.Prelude.{◌≡◌, ◌≢◌, ◌<◌, ◌≤◌, ◌%◌, ◌↔◌, length, replicate, take, All, IsOk, IfErr, IsErrOf};
 ghost use Rattle.tinystr_words.specs.Text.{IsPaddedText};
@@ -27,10 +27,10 @@ pub enum UleError {
 }
 
 impl<const N: usize> TinyAsciiStr<N> {
-    /// Whether the bytes are packed records of `N` bytes, each a text and then NULs. `N` has to be above 0.
+    /// Checks that the bytes are packed records of `N` bytes, each a text and then NULs. `N` must be above 0.
     ///
-    /// The error is `Length` where `N` doesn't divide the number of bytes. Else it is `Parse`: the first record that is no
-    /// padded text, counted from 0, and its fault, as `try_from_raw` tells it.
+    /// The error is `Length` if `N` doesn't divide the number of bytes. Else it is `Parse`: the index of the first
+    /// record that isn't a padded text, counted from 0, and its fault, as `try_from_raw` gives it.
     ///
     /// ```rust
     /// assert!(rt; TinyAsciiStr::<3>::validate_bytes(b"EURGB\0").is_ok());
@@ -104,7 +104,7 @@ impl<const N: usize> TinyAsciiStr<N> {
 }
 
 impl<const N: usize> UnvalidatedTinyAsciiStr<N> {
-    /// Whether the bytes are records of `N` bytes, whatever these are. `N` has to be above 0. The error is `Length`.
+    /// Checks that `N`, which must be above 0, divides the number of bytes. The error is `Length`.
     pub fn validate_bytes(bytes: &[u8]) -> Result<(), UleError>
         requires { 0 < N }
         ensures accepted { IsOk result ↔ (length bytes.now % N ≡ 0) }

@@ -1,4 +1,4 @@
-//! The type of bytes that may be no text.
+//! The type of bytes that may not be a text.
 
 ghost use Rattle.std.specs.Prelude.{◌≡◌, ◌≤◌, ◌↔◌, length, replicate, IsOk, IfOk, IfErr};
 ghost use Rattle.tinystr_words.specs.Text.{pad, text_of, IsPaddedText};
@@ -84,7 +84,7 @@ impl<const N: usize> UnvalidatedTinyAsciiStr<N> {
         UnvalidatedTinyAsciiStr { bytes: [0; N] }
     }
 
-    /// The bytes and then NULs, up to `N`. The error is `TooLong` where there are more than `N` bytes.
+    /// Takes at most `N` bytes, whatever they are, and pads them with NULs. The error is `TooLong` if there are more.
     ///
     /// ```rust
     /// let bytes = UnvalidatedTinyAsciiStr::<3>::try_from_utf8(b"\xff")?;
@@ -105,7 +105,7 @@ impl<const N: usize> UnvalidatedTinyAsciiStr<N> {
         }
     }
 
-    /// These bytes, whatever they are.
+    /// Takes `N` bytes, whatever they are.
     #[inline]
     pub fn from_utf8_unchecked(bytes: [u8; N]) -> Self
         ensures { result ≡ bytes.entry }
@@ -113,7 +113,7 @@ impl<const N: usize> UnvalidatedTinyAsciiStr<N> {
         UnvalidatedTinyAsciiStr { bytes }
     }
 
-    /// The text, where the bytes are a text and then NULs. The errors are those of `TinyAsciiStr::try_from_raw`.
+    /// The text, if the bytes are a text and then NULs. The errors are those of `TinyAsciiStr::try_from_raw`.
     #[inline]
     pub fn try_into_tinystr(self) -> Result<TinyAsciiStr<N>, ParseError>
         ensures accepted { IsOk result ↔ IsPaddedText self.entry N }
@@ -126,7 +126,7 @@ impl<const N: usize> UnvalidatedTinyAsciiStr<N> {
 }
 
 impl<const N: usize> TinyAsciiStr<N> {
-    /// All `N` bytes, with the NULs behind the text.
+    /// All `N` bytes: the text and then NULs.
     ///
     /// ```rust
     /// let bytes = tinystr!(3, "GB")?.to_unvalidated();

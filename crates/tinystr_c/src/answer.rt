@@ -12,7 +12,7 @@ use tinystr::ParseError;
 use tinystr::ule::UleError;
 use tinystr_packed::MapError;
 
-/// A code, which is 0 where all is well, and a number whose meaning each export tells.
+/// A code, which is 0 if the call succeeded, and a number whose meaning depends on the export.
 #[repr(C)]
 #[derive(Clone, Copy)]
 pub struct TinystrResult {
@@ -61,7 +61,8 @@ pub fn fault_code(fault: ParseError) -> u32
     }
 }
 
-/// A fault, and where it is: the first NUL or byte above 127, or the number of bytes where they are too many.
+/// A fault and its place: the index of the first NUL or of the first byte above 127, or the number of bytes if there
+/// are too many.
 // A text that is refused for a NUL or a byte above 127 has one, so a place is always found.
 pub fn fault_answer(fault: ParseError, bytes: &[u8]) -> TinystrResult
     ensures { result ≡ fault_answer (fault_of fault) bytes.now }

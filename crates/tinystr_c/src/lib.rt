@@ -85,7 +85,8 @@ pub extern "C" fn tinystr_sorted_check(bytes: &[u8], capacity: usize) -> Tinystr
     )
 }
 
-/// The index of a text among packed records that rise, or where it is to be inserted. The records aren't checked again.
+/// The index of a text among packed records that rise, or the index at which it belongs. The records aren't checked
+/// again.
 #[unsafe(no_mangle)]
 pub extern "C" fn tinystr_sorted_search(bytes: &[u8], capacity: usize, key: &[u8]) -> TinystrResult
     ensures capacity { ¬ IsCapacity capacity → result ≡ answer BAD_ARGUMENT capacity }
@@ -100,7 +101,7 @@ pub extern "C" fn tinystr_sorted_search(bytes: &[u8], capacity: usize, key: &[u8
     )
 }
 
-/// The range of the texts that begin with a text, among packed records that rise. The records aren't checked again.
+/// The range of the texts with a prefix, among packed records that rise. The records aren't checked again.
 #[unsafe(no_mangle)]
 pub extern "C" fn tinystr_sorted_prefix(
     bytes: &[u8],

@@ -27,7 +27,7 @@ macro_rules! at_capacity {
     };
 }
 
-/// How many packed records the bytes are, or why they are none.
+/// The number of packed records, or why the bytes aren't packed records.
 pub fn table_check<const N: usize>(bytes: &[u8]) -> TinystrResult
     requires { 0 < N }
     ensures { ChecksTable result bytes.now N }
@@ -38,7 +38,7 @@ pub fn table_check<const N: usize>(bytes: &[u8]) -> TinystrResult
     }
 }
 
-/// How many packed records that rise the bytes are, or why they are none.
+/// The number of packed records that rise, or why the bytes aren't such records.
 pub fn sorted_check<const N: usize>(bytes: &[u8]) -> TinystrResult
     requires { 0 < N }
     ensures { ChecksSorted result bytes.now N }
@@ -52,7 +52,7 @@ pub fn sorted_check<const N: usize>(bytes: &[u8]) -> TinystrResult
     }
 }
 
-/// The index of a key, or where it is to be inserted.
+/// The index of a key, or the index at which it belongs.
 pub fn sorted_search<const N: usize>(bytes: &[u8], key: &[u8]) -> TinystrResult
     requires above { 0 < N }
     requires below { N ≤ 16 }
@@ -67,7 +67,7 @@ pub fn sorted_search<const N: usize>(bytes: &[u8], key: &[u8]) -> TinystrResult
     }
 }
 
-/// The range of the texts with a beginning.
+/// The range of the texts with a prefix.
 pub fn sorted_prefix<const N: usize>(bytes: &[u8], beginning: &[u8]) -> TinystrRange
     requires above { 0 < N }
     requires below { N ≤ 16 }
@@ -86,7 +86,7 @@ pub fn sorted_prefix<const N: usize>(bytes: &[u8], beginning: &[u8]) -> TinystrR
     }
 }
 
-/// How many entries of a packed map the bytes are, or why they are none, at one of the sizes of values.
+/// The number of entries of a packed map, or why the bytes aren't one, at one of the sizes of values.
 pub fn map_check<const N: usize>(keys: &[u8], values: &[u8], value_size: usize) -> TinystrResult
     requires { 0 < N }
     ensures argument { ¬ IsValueSize value_size → result ≡ answer BAD_ARGUMENT value_size }

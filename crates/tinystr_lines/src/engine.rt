@@ -14,7 +14,7 @@ use std::io::{Read, Write};
 /// Why `run` failed.
 #[derive(Debug, Drop)]
 pub enum RunError {
-    /// Memory was refused.
+    /// An allocation failed.
     Memory,
     /// A read failed.
     Read,
@@ -193,8 +193,9 @@ fn write_output<W: Write>(writer: &mut W, output: &[u8]) -> Result<(), RunError>
 }
 
 /// Reads the reader to its end, then writes the replies to the lines read, each followed by a line feed, and flushes.
-/// Memory of `alloc` holds all replies, and of the input no more than a line and what is read at once, or where memory for
-/// a reply was refused, what was left to read. A read or a write that was interrupted has failed, and isn't tried again.
+/// It allocates from `alloc` to hold all replies and, of the input, at most a line and the bytes of one read. After an
+/// allocation for a reply has failed, it holds what was left to read. An interrupted read or write counts as failed,
+/// and isn't tried again.
 pub fn run<R: Read, W: Write>(alloc: Global, r: &mut R, w: &mut W) -> Result<(), RunError>
     // It reads to the end before it writes.
     ensures ended { OnOk result (IsAtEnd (R.remaining r.new)) }

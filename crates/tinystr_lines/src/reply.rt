@@ -1,4 +1,4 @@
-//! What a line gets.
+//! The reply to a line.
 
 ghost use Rattle.std.specs.Prelude.{◌≡◌, ◌<◌, ◌≤◌, ◌^◌, [], ◌++◌, codes, length, take, true, is_some, IfSome, OnOk};
 ghost use Rattle.std.specs.Option.{option_map_or};

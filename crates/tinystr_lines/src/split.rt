@@ -5,7 +5,7 @@ ghost use Rattle.std.specs.List.{before_first, after_first, list_any, position_o
 
 use std::simd::prelude::*;
 
-/// Where the byte first stands among thirty-two, all asked at once: 32 where it doesn't.
+/// The index of the first such byte among thirty-two, all asked at once, or 32 if there is none.
 #[inline(always)]
 pub fn place_in_lanes(lanes: &[u8; 32], byte: u8) -> usize
     ensures { result ≡ position_or_len (λ b. b == byte) lanes.now }
@@ -67,8 +67,8 @@ fn find_ahead(text: &[u8], ahead: &[u8], byte: u8) -> Option<usize>
     find(text, byte)
 }
 
-/// What stands before the first such byte, and what stands after it, if there is one, in a text with which `ahead`
-/// begins; and with what stands after it begins the third.
+/// The parts before and behind the first such byte, if there is one, of a text that `ahead` begins with; the third
+/// value begins with the part behind it.
 #[inline(always)]
 #[tactic(auto, using(crate::proofs::Splits::split_steps))]
 pub fn split_once<'a>(
@@ -89,8 +89,8 @@ pub fn split_once<'a>(
     }
 }
 
-/// What stands before the first such byte, and what stands after it, in a text with which `ahead` begins: all and nothing
-/// where no byte is.
+/// The parts before and behind the first such byte, of a text that `ahead` begins with. If there is no such byte, they
+/// are the whole text and the empty text.
 #[inline(always)]
 #[tactic(auto, using(crate::proofs::Splits::split_steps))]
 pub fn split_at_first<'a>(text: &'a [u8], ahead: &'a [u8], byte: u8) -> (&'a [u8], &'a [u8])

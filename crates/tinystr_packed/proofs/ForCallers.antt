@@ -12,19 +12,19 @@ use Rattle.tinystr_packed.proofs.PackedTextMaps.{packed_texts_once}
 use Rattle.tinystr_packed.proofs.PackedTexts.{packed_injective}
 use Rattle.tinystr_packed.specs.TextMap.{ArePackedTexts}
 
--- Packed bytes are those of one list of texts.
+-- Packed bytes determine their list of texts.
 pub texts_once : (n : ℕ) (ts ss : List (List ℕ)) → 0 < n → All (λ t. IsStrictText t n) ts → All (λ t. IsStrictText t n) ss → flat_map (λ t. pad t n) ts ≡ flat_map (λ t. pad t n) ss → ts ≡ ss
 texts_once = packed_injective
 
--- The bytes of keys and values are those of one map.
+-- The bytes of keys and values determine their map.
 pub map_once : (entries others : List (List ℕ × List ℕ)) (keys values : List ℕ) (n m : ℕ) → 0 < n → ArePacked entries keys values n m → ArePacked others keys values n m → entries ≡ others
 map_once = packed_once
 
--- The bytes of keys and texts are those of one map of texts.
+-- The bytes of keys and texts determine their map of texts.
 pub text_map_once : (entries others : List (List ℕ × List ℕ)) (keys values : List ℕ) (n m : ℕ) → 0 < n → 0 < m → ArePackedTexts entries keys values n m → ArePackedTexts others keys values n m → entries ≡ others
 text_map_once = packed_texts_once
 
--- There are `n` bytes for each key, and `m` for each value.
+-- A packed map has `n` bytes for each key, and `m` for each value.
 pub map_len_keys : (entries : List (List ℕ × List ℕ)) (keys values : List ℕ) (n m : ℕ) → ArePacked entries keys values n m → length keys ≡ length entries * n
 map_len_keys entries keys values n m h = (lengths-ArePacked entries keys values n m h).0
 
@@ -33,7 +33,7 @@ map_len_values entries keys values n m h = (lengths-ArePacked entries keys value
 
 pub ruleset map_len = (map_len_keys, map_len_values)
 
--- The tests that compute are true of exactly what the definitions say.
+-- Each Boolean test is true exactly if the proposition of its name holds.
 pub tests_decide_rising : (texts : List (List ℕ)) → IsTrue (is_rising texts) ↔ IsRising texts
 tests_decide_rising = is_rising-Decides
 

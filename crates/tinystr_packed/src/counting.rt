@@ -10,7 +10,7 @@ use std::alloc::{AllocError, Global};
 use std::collections::BTreeMap;
 use tinystr::TinyAsciiStr;
 
-/// How often each text is one of a list; those that aren't have no entry. Only memory can stop it.
+/// Counts how often each text occurs in a list; one that doesn't has no entry. It fails only if an allocation fails.
 ///
 /// ```rust
 /// let texts = [tinystr!(3, "EUR")?, tinystr!(3, "CHF")?, tinystr!(3, "EUR")?];

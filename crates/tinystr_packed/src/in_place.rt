@@ -1,4 +1,4 @@
-//! Searches in the bytes of records that were checked before, and aren't checked again. Of any other bytes they answer too,
+//! Searches in the bytes of records that were checked before, and aren't checked again. For any other bytes they answer
 //! with places inside them.
 
 ghost use Rattle.std.specs.Prelude.{◌≡◌, ◌<◌, ◌≤◌, ◌/◌, ◌+◌, List, ℕ, length, map, take, drop, filter, nat_eq, All, IfOk, IfErr};
@@ -9,8 +9,8 @@ ghost use Rattle.tinystr_packed.specs.Rising.{IsRising, ArePackedRising, IsSearc
 use crate::search::{first_not_below_by_halves, first_not_below_by_number};
 use tinystr::TinyAsciiStr;
 
-/// The index of a text among packed records whose texts rise, or where it is to be inserted, as
-/// `SortedTable::binary_search` answers. Of any other bytes the answer is a place inside them. `N` has to be above 0.
+/// The index of a text among packed records whose texts rise, or as the error the index at which it belongs, as
+/// `SortedTable::binary_search` answers. For any other bytes the answer is a place inside them. `N` must be above 0.
 ///
 /// ```rust
 /// assert_eq!(rt; in_place::search(b"CHFEURJPY", &tinystr!(3, "EUR")?), Ok(1));
@@ -29,9 +29,9 @@ pub fn search<const N: usize>(bytes: &[u8], key: &TinyAsciiStr<N>) -> Result<usi
     search_records(bytes.as_chunks().0, key)
 }
 
-/// The range of the texts that begin with a text, among packed records whose texts rise: the index of the first, or where such
-/// a text is to be inserted, and how many there are. Of any other bytes the answer is a range inside them. `N` has to be above
-/// 0.
+/// The range of the texts with a prefix, among packed records whose texts rise: the index of the first, or the index at
+/// which such a text belongs, and their number. For any other bytes the answer is a range inside them. `N` must be
+/// above 0.
 ///
 /// ```rust
 /// assert_eq!(rt; in_place::with_prefix(b"CADCHFCZKEUR", &tinystr!(3, "C")?), (0, 3));

@@ -12,7 +12,7 @@ ghost use Rattle.tinystr_packed.specs.TextMap.{ArePackedTexts};
 use crate::map::PackedMap;
 use crate::sorted::SortedTable;
 
-/// Packed bytes are those of one list of texts.
+/// Packed bytes determine their list of texts.
 #[tactic(auto, using(crate::proofs::ForCallers::texts_once))]
 pub fn texts_once()
     ensures { (n : ℕ) (ts ss : List (List ℕ)) → 0 < n →
@@ -20,20 +20,20 @@ pub fn texts_once()
         flat_map (λ t. pad t n) ts ≡ flat_map (λ t. pad t n) ss → ts ≡ ss }
 {}
 
-/// The bytes of keys and values are those of one map.
+/// The bytes of keys and values determine their map.
 #[tactic(auto, using(crate::proofs::ForCallers::map_once))]
 pub fn map_once()
     ensures { (entries others : List (List ℕ × List ℕ)) (keys values : List ℕ) (n m : ℕ) → 0 < n →
         ArePacked entries keys values n m → ArePacked others keys values n m → entries ≡ others }
 {}
 
-/// The bytes of keys and texts are those of one map of texts.
+/// The bytes of keys and texts determine their map of texts.
 pub fn text_map_once()
     ensures { (entries others : List (List ℕ × List ℕ)) (keys values : List ℕ) (n m : ℕ) → 0 < n → 0 < m →
         ArePackedTexts entries keys values n m → ArePackedTexts others keys values n m → entries ≡ others }
 {}
 
-/// There are `n` bytes for each key, and `m` for each value.
+/// A packed map has `n` bytes for each key, and `m` for each value.
 #[tactic(auto, using(crate::proofs::ForCallers::map_len))]
 pub fn map_len()
     ensures keys { (entries : List (List ℕ × List ℕ)) (keys values : List ℕ) (n m : ℕ) →
@@ -42,7 +42,7 @@ pub fn map_len()
         ArePacked entries keys values n m → length values ≡ length entries * m }
 {}
 
-/// The tests that compute are true of exactly what the definitions say.
+/// Each Boolean test is true exactly if the proposition of its name holds.
 #[tactic(auto, using(crate::proofs::ForCallers::tests_decide))]
 pub fn tests_decide()
     ensures rising { (texts : List (List ℕ)) → IsTrue (is_rising texts) ↔ IsRising texts }

@@ -29,11 +29,12 @@ pub enum MapError {
     Keys(UleError),
     /// A key isn't above the one before it.
     Order(NotRising),
-    /// `len` bytes aren't `M` for each of `keys` keys.
+    /// The values have `len` bytes, which isn't `M` for each of `keys` keys.
     Values { keys: usize, len: usize },
 }
 
-/// Keys of at most `N` bytes that rise, and a value of `M` bytes for each. A clause sees the entries of a `BTreeMap`.
+/// A map from texts of at most `N` bytes, which rise, to values of `M` bytes. A contract sees it as the entries of a
+/// `BTreeMap`.
 ///
 /// ```rust
 /// let places = PackedMap::<3, 1>::new(b"EURJPY", &[2, 0]).unwrap();
@@ -58,9 +59,10 @@ impl<'a, const N: usize, const M: usize> Model for PackedMap<'a, N, M> {
 }
 
 impl<'a, const N: usize, const M: usize> PackedMap<'a, N, M> {
-    /// The map of the bytes of its keys and of its values, which are checked here alone. `N` and `M` have to be above 0.
+    /// Reads a map from the bytes of its keys and those of its values, which only this call checks. `N` and `M` must be
+    /// above 0.
     ///
-    /// The error is `Keys` where the keys aren't packed records, else `Order` where they don't rise, else `Values`.
+    /// The error is `Keys` if the keys aren't packed records, else `Order` if they don't rise, else `Values`.
     ///
     /// ```rust
     /// assert!(rt; PackedMap::<3, 1>::new(b"EURJPY", &[2, 0]).is_ok());
@@ -99,7 +101,7 @@ impl<'a, const N: usize, const M: usize> PackedMap<'a, N, M> {
         })
     }
 
-    /// How many entries.
+    /// The number of entries.
     #[tactic(auto, using(crate::proofs::PackedMaps::map_steps))]
     pub fn len(&self) -> usize
         ensures len { result ≡ length self.now }
@@ -116,7 +118,7 @@ impl<'a, const N: usize, const M: usize> PackedMap<'a, N, M> {
         self.len() == 0
     }
 
-    /// The value of a key, or `None` where it isn't one.
+    /// The value of a key, or `None` if the map doesn't have the key.
     pub fn get(&self, key: &TinyAsciiStr<N>) -> Option<&'a [u8; M]>
         ensures { option_copied result ≡ get self.now key.now }
     {
@@ -126,14 +128,14 @@ impl<'a, const N: usize, const M: usize> PackedMap<'a, N, M> {
         }
     }
 
-    /// Whether it is a key.
+    /// Whether the map has a key.
     pub fn contains_key(&self, key: &TinyAsciiStr<N>) -> bool
         ensures { result ≡ is_some (get self.now key.now) }
     {
         self.keys.contains(key)
     }
 
-    /// The entries whose keys begin with a text, as a map of them alone.
+    /// The map of the entries whose keys begin with `beginning`.
     ///
     /// ```rust
     /// let places = PackedMap::<3, 1>::new(b"CADCHFEUR", &[2, 2, 2]).unwrap();
@@ -168,7 +170,7 @@ impl<'a, const N: usize, const M: usize> PackedMap<'a, N, M> {
         self.values
     }
 
-    /// The keys with their values, in order.
+    /// The keys with their values, in the order of the keys.
     #[tactic(auto, using(crate::proofs::PackedMaps::map_steps))]
     pub fn iter(&self) -> Entries<'a, N, M>
         ensures entries { result ≡ self.now }
@@ -182,7 +184,8 @@ impl<'a, const N: usize, const M: usize> PackedMap<'a, N, M> {
     }
 }
 
-/// The keys of a map with their values, in order. A clause sees those that are left.
+/// An iterator over the entries of a map, in the order of their keys. A contract sees it as the list of those that are
+/// left.
 ///
 /// ```rust
 /// let places = PackedMap::<3, 1>::new(b"EURJPY", &[2, 0]).unwrap();

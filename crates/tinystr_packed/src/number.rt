@@ -1,12 +1,12 @@
-//! Numbers that bytes of a record spell.
+//! The numbers that a search compares.
 
 ghost use Rattle.std.specs.Prelude.{◌≡◌, ◌≤◌, ◌-◌, ℕ, List, nat_eq, nat_lt};
 ghost use Rattle.tinystr_packed.specs.Numbers.{number_at, pair_at};
 
 use crate::record::number_at;
 
-/// The number that bytes of a record spell from a place on, the first the most significant. In 64 bits these are eight bytes,
-/// with NULs past the end. In 128 bits the next eight follow, or the record's last eight where fewer are left.
+/// The number of a record's bytes from a place on, the first the most significant. A number of 64 bits has eight bytes,
+/// with NULs past the end. One of 128 bits has the next eight too, or the record's last eight if fewer are left.
 pub(crate) trait Number<const N: usize>: Copy + Drop {
     ghost value: { Self → ℕ };
 

@@ -12,7 +12,7 @@ use std::alloc::{AllocError, Global};
 use std::collections::BTreeMap;
 use tinystr::TinyAsciiStr;
 
-/// The texts, packed. Only memory can stop it.
+/// Packs texts, each padded to `N` bytes, one after another. It fails only if an allocation fails.
 ///
 /// ```rust
 /// let bytes = pack(rt.alloc(), &[tinystr!(3, "EUR")?, tinystr!(3, "GB")?])?;
@@ -33,7 +33,7 @@ pub fn pack<const N: usize>(alloc: Global, texts: &[TinyAsciiStr<N>]) -> Result<
     Ok(bytes)
 }
 
-/// The texts of a table, in a vector. Only memory can stop it.
+/// The texts of a table, in a vector. It fails only if an allocation fails.
 ///
 /// ```rust
 /// let texts = unpack(rt.alloc(), &Table::<3>::new(b"EURGB\0").unwrap())?;
@@ -52,8 +52,7 @@ pub fn unpack<const N: usize>(
     Ok(texts)
 }
 
-/// The bytes of the keys and the bytes of the values of a map, each packed: what `PackedMap::new` takes. Only memory can
-/// stop it.
+/// The packed keys and values of a map, as `PackedMap::new` takes them. It fails only if an allocation fails.
 ///
 /// ```rust
 /// let mut places = BTreeMap::new(rt.alloc());
@@ -82,8 +81,7 @@ pub fn pack_map<const N: usize, const M: usize>(
     Ok((keys, values))
 }
 
-/// The bytes of the keys and the bytes of the values of a map, each packed: what `TextMap::new` takes. Only memory can
-/// stop it.
+/// The packed keys and texts of a map, as `TextMap::new` takes them. It fails only if an allocation fails.
 ///
 /// ```rust
 /// let mut currencies = BTreeMap::new(rt.alloc());

@@ -10,7 +10,7 @@ ghost use Rattle.tinystr_packed.specs.Numbers.{number_at};
 use std::cmp::Ordering;
 use tinystr_words::padded;
 
-/// Whether a record is below another, which is equally long.
+/// Whether a record is below another, which must be equally long.
 // At most eight bytes are compared as one number, so that no branch is taken within a record.
 #[inline(always)]
 pub(crate) fn is_below(left: &[u8], right: &[u8]) -> bool
@@ -24,7 +24,7 @@ pub(crate) fn is_below(left: &[u8], right: &[u8]) -> bool
     }
 }
 
-/// The order of two records, which are equally long.
+/// The order of two records, which must be equally long.
 #[inline(always)]
 pub(crate) fn compare(left: &[u8], right: &[u8]) -> Ordering
     requires { length left.now ≡ length right.now }
@@ -33,7 +33,7 @@ pub(crate) fn compare(left: &[u8], right: &[u8]) -> Ordering
     padded::compare(left, right)
 }
 
-/// Whether two records hold one text.
+/// Whether two records hold the same text.
 #[inline(always)]
 pub(crate) fn holds_same_text<const N: usize>(left: &[u8; N], right: &[u8; N]) -> bool
     requires left { IsPaddedText left.now N }
@@ -43,7 +43,7 @@ pub(crate) fn holds_same_text<const N: usize>(left: &[u8; N], right: &[u8; N]) -
     padded::equals(left, right)
 }
 
-/// The number that eight bytes of a record spell from `start` on, or all of a record of at most eight.
+/// The number of eight bytes of a record from `start` on, or of all of a record of at most eight.
 #[inline(always)]
 pub(crate) fn number_at<const N: usize>(raw: &[u8; N], start: usize) -> u64
     requires { start ≤ N - 8 }

@@ -15,7 +15,7 @@ use std::ops::Range;
 use tinystr::TinyAsciiStr;
 use tinystr::ule::UleError;
 
-/// A table whose texts rise, each above the one before it. A clause sees the texts.
+/// A table whose texts rise, each above the one before it. A contract sees it as the list of its texts.
 ///
 /// ```rust
 /// let codes = SortedTable::new(Table::<3>::new(b"CHFEURJPYUSD").unwrap()).unwrap();
@@ -64,7 +64,8 @@ pub enum SortedError {
 }
 
 impl<'a, const N: usize> SortedTable<'a, N> {
-    /// The table, once each text is compared with the next.
+    /// Checks that each text is above the one before it, and gives the table. The error has the index of the first that
+    /// isn't.
     ///
     /// ```rust
     /// let table = Table::<3>::new(b"EURCHF").unwrap();
@@ -82,8 +83,8 @@ impl<'a, const N: usize> SortedTable<'a, N> {
         }
     }
 
-    /// The sorted table of bytes, which are checked here alone: first whether they are packed records, then their order. `N` has
-    /// to be above 0.
+    /// Reads a sorted table from bytes, which only this call checks: first that they are packed records, then their
+    /// order. `N` must be above 0.
     ///
     /// ```rust
     /// let codes = SortedTable::<3>::from_bytes(b"CHFEURJPY").unwrap();
@@ -115,8 +116,8 @@ impl<'a, const N: usize> SortedTable<'a, N> {
         &self.table
     }
 
-    /// The index of a text, or where it is to be inserted: all texts before that place are below it, and all from there
-    /// on are above.
+    /// The index of a text, or as the error the index at which it belongs: all texts before that are below it, and all
+    /// from that on are above it.
     pub fn binary_search(&self, key: &TinyAsciiStr<N>) -> Result<usize, usize>
         ensures found { IfOk result (λ index. slice_get self.now index ≡ Some key.now) }
         ensures place { IfErr result (λ place. IsPlaceFor key.now self.now place) }
@@ -131,7 +132,7 @@ impl<'a, const N: usize> SortedTable<'a, N> {
         }
     }
 
-    /// The index of a text of any capacity, or `None` where it isn't one of them. Both capacities have to be below 2^63.
+    /// The index of a text of any capacity, or `None` if the table doesn't have it. Both capacities must be below 2^63.
     ///
     /// ```rust
     /// let codes = SortedTable::<3>::from_bytes(b"CHFEURJPY").unwrap();
@@ -150,14 +151,14 @@ impl<'a, const N: usize> SortedTable<'a, N> {
         self.binary_search(&key).ok()
     }
 
-    /// Whether a text is one of them.
+    /// Whether the table has a text.
     pub fn contains(&self, key: &TinyAsciiStr<N>) -> bool
         ensures { IsTrue result ↔ Contains self.now key.now }
     {
         self.binary_search(key).is_ok()
     }
 
-    /// The texts that begin with a text, as a table of them alone.
+    /// The table of the texts that begin with `beginning`.
     ///
     /// ```rust
     /// let codes = SortedTable::new(Table::<3>::new(b"CADCHFCZKEUR").unwrap()).unwrap();

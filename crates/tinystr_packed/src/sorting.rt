@@ -7,7 +7,7 @@ use crate::packing::pack;
 use std::alloc::{AllocError, Global};
 use tinystr::TinyAsciiStr;
 
-/// The texts in order and each once, packed: what `SortedTable` takes. Only memory can stop it.
+/// Packs texts in order and each once, as `SortedTable` takes them. It fails only if an allocation fails.
 ///
 /// ```rust
 /// let texts = [tinystr!(3, "JPY")?, tinystr!(3, "EUR")?, tinystr!(3, "JPY")?];

@@ -16,7 +16,7 @@ use std::ops::Range;
 use tinystr::TinyAsciiStr;
 use tinystr::ule::UleError;
 
-/// Packed records of `N` bytes. A clause sees their texts.
+/// A table of packed records of `N` bytes. A contract sees it as the list of their texts.
 ///
 /// ```rust
 /// let table = Table::<3>::new(b"EURGB\0").unwrap();
@@ -40,10 +40,10 @@ impl<'a, const N: usize> Model for Table<'a, N> {
 }
 
 impl<'a, const N: usize> Table<'a, N> {
-    /// The table of bytes, which are checked here alone. `N` has to be above 0.
+    /// Reads a table from bytes, which only this call checks. `N` must be above 0.
     ///
-    /// The error is that of `TinyAsciiStr::validate_bytes`: `Length` where `N` doesn't divide the number of bytes, else
-    /// `Parse`, the first record that isn't a padded text.
+    /// The error is that of `TinyAsciiStr::validate_bytes`: `Length` if `N` doesn't divide the number of bytes, else
+    /// `Parse`, with the index of the first record that isn't a padded text and its fault.
     ///
     /// ```rust
     /// assert!(rt; Table::<3>::new(b"EURJPY").is_ok());
@@ -68,7 +68,7 @@ impl<'a, const N: usize> Table<'a, N> {
         })
     }
 
-    /// How many texts.
+    /// The number of texts.
     pub fn len(&self) -> usize
         ensures len { result ≡ length self.now }
         ensures strict { All (λ t. IsStrictText t N) self.now }
@@ -76,7 +76,7 @@ impl<'a, const N: usize> Table<'a, N> {
         self.records.len()
     }
 
-    /// Whether there is no text.
+    /// Whether the table has no texts.
     pub fn is_empty(&self) -> bool
         ensures { IsTrue result ↔ (self.now ≡ []) }
     {
@@ -93,7 +93,7 @@ impl<'a, const N: usize> Table<'a, N> {
         Some(TinyAsciiStr::from_utf8_unchecked(*raw))
     }
 
-    /// The text at an index below the number of texts.
+    /// The text at an index, counted from 0, which must be below the number of texts.
     pub fn text_at(&self, index: usize) -> TinyAsciiStr<N>
         requires { index < length self.now }
         ensures { result ≡ slice_index_or self.now index [] }
@@ -115,7 +115,7 @@ impl<'a, const N: usize> Table<'a, N> {
         self.get(self.len().checked_sub(1)?)
     }
 
-    /// The table of the texts at a range of indices.
+    /// The table of the texts at a range of indices, which must not end before it begins, nor past the last text.
     ///
     /// ```rust
     /// let table = Table::<3>::new(b"CHFEURJPYUSD").unwrap();
@@ -188,7 +188,7 @@ impl<'a, const N: usize> Table<'a, N> {
     }
 }
 
-/// The texts of a table in order. A clause sees those that are left.
+/// An iterator over the texts of a table, in order. A contract sees it as the list of those that are left.
 ///
 /// ```rust
 /// let table = Table::<3>::new(b"EURGB\0").unwrap();

@@ -27,12 +27,12 @@ pub enum TextMapError {
     Keys(SortedError),
     /// The values aren't packed records.
     Values(UleError),
-    /// There aren't as many values as keys.
+    /// The values aren't as many as the keys.
     Count { keys: usize, values: usize },
 }
 
-/// Keys of at most `N` bytes that rise, and a text of at most `M` bytes for each. A clause sees the entries of a
-/// `BTreeMap`.
+/// A map from texts of at most `N` bytes, which rise, to texts of at most `M` bytes. A contract sees it as the entries
+/// of a `BTreeMap`.
 ///
 /// ```rust
 /// let currencies = TextMap::<2, 3>::new(b"CHJP", b"CHFJPY").unwrap();
@@ -57,10 +57,11 @@ impl<'a, const N: usize, const M: usize> Model for TextMap<'a, N, M> {
 }
 
 impl<'a, const N: usize, const M: usize> TextMap<'a, N, M> {
-    /// The map of the bytes of its keys and of its values, which are checked here alone. `N` and `M` have to be above 0.
+    /// Reads a map from the bytes of its keys and those of its values, which only this call checks. `N` and `M` must be
+    /// above 0.
     ///
-    /// The error is `Keys` where the keys aren't a sorted table, else `Values` where the values aren't packed records,
-    /// else `Count`.
+    /// The error is `Keys` if the keys aren't a sorted table, else `Values` if the values aren't packed records, else
+    /// `Count`.
     ///
     /// ```rust
     /// assert!(rt; TextMap::<2, 3>::new(b"CHJP", b"CHFJPY").is_ok());
@@ -94,7 +95,7 @@ impl<'a, const N: usize, const M: usize> TextMap<'a, N, M> {
         Ok(TextMap { keys, values })
     }
 
-    /// How many entries.
+    /// The number of entries.
     #[tactic(auto, using(crate::proofs::PackedMaps::map_steps))]
     pub fn len(&self) -> usize
         ensures len { result ≡ length self.now }
@@ -110,7 +111,7 @@ impl<'a, const N: usize, const M: usize> TextMap<'a, N, M> {
         self.len() == 0
     }
 
-    /// The value of a key, or `None` where it isn't one.
+    /// The value of a key, or `None` if the map doesn't have the key.
     pub fn get(&self, key: &TinyAsciiStr<N>) -> Option<TinyAsciiStr<M>>
         ensures { result ≡ get self.now key.now }
     {
@@ -120,14 +121,14 @@ impl<'a, const N: usize, const M: usize> TextMap<'a, N, M> {
         }
     }
 
-    /// Whether it is a key.
+    /// Whether the map has a key.
     pub fn contains_key(&self, key: &TinyAsciiStr<N>) -> bool
         ensures { result ≡ is_some (get self.now key.now) }
     {
         self.keys.contains(key)
     }
 
-    /// The entries whose keys begin with a text, as a map of them alone.
+    /// The map of the entries whose keys begin with `beginning`.
     ///
     /// ```rust
     /// let currencies = TextMap::<2, 3>::new(b"CACHJP", b"CADCHFJPY").unwrap();
@@ -161,7 +162,7 @@ impl<'a, const N: usize, const M: usize> TextMap<'a, N, M> {
         &self.values
     }
 
-    /// The keys with their values, in order.
+    /// The keys with their values, in the order of the keys.
     #[tactic(auto, using(crate::proofs::PackedMaps::map_steps))]
     pub fn iter(&self) -> TextEntries<'a, N, M>
         ensures entries { result ≡ self.now }
@@ -175,7 +176,8 @@ impl<'a, const N: usize, const M: usize> TextMap<'a, N, M> {
     }
 }
 
-/// The keys of a map with their values, in order. A clause sees those that are left.
+/// An iterator over the entries of a map, in the order of their keys. A contract sees it as the list of those that are
+/// left.
 ///
 /// ```rust
 /// let currencies = TextMap::<2, 3>::new(b"CHJP", b"CHFJPY").unwrap();

@@ -39,7 +39,7 @@ use Rattle.tinystr_words.proofs.TextsByPieces.{ask-append, ask-same, in_case-app
 use Rattle.tinystr_words.proofs.TextsDecided.{is_packed-Decides, is_padded_text-Decides, is_strict_text-Decides, is_text_byte-Decides}
 use Rattle.tinystr_words.proofs.WordLaws.{lane_class_is, lane_sum_is, word_length_is}
 
--- Of two lists one comes before the other, or they are one list, and padded texts are in the order of the texts.
+-- Of two lists, one comes before the other or they are equal, and padded texts are ordered as their texts.
 pub order_total_one : (t s : List ℕ) → (t ≡ s) ⊎ (IsBefore t s ⊎ IsBefore s t)
 order_total_one = before_or_same
 
@@ -51,7 +51,7 @@ order_total_padded = before_padded
 
 pub ruleset order_total = (order_total_one, order_total_alone, order_total_padded)
 
--- The order is what std's comparison of lists answers.
+-- The order is that of std's comparison of lists.
 pub order_compared_less : (t s : List ℕ) → (slice_cmp nat_cmp t s ≡ Less) ↔ IsBefore t s
 order_compared_less = cmp_is_before
 
@@ -60,7 +60,7 @@ order_compared_equal = cmp_is_same
 
 pub ruleset order_compared = (order_compared_less, order_compared_equal)
 
--- A case change of the front of a text is the front of the changed text.
+-- Truncating before or after a case change gives the same text.
 pub case_cut_lower : (m : ℕ) (t : List ℕ) → lowercase (take m t) ≡ take m (lowercase t)
 case_cut_lower = lowercase-take
 
@@ -72,7 +72,7 @@ case_cut_upper = uppercase-take
 
 pub ruleset case_cut = (case_cut_lower, case_cut_title, case_cut_upper)
 
--- A case change keeps the length, done twice it is done once, and lowercase forgets an uppercase before it.
+-- A case change keeps the length, repeating it changes nothing, and lowercase after uppercase is lowercase.
 pub case_twice_lower : (t : List ℕ) → (length (lowercase t) ≡ length t) × (lowercase (lowercase t) ≡ lowercase t)
 case_twice_lower t = (length-map t lower, map-map_same lower lower lower (λ b. grind (arith, nat_tests)) t)
 
@@ -87,7 +87,7 @@ case_twice_lower_upper = map-map_same lower raise lower (λ b. grind (arith, nat
 
 pub ruleset case_twice = (case_twice_lower, case_twice_title, case_twice_upper, case_twice_lower_upper)
 
--- A case change leaves alone exactly the texts of its case.
+-- A case change leaves a text unchanged exactly if the text is in that case.
 pub case_fixed_lower : (t : List ℕ) → (lowercase t ≡ t) ↔ IsTrue (ask is_not_upper is_not_upper t)
 case_fixed_lower = lowercase-alone
 
@@ -99,7 +99,7 @@ case_fixed_upper = uppercase-alone
 
 pub ruleset case_fixed = (case_fixed_lower, case_fixed_title, case_fixed_upper)
 
--- A text is of letters in a case exactly if it is of letters and of that case.
+-- A text consists of letters in a case exactly if it consists of letters and is in that case.
 pub class_joined_lower : (t : List ℕ) → ask is_lower is_lower t ≡ (ask is_alphabetic is_alphabetic t && ask is_not_upper is_not_upper t)
 class_joined_lower = ask-joined is_lower is_lower is_alphabetic is_not_upper is_not_upper (λ b. grind (arith, nat_tests)) (λ b. grind (arith, nat_tests))
 
@@ -111,11 +111,11 @@ class_joined_upper = ask-joined is_upper is_upper is_alphabetic is_not_lower is_
 
 pub ruleset class_joined = (class_joined_lower, class_joined_title, class_joined_upper)
 
--- Texts joined and cut in either order have one front.
+-- Truncating before or after joining gives the same prefix.
 pub join_cut : (a b c : List ℕ) (p q r : ℕ) → q ≤ p → q ≤ r → take q (take p (a ++ b) ++ c) ≡ take q (a ++ take r (b ++ c))
 join_cut = take_join_cut
 
--- Texts that fit are joined whole.
+-- Two texts that fit together are joined whole.
 pub join_fits : (a b : List ℕ) (q : ℕ) → length a + length b ≤ q → take q (a ++ b) ≡ a ++ b
 join_fits a b q fits = take_all q (a ++ b) (omega (arith, length-append a b))
 
@@ -123,7 +123,7 @@ join_fits a b q fits = take_all q (a ++ b) (omega (arith, length-append a b))
 pub digits_ten : (n : ℕ) → n ≤ 4294967295 → length (decimal n) ≤ 10
 digits_ten = length-decimal-le_ten
 
--- std's decimal text of a number is its only shortest one.
+-- Below 2^64, `decimal n` is the unique shortest decimal form of `n`.
 pub digits_shortest_is : (n : ℕ) → n < 2 ^ 64 → IsDecimalOf n (decimal n)
 digits_shortest_is = IsDecimalOf-decimal
 
@@ -132,19 +132,19 @@ digits_shortest_only = IsDecimalOf-only
 
 pub ruleset digits_shortest = (digits_shortest_is, digits_shortest_only)
 
--- Where no lane is above 0x7f, no lane of a sum carries into the next.
+-- If no lane is above 0x7f, no lane of a sum carries into the next.
 pub lane_sum : (a c : List ℕ) → length a ≡ length c → All (λ b. b ≤ 0x7f) a → All (λ b. b ≤ 0x7f) c → (word a + word c < 256 ^ length a) × ((i : ℕ) → i < length a → lane (word a + word c) i ≡ slice_index a i + slice_index c i)
 lane_sum = lane_sum_is
 
--- The size of a word tells the length of the text that it holds.
+-- A padded text of length k is a word below 256 ^ k, and below no lower power of 256.
 pub word_length : (w : ℕ) (t : List ℕ) → IsText t → length t ≤ w → (word (pad t w) < 256 ^ length t) × ((k : ℕ) → word (pad t w) < 256 ^ k → length t ≤ k)
 word_length = word_length_is
 
--- Two sums tell which lanes lie in their ranges.
+-- The high bits of two sums tell which lanes lie in their ranges.
 pub lane_class : (a low high : List ℕ) → length low ≡ length a → length high ≡ length a → All (λ b. b ≤ 0x7f) a → ((i : ℕ) → i < length a → (1 ≤ slice_index low i) × (slice_index low i ≤ slice_index high i) × (slice_index high i ≤ 0x7f)) → let p = map (λ b. 0x80 - b) low in let q = map (λ b. 0x7f - b) high in (i : ℕ) → i < length a → (IsInRange (slice_index low i) (slice_index high i) (slice_index a i)) ↔ ((0x80 ≤ lane (word a + word p) i) × (lane (word a + word q) i < 0x80))
 lane_class = lane_class_is
 
--- The questions and the case changes of a text, from those of its first sixteen bytes and of the others.
+-- The questions and case changes of a text follow from those of its first sixteen bytes and of the others.
 pub word_join_asked : (first others : ℕ → Bool) (a b : List ℕ) → (length a ≡ 16) ⊎ (b ≡ []) → ask first others (a ++ b) ≡ (ask first others a && ask others others b)
 word_join_asked first others = ask-append first others 15
 
@@ -159,7 +159,7 @@ word_join_title = in_case-append Title 15
 
 pub ruleset word_join = (word_join_asked, word_join_lower, word_join_upper, word_join_title)
 
--- A text has a padded form, and no other text has the same.
+-- A text that fits has a padded form, and no other text has the same one.
 pub pad_once_padded : (t : List ℕ) (n : ℕ) → IsStrictText t n → IsPaddedText (pad t n) n
 pad_once_padded = IsPaddedText-pad
 
@@ -168,7 +168,7 @@ pad_once_once t s n h k = texts.pad_once t s n h.text k.text
 
 pub ruleset pad_once = (pad_once_padded, pad_once_once)
 
--- The tests that compute are true of exactly what the definitions say.
+-- Each Boolean test is true exactly if the proposition of its name holds.
 pub tests_decide_byte : (b : ℕ) → IsTrue (is_text_byte b) ↔ IsTextByte b
 tests_decide_byte = is_text_byte-Decides
 
@@ -183,7 +183,7 @@ tests_decide_packed = is_packed-Decides
 
 pub ruleset tests_decide = (tests_decide_byte, tests_decide_strict, tests_decide_padded, tests_decide_packed)
 
--- A strict reader takes a text that fits as it is, and nothing else.
+-- A strict reader accepts exactly the texts that fit, and gives them unchanged.
 pub strict_read_taken : (t : List ℕ) (n : ℕ) → IsStrictText t n → strict_of n t ≡ Some t
 strict_read_taken t n h = rw ((is_strict_text-Decides t n).1 h) refl
 
@@ -192,7 +192,7 @@ strict_read_refused t n other = grind (arith, is_strict_text-Decides)
 
 pub ruleset strict_read = (strict_read_taken, strict_read_refused)
 
--- The front and the back of a text that fits fit, and so does what stands before the first byte of a kind, and behind it.
+-- Each prefix and suffix of a text that fits also fits, and so do the parts before and behind its first byte of a kind.
 pub strict_parts_front : (k : ℕ) (t : List ℕ) (n : ℕ) → IsStrictText t n → IsStrictText (take k t) n
 strict_parts_front = IsStrictText-take
 
@@ -207,7 +207,7 @@ strict_parts_behind = IsStrictText-after_first
 
 pub ruleset strict_parts = (strict_parts_front, strict_parts_back, strict_parts_before, strict_parts_behind)
 
--- Letters and digits, letters in a case and digits alone are texts.
+-- A list of letters, of digits, of both, or of letters in a case is a text.
 pub class_texts_alphanumeric : (t : List ℕ) → IsTrue (ask is_alphanumeric is_alphanumeric t) → IsText t
 class_texts_alphanumeric t h = IsText-asked is_alphanumeric is_alphanumeric (λ b k. grind (arith, nat_tests)) (λ b k. grind (arith, nat_tests)) t h
 
@@ -228,7 +228,7 @@ class_texts_upper t h = IsText-asked is_upper is_upper (λ b k. grind (arith, na
 
 pub ruleset class_texts = (class_texts_alphanumeric, class_texts_alphabetic, class_texts_digit, class_texts_lower, class_texts_title, class_texts_upper)
 
--- A padded form reads back, whatever stands behind it.
+-- A padded text is read back as its text, whatever follows it.
 pub bytes_back_clean : (t rest : List ℕ) (n : ℕ) → IsStrictText t n → byte_fault n (pad t n ++ rest) ≡ None
 bytes_back_clean = byte_fault-padded
 
@@ -248,7 +248,8 @@ bytes_back_front input n = byte_fault-first_padded n input
 
 pub ruleset bytes_back = (bytes_back_clean, bytes_back_first, bytes_back_strict, bytes_back_alone, bytes_back_front)
 
--- Texts without the separator, joined by it and split at it, are the same texts, and the parts of a text, joined, are the text. Each part of a text that fits is one.
+-- Texts without the separator come back if they are joined by it and then split, and a text comes back if it is split
+-- and then joined. Each part of a text that fits also fits.
 pub split_joined_back : (c : ℕ) (ts : List (List ℕ)) → 0 < length ts → All (λ t. All (λ b. b ≢ c) t) ts → slice_split (λ b. b == c) (join_with_byte c ts) ≡ ts
 split_joined_back = slice_split-joined
 
@@ -260,7 +261,8 @@ split_joined_strict = IsStrictText-slice_split
 
 pub ruleset split_joined = (split_joined_back, split_joined_joined, split_joined_strict)
 
--- The place of the first byte of a kind cuts a text into what stands before the byte, and what stands behind it. Where no byte is of the kind, the text is one part.
+-- The index of the first byte of a kind gives the parts before and behind that byte. If no byte is of the kind, the
+-- text is a single part.
 pub split_found_inside : (p : ℕ → Bool) (t : List ℕ) (at : ℕ) → position p t ≡ Some at → at < length t
 split_found_inside p t i at = grind (arith, nat_tests)
 
@@ -281,7 +283,8 @@ split_found_one = slice_split-missed
 
 pub ruleset split_found = (split_found_inside, split_found_before, split_found_behind, split_found_parts, split_found_whole, split_found_one)
 
--- Texts joined by a byte are of the class and the case of all of them and of the byte.
+-- Texts joined by a byte are in a class if each of them and the byte is, and lowercase and uppercase change each of
+-- them and the byte.
 pub joined_texts_text : (c : ℕ) (ts : List (List ℕ)) → IsTextByte c → All IsText ts → IsText (join_with_byte c ts)
 joined_texts_text = IsText-joined
 
@@ -317,7 +320,7 @@ pub ruleset niche_fault = (niche_fault_refused, niche_fault_fault)
 pub packed_records : (bytes : List ℕ) (n i : ℕ) → IsPacked bytes n → i * n < length bytes → IsPaddedText (record_at n bytes i) n
 packed_records = IsPacked-record
 
--- Texts that are padded and joined are packed records, as many as the texts, and each record holds its text.
+-- Padded texts, one after another, are packed records, as many as the texts, and each record holds its text.
 pub texts_packed_packed : (n : ℕ) (ts : List (List ℕ)) → All (λ t. IsStrictText t n) ts → IsPacked (flat_map (λ t. pad t n) ts) n
 texts_packed_packed = IsPacked-joined
 
@@ -362,7 +365,9 @@ same_as_std_each = ask-same
 
 pub ruleset same_as_std = (same_as_std_upper, same_as_std_lower, same_as_std_digit, same_as_std_letter, same_as_std_letter_or_digit, same_as_std_lowered, same_as_std_raised, same_as_std_lowercase, same_as_std_uppercase, same_as_std_each)
 
--- A text has a character a byte. Under a style that doesn't cut it, and whose fill is a character of ASCII, it is filled up to the width: behind it where no side is named and under `<`, by halves under `^`, the lesser in front, and in front of it under `>`. For these `align` is 0, 1, 2 and 3.
+-- A text has as many characters as bytes. If a style doesn't truncate the text and its fill is ASCII, the text is
+-- filled up to the width: behind it if no side is named and for `<`, on both sides for `^`, with the lesser half in
+-- front, and in front of it for `>`. For these `align` is 0, 1, 2 and 3.
 pub print_width_chars : (t : List ℕ) → IsText t → char_count t ≡ length t
 print_width_chars = char_count-text
 

@@ -1,4 +1,4 @@
-//! Units that readers take, and whether they are characters.
+//! The code units that readers take: bytes and 16-bit numbers.
 
 ghost use Rattle.std.specs.Prelude.{◌≡◌, ◌*◌, ◌%◌, ◌≤◌, ◌↔◌, ℕ, length, map, IsTrue, IfSome};
 ghost use Rattle.tinystr_words.specs.Text.{IsText, IsTextByte};
@@ -16,15 +16,15 @@ use std::simd::prelude::*;
 pub trait CodeUnit: Copy {
     ghost number: { Self → ℕ };
 
-    /// The code unit as a number: 0 to 255 of a byte, else all 16 bits.
+    /// The code unit as a number: 0 to 255 for a byte, 0 to 65535 for a 16-bit number.
     fn code(self) -> u16
         ensures { result ≡ number self };
 
-    /// Whether it is from 1 to 127.
+    /// Whether the code unit is from 1 to 127.
     fn is_character(self) -> bool
         ensures { IsTrue result ↔ IsTextByte (number self) };
 
-    /// The lowest eight bits, which are all of a character.
+    /// The lowest eight bits, which hold all of a character.
     fn low_byte(self) -> u8
         ensures { result ≡ number self % 256 };
 
@@ -32,18 +32,18 @@ pub trait CodeUnit: Copy {
     fn as_bytes(units: &[Self]) -> Option<&[u8]>
         ensures { IfSome result (λ bytes. bytes.now ≡ map number units.now) };
 
-    /// The lowest eight bits of each of four code units, as a little-endian word. There have to be four.
+    /// The lowest eight bits of each of four code units, as a little-endian word. The slice must have four.
     fn word_of_four(units: &[Self]) -> u32
         requires { length units.now ≡ 4 }
         ensures { result ≡ word (map (λ unit. number unit % 256) units.now) };
 
-    /// The lowest eight bits of each of eight code units. There have to be eight.
+    /// The lowest eight bits of each of eight code units. The slice must have eight.
     fn eight_low_bytes(units: &[Self]) -> [u8; 8]
         requires { length units.now ≡ 8 }
         ensures { result ≡ map (λ unit. number unit % 256) units.now };
 }
 
-/// How many code units from 1 on are characters.
+/// The number of characters: a code unit from 1 to this is one.
 pub(crate) const CHARACTERS: u8 = 0x7f;
 
 impl CodeUnit for u8 {

@@ -4,7 +4,7 @@ ghost use Rattle.std.specs.Prelude.{◌≡◌, ◌+◌, ◌*◌, ◌/◌, ◌%�
 ghost use Rattle.std.specs.Fmt.{decimal};
 ghost use Rattle.tinystr_words.specs.Words.{word};
 
-/// Whether the decimal text of a number has at most so many digits.
+/// Whether the decimal text of `number` has at most `most` digits.
 ///
 /// ```rust
 /// assert!(rt; decimal_fits(999, 3));
@@ -26,8 +26,8 @@ fn two_digits(number: u32) -> u32
     number / 10 + 256 * (number % 10) + 0x3030
 }
 
-/// The shortest decimal text of a number, its first digit in the lowest lane. Four steps at most leave a number below
-/// 100.
+/// The shortest decimal text of a number, its first digit in the lowest lane. After at most four steps the number is
+/// below 100.
 #[inline(always)]
 pub(crate) fn decimal_word(number: u32) -> u128
     ensures { result ≡ word (decimal number) }
@@ -66,8 +66,8 @@ fn four_pairs(number: u32) -> u64
     u64::from(two_pairs(number / 10000)) + (u64::from(two_pairs(number % 10000)) << 32)
 }
 
-/// Eight digits, zeros in front among them, the first in the lowest lane; to each 0x30 is to be added. The tens of all
-/// pairs are made at once: below 100 a tenth is 103 parts of 1024, and no product leaves its lane.
+/// The values of eight digits, leading zeros included, the first in the lowest lane. The caller adds 0x30 to each. All
+/// pairs are divided at once: below 100, `n / 10` is `n * 103 / 1024`, and no product leaves its lane.
 #[inline(always)]
 pub(crate) fn eight_digits(number: u32) -> u64
     requires { number < 10 ^ 8 }

@@ -69,7 +69,7 @@ impl<T: Word<LEN>, const LEN: usize> Model for Aligned<T, LEN> {
 }
 
 impl<T: Word<LEN>, const LEN: usize> Aligned<T, LEN> {
-    /// Takes the text of an array of at most `LEN` bytes, which have to be a text and then NULs.
+    /// Takes an array of at most `LEN` bytes, which must be a text and then NULs.
     #[inline(always)]
     pub fn from_ascii_bytes<const N: usize>(src: &[u8; N]) -> Self
         requires fits { N ≤ LEN }
@@ -79,7 +79,7 @@ impl<T: Word<LEN>, const LEN: usize> Aligned<T, LEN> {
         Self::from_padded(src)
     }
 
-    /// The text's length.
+    /// The length of the text in bytes.
     #[inline(always)]
     pub fn len(&self) -> usize
         ensures { result ≡ length self.now }
@@ -87,7 +87,7 @@ impl<T: Word<LEN>, const LEN: usize> Aligned<T, LEN> {
         self.word.text_len()
     }
 
-    /// Whether each byte is a letter; so it is of the empty text, here and in the other questions.
+    /// Whether each byte is a letter. This and the other questions are true of the empty text.
     #[inline(always)]
     pub fn is_ascii_alphabetic(&self) -> bool
         ensures { result ≡ ask is_alphabetic is_alphabetic self.now }
@@ -119,7 +119,7 @@ impl<T: Word<LEN>, const LEN: usize> Aligned<T, LEN> {
         self.ask(Question::Lowercase)
     }
 
-    /// Whether the first byte is no lowercase letter, and no later byte an uppercase one.
+    /// Whether the first byte isn't a lowercase letter and no later byte is an uppercase letter.
     #[inline(always)]
     pub fn is_ascii_titlecase(&self) -> bool
         ensures { result ≡ ask is_not_lower is_not_upper self.now }
@@ -143,7 +143,7 @@ impl<T: Word<LEN>, const LEN: usize> Aligned<T, LEN> {
         self.ask(Question::AlphabeticLowercase)
     }
 
-    /// Whether the first byte is an uppercase letter, and each later byte a lowercase one.
+    /// Whether the first byte is an uppercase letter and each later byte is a lowercase letter.
     #[inline(always)]
     pub fn is_ascii_alphabetic_titlecase(&self) -> bool
         ensures { result ≡ ask is_upper is_lower self.now }
@@ -186,7 +186,7 @@ impl<T: Word<LEN>, const LEN: usize> Aligned<T, LEN> {
 
 // What stands from here on is there for `padded`, and for the strict readers, `split` and `find` of `tinystr`.
 impl<T: Word<LEN>, const LEN: usize> Aligned<T, LEN> {
-    /// Reads a padded text of at most `LEN` bytes, which have to be one.
+    /// Takes at most `LEN` bytes, which must be a text and then NULs.
     #[inline(always)]
     pub fn from_padded(bytes: &[u8]) -> Self
         requires fits { length bytes.now ≤ LEN }
@@ -198,7 +198,7 @@ impl<T: Word<LEN>, const LEN: usize> Aligned<T, LEN> {
         }
     }
 
-    /// Reads a padded text of at most `LEN` bytes; None if the bytes aren't one.
+    /// Reads bytes that are a text and then NULs, or gives `None`. There must be at most `LEN`.
     ///
     /// ```rust
     /// assert!(rt; Aligned8::try_from_padded(b"GB\0").is_some());
@@ -218,7 +218,7 @@ impl<T: Word<LEN>, const LEN: usize> Aligned<T, LEN> {
         }
     }
 
-    /// Takes at most `LEN` code units, if they are a text, with no NUL.
+    /// Reads code units that are all from 1 to 127, or gives `None`. There must be at most `LEN`.
     ///
     /// ```rust
     /// assert!(rt; Aligned8::try_from_text(b"GB").is_some());
@@ -249,7 +249,7 @@ impl<T: Word<LEN>, const LEN: usize> Aligned<T, LEN> {
         self.word.to_bytes_in_registers()
     }
 
-    /// Whether the other text is the same.
+    /// Whether the two texts are equal.
     #[inline(always)]
     pub fn equals(&self, other: &Self) -> bool
         ensures { result ≡ bytes_eq self.now other.now }
@@ -257,7 +257,7 @@ impl<T: Word<LEN>, const LEN: usize> Aligned<T, LEN> {
         self.word.equals(other.word)
     }
 
-    /// The answer of the method that the question names, as `is_ascii_titlecase` for `Titlecase`.
+    /// Answers the given question: `ask(Question::Titlecase)` is `is_ascii_titlecase()`.
     #[inline(always)]
     pub fn ask(&self, question: Question) -> bool
         ensures { result ≡ ask_question question self.now }
@@ -312,7 +312,7 @@ impl<T: Word<LEN>, const LEN: usize> Aligned<T, LEN> {
         no_character_marked(not_letter.and(not_digit), word)
     }
 
-    /// The bytes of the method that the case names, as `to_ascii_titlecase` for `Title`.
+    /// The text in the given case, and then NULs: `in_case(Case::Title)` is `to_ascii_titlecase()`.
     #[inline(always)]
     pub fn in_case(&self, case: Case) -> [u8; LEN]
         ensures { result ≡ pad (in_case case self.now) LEN }
@@ -328,7 +328,7 @@ impl<T: Word<LEN>, const LEN: usize> Aligned<T, LEN> {
 }
 
 impl Aligned<u64, 8> {
-    /// The text and then another, cut where they are longer than 8 bytes together.
+    /// The two texts joined, truncated to 8 bytes.
     #[inline(always)]
     pub fn concat(&self, other: &Self) -> Self
         ensures { result ≡ take 8 (self.now ++ other.now) }
@@ -343,8 +343,8 @@ impl Aligned<u64, 8> {
         }
     }
 
-    /// The decimal text of a number, or its last digits where it has more than so many. Eight digits are made, and
-    /// those in front are shifted out: a loop that ends with the number took longer.
+    /// The decimal text of `number`, or its last `most` digits if it has more. `most` must be from 1 to 8. Eight digits
+    /// are made, and leading ones are shifted out, which is faster than a loop that ends with the number.
     ///
     /// ```rust
     /// assert_eq!(rt; Aligned8::from_number(2026, 4).to_bytes(), *b"2026\0\0\0\0");
@@ -391,7 +391,7 @@ impl Aligned<u128, 16> {
         }
     }
 
-    /// The last digits of a number that has more: a 1 stands in front of them while they are made, to keep their zeros.
+    /// The last `count` digits of a number that has more. While they are made, a 1 in front of them keeps their zeros.
     #[inline(always)]
     pub fn from_last_digits(number: u32, count: usize) -> Self
         requires { count < length (decimal number) }

@@ -6,12 +6,12 @@ ghost use Rattle.tinystr_words.specs.Words.{word, first_then, HasLowLanes, Holds
 
 use crate::word::Word;
 
-/// A range of bytes below 0x80, by what is added to a byte so that its high bit says where it lies.
+/// A range of bytes below 0x80, as two constants. The high bit of a byte's sum with each tells where the byte lies.
 #[derive(Clone, Copy)]
 pub struct Range {
-    /// Sets the high bit from the range's first byte on: 0x80 less that byte.
+    /// 0x80 less the range's first byte: the sum has its high bit from that byte on.
     pub low: u8,
-    /// Sets the high bit past the range's last byte: 0x7f less that byte.
+    /// 0x7f less the range's last byte: the sum has its high bit past that byte.
     pub high: u8,
     ghost no_carry: { (low ≤ 0x7f) × (high ≤ 0x7f) },
     ghost not_empty: { high < low },
@@ -35,7 +35,7 @@ pub const DIGIT: Range = Range {
     high: 0x46,
 };
 
-/// What is added to a byte below 0x80 so that its high bit says that it isn't NUL.
+/// A byte below 0x80 is NUL exactly if its sum with this has a clear high bit.
 pub const NOT_NUL: u8 = 0x7f;
 
 /// The high bit of each lane that isn't NUL.
@@ -60,7 +60,7 @@ pub fn marks<T: Word<LEN>, const LEN: usize>(bytes: T) -> T
     present(bytes.and(T::splat(0x7f)))
 }
 
-/// The high bits of the lanes, and the marks of those that stand after a lane without one.
+/// The high bits of the lanes, and a mark at each NUL that a character follows.
 #[inline(always)]
 pub fn unpadded<T: Word<LEN>, const LEN: usize>(bytes: T, marks: T) -> T
     ensures { T.number result ≡ bit_or
@@ -85,8 +85,8 @@ pub fn outside<T: Word<LEN>, const LEN: usize>(text: T, first: Range, others: Ra
     below.or(above)
 }
 
-/// The high bit of each lane whose byte is in its range: past a range both sums have it. It takes a step less than
-/// `outside`.
+/// The high bit of each lane whose byte is in its range. Past the range both sums have that bit, so their `xor`
+/// doesn't, and this takes one step less than `outside`.
 #[inline(always)]
 #[tactic(auto, using(crate::proofs::LowLanes::low_first_then))]
 pub fn inside<T: Word<LEN>, const LEN: usize>(text: T, first: Range, others: Range) -> T

@@ -20,7 +20,7 @@ ghost use Rattle.tinystr_words.specs.Reading.Fault.{non_ascii};
 ghost use Rattle.tinystr_words.specs.Text.{IsStrictText, pad, IsText, IsTextByte, IsPaddedText, text_of, is_text_byte, is_strict_text, is_padded_text};
 ghost use Rattle.tinystr_words.specs.Words.{word, lane};
 
-/// Of two lists one comes before the other, or they are one list, and padded texts are in the order of the texts.
+/// Of two lists, one comes before the other or they are equal, and padded texts are ordered as their texts.
 #[tactic(auto, using(crate::proofs::ForCallers::order_total))]
 pub fn order_total()
     ensures one { (t s : List ℕ) → (t ≡ s) ⊎ (IsBefore t s ⊎ IsBefore s t) }
@@ -29,14 +29,14 @@ pub fn order_total()
         IsBefore (pad t n) (pad s n) ↔ IsBefore t s }
 {}
 
-/// The order is what std's comparison of lists answers.
+/// The order is that of std's comparison of lists.
 #[tactic(auto, using(crate::proofs::ForCallers::order_compared))]
 pub fn order_compared()
     ensures less { (t s : List ℕ) → (slice_cmp nat_cmp t s ≡ Less) ↔ IsBefore t s }
     ensures equal { (t s : List ℕ) → (slice_cmp nat_cmp t s ≡ Equal) ↔ (t ≡ s) }
 {}
 
-/// A case change of the front of a text is the front of the changed text.
+/// Truncating before or after a case change gives the same text.
 #[tactic(auto, using(crate::proofs::ForCallers::case_cut))]
 pub fn case_cut()
     ensures lower { (m : ℕ) (t : List ℕ) → lowercase (take m t) ≡ take m (lowercase t) }
@@ -44,7 +44,7 @@ pub fn case_cut()
     ensures upper { (m : ℕ) (t : List ℕ) → uppercase (take m t) ≡ take m (uppercase t) }
 {}
 
-/// A case change keeps the length, done twice it is done once, and lowercase forgets an uppercase before it.
+/// A case change keeps the length, repeating it changes nothing, and lowercase after uppercase is lowercase.
 #[tactic(auto, using(crate::proofs::ForCallers::case_twice))]
 pub fn case_twice()
     ensures lower { (t : List ℕ) → (length (lowercase t) ≡ length t) × (lowercase (lowercase t) ≡ lowercase t) }
@@ -53,7 +53,7 @@ pub fn case_twice()
     ensures lower_upper { (t : List ℕ) → lowercase (uppercase t) ≡ lowercase t }
 {}
 
-/// A case change leaves alone exactly the texts of its case.
+/// A case change leaves a text unchanged exactly if the text is in that case.
 #[tactic(auto, using(crate::proofs::ForCallers::case_fixed))]
 pub fn case_fixed()
     ensures lower { (t : List ℕ) → (lowercase t ≡ t) ↔ IsTrue (ask is_not_upper is_not_upper t) }
@@ -61,7 +61,7 @@ pub fn case_fixed()
     ensures upper { (t : List ℕ) → (uppercase t ≡ t) ↔ IsTrue (ask is_not_lower is_not_lower t) }
 {}
 
-/// A text is of letters in a case exactly if it is of letters and of that case.
+/// A text consists of letters in a case exactly if it consists of letters and is in that case.
 #[tactic(auto, using(crate::proofs::ForCallers::class_joined))]
 pub fn class_joined()
     ensures lower { (t : List ℕ) → ask is_lower is_lower t
@@ -72,14 +72,14 @@ pub fn class_joined()
         ≡ (ask is_alphabetic is_alphabetic t && ask is_not_lower is_not_lower t) }
 {}
 
-/// Texts joined and cut in either order have one front.
+/// Truncating before or after joining gives the same prefix.
 #[tactic(auto, using(crate::proofs::ForCallers::join_cut))]
 pub fn join_cut()
     ensures { (a b c : List ℕ) (p q r : ℕ) → q ≤ p → q ≤ r →
         take q (take p (a ++ b) ++ c) ≡ take q (a ++ take r (b ++ c)) }
 {}
 
-/// Texts that fit are joined whole.
+/// Two texts that fit together are joined whole.
 #[tactic(auto, using(crate::proofs::ForCallers::join_fits))]
 pub fn join_fits()
     ensures { (a b : List ℕ) (q : ℕ) → length a + length b ≤ q → take q (a ++ b) ≡ a ++ b }
@@ -91,14 +91,14 @@ pub fn digits_ten()
     ensures { (n : ℕ) → n ≤ 4294967295 → length (decimal n) ≤ 10 }
 {}
 
-/// std's decimal text of a number is its only shortest one.
+/// Below 2^64, `decimal n` is the unique shortest decimal form of `n`.
 #[tactic(auto, using(crate::proofs::ForCallers::digits_shortest))]
 pub fn digits_shortest()
     ensures is { (n : ℕ) → n < 2 ^ 64 → IsDecimalOf n (decimal n) }
     ensures only { (n : ℕ) (ds : List ℕ) → n < 2 ^ 64 → IsDecimalOf n ds → ds ≡ decimal n }
 {}
 
-/// Where no lane is above 0x7f, no lane of a sum carries into the next.
+/// If no lane is above 0x7f, no lane of a sum carries into the next.
 #[tactic(auto, using(crate::proofs::ForCallers::lane_sum))]
 pub fn lane_sum()
     ensures { (a c : List ℕ) → length a ≡ length c → All (λ b. b ≤ 0x7f) a → All (λ b. b ≤ 0x7f) c →
@@ -106,14 +106,14 @@ pub fn lane_sum()
         × ((i : ℕ) → i < length a → lane (word a + word c) i ≡ slice_index a i + slice_index c i) }
 {}
 
-/// The size of a word tells the length of the text that it holds.
+/// A padded text of length k is a word below 256 ^ k, and below no lower power of 256.
 #[tactic(auto, using(crate::proofs::ForCallers::word_length))]
 pub fn word_length()
     ensures { (w : ℕ) (t : List ℕ) → IsText t → length t ≤ w →
         (word (pad t w) < 256 ^ length t) × ((k : ℕ) → word (pad t w) < 256 ^ k → length t ≤ k) }
 {}
 
-/// Two sums tell which lanes lie in their ranges.
+/// The high bits of two sums tell which lanes lie in their ranges.
 #[tactic(auto, using(crate::proofs::ForCallers::lane_class))]
 pub fn lane_class()
     ensures { (a low high : List ℕ) → length low ≡ length a → length high ≡ length a →
@@ -126,7 +126,7 @@ pub fn lane_class()
         ↔ ((0x80 ≤ lane (word a + word p) i) × (lane (word a + word q) i < 0x80)) }
 {}
 
-/// The questions and the case changes of a text, from those of its first sixteen bytes and of the others.
+/// The questions and case changes of a text follow from those of its first sixteen bytes and of the others.
 #[tactic(auto, using(crate::proofs::ForCallers::word_join))]
 pub fn word_join()
     ensures asked { (first others : ℕ → Bool) (a b : List ℕ) → (length a ≡ 16) ⊎ (b ≡ []) →
@@ -136,7 +136,7 @@ pub fn word_join()
     ensures title { (a b : List ℕ) → (length a ≡ 16) ⊎ (b ≡ []) → titlecase (a ++ b) ≡ titlecase a ++ lowercase b }
 {}
 
-/// A text has a padded form, and no other text has the same.
+/// A text that fits has a padded form, and no other text has the same one.
 #[tactic(auto, using(crate::proofs::ForCallers::pad_once))]
 pub fn pad_once()
     ensures padded { (t : List ℕ) (n : ℕ) → IsStrictText t n → IsPaddedText (pad t n) n }
@@ -144,7 +144,7 @@ pub fn pad_once()
         pad t n ≡ pad s n → t ≡ s }
 {}
 
-/// The tests that compute are true of exactly what the definitions say.
+/// Each Boolean test is true exactly if the proposition of its name holds.
 #[tactic(auto, using(crate::proofs::ForCallers::tests_decide))]
 pub fn tests_decide()
     ensures byte { (b : ℕ) → IsTrue (is_text_byte b) ↔ IsTextByte b }
@@ -153,14 +153,15 @@ pub fn tests_decide()
     ensures packed { (bytes : List ℕ) (n : ℕ) → 0 < n → IsTrue (is_packed bytes n) ↔ IsPacked bytes n }
 {}
 
-/// A strict reader takes a text that fits as it is, and nothing else.
+/// A strict reader accepts exactly the texts that fit, and gives them unchanged.
 #[tactic(auto, using(crate::proofs::ForCallers::strict_read))]
 pub fn strict_read()
     ensures taken { (t : List ℕ) (n : ℕ) → IsStrictText t n → strict_of n t ≡ Some t }
     ensures refused { (t : List ℕ) (n : ℕ) → ¬ IsStrictText t n → strict_of n t ≡ None }
 {}
 
-/// The front and the back of a text that fits fit, and so does what stands before the first byte of a kind, and behind it.
+/// Each prefix and suffix of a text that fits also fits, and so do the parts before and behind its first byte of a
+/// kind.
 #[tactic(auto, using(crate::proofs::ForCallers::strict_parts))]
 pub fn strict_parts()
     ensures front { (k : ℕ) (t : List ℕ) (n : ℕ) → IsStrictText t n → IsStrictText (take k t) n }
@@ -169,7 +170,7 @@ pub fn strict_parts()
     ensures behind { (p : ℕ → Bool) (t : List ℕ) (n : ℕ) → IsStrictText t n → IsStrictText (after_first p t) n }
 {}
 
-/// Letters and digits, letters in a case and digits alone are texts.
+/// A list of letters, of digits, of both, or of letters in a case is a text.
 #[tactic(auto, using(crate::proofs::ForCallers::class_texts))]
 pub fn class_texts()
     ensures alphanumeric { (t : List ℕ) → IsTrue (ask is_alphanumeric is_alphanumeric t) → IsText t }
@@ -180,7 +181,7 @@ pub fn class_texts()
     ensures upper { (t : List ℕ) → IsTrue (ask is_upper is_upper t) → IsText t }
 {}
 
-/// A padded form reads back, whatever stands behind it.
+/// A padded text is read back as its text, whatever follows it.
 #[tactic(auto, using(crate::proofs::ForCallers::bytes_back))]
 pub fn bytes_back()
     ensures clean { (t rest : List ℕ) (n : ℕ) → IsStrictText t n →
@@ -193,8 +194,8 @@ pub fn bytes_back()
         byte_fault n input ≡ None }
 {}
 
-/// Texts without the separator, joined by it and split at it, are the same texts, and the parts of a text, joined, are the
-/// text. Each part of a text that fits is one.
+/// Texts without the separator come back if they are joined by it and then split, and a text comes back if it is split
+/// and then joined. Each part of a text that fits also fits.
 #[tactic(auto, using(crate::proofs::ForCallers::split_joined))]
 pub fn split_joined()
     ensures back { (c : ℕ) (ts : List (List ℕ)) → 0 < length ts → All (λ t. All (λ b. b ≢ c) t) ts →
@@ -204,8 +205,8 @@ pub fn split_joined()
         All (λ part. IsStrictText part n) (slice_split p t) }
 {}
 
-/// The place of the first byte of a kind cuts a text into what stands before the byte, and what stands behind it. Where no
-/// byte is of the kind, the text is one part.
+/// The index of the first byte of a kind gives the parts before and behind that byte. If no byte is of the kind, the
+/// text is a single part.
 #[tactic(auto, using(crate::proofs::ForCallers::split_found))]
 pub fn split_found()
     ensures inside { (p : ℕ → Bool) (t : List ℕ) (at : ℕ) → position p t ≡ Some at → at < length t }
@@ -219,7 +220,8 @@ pub fn split_found()
     ensures one { (p : ℕ → Bool) (t : List ℕ) → position p t ≡ None → slice_split p t ≡ t ∷ [] }
 {}
 
-/// Texts joined by a byte are of the class and the case of all of them and of the byte.
+/// Texts joined by a byte are in a class if each of them and the byte is, and lowercase and uppercase change each of
+/// them and the byte.
 #[tactic(auto, using(crate::proofs::ForCallers::joined_texts))]
 pub fn joined_texts()
     ensures text { (c : ℕ) (ts : List (List ℕ)) → IsTextByte c → All IsText ts → IsText (join_with_byte c ts) }
@@ -245,7 +247,7 @@ pub fn packed_records()
         IsPaddedText (record_at n bytes i) n }
 {}
 
-/// Texts that are padded and joined are packed records, as many as the texts, and each record holds its text.
+/// Padded texts, one after another, are packed records, as many as the texts, and each record holds its text.
 #[tactic(auto, using(crate::proofs::ForCallers::texts_packed))]
 pub fn texts_packed()
     ensures packed { (n : ℕ) (ts : List (List ℕ)) → All (λ t. IsStrictText t n) ts →
@@ -272,9 +274,9 @@ pub fn same_as_std()
     ensures each { (p : ℕ → Bool) (t : List ℕ) → ask p p t ≡ list_all p t }
 {}
 
-/// A text has a character a byte. Under a style that doesn't cut it, and whose fill is a character of ASCII, it is filled
-/// up to the width: behind it where no side is named and under `<`, by halves under `^`, the lesser in front, and in
-/// front of it under `>`. For these `align` is 0, 1, 2 and 3.
+/// A text has as many characters as bytes. If a style doesn't truncate the text and its fill is ASCII, the text is
+/// filled up to the width: behind it if no side is named and for `<`, on both sides for `^`, with the lesser half in
+/// front, and in front of it for `>`. For these `align` is 0, 1, 2 and 3.
 #[tactic(auto, using(crate::proofs::ForCallers::print_width))]
 pub fn print_width()
     ensures chars { (t : List ℕ) → IsText t → char_count t ≡ length t }

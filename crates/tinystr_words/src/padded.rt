@@ -1,6 +1,6 @@
-//! Padded bytes of any length, a text and then NULs: what `tinystr` calls. `width_of` tells the narrowest words that take
-//! them, and each call here hands them to these: to `Aligned4`, `Aligned8` and `Aligned16` of `int_ops` up to 16 bytes, and
-//! past them to the module below that is named for what it does.
+//! The calls of `tinystr` on padded bytes of any length: a text and then NULs. Up to 16 bytes each call uses the
+//! narrowest word that holds them, as `width_of` tells: `Aligned4`, `Aligned8` or `Aligned16` of `int_ops`. Past 16
+//! bytes it uses the module below that is named for what it does.
 
 ghost use Rattle.std.specs.Prelude.{◌≡◌, ◌≤◌, ◌++◌, ◌↔◌, length, take, IsTrue, IsOk, IfOk, IfErr};
 ghost use Rattle.std.specs.Fmt.{decimal};
@@ -27,7 +27,8 @@ use concatenation::{concat_in_memory, concat_in_vectors, concat_in_word, fit_vec
 pub use copying::{cut, resize};
 pub use order::{compare, number};
 
-/// The words that take padded bytes: the narrowest that holds all, since it is loaded and asked in the fewest steps.
+/// The words that take padded bytes: the narrowest that holds them all, since it takes the fewest steps to load and to
+/// ask.
 #[derive(Clone, Copy)]
 pub enum Width {
     /// One of 32 bits.
@@ -36,11 +37,11 @@ pub enum Width {
     Eight,
     /// One of 128 bits, the widest integer.
     Sixteen,
-    /// As many of 128 bits as there are.
+    /// As many of 128 bits as the bytes fill.
     Many,
 }
 
-/// The words that take so many bytes. The number is known at compile time, and no test of it is left.
+/// The words that take `len` bytes. The number is known at compile time, so no test of it is left in the built code.
 #[inline(always)]
 pub fn width_of(len: usize) -> Width
     ensures { IsWidthOf result len }
@@ -69,7 +70,7 @@ pub fn is_padded<const N: usize>(bytes: &[u8; N]) -> bool
     }
 }
 
-/// The decimal text of a number as padded bytes, or its last `N` digits where it has more.
+/// The decimal text of `number` as padded bytes, or its last `N` digits if it has more.
 #[inline(always)]
 pub fn decimal<const N: usize>(number: u32) -> Result<[u8; N], [u8; N]>
     ensures ok { IsOk result ↔ (length (decimal number) ≤ N) }
@@ -102,7 +103,7 @@ pub fn len<const N: usize>(bytes: &[u8; N]) -> usize
     }
 }
 
-/// Whether two texts are one.
+/// Whether two texts are equal.
 #[inline(always)]
 pub fn equals<const N: usize>(left: &[u8; N], right: &[u8; N]) -> bool
     requires left { IsPaddedText left.now N }
@@ -154,8 +155,8 @@ pub fn put_in_case<const N: usize>(bytes: &mut [u8; N], case: Case)
     }
 }
 
-/// The first `Q` bytes of the two texts joined. Which way is taken is known at compile time, but for whether the first text
-/// fills the result.
+/// The first `Q` bytes of the two texts joined. The way is chosen at compile time, except that a first text which fills
+/// the result is found at run time.
 #[inline(always)]
 #[tactic(auto, using(crate::proofs::Cutting::fronts_joined))]
 pub fn concat<const N: usize, const M: usize, const Q: usize>(

@@ -16,7 +16,7 @@ pub trait Word<const LEN: usize>: Copy + Drop {
     fn from_le_bytes(bytes: &[u8; LEN]) -> Self
         ensures { number result ≡ word bytes.now };
 
-    /// The lanes, the lowest first, for a caller that keeps them in registers. The crate alone calls this and the next.
+    /// The lanes, the lowest first, for a caller that keeps them in registers. Only this crate calls this and the next.
     fn to_bytes_in_registers(self) -> [u8; LEN]
         ensures { result ≡ lanes_of LEN (number self) };
 
@@ -39,7 +39,7 @@ pub trait Word<const LEN: usize>: Copy + Drop {
         requires { HoldsText LEN (number self) }
         ensures { result ≡ length (text_in LEN (number self)) };
 
-    /// The sum, which is that of each lane with its like, since no lane carries.
+    /// The sum, lane by lane: no lane may carry into the next.
     fn plus(self, other: Self) -> Self
         requires left { HasLowLanes (number self) }
         requires right { HasLowLanes (number other) }
@@ -329,7 +329,7 @@ impl Word<16> for u128 {
         joined(low, high >> (8 * (16 - len)))
     }
 
-    // A bit for each NUL. Taken from the bit above all lanes, these leave the bit at the text's length.
+    // `nuls` has a bit for each NUL, so `(1 << 16) - nuls` has one set bit, at the text's length.
     #[inline(always)]
     fn text_len(self) -> usize {
         let nuls = lanes(self).simd_eq(u8x16::splat(0)).to_bitmask();

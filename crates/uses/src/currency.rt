@@ -22,7 +22,7 @@ pub fn places_of(table: &Places, code: &str) -> Option<u8>
     table.get(&code).copied()
 }
 
-/// Sets the decimal places of a currency. Want of memory leaves the table as it was.
+/// Sets the decimal places of a currency. An allocation failure leaves the table as it was.
 pub fn set_places(table: &mut Places, code: TinyAsciiStr<3>, places: u8) -> Result<(), AllocError>
     ensures ok { OnOk result (Updates (slice_cmp nat_cmp) table.old table.new code (Some places)) }
     ensures err { OnErr result (IsUnchanged table.old table.new) }

@@ -29,7 +29,7 @@ pub fn text_of_record<const N: usize>(table: &Table<'_, N>, index: usize) -> Opt
     table.get(index)
 }
 
-/// The codes of a table, as keys. Only memory can stop it.
+/// The codes of a table, as keys. It fails only if an allocation fails.
 pub fn keys_of_codes(alloc: Global, codes: &Table<'_, 3>) -> Result<Vec<TinyStr8>, AllocError>
     ensures { IfOk result (λ keys. keys.items ≡ codes.now) }
 {
@@ -59,7 +59,7 @@ pub fn only_index<const N: usize>(
     texts.binary_search(text).ok()
 }
 
-/// The entries of a packed map in one of std. Only memory can stop it.
+/// The entries of a packed map in one of std. It fails only if an allocation fails.
 pub fn unpacked<const N: usize, const M: usize>(
     alloc: Global,
     map: &PackedMap<'_, N, M>,

@@ -24,7 +24,7 @@ pub fn id_of(value: &Value) -> Result<TinyAsciiStr<8>, JsonReadError>
     TinyAsciiStr::from_json(id)
 }
 
-/// A key, through JSON and back. Only memory can stop it.
+/// A key, through JSON and back. It fails only if an allocation fails.
 pub fn through_json<const N: usize>(
     key: &TinyAsciiStr<N>,
     alloc: Global,

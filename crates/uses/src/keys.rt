@@ -18,7 +18,7 @@ pub type Keys = HashSet<TinyAsciiStr<8>>;
 pub enum KeyError {
     /// The text isn't a key, for this fault.
     Text(ParseError),
-    /// There was no memory.
+    /// An allocation failed.
     Memory(AllocError),
 }
 

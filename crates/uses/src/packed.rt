@@ -11,7 +11,7 @@ use tinystr::TinyAsciiStr;
 use tinystr_packed::laws::{map_once, texts_once};
 use tinystr_packed::{PackedMap, SortedTable, Table, pack, pack_map, pack_sorted, unpack};
 
-/// The texts of a list, packed and read back. Only memory can stop it.
+/// The texts of a list, packed and read back. It fails only if an allocation fails.
 pub fn through_table<const N: usize>(
     alloc: Global,
     texts: &[TinyAsciiStr<N>],
@@ -25,7 +25,7 @@ pub fn through_table<const N: usize>(
     unpack(alloc, &table)
 }
 
-/// Whether a text is one of a list, found by a search in what that is packed to. Only memory can stop it.
+/// Whether a list has a text, found by a search in the packed list. It fails only if an allocation fails.
 pub fn is_in_sorted<const N: usize>(
     alloc: Global,
     texts: &[TinyAsciiStr<N>],
@@ -41,7 +41,7 @@ pub fn is_in_sorted<const N: usize>(
     Ok(sorted.contains(text))
 }
 
-/// The value of a key of a map, found in what that is packed to. Only memory can stop it.
+/// The value of a key of a map, found in the packed map. It fails only if an allocation fails.
 pub fn value_in_map<const N: usize, const M: usize>(
     alloc: Global,
     map: &BTreeMap<TinyAsciiStr<N>, [u8; M]>,

@@ -13,8 +13,8 @@ use std::collections::BTreeSet;
 use subtags::LangId;
 use tinystr::TinyStr8;
 
-/// The identifiers of tags in any spelling, in order and each once. What isn't a tag is left out. Only memory can stop
-/// it.
+/// The identifiers of tags in any spelling, in order and each once. What isn't a tag is left out. It fails only if an
+/// allocation fails.
 pub fn ids_of(alloc: Global, tags: &[&str]) -> Result<BTreeSet<LangId>, AllocError>
     ensures { IfOk result (IsFromIterResult (slice_cmp nat_cmp)
         (filter_map (λ tag. canonical_of tag.now) tags.now)) }
@@ -24,7 +24,8 @@ pub fn ids_of(alloc: Global, tags: &[&str]) -> Result<BTreeSet<LangId>, AllocErr
         .collect(alloc)
 }
 
-/// The keys of at most eight characters, in order and each once. What isn't a key is left out. Only memory can stop it.
+/// The keys of at most eight characters, in order and each once. What isn't a key is left out. It fails only if an
+/// allocation fails.
 pub fn keys_of(alloc: Global, texts: &[&str]) -> Result<BTreeSet<TinyStr8>, AllocError>
     ensures { IfOk result (IsFromIterResult (slice_cmp nat_cmp)
         (filter_map (λ text. strict_of 8 text.now) texts.now)) }

@@ -4,7 +4,7 @@ use crate::ascii::TinyAsciiStr;
 use crate::words::padded;
 
 impl<const N: usize> TinyAsciiStr<N> {
-    /// The shortest decimal text of a number. Where it has more than `N` digits, its last `N` are the error.
+    /// The shortest decimal text of a number. If it has more than `N` digits, the error is its last `N`.
     ///
     /// ```
     /// use tinystr::{TinyAsciiStr, tinystr};

@@ -4,7 +4,7 @@ use crate::ascii::TinyAsciiStr;
 use crate::words::padded;
 
 impl<const N: usize> TinyAsciiStr<N> {
-    /// The text at another capacity: its first `M` bytes where it is longer. At an `M` of at least `N` nothing is cut.
+    /// The text at capacity `M`, truncated to its first `M` bytes. If `M` is at least `N`, nothing is truncated.
     ///
     /// ```
     /// use tinystr::tinystr;
@@ -27,7 +27,7 @@ impl<const N: usize> TinyAsciiStr<N> {
         }
     }
 
-    /// The text at another capacity, or `None` where it is longer.
+    /// The text at capacity `M`, or `None` if it has more than `M` bytes.
     ///
     /// ```
     /// use tinystr::tinystr;
@@ -51,8 +51,7 @@ impl<const N: usize> TinyAsciiStr<N> {
         Some(self.resize())
     }
 
-    /// The two texts joined, cut where they are longer than `Q` bytes together. At a `Q` of at least `N + M` nothing is
-    /// cut.
+    /// The two texts joined, truncated to `Q` bytes. If `Q` is at least `N + M`, nothing is truncated.
     ///
     /// ```
     /// use tinystr::tinystr;
@@ -77,7 +76,7 @@ impl<const N: usize> TinyAsciiStr<N> {
         }
     }
 
-    /// The two texts joined, or `None` where they are longer than `Q` bytes together.
+    /// The two texts joined, or `None` if they have more than `Q` bytes together.
     ///
     /// ```
     /// use tinystr::tinystr;
@@ -105,8 +104,8 @@ impl<const N: usize> TinyAsciiStr<N> {
         Some(self.concat(other))
     }
 
-    /// The texts joined, with the separator between each and the next, or `None` where they are longer than `Q` bytes
-    /// together. The separator has to be from 1 to 127.
+    /// The texts joined, with the separator between each and the next, or `None` if that has more than `Q` bytes. The
+    /// separator must be from 1 to 127.
     ///
     /// ```
     /// use tinystr::{TinyAsciiStr, tinystr};

@@ -8,7 +8,7 @@ static KEPT_LANES: [u8; 16] = [
     0, 0, 0, 0, 0, 0, 0, 0, //
 ];
 
-/// The lanes up to a place, and NULs after them.
+/// The first lanes, as many as `len` says, and then NULs.
 ///
 /// # Contract
 ///

@@ -6,7 +6,7 @@ use crate::simd::*;
 use crate::words::word::Word;
 
 impl TinyAsciiStr<8> {
-    /// Reads the letters that the bytes begin with, at most eight, in lowercase, and tells how many they are.
+    /// Reads the leading letters of the bytes, at most eight, and gives them in lowercase with their number.
     ///
     /// ```
     /// use tinystr::TinyStr8;

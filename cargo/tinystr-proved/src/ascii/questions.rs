@@ -4,7 +4,7 @@ use crate::ascii::TinyAsciiStr;
 use crate::words::{Case, Question, padded};
 
 impl<const N: usize> TinyAsciiStr<N> {
-    /// Answers a question by its name: `ask(Question::Titlecase)` is `is_ascii_titlecase()`.
+    /// Answers the given question: `ask(Question::Titlecase)` is `is_ascii_titlecase()`.
     ///
     /// ```
     /// use tinystr::{Question, tinystr};
@@ -23,7 +23,7 @@ impl<const N: usize> TinyAsciiStr<N> {
         padded::ask(&self.bytes, question)
     }
 
-    /// The text in a case by name, as `to_ascii_titlecase` in `Title`.
+    /// The text in the given case: `in_case(Case::Title)` is `to_ascii_titlecase()`.
     ///
     /// ```
     /// use tinystr::{Case, tinystr};

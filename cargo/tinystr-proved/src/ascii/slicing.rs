@@ -7,8 +7,8 @@ use crate::simd::*;
 use crate::words::padded::{cut, resize};
 
 impl<const N: usize> TinyAsciiStr<N> {
-    /// The bytes of the text at a range of indices, at another capacity: as many as stand there, and at most `M`. The
-    /// range may end, or begin, past the text. It may not begin behind its end.
+    /// The bytes of the text at a range of indices, as a text of capacity `M`: those that exist, and at most the first
+    /// `M`. The range may end, or begin, past the text. Its start must not be above its end.
     ///
     /// ```
     /// use tinystr::tinystr;
@@ -36,7 +36,7 @@ impl<const N: usize> TinyAsciiStr<N> {
         self.behind::<M>(range.start).front(range.end - range.start)
     }
 
-    /// The first bytes of the text, so many, or all where there are no more.
+    /// The first `len` bytes of the text, or all of it if it has no more.
     ///
     /// ```
     /// use tinystr::tinystr;

@@ -6,7 +6,7 @@ use crate::words::int_ops::{Aligned8, Aligned16};
 use crate::words::padded::{cut, resize};
 use crate::words::word::Word;
 
-/// The parts of a text, in order. A clause sees those that are left.
+/// An iterator over the parts of a text, in order. A contract sees it as the list of those that are left.
 ///
 /// ```
 /// use tinystr::tinystr;
@@ -24,7 +24,7 @@ pub struct Parts<'a, const N: usize> {
 }
 
 impl<const N: usize> TinyAsciiStr<N> {
-    /// The index of the first byte of the text that is `byte`, or `None` where none is.
+    /// The index of the first `byte` in the text, counted from 0, or `None` if the text doesn't have it.
     ///
     /// ```
     /// use tinystr::tinystr;
@@ -52,7 +52,7 @@ impl<const N: usize> TinyAsciiStr<N> {
         found
     }
 
-    /// What stands before the first byte that is the separator, and what stands behind it, or `None` where none is.
+    /// The text before the first separator and the text behind it, or `None` if there is no separator.
     ///
     /// ```
     /// use tinystr::tinystr;
@@ -79,8 +79,8 @@ impl<const N: usize> TinyAsciiStr<N> {
         Some((self.take(at), self.slice(at + 1..N)))
     }
 
-    /// The parts before, between and behind the bytes that are the separator, in order. A text without one is one part,
-    /// and so is the empty text.
+    /// The parts before, between and behind the separators, in order. A text without a separator is a single part, and
+    /// so is the empty text.
     ///
     /// ```
     /// use tinystr::tinystr;

@@ -24,7 +24,7 @@ impl<const N: usize> TinyAsciiStr<N> {
         padded::len(&self.bytes)
     }
 
-    /// Whether the text is empty. The one text of capacity 0 is.
+    /// Whether the text is empty. At capacity 0 it always is.
     ///
     /// # Contract
     ///
@@ -83,7 +83,7 @@ impl<const N: usize> TinyAsciiStr<N> {
         &bytes[..self.len()]
     }
 
-    /// The text as a string, in the value itself.
+    /// Borrows the text as a string.
     ///
     /// ```
     /// use tinystr::tinystr;
@@ -106,7 +106,7 @@ impl<const N: usize> TinyAsciiStr<N> {
         unsafe { core::str::from_utf8_unchecked(self.as_utf8()) }
     }
 
-    /// All `N` bytes, in the value itself: the text and then NULs.
+    /// Borrows all `N` bytes: the text and then NULs.
     ///
     /// ```
     /// use tinystr::tinystr;

@@ -3,7 +3,7 @@
 use alloc::collections::BTreeMap;
 use crate::TinyAsciiStr;
 
-/// How often each text is one of a list; those that aren't have no entry.
+/// Counts how often each text occurs in a list; one that doesn't has no entry.
 ///
 /// ```
 /// use tinystr::tinystr;

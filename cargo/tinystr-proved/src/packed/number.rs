@@ -1,9 +1,9 @@
-//! Numbers that bytes of a record spell.
+//! The numbers that a search compares.
 
 use crate::packed::record::number_at;
 
-/// The number that bytes of a record spell from a place on, the first the most significant. In 64 bits these are eight bytes,
-/// with NULs past the end. In 128 bits the next eight follow, or the record's last eight where fewer are left.
+/// The number of a record's bytes from a place on, the first the most significant. A number of 64 bits has eight bytes,
+/// with NULs past the end. One of 128 bits has the next eight too, or the record's last eight if fewer are left.
 pub(crate) trait Number<const N: usize>: Copy {
     /// That of a record from `start` on.
     ///

@@ -5,7 +5,7 @@ use alloc::vec::Vec;
 use alloc::collections::BTreeMap;
 use crate::TinyAsciiStr;
 
-/// The texts, packed.
+/// Packs texts, each padded to `N` bytes, one after another.
 ///
 /// ```
 /// use tinystr::tinystr;
@@ -59,7 +59,7 @@ pub fn unpack<const N: usize>(
     texts
 }
 
-/// The bytes of the keys and the bytes of the values of a map, each packed: what `PackedMap::new` takes.
+/// The packed keys and values of a map, as `PackedMap::new` takes them.
 ///
 /// ```
 /// use tinystr::tinystr;
@@ -96,7 +96,7 @@ pub fn pack_map<const N: usize, const M: usize>(
     (keys, values)
 }
 
-/// The bytes of the keys and the bytes of the values of a map, each packed: what `TextMap::new` takes.
+/// The packed keys and texts of a map, as `TextMap::new` takes them.
 ///
 /// ```
 /// use tinystr::tinystr;

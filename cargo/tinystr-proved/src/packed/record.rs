@@ -3,7 +3,7 @@
 use core::cmp::Ordering;
 use crate::words::padded;
 
-/// Whether a record is below another, which is equally long.
+/// Whether a record is below another, which must be equally long.
 // At most eight bytes are compared as one number, so that no branch is taken within a record.
 ///
 /// # Contract
@@ -21,7 +21,7 @@ pub(crate) fn is_below(left: &[u8], right: &[u8]) -> bool {
     }
 }
 
-/// The order of two records, which are equally long.
+/// The order of two records, which must be equally long.
 ///
 /// # Contract
 ///
@@ -34,7 +34,7 @@ pub(crate) fn compare(left: &[u8], right: &[u8]) -> Ordering {
     padded::compare(left, right)
 }
 
-/// Whether two records hold one text.
+/// Whether two records hold the same text.
 ///
 /// # Contract
 ///
@@ -48,7 +48,7 @@ pub(crate) fn holds_same_text<const N: usize>(left: &[u8; N], right: &[u8; N]) -
     padded::equals(left, right)
 }
 
-/// The number that eight bytes of a record spell from `start` on, or all of a record of at most eight.
+/// The number of eight bytes of a record from `start` on, or of all of a record of at most eight.
 ///
 /// # Contract
 ///

@@ -32,7 +32,7 @@ pub(crate) fn first_not_below<const N: usize>(records: &[[u8; N]], key: &[u8; N]
     first_not_below_of_many(records, key)
 }
 
-/// The place of a key among records of at most sixteen bytes. Where they don't rise, it is any index up to their number.
+/// The place of a key among records of at most sixteen bytes. If they don't rise, it is some index up to their number.
 ///
 /// # Contract
 ///
@@ -65,7 +65,7 @@ fn first_not_below_of_many<const N: usize>(records: &[[u8; N]], key: &[u8; N]) -
     first_not_below_within(records, key, range)
 }
 
-/// How many records begin with a text, where none is below it.
+/// How many records begin with a text. No record may be below it.
 // They are those below the text with its last byte raised by one, which is at most 128. Mostly they are few.
 ///
 /// # Contract
@@ -187,7 +187,7 @@ fn first_not_below_within<const N: usize>(
     }
 }
 
-/// The place of a key, by halves. Where the records don't rise, it is any index up to their number.
+/// The place of a key, by halves. If the records don't rise, it is some index up to their number.
 ///
 /// # Contract
 ///

@@ -6,7 +6,7 @@ use core::ops::Range;
 use crate::TinyAsciiStr;
 use crate::ule::UleError;
 
-/// A table whose texts rise, each above the one before it. A clause sees the texts.
+/// A table whose texts rise, each above the one before it. A contract sees it as the list of its texts.
 ///
 /// ```
 /// use tinystr::tinystr;
@@ -52,7 +52,8 @@ pub enum SortedError {
 }
 
 impl<'a, const N: usize> SortedTable<'a, N> {
-    /// The table, once each text is compared with the next.
+    /// Checks that each text is above the one before it, and gives the table. The error has the index of the first that
+    /// isn't.
     ///
     /// ```
     /// use tinystr::packed::{NotRising, SortedTable, Table};
@@ -76,8 +77,8 @@ impl<'a, const N: usize> SortedTable<'a, N> {
         }
     }
 
-    /// The sorted table of bytes, which are checked here alone: first whether they are packed records, then their order. `N` has
-    /// to be above 0.
+    /// Reads a sorted table from bytes, which only this call checks: first that they are packed records, then their
+    /// order. `N` must be above 0.
     ///
     /// ```
     /// use tinystr::packed::{NotRising, SortedError, SortedTable};
@@ -125,8 +126,8 @@ impl<'a, const N: usize> SortedTable<'a, N> {
         &self.table
     }
 
-    /// The index of a text, or where it is to be inserted: all texts before that place are below it, and all from there
-    /// on are above.
+    /// The index of a text, or as the error the index at which it belongs: all texts before that are below it, and all
+    /// from that on are above it.
     ///
     /// # Contract
     ///
@@ -145,7 +146,7 @@ impl<'a, const N: usize> SortedTable<'a, N> {
         }
     }
 
-    /// The index of a text of any capacity, or `None` where it isn't one of them. Both capacities have to be below 2^63.
+    /// The index of a text of any capacity, or `None` if the table doesn't have it. Both capacities must be below 2^63.
     ///
     /// ```
     /// use tinystr::tinystr;
@@ -178,7 +179,7 @@ impl<'a, const N: usize> SortedTable<'a, N> {
         self.binary_search(&key).ok()
     }
 
-    /// Whether a text is one of them.
+    /// Whether the table has a text.
     ///
     /// # Contract
     ///
@@ -190,7 +191,7 @@ impl<'a, const N: usize> SortedTable<'a, N> {
         self.binary_search(key).is_ok()
     }
 
-    /// The texts that begin with a text, as a table of them alone.
+    /// The table of the texts that begin with `beginning`.
     ///
     /// ```
     /// use tinystr::tinystr;

@@ -4,7 +4,7 @@ use crate::packed::packing::pack;
 use alloc::vec::Vec;
 use crate::TinyAsciiStr;
 
-/// The texts in order and each once, packed: what `SortedTable` takes.
+/// Packs texts in order and each once, as `SortedTable` takes them.
 ///
 /// ```
 /// use tinystr::tinystr;

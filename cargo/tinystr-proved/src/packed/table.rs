@@ -5,7 +5,7 @@ use core::ops::Range;
 use crate::TinyAsciiStr;
 use crate::ule::UleError;
 
-/// Packed records of `N` bytes. A clause sees their texts.
+/// A table of packed records of `N` bytes. A contract sees it as the list of their texts.
 ///
 /// ```
 /// use tinystr::tinystr;
@@ -21,10 +21,10 @@ pub struct Table<'a, const N: usize> {
 }
 
 impl<'a, const N: usize> Table<'a, N> {
-    /// The table of bytes, which are checked here alone. `N` has to be above 0.
+    /// Reads a table from bytes, which only this call checks. `N` must be above 0.
     ///
-    /// The error is that of `TinyAsciiStr::validate_bytes`: `Length` where `N` doesn't divide the number of bytes, else
-    /// `Parse`, the first record that isn't a padded text.
+    /// The error is that of `TinyAsciiStr::validate_bytes`: `Length` if `N` doesn't divide the number of bytes, else
+    /// `Parse`, with the index of the first record that isn't a padded text and its fault.
     ///
     /// ```
     /// use tinystr::ule::UleError;
@@ -60,7 +60,7 @@ impl<'a, const N: usize> Table<'a, N> {
         })
     }
 
-    /// How many texts.
+    /// The number of texts.
     ///
     /// # Contract
     ///
@@ -73,7 +73,7 @@ impl<'a, const N: usize> Table<'a, N> {
         self.records.len()
     }
 
-    /// Whether there is no text.
+    /// Whether the table has no texts.
     ///
     /// # Contract
     ///
@@ -99,7 +99,7 @@ impl<'a, const N: usize> Table<'a, N> {
         Some(unsafe { TinyAsciiStr::from_utf8_unchecked(*raw) })
     }
 
-    /// The text at an index below the number of texts.
+    /// The text at an index, counted from 0, which must be below the number of texts.
     ///
     /// # Contract
     ///
@@ -140,7 +140,7 @@ impl<'a, const N: usize> Table<'a, N> {
         self.get(self.len().checked_sub(1)?)
     }
 
-    /// The table of the texts at a range of indices.
+    /// The table of the texts at a range of indices, which must not end before it begins, nor past the last text.
     ///
     /// ```
     /// use tinystr::tinystr;
@@ -231,7 +231,7 @@ impl<'a, const N: usize> Table<'a, N> {
     }
 }
 
-/// The texts of a table in order. A clause sees those that are left.
+/// An iterator over the texts of a table, in order. A contract sees it as the list of those that are left.
 ///
 /// ```
 /// use tinystr::tinystr;

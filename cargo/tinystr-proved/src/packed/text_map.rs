@@ -20,12 +20,12 @@ pub enum TextMapError {
     Keys(SortedError),
     /// The values aren't packed records.
     Values(UleError),
-    /// There aren't as many values as keys.
+    /// The values aren't as many as the keys.
     Count { keys: usize, values: usize },
 }
 
-/// Keys of at most `N` bytes that rise, and a text of at most `M` bytes for each. A clause sees the entries of a
-/// `BTreeMap`.
+/// A map from texts of at most `N` bytes, which rise, to texts of at most `M` bytes. A contract sees it as the entries
+/// of a `BTreeMap`.
 ///
 /// ```
 /// use tinystr::tinystr;
@@ -42,10 +42,11 @@ pub struct TextMap<'a, const N: usize, const M: usize> {
 }
 
 impl<'a, const N: usize, const M: usize> TextMap<'a, N, M> {
-    /// The map of the bytes of its keys and of its values, which are checked here alone. `N` and `M` have to be above 0.
+    /// Reads a map from the bytes of its keys and those of its values, which only this call checks. `N` and `M` must be
+    /// above 0.
     ///
-    /// The error is `Keys` where the keys aren't a sorted table, else `Values` where the values aren't packed records,
-    /// else `Count`.
+    /// The error is `Keys` if the keys aren't a sorted table, else `Values` if the values aren't packed records, else
+    /// `Count`.
     ///
     /// ```
     /// use tinystr::ule::UleError;
@@ -91,7 +92,7 @@ impl<'a, const N: usize, const M: usize> TextMap<'a, N, M> {
         Ok(TextMap { keys, values })
     }
 
-    /// How many entries.
+    /// The number of entries.
     ///
     /// # Contract
     ///
@@ -116,7 +117,7 @@ impl<'a, const N: usize, const M: usize> TextMap<'a, N, M> {
         self.len() == 0
     }
 
-    /// The value of a key, or `None` where it isn't one.
+    /// The value of a key, or `None` if the map doesn't have the key.
     ///
     /// # Contract
     ///
@@ -131,7 +132,7 @@ impl<'a, const N: usize, const M: usize> TextMap<'a, N, M> {
         }
     }
 
-    /// Whether it is a key.
+    /// Whether the map has a key.
     ///
     /// # Contract
     ///
@@ -143,7 +144,7 @@ impl<'a, const N: usize, const M: usize> TextMap<'a, N, M> {
         self.keys.contains(key)
     }
 
-    /// The entries whose keys begin with a text, as a map of them alone.
+    /// The map of the entries whose keys begin with `beginning`.
     ///
     /// ```
     /// use tinystr::tinystr;
@@ -193,7 +194,7 @@ impl<'a, const N: usize, const M: usize> TextMap<'a, N, M> {
         &self.values
     }
 
-    /// The keys with their values, in order.
+    /// The keys with their values, in the order of the keys.
     ///
     /// # Contract
     ///
@@ -211,7 +212,8 @@ impl<'a, const N: usize, const M: usize> TextMap<'a, N, M> {
     }
 }
 
-/// The keys of a map with their values, in order. A clause sees those that are left.
+/// An iterator over the entries of a map, in the order of their keys. A contract sees it as the list of those that are
+/// left.
 ///
 /// ```
 /// use tinystr::tinystr;

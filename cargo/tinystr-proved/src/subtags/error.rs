@@ -3,7 +3,7 @@
 use core::error::Error;
 use core::fmt;
 
-/// Why an input isn't a language identifier, or isn't a language, script or region where one is parsed.
+/// Why an input isn't a language identifier, or isn't the language, script or region that was parsed.
 ///
 /// ```
 /// use tinystr::subtags::{LangId, LangIdError};
@@ -17,8 +17,8 @@ use core::fmt;
 pub enum LangIdError {
     /// The first subtag isn't a language; or a `Language` was parsed, and the input isn't one.
     InvalidLanguage,
-    /// The first subtag is a language, and what stands behind it isn't accepted; or a script or a region was parsed,
-    /// and the input is none.
+    /// The first subtag is a language, and the rest isn't accepted; or a script or a region was parsed, and the input
+    /// isn't one.
     InvalidSubtag,
 }
 

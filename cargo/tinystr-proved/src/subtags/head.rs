@@ -1,4 +1,4 @@
-//! What an input begins with: a language, and where a subtag ends.
+//! The front of an input: its language, and the end of a subtag.
 
 use crate::subtags::language::{Language, is_language_length};
 use crate::TinyStr8;
@@ -10,7 +10,7 @@ fn is_separator(byte: u8) -> bool {
     byte == b'-' || byte == b'_'
 }
 
-/// Whether a subtag may end at a place: all ends there, or a separator stands there.
+/// Whether a subtag may end at a place: the input ends at it, or a separator stands at it.
 ///
 /// # Contract
 ///
@@ -22,7 +22,7 @@ pub(crate) fn ends_at(units: &[u8], place: usize) -> bool {
     units.len() == place || units.len() > place && is_separator(units[place])
 }
 
-/// What stands behind a subtag that ends at a place, if anything stands there.
+/// The rest of the input behind a subtag that ends at a place and behind its separator, if there is any.
 ///
 /// # Contract
 ///
@@ -35,7 +35,7 @@ pub(crate) fn behind(units: &[u8], place: usize) -> Option<&[u8]> {
     units.get(place + 1..)
 }
 
-/// Takes the first subtag off, where it is a language: that and what stands behind its separator.
+/// Takes off the first subtag if it is a language, and gives it with the rest behind its separator.
 ///
 /// # Contract
 ///

@@ -29,10 +29,10 @@ pub struct LangId {
 }
 
 impl LangId {
-    /// Reads a language, and behind it a script, a region, both or nothing, in any case and with a `-` or a `_` before
-    /// each later subtag.
+    /// Reads a language and behind it a script, a region, both or nothing, in any case, with a `-` or a `_` before each
+    /// later subtag.
     ///
-    /// The error is `InvalidLanguage` where the first subtag isn't a language, else `InvalidSubtag`.
+    /// The error is `InvalidLanguage` if the first subtag isn't a language, else `InvalidSubtag`.
     ///
     /// ```
     /// use tinystr::subtags::{LangId, LangIdError};
@@ -62,7 +62,7 @@ impl LangId {
         Ok(Self::from_parts(language, script, region))
     }
 
-    /// The identifier of these subtags, which gives them back.
+    /// Makes the identifier of these subtags, which its other calls give back.
     ///
     /// ```
     /// use tinystr::subtags::LangId;
@@ -102,7 +102,7 @@ impl LangId {
         self.text
     }
 
-    /// The canonical text, in the value itself.
+    /// Borrows the canonical text.
     ///
     /// # Contract
     ///

@@ -48,7 +48,7 @@ impl SubtagKind<8> for LanguageKind {
     }
 }
 
-/// Whether a language may have so many letters.
+/// Whether a language may have `len` letters.
 ///
 /// # Contract
 ///

@@ -6,8 +6,7 @@ use core::marker::PhantomData;
 use core::str::FromStr;
 use crate::TinyAsciiStr;
 
-/// What tells languages, scripts and regions apart: what is well-formed, the case that they are kept in, and the error of
-/// what isn't well-formed.
+/// A kind of subtag: which texts are well-formed, the case that they are kept in, and the error for any other text.
 ///
 /// ```
 /// use tinystr::subtags::region::RegionKind;
@@ -18,7 +17,7 @@ use crate::TinyAsciiStr;
 /// assert!(ScriptKind::read(b"419").is_none());
 /// ```
 pub trait SubtagKind<const N: usize>: crate::sealed::Sealed {
-    /// The text, in the case, where it is well-formed.
+    /// The text in the case of the kind, or `None` if it isn't well-formed.
     ///
     /// # Contract
     ///
@@ -28,7 +27,7 @@ pub trait SubtagKind<const N: usize>: crate::sealed::Sealed {
     /// ```
     fn read(code_units: &[u8]) -> Option<TinyAsciiStr<N>>;
 
-    /// The error of what isn't well-formed.
+    /// The error for a text that isn't well-formed.
     ///
     /// # Contract
     ///
@@ -72,7 +71,7 @@ impl<K: SubtagKind<N>, const N: usize> Subtag<K, N> {
         })
     }
 
-    /// The subtag of a text that has to be canonical. Nothing is tested when it runs.
+    /// The subtag of a text, which must be canonical. Nothing is tested when it runs.
     ///
     /// # Contract
     ///

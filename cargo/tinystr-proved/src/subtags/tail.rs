@@ -1,11 +1,11 @@
-//! What stands behind the language, read from the front: a script, a region, both or nothing.
+//! The rest of an input behind its language, read from the front: a script, a region, both or nothing.
 
 use crate::subtags::error::LangIdError;
 use crate::subtags::head::{behind, ends_at};
 use crate::subtags::region::Region;
 use crate::subtags::script::Script;
 
-/// Takes the first subtag off, where it is a script.
+/// Takes off the first subtag if it is a script.
 ///
 /// # Contract
 ///

@@ -1,4 +1,4 @@
-//! Units that readers take, and whether they are characters.
+//! The code units that readers take: bytes and 16-bit numbers.
 
 use crate::words::word::Word;
 use crate::simd::*;
@@ -10,7 +10,7 @@ use crate::simd::*;
 /// assert!(!CodeUnit::is_character(0x20acu16));
 /// ```
 pub trait CodeUnit: Copy {
-    /// The code unit as a number: 0 to 255 of a byte, else all 16 bits.
+    /// The code unit as a number: 0 to 255 for a byte, 0 to 65535 for a 16-bit number.
     ///
     /// # Contract
     ///
@@ -19,7 +19,7 @@ pub trait CodeUnit: Copy {
     /// ```
     fn code(self) -> u16;
 
-    /// Whether it is from 1 to 127.
+    /// Whether the code unit is from 1 to 127.
     ///
     /// # Contract
     ///
@@ -28,7 +28,7 @@ pub trait CodeUnit: Copy {
     /// ```
     fn is_character(self) -> bool;
 
-    /// The lowest eight bits, which are all of a character.
+    /// The lowest eight bits, which hold all of a character.
     ///
     /// # Contract
     ///
@@ -46,7 +46,7 @@ pub trait CodeUnit: Copy {
     /// ```
     fn as_bytes(units: &[Self]) -> Option<&[u8]>;
 
-    /// The lowest eight bits of each of four code units, as a little-endian word. There have to be four.
+    /// The lowest eight bits of each of four code units, as a little-endian word. The slice must have four.
     ///
     /// # Contract
     ///
@@ -56,7 +56,7 @@ pub trait CodeUnit: Copy {
     /// ```
     fn word_of_four(units: &[Self]) -> u32;
 
-    /// The lowest eight bits of each of eight code units. There have to be eight.
+    /// The lowest eight bits of each of eight code units. The slice must have eight.
     ///
     /// # Contract
     ///
@@ -67,7 +67,7 @@ pub trait CodeUnit: Copy {
     fn eight_low_bytes(units: &[Self]) -> [u8; 8];
 }
 
-/// How many code units from 1 on are characters.
+/// The number of characters: a code unit from 1 to this is one.
 pub(crate) const CHARACTERS: u8 = 0x7f;
 
 impl CodeUnit for u8 {

@@ -47,7 +47,7 @@ pub type Aligned8 = Aligned<u64, 8>;
 pub type Aligned16 = Aligned<u128, 16>;
 
 impl<T: Word<LEN>, const LEN: usize> Aligned<T, LEN> {
-    /// Takes the text of an array of at most `LEN` bytes, which have to be a text and then NULs.
+    /// Takes an array of at most `LEN` bytes, which must be a text and then NULs.
     ///
     /// # Contract
     ///
@@ -61,7 +61,7 @@ impl<T: Word<LEN>, const LEN: usize> Aligned<T, LEN> {
         Self::from_padded(src)
     }
 
-    /// The text's length.
+    /// The length of the text in bytes.
     ///
     /// # Contract
     ///
@@ -73,7 +73,7 @@ impl<T: Word<LEN>, const LEN: usize> Aligned<T, LEN> {
         self.word.text_len()
     }
 
-    /// Whether each byte is a letter; so it is of the empty text, here and in the other questions.
+    /// Whether each byte is a letter. This and the other questions are true of the empty text.
     ///
     /// # Contract
     ///
@@ -121,7 +121,7 @@ impl<T: Word<LEN>, const LEN: usize> Aligned<T, LEN> {
         self.ask(Question::Lowercase)
     }
 
-    /// Whether the first byte is no lowercase letter, and no later byte an uppercase one.
+    /// Whether the first byte isn't a lowercase letter and no later byte is an uppercase letter.
     ///
     /// # Contract
     ///
@@ -157,7 +157,7 @@ impl<T: Word<LEN>, const LEN: usize> Aligned<T, LEN> {
         self.ask(Question::AlphabeticLowercase)
     }
 
-    /// Whether the first byte is an uppercase letter, and each later byte a lowercase one.
+    /// Whether the first byte is an uppercase letter and each later byte is a lowercase letter.
     ///
     /// # Contract
     ///
@@ -220,7 +220,7 @@ impl<T: Word<LEN>, const LEN: usize> Aligned<T, LEN> {
 
 // What stands from here on is there for `padded`, and for the strict readers, `split` and `find` of `tinystr`.
 impl<T: Word<LEN>, const LEN: usize> Aligned<T, LEN> {
-    /// Reads a padded text of at most `LEN` bytes, which have to be one.
+    /// Takes at most `LEN` bytes, which must be a text and then NULs.
     ///
     /// # Contract
     ///
@@ -236,7 +236,7 @@ impl<T: Word<LEN>, const LEN: usize> Aligned<T, LEN> {
         }
     }
 
-    /// Reads a padded text of at most `LEN` bytes; None if the bytes aren't one.
+    /// Reads bytes that are a text and then NULs, or gives `None`. There must be at most `LEN`.
     ///
     /// ```text
     /// assert!(Aligned8::try_from_padded(b"GB\0").is_some());
@@ -259,7 +259,7 @@ impl<T: Word<LEN>, const LEN: usize> Aligned<T, LEN> {
         }
     }
 
-    /// Takes at most `LEN` code units, if they are a text, with no NUL.
+    /// Reads code units that are all from 1 to 127, or gives `None`. There must be at most `LEN`.
     ///
     /// ```text
     /// assert!(Aligned8::try_from_text(b"GB").is_some());
@@ -297,7 +297,7 @@ impl<T: Word<LEN>, const LEN: usize> Aligned<T, LEN> {
         self.word.to_bytes_in_registers()
     }
 
-    /// Whether the other text is the same.
+    /// Whether the two texts are equal.
     ///
     /// # Contract
     ///
@@ -309,7 +309,7 @@ impl<T: Word<LEN>, const LEN: usize> Aligned<T, LEN> {
         self.word.equals(other.word)
     }
 
-    /// The answer of the method that the question names, as `is_ascii_titlecase` for `Titlecase`.
+    /// Answers the given question: `ask(Question::Titlecase)` is `is_ascii_titlecase()`.
     ///
     /// # Contract
     ///
@@ -368,7 +368,7 @@ impl<T: Word<LEN>, const LEN: usize> Aligned<T, LEN> {
         no_character_marked(not_letter.and(not_digit), word)
     }
 
-    /// The bytes of the method that the case names, as `to_ascii_titlecase` for `Title`.
+    /// The text in the given case, and then NULs: `in_case(Case::Title)` is `to_ascii_titlecase()`.
     ///
     /// # Contract
     ///
@@ -388,7 +388,7 @@ impl<T: Word<LEN>, const LEN: usize> Aligned<T, LEN> {
 }
 
 impl Aligned<u64, 8> {
-    /// The text and then another, cut where they are longer than 8 bytes together.
+    /// The two texts joined, truncated to 8 bytes.
     ///
     /// # Contract
     ///
@@ -407,8 +407,8 @@ impl Aligned<u64, 8> {
         }
     }
 
-    /// The decimal text of a number, or its last digits where it has more than so many. Eight digits are made, and
-    /// those in front are shifted out: a loop that ends with the number took longer.
+    /// The decimal text of `number`, or its last `most` digits if it has more. `most` must be from 1 to 8. Eight digits
+    /// are made, and leading ones are shifted out, which is faster than a loop that ends with the number.
     ///
     /// ```text
     /// assert_eq!(Aligned8::from_number(2026, 4).to_bytes(), *b"2026\0\0\0\0");
@@ -467,7 +467,7 @@ impl Aligned<u128, 16> {
         }
     }
 
-    /// The last digits of a number that has more: a 1 stands in front of them while they are made, to keep their zeros.
+    /// The last `count` digits of a number that has more. While they are made, a 1 in front of them keeps their zeros.
     ///
     /// # Contract
     ///

@@ -17,7 +17,7 @@ pub enum Question {
     Numeric,
     /// No byte is an uppercase letter.
     Lowercase,
-    /// The first byte is no lowercase letter, and no later byte is an uppercase one.
+    /// The first byte isn't a lowercase letter, and no later byte is an uppercase one.
     Titlecase,
     /// No byte is a lowercase letter.
     Uppercase,

@@ -8,7 +8,7 @@ use crate::ascii::TinyAsciiStr;
 use tinystr_words::padded;
 
 impl<const N: usize> TinyAsciiStr<N> {
-    /// The shortest decimal text of a number. Where it has more than `N` digits, its last `N` are the error.
+    /// The shortest decimal text of a number. If it has more than `N` digits, the error is its last `N`.
     ///
     /// ```rust
     /// assert_eq!(rt; TinyAsciiStr::new_unsigned_decimal(2026), Ok(tinystr!(4, "2026")?));

@@ -8,7 +8,7 @@ use crate::ascii::TinyAsciiStr;
 use tinystr_words::padded;
 
 impl<const N: usize> TinyAsciiStr<N> {
-    /// The text at another capacity: its first `M` bytes where it is longer. At an `M` of at least `N` nothing is cut.
+    /// The text at capacity `M`, truncated to its first `M` bytes. If `M` is at least `N`, nothing is truncated.
     ///
     /// ```rust
     /// assert_eq!(rt; tinystr!(8, "en-US")?.resize::<16>().as_str(), "en-US");
@@ -24,7 +24,7 @@ impl<const N: usize> TinyAsciiStr<N> {
         }
     }
 
-    /// The text at another capacity, or `None` where it is longer.
+    /// The text at capacity `M`, or `None` if it has more than `M` bytes.
     ///
     /// ```rust
     /// let language = tinystr!(8, "en")?;
@@ -41,8 +41,7 @@ impl<const N: usize> TinyAsciiStr<N> {
         Some(self.resize())
     }
 
-    /// The two texts joined, cut where they are longer than `Q` bytes together. At a `Q` of at least `N + M` nothing is
-    /// cut.
+    /// The two texts joined, truncated to `Q` bytes. If `Q` is at least `N + M`, nothing is truncated.
     ///
     /// ```rust
     /// let language = tinystr!(3, "en")?;
@@ -60,7 +59,7 @@ impl<const N: usize> TinyAsciiStr<N> {
         }
     }
 
-    /// The two texts joined, or `None` where they are longer than `Q` bytes together.
+    /// The two texts joined, or `None` if they have more than `Q` bytes together.
     ///
     /// ```rust
     /// let language = tinystr!(3, "en")?;
@@ -81,8 +80,8 @@ impl<const N: usize> TinyAsciiStr<N> {
         Some(self.concat(other))
     }
 
-    /// The texts joined, with the separator between each and the next, or `None` where they are longer than `Q` bytes
-    /// together. The separator has to be from 1 to 127.
+    /// The texts joined, with the separator between each and the next, or `None` if that has more than `Q` bytes. The
+    /// separator must be from 1 to 127.
     ///
     /// ```rust
     /// let parts = [tinystr!(4, "zh")?, tinystr!(4, "Hant")?, tinystr!(4, "TW")?];

@@ -11,7 +11,7 @@ static KEPT_LANES: [u8; 16] = [
     0, 0, 0, 0, 0, 0, 0, 0, //
 ];
 
-/// The lanes up to a place, and NULs after them.
+/// The first lanes, as many as `len` says, and then NULs.
 #[inline(always)]
 pub(crate) fn first_lanes(lanes: u8x8, len: usize) -> u8x8
     requires { len ≤ 8 }

@@ -12,7 +12,7 @@ use std::simd::prelude::*;
 use tinystr_words::word::Word;
 
 impl TinyAsciiStr<8> {
-    /// Reads the letters that the bytes begin with, at most eight, in lowercase, and tells how many they are.
+    /// Reads the leading letters of the bytes, at most eight, and gives them in lowercase with their number.
     ///
     /// ```rust
     /// let (language, len) = TinyStr8::read_letters(b"ZH-hant");

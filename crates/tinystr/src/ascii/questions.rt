@@ -9,7 +9,7 @@ use crate::ascii::TinyAsciiStr;
 use tinystr_words::{Case, Question, padded};
 
 impl<const N: usize> TinyAsciiStr<N> {
-    /// Answers a question by its name: `ask(Question::Titlecase)` is `is_ascii_titlecase()`.
+    /// Answers the given question: `ask(Question::Titlecase)` is `is_ascii_titlecase()`.
     ///
     /// ```rust
     /// assert!(rt; tinystr!(4, "Latn")?.ask(Question::AlphabeticTitlecase));
@@ -21,7 +21,7 @@ impl<const N: usize> TinyAsciiStr<N> {
         padded::ask(&self.bytes, question)
     }
 
-    /// The text in a case by name, as `to_ascii_titlecase` in `Title`.
+    /// The text in the given case: `in_case(Case::Title)` is `to_ascii_titlecase()`.
     ///
     /// ```rust
     /// assert_eq!(rt; tinystr!(4, "lATN")?.in_case(Case::Title).as_str(), "Latn");

@@ -14,8 +14,8 @@ use tinystr_words::{CodeUnit, padded};
 impl<const N: usize> TinyAsciiStr<N> {
     /// Reads a string of at most `N` bytes, each from 1 to 127.
     ///
-    /// The error is `TooLong` where there are more than `N` bytes. Else it is the fault of the first byte that is above
-    /// 127 (`NonAscii`) or is a character behind a NUL (`ContainsNull`). Where NULs stand at the end alone, it is
+    /// The error is `TooLong` if there are more than `N` bytes. Else it is the fault of the first byte that is above
+    /// 127 (`NonAscii`) or is a character behind a NUL (`ContainsNull`). If the only fault is NULs at the end, it is
     /// `ContainsNull`.
     ///
     /// ```rust
@@ -51,8 +51,8 @@ impl<const N: usize> TinyAsciiStr<N> {
         strict::read::<u8, N>(code_units)
     }
 
-    /// Reads at most `N` numbers of 16 bits, each from 1 to 127 and a character of its own. The errors are those of
-    /// `try_from_str`, in which a number above 127 is `NonAscii` and `len` counts numbers.
+    /// Reads at most `N` 16-bit code units, each from 1 to 127. The errors are those of `try_from_str`, and `len`
+    /// counts code units.
     ///
     /// ```rust
     /// assert_eq!(rt; TinyAsciiStr::try_from_utf16(&[0x45, 0x55, 0x52]), Ok(tinystr!(3, "EUR")?));
@@ -100,8 +100,8 @@ impl<const N: usize> TinyAsciiStr<N> {
         }
     }
 
-    /// Reads the first `N` bytes, with the replacement for each that is NUL or above 127. Later bytes are left out. The
-    /// replacement has to be from 1 to 127.
+    /// Reads the first `N` bytes, with `replacement` for each that is NUL or above 127. Later bytes are ignored.
+    /// `replacement` must be from 1 to 127.
     ///
     /// ```rust
     /// assert_eq!(rt; TinyAsciiStr::<8>::from_utf8_lossy(b"caf\xe9", b'?').as_str(), "caf?");
@@ -115,8 +115,8 @@ impl<const N: usize> TinyAsciiStr<N> {
         Self::read_lossy::<u8>(code_units, replacement)
     }
 
-    /// Reads the first `N` numbers of 16 bits, with the replacement for each that is 0 or above 127. Later numbers are
-    /// left out. The replacement has to be from 1 to 127.
+    /// Reads the first `N` 16-bit code units, with `replacement` for each that is 0 or above 127. Later ones are
+    /// ignored. `replacement` must be from 1 to 127.
     ///
     /// ```rust
     /// assert_eq!(rt; TinyAsciiStr::<8>::from_utf16_lossy(&[0x20ac, 0x35], b'?').as_str(), "?5");
@@ -129,7 +129,7 @@ impl<const N: usize> TinyAsciiStr<N> {
         Self::read_lossy::<u16>(code_units, replacement)
     }
 
-    /// The text of an array that has to be a text and then NULs. Nothing is tested when it runs: the condition is
+    /// The text of an array, which must be a text and then NULs. Nothing is tested when it runs: the condition is
     /// proved at the call.
     ///
     /// ```rust

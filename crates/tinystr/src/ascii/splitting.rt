@@ -15,7 +15,7 @@ use tinystr_words::int_ops::{Aligned8, Aligned16};
 use tinystr_words::padded::{cut, resize};
 use tinystr_words::word::Word;
 
-/// The parts of a text, in order. A clause sees those that are left.
+/// An iterator over the parts of a text, in order. A contract sees it as the list of those that are left.
 ///
 /// ```rust
 /// let tag = tinystr!(8, "en-US")?;
@@ -45,7 +45,7 @@ impl<'a, const N: usize> Model for Parts<'a, N> {
 }
 
 impl<const N: usize> TinyAsciiStr<N> {
-    /// The index of the first byte of the text that is `byte`, or `None` where none is.
+    /// The index of the first `byte` in the text, counted from 0, or `None` if the text doesn't have it.
     ///
     /// ```rust
     /// let tag = tinystr!(16, "zh-Hant-TW")?;
@@ -66,7 +66,7 @@ impl<const N: usize> TinyAsciiStr<N> {
         found
     }
 
-    /// What stands before the first byte that is the separator, and what stands behind it, or `None` where none is.
+    /// The text before the first separator and the text behind it, or `None` if there is no separator.
     ///
     /// ```rust
     /// let tag = tinystr!(16, "zh-Hant-TW")?;
@@ -88,8 +88,8 @@ impl<const N: usize> TinyAsciiStr<N> {
         Some((self.take(at), self.slice(at + 1..N)))
     }
 
-    /// The parts before, between and behind the bytes that are the separator, in order. A text without one is one part,
-    /// and so is the empty text.
+    /// The parts before, between and behind the separators, in order. A text without a separator is a single part, and
+    /// so is the empty text.
     ///
     /// ```rust
     /// let tag = tinystr!(16, "zh-Hant--TW")?;

@@ -1,4 +1,4 @@
-//! The strict readers' way from code units to a value, or to the first fault.
+//! How the strict readers make a value of code units, or name the first fault.
 
 ghost use Rattle.std.specs.Prelude.{◌≡◌, ◌↔◌, map, All, IsTrue, IsOk, IfOk, IfErr, option_map};
 ghost use Rattle.tinystr_words.specs.Text.{text_of, IsStrictText, IsPaddedText};
@@ -11,7 +11,7 @@ use tinystr_words::int_ops::{Aligned8, Aligned16};
 use tinystr_words::padded::{self, Width, cut, width_of};
 use tinystr_words::{CodeUnit, are_characters};
 
-/// The text of the code units, or its fault. The value is made where its bytes are: an array in an `Option` or a
+/// The text of the code units, or their fault. The value is made where its bytes are: an array in an `Option` or a
 /// `Result` of its own would be moved once more.
 #[inline(always)]
 pub(crate) fn read<U: CodeUnit, const N: usize>(units: &[U]) -> Result<TinyAsciiStr<N>, ParseError>
@@ -101,8 +101,8 @@ fn read_pieces<U: CodeUnit, const N: usize>(units: &[U]) -> Result<TinyAsciiStr<
     Ok(TinyAsciiStr::from_padded(bytes))
 }
 
-// The fault at the first position whose code unit is above 127, or is a character after a NUL. Where a code unit is
-// both, it is above 127: `forms::find_byte_fault` has the other order, that of the byte form.
+// The fault at the first position whose code unit is above 127, or is a character after a NUL. A code unit above 127
+// behind a NUL is `NonAscii`: `forms::find_byte_fault` has the other order, that of the byte form.
 #[tactic(auto, using(crate::proofs::Scans::scan_steps))]
 fn find_fault<U: CodeUnit>(units: &[U]) -> Option<ParseError>
     ensures { option_map fault_of result ≡ first_fault (map U.number units.now) }

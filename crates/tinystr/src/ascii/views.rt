@@ -21,7 +21,7 @@ impl<const N: usize> TinyAsciiStr<N> {
         padded::len(&self.bytes)
     }
 
-    /// Whether the text is empty. The one text of capacity 0 is.
+    /// Whether the text is empty. At capacity 0 it always is.
     #[inline]
     pub fn is_empty(&self) -> bool
         ensures { IsTrue result ↔ (self.now ≡ []) }
@@ -62,7 +62,7 @@ impl<const N: usize> TinyAsciiStr<N> {
         &bytes[..self.len()]
     }
 
-    /// The text as a string, in the value itself.
+    /// Borrows the text as a string.
     ///
     /// ```rust
     /// assert_eq!(rt; tinystr!(8, "en-US")?.as_str(), "en-US");
@@ -79,7 +79,7 @@ impl<const N: usize> TinyAsciiStr<N> {
         unsafe { std::str::from_utf8_unchecked(self.as_utf8()) }
     }
 
-    /// All `N` bytes, in the value itself: the text and then NULs.
+    /// Borrows all `N` bytes: the text and then NULs.
     ///
     /// ```rust
     /// assert_eq!(rt; tinystr!(4, "GB")?.all_bytes(), b"GB\0\0");

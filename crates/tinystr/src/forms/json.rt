@@ -13,7 +13,7 @@ use serde_json::Value;
 use std::alloc::{AllocError, Global};
 
 impl<const N: usize> TinyAsciiStr<N> {
-    /// The JSON string of the text. It allocates a copy of the text from `alloc`, and the error is that it failed.
+    /// The JSON string of the text, a copy that it allocates from `alloc`. It fails only if that allocation fails.
     ///
     /// ```rust
     /// let value = tinystr!(3, "EUR")?.to_json(rt.alloc())?;
@@ -26,8 +26,8 @@ impl<const N: usize> TinyAsciiStr<N> {
         Ok(Value::String(String::from_str(alloc, self.as_str())?))
     }
 
-    /// The text of a JSON string. The error is `NotText` where the value isn't a string, and `InvalidText` where the
-    /// string has more than `N` bytes, a NUL or a byte above 127.
+    /// The text of a JSON string. The error is `NotText` if the value isn't a string, and `InvalidText` if the string
+    /// has more than `N` bytes, a NUL or a byte above 127.
     ///
     /// ```rust
     /// let value = Value::String(String::from_str(rt.alloc(), "EUR")?);
@@ -47,8 +47,8 @@ impl<const N: usize> TinyAsciiStr<N> {
 }
 
 impl<const N: usize> UnvalidatedTinyAsciiStr<N> {
-    /// The JSON string of the text, where the bytes are a text and then NULs, and else `NotAscii`. They are tested
-    /// before memory is asked of `alloc`. Want of it is `Memory`.
+    /// The JSON string of the text if the bytes are a text and then NULs, else the error `NotAscii`. The bytes are
+    /// tested before a copy is allocated from `alloc`. If that allocation fails, the error is `Memory`.
     pub fn to_json(&self, alloc: Global) -> Result<Value, FormWriteError>
         ensures padded { IfOk result (λ _. IsPaddedText self.now N) }
         ensures value { IfOk result (λ value. view value ≡ json_form (text_of self.now)) }
@@ -58,7 +58,7 @@ impl<const N: usize> UnvalidatedTinyAsciiStr<N> {
         text.to_json(alloc).map_err(FormWriteError::Memory)
     }
 
-    /// The text of a JSON string, and then NULs. The errors are those of `TinyAsciiStr::from_json`.
+    /// The text of a JSON string, padded with NULs. The errors are those of `TinyAsciiStr::from_json`.
     #[inline]
     pub fn from_json(value: &Value) -> Result<Self, JsonReadError>
         ensures accepted { IsOk result

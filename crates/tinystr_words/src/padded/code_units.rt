@@ -1,4 +1,4 @@
-//! Units read into bytes.
+//! Code units into bytes.
 
 ghost use Rattle.std.specs.Prelude.{◌≡◌, ◌+◌, ◌*◌, ◌%◌, ◌≤◌, map, length};
 ghost use Rattle.tinystr_words.specs.Text.{pad};
@@ -74,8 +74,8 @@ fn read_many<U: CodeUnit>(bytes: &mut [u8], units: &[U], replacement: u8) -> boo
     is_bad | read_piece::<U, 32>(bytes, units, replacement, last)
 }
 
-/// Reads all code units, by pieces as large as they and the bytes allow, with the replacement for each that isn't a
-/// character, and tells whether there is one.
+/// Reads all code units in the largest pieces that fit, writes the replacement for each that isn't a character, and
+/// tells whether there was such a code unit.
 #[inline(always)]
 pub fn read_all<U: CodeUnit>(bytes: &mut [u8], units: &[U], replacement: u8) -> bool
     requires room { length units.now ≤ length bytes.old }
@@ -121,8 +121,9 @@ fn put_low_bytes<U: CodeUnit>(bytes: &mut [u8], units: &[U])
     bytes[start..len].copy_from_slice(&eight[8 - (len - start)..]);
 }
 
-/// The low bytes of `N` code units. Of bytes it is one copy of a known length, which the compiler takes apart wherever
-/// a `Result` is cut. Of 16-bit code units a loop over each would put the bytes together one by one.
+/// The low bytes of `N` code units. For bytes this is one copy of a known length, which the compiler splits wherever it
+/// splits a `Result`. 16-bit code units are packed eight at a time, since a loop would put their bytes together one by
+/// one.
 #[inline(always)]
 pub fn low_bytes<U: CodeUnit, const N: usize>(units: &[U]) -> [u8; N]
     requires { length units.now ≡ N }

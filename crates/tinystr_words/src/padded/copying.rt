@@ -1,5 +1,5 @@
-//! Bytes copied into arrays, also behind a text. `put` and `append`, and with them `resize` and `cut`, copy the same. They
-//! differ by what the compiler makes of them.
+//! Bytes copied into arrays, also behind a text. `put` and `append` copy the same bytes, and so do `resize` and `cut`:
+//! the compiler makes different code of them.
 
 ghost use Rattle.std.specs.Prelude.{◌≡◌, ◌++◌, length, take, drop};
 ghost use Rattle.tinystr_words.specs.Text.{IsPadded, IsPaddedText, pad, text_of};
@@ -19,8 +19,8 @@ pub(crate) fn put(bytes: &mut [u8], src: &[u8])
     bytes[at..len].copy_from_slice(&src[at..len]);
 }
 
-/// The first `M` bytes, and NULs after them where there are fewer, eight at a time: for bytes in memory. `cut` copies
-/// those of a word.
+/// The first `M` bytes, padded with NULs if there are fewer, eight at a time: for bytes in memory. `cut` copies those
+/// of a word.
 #[inline(always)]
 pub fn resize<const M: usize>(bytes: &[u8]) -> [u8; M]
     ensures bytes { result ≡ pad (take M bytes.now) M }
@@ -45,8 +45,8 @@ pub fn cut<const M: usize>(padded: &[u8]) -> [u8; M]
     bytes
 }
 
-/// Appends as much of a padded text as fits. The place is known only at run time, and a copy of all at once is faster
-/// there than `put`.
+/// Appends as much of a padded text as fits. Its place is known only at run time, so one copy of all bytes is faster
+/// than `put`.
 #[inline(always)]
 pub(crate) fn append(bytes: &mut [u8], len: usize, padded: &[u8])
     requires padded { IsPadded bytes.old }

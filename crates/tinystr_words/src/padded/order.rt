@@ -9,7 +9,7 @@ ghost use Rattle.tinystr_words.specs.Text.{pad};
 use crate::word::Word;
 use std::cmp::Ordering;
 
-/// The order of two lists of bytes that are equally long.
+/// The order of two lists of bytes, which must be equally long.
 #[inline(always)]
 pub fn compare(left: &[u8], right: &[u8]) -> Ordering
     requires { length left.now ≡ length right.now }
@@ -39,7 +39,7 @@ fn number_of_eight(bytes: &[u8; 8]) -> u64
     u64::from_le_bytes(*bytes).swap_bytes()
 }
 
-/// The number that at most eight bytes spell with NULs behind them, the first the most significant.
+/// The number of at most eight bytes, padded with NULs, the first the most significant.
 #[inline(always)]
 pub fn number(bytes: &[u8]) -> u64
     requires { length bytes.now ≤ 8 }

@@ -8,8 +8,8 @@ ghost use Rattle.tinystr_words.specs.Padded.{ArePaddedFrom, sixteen_from};
 use crate::word::Word;
 use std::simd::prelude::*;
 
-/// Whether more than sixteen bytes are a text and then NULs. No sixteen bytes are loaded from a place inside another
-/// sixteen: behind a copy such a load would lie across two stores, and wait for both.
+/// Whether more than sixteen bytes are a text and then NULs. No load of sixteen bytes begins inside another: after a
+/// copy such a load would lie across two stores, and wait for both.
 #[inline(always)]
 #[tactic(auto, using(crate::proofs::Padding::padding))]
 pub(crate) fn is_padded(bytes: &[u8]) -> bool

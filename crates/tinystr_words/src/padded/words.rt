@@ -1,4 +1,4 @@
-//! Padded bytes of any length, by words of sixteen.
+//! Padded bytes of any length, by words of sixteen bytes.
 
 ghost use Rattle.std.specs.Prelude.{◌≡◌, ◌<◌, length, MatchOption};
 ghost use Rattle.tinystr_words.specs.Text.{IsPadded, text_of, pad};
@@ -34,7 +34,7 @@ pub(crate) fn len(bytes: &[u8]) -> usize
     sum + Aligned16::from_padded(rest).len()
 }
 
-/// Whether each word passes, the later ones without a first character.
+/// Whether each word passes the question; the later words are asked as the rest of a text.
 #[inline(always)]
 pub(crate) fn ask(bytes: &[u8], question: Question) -> bool
     requires { IsPadded bytes.now }
@@ -52,7 +52,7 @@ pub(crate) fn ask(bytes: &[u8], question: Question) -> bool
     Aligned16::from_padded(rest).ask(asked)
 }
 
-/// Changes each word in place, the later ones without a first character. The NULs behind the text stay.
+/// Changes each word in place; the later words are changed as the rest of a text. The NULs behind the text stay.
 #[inline(always)]
 pub(crate) fn put_in_case(bytes: &mut [u8], case: Case)
     requires { IsPadded bytes.old }

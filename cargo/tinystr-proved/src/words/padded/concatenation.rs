@@ -1,15 +1,15 @@
-//! The ways in which two texts are joined in an array, the first one of `padded::concat` that serves.
+//! The ways to join two texts in an array. `padded::concat` takes the first that applies.
 
 use super::copying::{append, cut, put, resize};
 use super::words;
 use crate::words::int_ops::{Aligned8, Aligned16};
 use crate::simd::*;
 
-/// The bytes of a vector.
+/// How many bytes a vector has.
 const LANES: usize = 16;
 
-/// The bytes of the longest array that `concat_in_vectors` takes: past two vectors its shuffles take as long as the wait
-/// for what is stored.
+/// How many bytes the longest array has that `concat_in_vectors` takes: past two vectors its shuffles are no faster
+/// than the store-forwarding stall that they avoid.
 const LONGEST: usize = 2 * LANES;
 
 // What stands in the table before the lanes' own places: as many as `moved` looks back over.
@@ -26,7 +26,7 @@ static TAKEN_LANES: [u8; 7 * LANES] = [
     128, 128, 128, 128, 128, 128, 128, 128, 128, 128, 128, 128, 128, 128, 128, 128, //
 ];
 
-/// Whether `concat_in_vectors` takes arrays of so many bytes. Where it doesn't, another way gives the same text.
+/// Whether `concat_in_vectors` takes arrays of these lengths. If it doesn't, another way gives the same text.
 ///
 /// # Contract
 ///
@@ -59,9 +59,9 @@ pub(crate) fn concat_in_word<const Q: usize>(front: &[u8], back: &[u8]) -> [u8; 
     cut(&text.to_bytes())
 }
 
-/// The first `Q` bytes of two texts joined, each in at most two vectors: for results past eight bytes. A shuffle moves the
-/// second text to its place, and each vector is stored at a place known at compile time, since a load of bytes stored
-/// elsewhere would wait for them.
+/// The first `Q` bytes of two texts joined, each in at most two vectors: for results past eight bytes. A shuffle moves
+/// the second text to its place, and each vector is stored at a place known at compile time, since a load that lies
+/// across two stores would stall.
 ///
 /// # Contract
 ///

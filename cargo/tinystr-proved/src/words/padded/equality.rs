@@ -2,7 +2,7 @@
 
 use crate::simd::*;
 
-/// Whether two lists of bytes, which are equally long and have at least sixteen, are the same.
+/// Whether two lists of bytes are the same. They must be equally long, with at least sixteen bytes.
 // The kit compiles `==` of arrays that are in registers to a test of each byte. Here the last sixteen bytes may overlap
 // those before them, so all bytes are tested in vectors, and up to 32 without a branch.
 ///

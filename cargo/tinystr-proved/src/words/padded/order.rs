@@ -3,7 +3,7 @@
 use crate::words::word::Word;
 use core::cmp::Ordering;
 
-/// The order of two lists of bytes that are equally long.
+/// The order of two lists of bytes, which must be equally long.
 ///
 /// # Contract
 ///
@@ -37,7 +37,7 @@ fn number_of_eight(bytes: &[u8; 8]) -> u64 {
     u64::from_le_bytes(*bytes).swap_bytes()
 }
 
-/// The number that at most eight bytes spell with NULs behind them, the first the most significant.
+/// The number of at most eight bytes, padded with NULs, the first the most significant.
 ///
 /// # Contract
 ///

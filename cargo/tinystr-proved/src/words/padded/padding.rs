@@ -3,8 +3,8 @@
 use crate::words::word::Word;
 use crate::simd::*;
 
-/// Whether more than sixteen bytes are a text and then NULs. No sixteen bytes are loaded from a place inside another
-/// sixteen: behind a copy such a load would lie across two stores, and wait for both.
+/// Whether more than sixteen bytes are a text and then NULs. No load of sixteen bytes begins inside another: after a
+/// copy such a load would lie across two stores, and wait for both.
 ///
 /// # Contract
 ///

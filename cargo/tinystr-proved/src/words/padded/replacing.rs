@@ -26,7 +26,7 @@ pub(crate) fn lossy_word<const N: usize>(bytes: &[u8], replacement: u8) -> [u8; 
     resize(&lossy_lanes(bytes, replacement).to_array()[..])
 }
 
-// The same in a vector.
+// As `lossy_word`, in a vector.
 // Proved:
 //     requires { length bytes.now ≤ 16 }
 //     ensures { result ≡ pad (map (lossy_byte replacement) bytes.now) 16 }
@@ -37,7 +37,7 @@ fn lossy_lanes(bytes: &[u8], replacement: u8) -> u8x16 {
     are_characters.select(given, replacements(replacement, bytes.len()))
 }
 
-// So many replacements, and then NULs.
+// `count` replacements, and then NULs.
 // Proved:
 //     requires { count ≤ 16 }
 //     ensures { result ≡ pad (replicate count replacement) 16 }

@@ -1,4 +1,4 @@
-//! Padded bytes of any length, by words of sixteen.
+//! Padded bytes of any length, by words of sixteen bytes.
 
 use crate::words::int_ops::Aligned16;
 use crate::words::{Case, Question};
@@ -32,7 +32,7 @@ pub(crate) fn len(bytes: &[u8]) -> usize {
     sum + Aligned16::from_padded(rest).len()
 }
 
-/// Whether each word passes, the later ones without a first character.
+/// Whether each word passes the question; the later words are asked as the rest of a text.
 ///
 /// # Contract
 ///
@@ -54,7 +54,7 @@ pub(crate) fn ask(bytes: &[u8], question: Question) -> bool {
     Aligned16::from_padded(rest).ask(asked)
 }
 
-/// Changes each word in place, the later ones without a first character. The NULs behind the text stay.
+/// Changes each word in place; the later words are changed as the rest of a text. The NULs behind the text stay.
 ///
 /// # Contract
 ///
