@@ -21,6 +21,12 @@ class Fence:
     text: str
 
 
+def anchor_of(heading):
+    """The anchor of a heading: its small letters, digits, hyphens and underscores, and a hyphen for each space."""
+    words = re.sub(r"\]\([^)]*\)", "", heading).lower()
+    return re.sub(r"[^a-z0-9 _-]", "", words).replace(" ", "-")
+
+
 class Page:
     """A page: all its lines, its fences in their order, and its prose, the lines that stand in no fence."""
 
@@ -45,10 +51,8 @@ class Page:
                     self.anchors.add(self.new_anchor(match[1]))
 
     def new_anchor(self, heading):
-        """The anchor of a heading: its small letters, digits, hyphens and underscores, a hyphen for each space, and a
-        number behind what was there before."""
-        words = re.sub(r"\]\([^)]*\)", "", heading).lower()
-        anchor = re.sub(r"[^a-z0-9 _-]", "", words).replace(" ", "-")
+        """The anchor of a heading, with a number behind what was there before."""
+        anchor = anchor_of(heading)
         # (a third heading of a name gets the number 2)
         numbered = (f"{anchor}-{number}" for number in range(1, len(self.anchors) + 1))
         return next((it for it in (anchor, *numbered) if it not in self.anchors))
