@@ -73,7 +73,7 @@ impl Bench {
         self.take_of(call, n, COUNT, contenders);
     }
 
-    /// Of another number of values.
+    /// Times `values` values.
     fn take_of(&mut self, call: &str, n: usize, values: usize, contenders: &[Contender]) {
         if self.wants(call) {
             let row = Row { table: self.table, call, column: n.to_string(), values, rounds: ROUNDS };
@@ -169,7 +169,7 @@ impl Bench {
         }
     }
 
-    /// Of each record.
+    /// Times `validate_bytes`.
     fn take_records(&mut self, random: &mut Random) {
         for (kind, is_full) in [("full", true), ("mixed", false)] {
             let call = format!("validate_bytes, {kind}");

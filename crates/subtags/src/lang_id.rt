@@ -49,7 +49,7 @@ impl Model for LangId {
 }
 
 impl LangId {
-    /// Reads a language and behind it a script, a region, both or nothing, in any case, with a `-` or a `_` before each
+    /// Reads a language and behind it a script, a region, both or nothing, in any case, with `-` or `_` before each
     /// later subtag.
     ///
     /// The error is `InvalidLanguage` if the first subtag isn't a language, else `InvalidSubtag`.

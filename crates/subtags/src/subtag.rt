@@ -63,7 +63,7 @@ impl<K: SubtagKind<N>, const N: usize> Model for Subtag<K, N> {
 
 impl<K: SubtagKind<N>, const N: usize> Subtag<K, N> {
     /// Reads a language of 2, 3 or 5 to 8 letters in any case, a script of 4 letters in any case, or a region of 2
-    /// letters in any case or of 3 digits, without space around it.
+    /// letters in any case or of 3 digits, without space around it. Anything else gives `None`.
     #[inline]
     pub fn try_from_utf8(code_units: &[u8]) -> Option<Self>
         ensures { SomeIff result (IsTrue (K.is_well_formed code_units.now)) (K.in_case code_units.now) }

@@ -27,7 +27,7 @@ pub enum TextMapError {
     Keys(SortedError),
     /// The values aren't packed records.
     Values(UleError),
-    /// The values aren't as many as the keys.
+    /// There are fewer or more values than keys.
     Count { keys: usize, values: usize },
 }
 

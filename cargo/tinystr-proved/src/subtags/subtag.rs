@@ -54,7 +54,7 @@ pub struct Subtag<K: SubtagKind<N>, const N: usize> {
 
 impl<K: SubtagKind<N>, const N: usize> Subtag<K, N> {
     /// Reads a language of 2, 3 or 5 to 8 letters in any case, a script of 4 letters in any case, or a region of 2
-    /// letters in any case or of 3 digits, without space around it.
+    /// letters in any case or of 3 digits, without space around it. Anything else gives `None`.
     ///
     /// # Contract
     ///
