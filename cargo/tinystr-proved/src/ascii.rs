@@ -19,7 +19,7 @@ use core::hash::{Hash, Hasher};
 use core::str::FromStr;
 pub(crate) use strict::are_padded;
 
-/// A text of at most `N` bytes, each from 1 to 127, in `N` bytes: the text and then NULs. It never allocates.
+/// A text of at most `N` bytes, each from 1 to 127, in `N` bytes: the text and then NULs, stored inline.
 ///
 /// ```
 /// use tinystr::{TinyAsciiStr, tinystr};

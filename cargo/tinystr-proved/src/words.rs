@@ -1,5 +1,5 @@
-//! Bounded ASCII texts: the definitions in which the contracts of the crates above speak, in `specs/`, and padded
-//! texts in words of 32, 64 and 128 bits.
+//! ASCII texts of bounded length: in `specs/` the definitions that the contracts of the crates above use, and here
+//! padded texts in words of 32, 64 and 128 bits.
 
 mod code_unit;
 mod decimal;

@@ -24,7 +24,7 @@ use std::marker::Model;
 use std::str::FromStr;
 pub(crate) use strict::are_padded;
 
-/// A text of at most `N` bytes, each from 1 to 127, in `N` bytes: the text and then NULs. It never allocates.
+/// A text of at most `N` bytes, each from 1 to 127, in `N` bytes: the text and then NULs, stored inline.
 ///
 /// ```rust
 /// let city = TinyAsciiStr::<8>::try_from_str("New York")?;

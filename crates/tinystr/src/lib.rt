@@ -1,5 +1,6 @@
-//! Bounded ASCII strings: a `TinyAsciiStr<N>` holds a text of at most `N` bytes from 1 to 127 in `N` bytes, padded
-//! with NULs, and never allocates.
+//! ASCII strings of bounded length: a `TinyAsciiStr<N>` holds a text of at most `N` bytes, each from 1 to 127, padded
+//! with NULs to `N` bytes and stored inline. Names and signatures are those of ICU4X's `tinystr` 0.8.5, but for what
+//! docs/DIFFERENCES.md lists.
 #![tactic(auto)]
 
 pub mod ascii;

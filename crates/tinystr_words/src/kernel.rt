@@ -1,4 +1,5 @@
-//! The kernels: a word of lanes is asked and changed by a few sums over the whole word.
+//! The kernels: a word of lanes is asked and changed by a few sums over the whole word. Most formulas are those of
+//! `int_ops.rs` in ICU4X's `tinystr` 0.8.5.
 
 ghost use Rattle.std.specs.Prelude.{◌≡◌, ◌+◌, ◌-◌, ◌/◌, ◌^◌, ◌<◌, ◌≤◌, ◌==◌, bit_and, bit_or};
 ghost use Rattle.std.specs.Int.Bits.{bit_xor};
