@@ -1,0 +1,66 @@
+"""Reads which definitions contracts stand on: the words of specs/ that public contracts name, and the words that these
+are made of. It reads the CALLING.md of each library, the exports for C, the line program's engine, and specs/. It prints
+nothing."""
+
+import re
+from dataclasses import dataclass, field
+
+from declarations import CRATES, LIBRARIES, lines_for_the_prover, text_of
+from sources import below
+
+# Where the public contracts of a crate stand.
+CONTRACTS = {
+    **{it: CRATES / it / "CALLING.md" for it in LIBRARIES},
+    "tinystr_lines": CRATES / "tinystr_lines/src/engine.rt",
+    "tinystr_c": CRATES / "tinystr_c/src/lib.rt",
+}
+HEAD = re.compile(r"(?:\w+ )?pub (?:record |data )?(?!mod )([^\s({]+) ")
+# What in a clause is no word of a definition: its own name, an import, and a field of a value.
+NO_WORD = re.compile(r"^ *ghost use .*|\b(?:requires|ensures)(?: \w+)? \{|\.[a-z]\w*")
+WORD = re.compile(r"[A-Za-z_]\w*")
+
+
+@dataclass
+class Definition:
+    """A public word of specs/: its crate, its file and its lines."""
+
+    name: str
+    crate: str
+    file: str
+    lines: list = field(default_factory=list)
+
+    def is_among(self, words, crate):
+        """Whether words of a crate name it: it is of that crate, or of one below."""
+        return self.name in words and self.crate in (crate, *below(crate))
+
+
+def definitions(crate):
+    """The public definitions of a crate, in the order of its files."""
+    found = []
+    for path in sorted((CRATES / crate / "specs").glob("*.antt")):
+        inside = False
+        for line in text_of(path).splitlines():
+            if head := HEAD.match(line):
+                found.append(Definition(head[1], crate, path.name))
+            inside = bool(head) or inside and line != "" and not line.startswith("--")
+            if inside:
+                found[-1].lines.append(line)
+    return found
+
+
+def words_of(lines):
+    return {word for line in lines for word in WORD.findall(NO_WORD.sub(" ", line))}
+
+
+def of_contracts():
+    """The definitions that public contracts name, and those that they are made of, themselves among them."""
+    every = [it for crate in CONTRACTS for it in definitions(crate)]
+    named = []
+    for crate, path in CONTRACTS.items():
+        words = words_of(line for _, line in lines_for_the_prover(path))
+        named += [it for it in every if it.is_among(words, crate) and it not in named]
+    made_of = list(named)
+    for it in made_of:
+        words = words_of(it.lines)
+        made_of += [other for other in every if other.is_among(words, it.crate) and other not in made_of]
+    return named, made_of
