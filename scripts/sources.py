@@ -177,6 +177,14 @@ def below(crate):
     return found
 
 
+def count_of_wrong_bodies(crate):
+    """How many edits of a crate the prover has to refuse: those that name the goal that does, and those of must-fail."""
+    folder = TOP / "crates" / crate
+    files = [it for it in (folder / "wrong-bodies").rglob("*.edit*") if it.is_file()]
+    named = sum(len(re.findall(r"^refused:", it.read_text(encoding="utf-8"), re.M)) for it in files)
+    return named + len(list((folder / "must-fail").glob("*.edit")))
+
+
 def arms(texts):
     """The arms of each match on a width, a question or a case: file, line, where the arm stands, and its first line."""
     found = []
