@@ -248,7 +248,7 @@ fn texts(random: &mut Random, n: usize, how_many: usize) -> Vec<Vec<u8>> {
         .collect()
 }
 
-/// Prints a few answers of the original as the rows of the three tables in `crates/tinystr_tests/src/original.rt`.
+/// Prints a few answers of the original as the rows of the three tables in `crates/tinystr_reading_tests/src/original.rt`.
 fn print_sample() {
     use tinystr::{ParseError, TinyAsciiStr};
     let mut random = Random(1);

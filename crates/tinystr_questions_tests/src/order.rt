@@ -1,9 +1,9 @@
 //! Equality, order and hash of values.
 
-use crate::neighbours::{COUNT, Text, texts};
 use std::cmp::Ordering;
 use std::collections::HashSet;
 use std::test::Fail;
+use texts_of_tests::neighbours::{COUNT, Text, texts};
 use tinystr::{TinyAsciiStr, TinyStr4, UnvalidatedTinyAsciiStr};
 
 fn are_ordered(order: Ordering, first: &str, second: &str) -> bool {

@@ -18,10 +18,10 @@ pub struct Row {
     pub upper: &'static str,
 }
 
-/// A line for each row, its fields in their order, of at most 17 characters each. Most texts are those that the Rust crate's own tests ask about.
-/// None of the answers was made by the calls that are tested on them. It is one literal, since a proof reads each
-/// literal that it meets.
-pub const TEXTS: &str = "\
+// A line for each row, its fields in their order, of at most 17 characters each. Most texts are those that the Rust
+// crate's own tests ask about. None of the answers was made by the calls that are tested on them. It is one literal, since
+// a proof reads each literal that it meets.
+const TEXTS: &str = "\
 |yyyyyyyyy|||
 Latn|yynnynnyn|latn|Latn|LATN
 laTn|yynnnnnnn|latn|Latn|LATN
@@ -57,8 +57,8 @@ A15b|nynnynnnn|a15b|A15b|A15B
 abcdefghijklmnopq|yynynnynn|abcdefghijklmnopq|Abcdefghijklmnopq|ABCDEFGHIJKLMNOPQ
 ";
 
-/// Lines of texts, some of them longer, that fill a word, end it or begin the next one.
-pub const EDGES: &str = "\
+// Lines of texts, some of them longer, that fill a word, end it or begin the next one.
+const EDGES: &str = "\
 Abcdefghijklmnopq|yynnynnyn|abcdefghijklmnopq|Abcdefghijklmnopq|ABCDEFGHIJKLMNOPQ
 Abcdefghijklmnop1|nynnynnnn|abcdefghijklmnop1|Abcdefghijklmnop1|ABCDEFGHIJKLMNOP1
 AAAAAAAAAAAAAAAA|yynnnynny|aaaaaaaaaaaaaaaa|Aaaaaaaaaaaaaaaa|AAAAAAAAAAAAAAAA
@@ -82,8 +82,7 @@ fn row_of(line: &'static str) -> Option<Row> {
     })
 }
 
-/// The rows of some lines.
-pub fn rows_of(alloc: Global, lines: &'static str) -> Result<Vec<Row>, AllocError> {
+fn rows_of(alloc: Global, lines: &'static str) -> Result<Vec<Row>, AllocError> {
     let mut rows = Vec::new(alloc);
     for line in lines.lines() {
         if let Some(row) = row_of(line) {
@@ -91,4 +90,14 @@ pub fn rows_of(alloc: Global, lines: &'static str) -> Result<Vec<Row>, AllocErro
         }
     }
     Ok(rows)
+}
+
+/// The rows of the table: 33 texts of at most 17 characters.
+pub fn table_rows(alloc: Global) -> Result<Vec<Row>, AllocError> {
+    rows_of(alloc, TEXTS)
+}
+
+/// The rows of ten texts, some of them longer, that fill a word, end it or begin the next one.
+pub fn edge_rows(alloc: Global) -> Result<Vec<Row>, AllocError> {
+    rows_of(alloc, EDGES)
 }

@@ -1,8 +1,8 @@
 //! Printed forms of values.
 
-use crate::neighbours::{COUNT, Text, written_texts};
 use std::alloc::{AllocError, Global};
 use std::test::Fail;
+use texts_of_tests::neighbours::{COUNT, Text, written_texts};
 use tinystr::{TinyAsciiStr, TinyStr4, TinyStr8};
 
 #[test]

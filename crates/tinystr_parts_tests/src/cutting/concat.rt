@@ -3,8 +3,8 @@
 ghost use Rattle.std.specs.Prelude.{◌<◌, ◌^◌};
 
 use super::{FORTY, FULL, HUNDRED, LESS, is_text};
-use crate::neighbours::{COUNT, Text, table_texts, texts};
 use std::test::Fail;
+use texts_of_tests::neighbours::{COUNT, Text, table_texts, texts};
 use tinystr::{TinyAsciiStr, TinyStr8, TinyStr16};
 
 #[test]

@@ -1,9 +1,9 @@
 //! Each text comes back from each of its forms.
 
-use crate::neighbours::{self, COUNT};
-use crate::table::{TEXTS, rows_of};
 use std::alloc::{AllocError, Global};
 use std::test::Fail;
+use texts_of_tests::neighbours::{self, COUNT};
+use texts_of_tests::table::table_rows;
 use tinystr::{ParseError, TinyAsciiStr, UnvalidatedTinyAsciiStr};
 
 // Whether the text is read from its padded form, with these bytes behind it as the rest.
@@ -33,7 +33,7 @@ fn is_read_again<const N: usize>(text: TinyAsciiStr<N>, alloc: Global) -> Result
 
 #[test]
 fn texts_come_back_from_each_form(rt: HostRuntime) -> Result<(), Fail> {
-    let rows = rows_of(rt.alloc(), TEXTS)?;
+    let rows = table_rows(rt.alloc())?;
     assert_eq!(rt; rows.len(), 33);
     for row in rows {
         let text = TinyAsciiStr::<17>::try_from_str(row.text)?;

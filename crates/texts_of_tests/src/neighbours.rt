@@ -1,6 +1,6 @@
 //! The texts of the table and their neighbours.
 
-use crate::table::{TEXTS, rows_of};
+use crate::table::table_rows;
 use std::alloc::{AllocError, Global};
 use tinystr::TinyAsciiStr;
 
@@ -10,7 +10,7 @@ pub type Text = TinyAsciiStr<18>;
 /// The texts of the table.
 pub fn table_texts(alloc: Global) -> Result<Vec<Text>, AllocError> {
     let mut texts = Vec::new(alloc);
-    for row in rows_of(alloc, TEXTS)? {
+    for row in table_rows(alloc)? {
         if let Ok(text) = Text::try_from_str(row.text) {
             texts.push(text)?;
         }
@@ -49,7 +49,7 @@ pub const COUNT: usize = 33 + 32 + 33 + 2 * 150;
 /// Each text and its neighbours, as they are written, before any is read.
 pub fn written_texts(alloc: Global) -> Result<Vec<Vec<u8>>, AllocError> {
     let mut texts = Vec::new(alloc);
-    for row in rows_of(alloc, TEXTS)? {
+    for row in table_rows(alloc)? {
         let text = row.text.as_bytes();
         texts.push(text.to_vec(alloc)?)?;
         push_neighbours(alloc, &mut texts, text)?;

@@ -1,9 +1,9 @@
 //! Questions and case changes of each text and its neighbours, cut at several capacities, and of what the changes make.
 
 use super::plain::{is_plain, plain_change};
-use crate::neighbours::{COUNT, Text, written_texts};
 use std::alloc::{AllocError, Global};
 use std::test::Fail;
+use texts_of_tests::neighbours::{COUNT, Text, written_texts};
 use tinystr::TinyAsciiStr;
 
 // Whether the value is answered and changed as the text is by a plain loop, and each change of it as the changed text.

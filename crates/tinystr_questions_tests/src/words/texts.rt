@@ -4,7 +4,7 @@ ghost use Rattle.std.specs.Prelude.{◌≤◌, length};
 ghost use Rattle.tinystr_words.specs.Text.{IsPaddedText};
 
 use crate::questions::{are_spelled, word_answers};
-use crate::table::Row;
+use texts_of_tests::table::Row;
 use tinystr::TinyAsciiStr;
 use tinystr_words::int_ops::{Aligned, Aligned4, Aligned8, Aligned16};
 use tinystr_words::word::Word;

@@ -1,9 +1,9 @@
 //! Each text, read at each capacity that holds it, has as a value and in words the same length, answers and case changes.
 
 use super::{answers_of, are_spelled};
-use crate::table::{EDGES, Row, TEXTS, rows_of};
 use crate::words::texts::are_right;
 use std::test::Fail;
+use texts_of_tests::table::{Row, edge_rows, table_rows};
 use tinystr::{ParseError, TinyAsciiStr};
 
 fn has_forms<const N: usize>(text: TinyAsciiStr<N>, row: &Row) -> bool {
@@ -60,7 +60,7 @@ fn first_wrong<const N: usize>(
 
 #[test]
 fn texts_answer_alike_at_every_capacity(rt: HostRuntime) -> Result<(), Fail> {
-    let rows = rows_of(rt.alloc(), TEXTS)?;
+    let rows = table_rows(rt.alloc())?;
     let rows = rows.as_slice();
     assert_eq!(rt; rows.len(), 33);
     for wrong in [
@@ -87,7 +87,7 @@ fn texts_answer_alike_at_every_capacity(rt: HostRuntime) -> Result<(), Fail> {
 
 #[test]
 fn texts_at_the_edges_of_words_answer_alike(rt: HostRuntime) -> Result<(), Fail> {
-    let rows = rows_of(rt.alloc(), EDGES)?;
+    let rows = edge_rows(rt.alloc())?;
     let rows = rows.as_slice();
     assert_eq!(rt; rows.len(), 10);
     for wrong in [
@@ -107,7 +107,7 @@ fn texts_at_the_edges_of_words_answer_alike(rt: HostRuntime) -> Result<(), Fail>
 // An array of each length at which a text of at most sixteen characters stands in the table, and of each word's length.
 #[test]
 fn texts_answer_alike_in_each_word_that_holds_them(rt: HostRuntime) -> Result<(), Fail> {
-    let rows = rows_of(rt.alloc(), TEXTS)?;
+    let rows = table_rows(rt.alloc())?;
     let rows = rows.as_slice();
     assert_eq!(rt; rows.len(), 33);
     for wrong in [

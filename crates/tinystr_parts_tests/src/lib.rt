@@ -1,0 +1,8 @@
+//! The tests of the calls of `tinystr` that make a text of others, whole or in part, and of its forms. They stand apart
+//! from it, since a crate with tests is proved once more with them.
+#![tactic(auto)]
+
+#[cfg(test)]
+mod cutting;
+#[cfg(test)]
+mod forms;
