@@ -29,10 +29,12 @@ def said_ratio(ratio):
 
 
 def bounded_ratio(figures, cell, rival):
-    """The ratio, or a bound where this crate's time says no more than that it is short."""
+    """The ratio, or a bound where one of the times says no more than that it is short."""
     here, there = figures.time(cell, HERE), figures.time(cell, rival)
-    if here >= RESOLUTION:
+    if min(here, there) >= RESOLUTION:
         return said_ratio(here / there)
+    if here >= RESOLUTION:
+        return f"> {here / RESOLUTION:.0f}"
     return f"< {max(LEAST_RATIO, RESOLUTION / there):.2f}" if there >= RESOLUTION else "-"
 
 
@@ -110,7 +112,7 @@ def type_cell(cell, whose, figures):
         return f"{time:.0f}"
     if whose == HERE:
         return said_time(time)
-    ends = spread(figures, cell, whose) if figures.time(cell, HERE) >= RESOLUTION else None
+    ends = spread(figures, cell, whose) if min(time, figures.time(cell, HERE)) >= RESOLUTION else None
     return f"{said_time(time)}, {bounded_ratio(figures, cell, whose)}{in_brackets(ends)}"
 
 
