@@ -1,7 +1,7 @@
-"""The crates of the repository, the functions of a source as rt fmt lays it out, and the wrong bodies that turn them."""
+"""Reads crates.txt, the texts of a crate, and the bodies of a source as `rt fmt` lays it out. It prints nothing."""
 
 import re
-from dataclasses import dataclass, field
+from dataclasses import dataclass
 from pathlib import Path
 
 TOP = Path(__file__).resolve().parent.parent
@@ -9,12 +9,6 @@ FUNCTION = re.compile(r'( *)(?:pub(?:\([a-z]+\))? )?(?:const )?(?:extern "C" )?f
 CONSTANT = re.compile(r"( *)(?:pub(?:\([a-z]+\))? )?(?:const|static) ([A-Z]\w*)\b")
 BLOCK = re.compile(r"(?:pub )?(?:impl|trait)\b")
 ARM = re.compile(r" +(?:\| )?(?:Width|Question|Case|Command|TextCall|Self)::\w+.*=>")
-# What the check of an edit has to show of its goal: the body breaks it; none is open; it is open for another reason.
-KINDS = ("refused", "neutral", "disturbed")
-
-
-class Unreadable(Exception):
-    """What is wrong with an edit, in words for whoever wrote it."""
 
 
 @dataclass(frozen=True)
@@ -80,76 +74,6 @@ def body_of(lines, number, indent):
         if line == indent + "{}" or line == "}" or at > number and FUNCTION.match(line):
             return None
     return None
-
-
-def is_clause(goal):
-    """Whether a goal is a clause of the function's own contract: what it ensures where it returns."""
-    return goal.startswith("returns")
-
-
-@dataclass
-class Edit:
-    """A wrong body, or a control: its file, the function and the goal that have to refuse it, why that is no clause,
-    and what it changes."""
-
-    path: Path
-    text: str
-    kind: str = "refused"
-    function: str = ""
-    goal: str = ""
-    elsewhere: str = ""
-    pairs: list = field(default_factory=list)
-
-    @property
-    def name(self):
-        return self.path.stem
-
-    def target(self, texts):
-        """The function or constant that it turns: the one it names, or the only one in which its first old text stands."""
-        file, old, _ = self.pairs[0]
-        inside = [it for it in items(file, texts.get(file, "")) if old in texts[file][it.start : it.end]]
-        named = [it for it in inside if it.is_named_by(self.function)]
-        return named[0] if named else inside[0] if len(inside) == 1 else None
-
-    def apply(self, texts, target):
-        """Changes texts, by file: each old text stands once in the body of its target or, where it has none, in the file."""
-        for file, old, new in self.pairs:
-            text = texts.get(file, "")
-            start, end = 0, len(text)
-            if target:
-                # (other edits may have moved it)
-                item = next(it for it in items(target.file, texts[target.file]) if it.key() == target.key())
-                start, end = item.start, item.end
-            found = text[start:end].count(old)
-            if found != 1 or target and file != target.file:
-                where = target.name if target else file
-                raise Unreadable(f"{self.name}: an old text stands {found} times in {where}: {old}")
-            texts[file] = text[:start] + text[start:end].replace(old, new) + text[end:]
-
-
-def read_edit(path):
-    """Reads 'KIND: FUNCTION GOAL' and 'elsewhere: REASON', then 'file: FILE' and pairs of 'old: TEXT' and 'new: TEXT'."""
-    edit, file, old = Edit(path, path.read_text(encoding="utf-8")), "", None
-    for line in edit.text.splitlines():
-        word, _, rest = line.partition(":")
-        rest = rest.removeprefix(" ")
-        if word in KINDS:
-            edit.kind = word
-            edit.function, _, edit.goal = rest.partition(" ")
-        elif word == "elsewhere":
-            edit.elsewhere = rest.strip()
-        elif word == "file":
-            file = rest.strip()
-        elif word == "old":
-            old = rest
-        elif word == "new" and file and old:
-            edit.pairs.append((file, old, rest))
-            old = None
-        else:
-            raise Unreadable(f"{edit.name}: a line that is no part of an edit: {line}")
-    if not edit.pairs or old is not None:
-        raise Unreadable(f"{edit.name}: no pair of an old and a new text, or half of one")
-    return edit
 
 
 def texts_of(crate):

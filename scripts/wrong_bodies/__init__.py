@@ -1,0 +1,1 @@
+"""The wrong bodies of the crates (docs/inside/WRONG_BODIES.md): reads, tries and judges them."""

@@ -1,0 +1,79 @@
+"""A wrong body, or a control beside it: what it changes in a source, and which goal has to be open then. It prints
+nothing, and is Unreadable where it can't be applied."""
+
+from dataclasses import dataclass, field
+from pathlib import Path
+
+from sources import items
+
+# What the check of an edit has to show of its goal: the body breaks it; none is open; it is open for another reason.
+KINDS = ("refused", "neutral", "disturbed")
+
+
+class Unreadable(Exception):
+    """What is wrong with an edit, in words for whoever wrote it."""
+
+
+def is_clause(goal):
+    """Whether a goal is a clause of the function's own contract: what it ensures where it returns."""
+    return goal.startswith("returns")
+
+
+@dataclass
+class Edit:
+    """A wrong body, or a control: where it is written, the source that it changes, all that is written of it, the
+    function and the goal that have to refuse it, why that is no clause, and pairs of an old and a new text."""
+
+    name: str
+    path: Path
+    file: str
+    text: str
+    kind: str = "refused"
+    function: str = ""
+    goal: str = ""
+    elsewhere: str = ""
+    pairs: list = field(default_factory=list)
+
+    @property
+    def is_control(self):
+        """Whether it is no wrong body, but tells whether the check that tries it can be trusted."""
+        return self.kind != "refused"
+
+    def target(self, texts):
+        """What it turns: the function that it names, or the only one or constant in which its first old text stands."""
+        text, old = texts[self.file], self.pairs[0][0]
+        inside = [it for it in items(self.file, text) if old in text[it.start : it.end]]
+        named = [it for it in inside if it.is_named_by(self.function)]
+        return named[0] if named else inside[0] if len(inside) == 1 else None
+
+    def place(self, texts):
+        """Where it stands among its source's edits: by what it turns, and then by its name."""
+        target = self.target(texts)
+        return target.start if target else texts[self.file].find(self.pairs[0][0]), self.name
+
+    def names_what_it_turns(self, target, texts):
+        """Whether the function that it names is its target or, where that is a constant, is there: a function of the
+        crate, or a file of its lemmas."""
+        if not self.function or not target:
+            return True
+        if not target.is_constant:
+            return target.is_named_by(self.function)
+        if f"proofs/{self.function.replace('::', '/')}.antt" in texts:
+            return True
+        sources = [(file, text) for file, text in texts.items() if file.startswith("src/")]
+        return any(it.is_named_by(self.function) for file, text in sources for it in items(file, text))
+
+    def apply(self, texts, target):
+        """Changes texts, by file: each old text stands once in its target's body or, where it has none, in the file."""
+        for old, new in self.pairs:
+            text = texts[self.file]
+            start, end = 0, len(text)
+            if target:
+                # (other edits may have moved it)
+                item = next(it for it in items(self.file, text) if it.key() == target.key())
+                start, end = item.start, item.end
+            found = text[start:end].count(old)
+            if found != 1:
+                where = target.name if target else self.file
+                raise Unreadable(f"{self.name}: an old text stands {found} times in {where}: {old}")
+            texts[self.file] = text[:start] + text[start:end].replace(old, new) + text[end:]

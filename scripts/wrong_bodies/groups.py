@@ -1,0 +1,88 @@
+"""Groups of a crate's edits, each of which one check tries: no two edits of a group turn one function.
+
+A function is checked against contracts alone, so wrong bodies of different functions don't see one another. An edit of
+a constant, or of what is no function's body, is alone. Each group has controls: neutral and disturbed edits, and the
+first wrong body of the crate, which is tried again in each later group.
+"""
+
+from dataclasses import dataclass
+
+from wrong_bodies.edits import Unreadable
+
+
+@dataclass(frozen=True)
+class Group:
+    """Edits that one check tries, controls among them, each with the function that it turns (none: it is alone)."""
+
+    edits: tuple
+    turned: tuple
+
+    @property
+    def bodies(self):
+        """Its wrong bodies."""
+        return [it for it in self.edits if not it.is_control]
+
+    @property
+    def name(self):
+        """That of its first wrong body, or of the control that is alone."""
+        return (self.bodies or self.edits)[0].name
+
+    def texts(self, texts):
+        """The texts of the crate, by file, with the edits applied."""
+        changed = dict(texts)
+        for edit, item in zip(self.edits, self.turned):
+            edit.apply(changed, item)
+        return changed
+
+    def of(self, bodies):
+        """The group of some of its wrong bodies, and its controls."""
+        kept = [(it, item) for it, item in zip(self.edits, self.turned) if it in bodies or it.is_control]
+        return Group(*zip(*kept))
+
+    def parts(self, disturbed):
+        """Smaller groups, to try again: the disturbed wrong bodies without the others or, where all are disturbed or a
+        control is, a half of them each. A single one has no parts."""
+        left = [it for it in self.bodies if it in disturbed] or self.bodies
+        if len(left) < len(self.bodies):
+            return [self.of(left)]
+        half = (len(left) + 1) // 2
+        return [self.of(left[:half]), self.of(left[half:])] if len(left) > 1 else []
+
+
+def groups_of(edits, texts, only=()):
+    """The groups of a crate's edits or, where some are named, each of these alone."""
+    if not only:
+        return grouped([it for it in edits if not it.is_control], [it for it in edits if it.is_control], texts)
+    if unknown := set(only) - {it.name for it in edits}:
+        raise Unreadable(f"no wrong body {', '.join(sorted(unknown))}")
+    return [group for it in edits if it.name in only for group in grouped([it], [], texts)]
+
+
+def grouped(edits, controls, texts):
+    """The groups of a crate's wrong bodies and controls: two of one function are in two groups."""
+    turned = {it.name: target_of(it, texts) for it in [*edits, *controls]}
+    alone = [it for it in edits if not turned[it.name] or turned[it.name].is_constant]
+    left, groups = [it for it in edits if it not in alone], []
+    known = left[:1]
+    while left:
+        # a control stands in the way of the edits of its function, so two halves of them take turns
+        group = [it for number, it in enumerate(controls) if number % 2 == len(groups) % 2]
+        taken = {turned[it.name] for it in group}
+        for edit in [*left, *known]:
+            if turned[edit.name] not in taken:
+                taken.add(turned[edit.name])
+                group.append(edit)
+        if not any(it in left for it in group):
+            raise Unreadable("the functions that are left to turn are those of controls")
+        groups.append(Group(tuple(group), tuple(turned[it.name] for it in group)))
+        left = [it for it in left if it not in group]
+    return groups + [Group((it,), (None,)) for it in alone]
+
+
+def target_of(edit, texts):
+    """What an edit turns, where it can be applied and names that."""
+    item = edit.target(texts)
+    edit.apply(dict(texts), item)
+    if not edit.names_what_it_turns(item, texts):
+        raise Unreadable(f"{edit.name} names {edit.function}, and turns {item.name} of {item.file}")
+    return item

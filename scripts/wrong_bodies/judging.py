@@ -1,0 +1,58 @@
+"""Judges what `rt check` said of a group: of each edit whether it is refused at the goal that it names.
+
+A goal is merely disturbed where its proof names what the edit took away, or where the body makes a value before it that
+its type forbids: that is no refusal. A group fails as a whole where a function that no edit of it turns is refused, or
+where it doesn't compile.
+"""
+
+import re
+from dataclasses import dataclass
+
+from wrong_bodies.edits import Edit
+from wrong_bodies.refusals import refusals
+
+UNCOMPILED = re.compile(r"(?:\./)?src/\S+: error\[.*")
+
+
+@dataclass(frozen=True)
+class Verdict:
+    """Whether an edit is as it has to be, a line that says so, and whether another edit may have disturbed it."""
+
+    edit: Edit
+    is_well: bool
+    said: str
+    is_disturbed: bool = False
+
+
+def judged(edit, own):
+    """The verdict on an edit, by the goals of its function that are open."""
+    is_disturbed = any(it.names_what_is_gone for it in own)
+    if edit.kind == "neutral":
+        said = f"refused, and neutral: {own[0].goal}" if own else "neutral, and not refused"
+        return Verdict(edit, not own, said, is_disturbed)
+    named = [it for it in own if (it.function, it.goal) == (edit.function, edit.goal)]
+    if not named:
+        goals = ", ".join(f"{it.function} {it.goal}" for it in own[:6])
+        said = f"refused at a goal it doesn't name: {goals}" if own else "NOT REFUSED"
+        return Verdict(edit, False, said, is_disturbed)
+    is_behind = any(it.is_of_a_step and it.function == edit.function for it in own if it not in named)
+    kind = "disturbed" if is_behind or all(it.names_what_is_gone for it in named) else "refused"
+    line = f"{kind}: {edit.function} {edit.goal}: {named[0].said[:160]}"
+    if kind == edit.kind:
+        return Verdict(edit, True, line)
+    return Verdict(edit, False, f"IS TO BE {edit.kind.upper()}, is {line}", is_disturbed)
+
+
+def judge(group, output):
+    """The verdicts on the edits of a checked group, and what else is wrong, a line each."""
+    found, place = refusals(output), f"the group of {group.name}"
+    if not re.search(r"^logic=(proved |not-proved)", output, re.M):
+        said = [it for it in output.splitlines() if UNCOMPILED.match(it)] or output.splitlines()[-3:]
+        return [Verdict(it, False, "no verdict") for it in group.edits], [f"{place}: {' '.join(said)[:600]}"]
+    verdicts, own_of_all = [], []
+    for edit, item in zip(group.edits, group.turned):
+        own = [it for it in found if not item or item.is_named_by(it.function)]
+        own_of_all += own
+        verdicts.append(judged(edit, own))
+    others = [it for it in found if it not in own_of_all]
+    return verdicts, [f"{place}: refused, and not turned: {it.function} {it.goal}" for it in others]

@@ -1,0 +1,36 @@
+"""Keeps what passed outside the checkout, so that a later run tries only what changed: by a sum of all that a group's
+check read, the kit, the scripts that judge, the texts of the crate and of all below it, and the edits."""
+
+import hashlib
+import json
+import os
+from pathlib import Path
+
+from sources import TOP, below, libraries, texts_of
+
+FOLDER = Path(os.environ.get("XDG_CACHE_HOME") or Path.home() / ".cache") / "wrong-bodies"
+
+
+class Kept:
+    """What passed of a crate's groups."""
+
+    def __init__(self, crate, version):
+        scripts = sorted([TOP / "scripts/sources.py", *(TOP / "scripts/wrong_bodies").glob("*.py")])
+        uses = libraries()
+        crates = [(it, uses[it], sorted(texts_of(it).items())) for it in [*below(crate), crate]]
+        self.read = repr((version, [it.read_text(encoding="utf-8") for it in scripts], crates))
+
+    def path(self, group):
+        edits = repr([(it.file, it.text) for it in group.edits])
+        return FOLDER / hashlib.sha256((self.read + edits).encode()).hexdigest()
+
+    def lines(self, group):
+        """The lines of a group that passed, each with its edit's name; None where it didn't."""
+        path = self.path(group)
+        return json.loads(path.read_text(encoding="utf-8")) if path.is_file() else None
+
+    def keep(self, group, verdicts):
+        """Keeps the lines of a group that passed."""
+        FOLDER.mkdir(parents=True, exist_ok=True)
+        lines = json.dumps([(it.edit.name, it.said) for it in verdicts])
+        self.path(group).write_text(lines, encoding="utf-8")

@@ -1,0 +1,77 @@
+"""A folder with copies of the crates. Each is checked there as it stands, and then copies of it, each with the edits of
+a group, over what the first check proved. The crates as they stand stay, for the gate's checks that come after."""
+
+import os
+import re
+import shutil
+import subprocess
+import sys
+import threading
+
+from copies import READ_BY_RT, copy_all
+from sources import below
+
+
+class Room:
+    """A copy of the crates in a new folder, below which groups are checked."""
+
+    def __init__(self, folder):
+        self.folder, self.lock = folder, threading.Lock()
+        self.seconds, self.tried = {}, {}
+        self.base = folder / "base"
+        self.base.mkdir()
+        copy_all(self.base)
+
+    def check(self, crate, top):
+        """Checks a crate below a folder, and returns what is said."""
+        words = ["rt", "check", "--jobs", "1"]
+        how = {"cwd": top / "crates" / crate, "stdin": subprocess.DEVNULL, "stderr": subprocess.STDOUT}
+        with open(top / "said", "w+", encoding="utf-8", errors="replace") as said:
+            ran = subprocess.Popen(words, stdout=said, **how)
+            used = os.wait4(ran.pid, 0)[2]
+            said.seek(0)
+            output = said.read()
+        with self.lock:
+            self.seconds[crate] = self.seconds.get(crate, 0) + used.ru_utime + used.ru_stime
+        return output
+
+    def begin(self, crate):
+        """Checks the crate as it stands, and keeps what the groups begin with."""
+        output = self.check(crate, self.base)
+        if not re.search(r"^logic=proved ", output, re.M):
+            sys.exit(f"{crate} isn't proved as it stands:\n" + "\n".join(output.splitlines()[-20:]))
+        linked(self.base / "crates" / crate / "out/incremental", self.folder / "seeds" / crate)
+
+    def try_group(self, crate, number, texts):
+        """Checks a copy of the crate with these texts."""
+        top = self.folder / f"{crate}-{number}"
+        top.mkdir()
+        shutil.copy(self.base / "HANDLES", top)
+        lines = (self.base / "crates.txt").read_text(encoding="utf-8").splitlines()
+        names = {*below(crate), crate}
+        # a line begins with the crate's name, behind which `staticlib` may stand
+        kept = [it for it in lines if ":" in it and it.partition(":")[0].split()[0] in names]
+        (top / "crates.txt").write_text("\n".join(kept), encoding="utf-8")
+        for lower in below(crate):
+            for part in (*READ_BY_RT, "out/rlib"):
+                if (self.base / "crates" / lower / part).is_dir():
+                    linked(self.base / "crates" / lower / part, top / "crates" / lower / part)
+        for file, text in texts.items():
+            path = top / "crates" / crate / file
+            path.parent.mkdir(parents=True, exist_ok=True)
+            path.write_text(text, encoding="utf-8")
+        linked(self.folder / "seeds" / crate, top / "crates" / crate / "out/incremental")
+        output = self.check(crate, top)
+        shutil.rmtree(top)
+        with self.lock:
+            self.tried[crate] = self.tried.get(crate, 0) + 1
+        return output
+
+
+def linked(folder, to):
+    """Copies a folder: what was proved, which a check replaces and never writes into, by links."""
+
+    def copy(one, other):
+        (os.link if one.endswith((".oantt", ".a")) else shutil.copy2)(one, other)
+
+    shutil.copytree(folder, to, symlinks=True, copy_function=copy)

@@ -1,0 +1,123 @@
+"""One run over some crates: what it takes from earlier runs, and the checks that it makes, the longest first.
+
+A group in which one edit may have disturbed another is tried again in parts, down to a single wrong body.
+"""
+
+import functools
+import itertools
+import queue
+import subprocess
+import threading
+from concurrent.futures import Future
+from dataclasses import dataclass
+from pathlib import Path
+
+from sources import texts_of
+from wrong_bodies.blocks import wrong_bodies
+from wrong_bodies.groups import groups_of
+from wrong_bodies.judging import judge
+from wrong_bodies.keeping import Kept
+from wrong_bodies.recording import record
+from wrong_bodies.rooms import Room
+
+
+class Threads:
+    """Threads that make checks, the longest of those that wait first: one left to the end is waited for alone."""
+
+    def __init__(self, count):
+        self.waiting, self.number = queue.PriorityQueue(), itertools.count()
+        for _ in range(count):
+            threading.Thread(target=self.work, daemon=True).start()
+
+    def work(self):
+        while True:
+            _, _, future, call = self.waiting.get()
+            try:
+                future.set_result(call())
+            except BaseException as why:
+                future.set_exception(why)
+
+    def submit(self, length, call):
+        """Has the call made, and returns what will hold its result."""
+        future = Future()
+        self.waiting.put((-length, next(self.number), future, call))
+        return future
+
+
+@dataclass
+class Trial:
+    """A group of a crate: what an earlier run kept of it, or the check that is under way."""
+
+    crate: str
+    kept: list = None
+    check: Future = None
+
+    def lines(self):
+        """Of each edit its name, whether it is as it has to be, and a line that says so; and what else is wrong."""
+        if self.kept is not None:
+            return [(name, True, said) for name, said in self.kept], []
+        verdicts, wrong = self.check.result()
+        return [(it.edit.name, it.is_well, it.said) for it in verdicts], wrong
+
+
+class Run:
+    """One run: in a folder that is empty yet, as the words of the command say."""
+
+    def __init__(self, folder, given):
+        self.folder, self.given, self.room = Path(folder), given, None
+        self.threads = Threads(given.jobs)
+        self.version = subprocess.run(["rt", "version"], capture_output=True, text=True, check=True).stdout
+
+    def trials(self, crate, only):
+        """Begins the trials of a crate, or of those of its edits that are named."""
+        texts = texts_of(crate)
+        groups = groups_of(wrong_bodies(crate), texts, only)
+        kept, is_begun = Kept(crate, self.version), False
+        for number, group in enumerate(groups):
+            lines = None if self.given.anew else kept.lines(group)
+            if lines is not None:
+                yield Trial(crate, kept=lines)
+                continue
+            if not is_begun:
+                self.room = self.room or Room(self.folder)
+                self.room.begin(crate)
+                is_begun = True
+            call = functools.partial(self.check, crate, number, group, texts, kept)
+            yield Trial(crate, check=self.threads.submit(length_of(group, texts), call))
+
+    def check(self, crate, number, group, texts, kept):
+        """Checks a group, and its parts where it is disturbed. What passes is kept."""
+        output = self.room.try_group(crate, number, group.texts(texts))
+        if self.given.output:
+            Path(self.given.output, f"{crate}-{number}.txt").write_text(output, encoding="utf-8")
+        verdicts, wrong = judge(group, output)
+        disturbed = group.edits if wrong else [it.edit for it in verdicts if it.is_disturbed]
+        parts = group.parts(disturbed) if disturbed else []
+        if parts:
+            tried = [self.check(crate, f"{number}-{at}", part, texts, kept) for at, part in enumerate(parts)]
+            verdicts, wrong = together(verdicts, tried)
+        elif self.given.record:
+            record(group, output)
+        if all(it.is_well for it in verdicts) and not wrong:
+            kept.keep(group, verdicts)
+        return verdicts, wrong
+
+    def said_of(self, crate):
+        """How many checks a crate's groups took in this run, and the processor time of these and of the first one."""
+        tried, seconds = (self.room.tried, self.room.seconds) if self.room else ({}, {})
+        return f"{tried.get(crate, 0)} checks in this run, {seconds.get(crate, 0):.0f} processor seconds"
+
+
+def length_of(group, texts):
+    """How long a group's check takes beside others: by its edits, and by the size of its crate."""
+    return len(group.edits) * sum(len(it) for it in texts.values())
+
+
+def together(verdicts, tried):
+    """The verdicts of a group, and what else is wrong, once its parts were tried again: of each edit the last, and of
+    one in two parts the one that isn't well."""
+    last = {}
+    for verdict in itertools.chain.from_iterable(it for it, _ in tried):
+        if verdict.edit.name not in last or not verdict.is_well:
+            last[verdict.edit.name] = verdict
+    return [last.get(it.edit.name, it) for it in verdicts], [line for _, wrong in tried for line in wrong]
