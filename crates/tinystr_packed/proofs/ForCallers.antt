@@ -8,7 +8,7 @@ use Rattle.tinystr_packed.specs.Reading.{are_packed}
 use Rattle.tinystr_packed.specs.Rising.{IsRising, is_rising}
 use Rattle.tinystr_packed.proofs.Computed.{are_packed-Decides, is_rising-Decides, lengths-ArePacked}
 use Rattle.tinystr_packed.proofs.MapBytes.{packed_once}
-use Rattle.tinystr_packed.proofs.PackedTextMaps.{packed_texts_once}
+use Rattle.tinystr_packed.proofs.PackedTextMaps.{lengths-ArePackedTexts, packed_texts_once}
 use Rattle.tinystr_packed.proofs.PackedTexts.{packed_injective}
 use Rattle.tinystr_packed.specs.TextMap.{ArePackedTexts}
 
@@ -32,6 +32,15 @@ pub map_len_values : (entries : List (List ℕ × List ℕ)) (keys values : List
 map_len_values entries keys values n m h = (lengths-ArePacked entries keys values n m h).1
 
 pub ruleset map_len = (map_len_keys, map_len_values)
+
+-- There are `n` bytes for each key, and `m` for each text.
+pub text_map_len_keys : (entries : List (List ℕ × List ℕ)) (keys values : List ℕ) (n m : ℕ) → ArePackedTexts entries keys values n m → length keys ≡ length entries * n
+text_map_len_keys entries keys values n m h = (lengths-ArePackedTexts entries keys values n m h).0
+
+pub text_map_len_values : (entries : List (List ℕ × List ℕ)) (keys values : List ℕ) (n m : ℕ) → ArePackedTexts entries keys values n m → length values ≡ length entries * m
+text_map_len_values entries keys values n m h = (lengths-ArePackedTexts entries keys values n m h).1
+
+pub ruleset text_map_len = (text_map_len_keys, text_map_len_values)
 
 -- Each Boolean test is true exactly if the proposition of its name holds.
 pub tests_decide_rising : (texts : List (List ℕ)) → IsTrue (is_rising texts) ↔ IsRising texts

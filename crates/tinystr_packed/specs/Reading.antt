@@ -1,5 +1,5 @@
--- What a table, a sorted table and a map are of bytes, computed.
-use Rattle.std.specs.Prelude.{ℕ, ◌*◌, ◌==◌, ◌&&◌, Bool, List, length, map, zip, Option, Some, None, if◌then◌else◌}
+-- What a table, a sorted table, a map and a map of texts are of bytes, computed.
+use Rattle.std.specs.Prelude.{ℕ, ◌*◌, ◌==◌, ◌&&◌, Bool, List, length, map, zip, Option, Some, None, option_and_then, if◌then◌else◌}
 use Rattle.tinystr_words.specs.Packed.{is_packed, records_of}
 use Rattle.tinystr_words.specs.Text.{text_of}
 use Rattle.tinystr_packed.specs.Rising.{is_rising}
@@ -16,6 +16,10 @@ table_of n bytes = if is_packed bytes n then Some (texts_of n bytes) else None
 abbrev pub sorted_of : List (List ℕ) → Option (List (List ℕ))
 sorted_of texts = if is_rising texts then Some texts else None
 
+-- the texts of bytes, where these are packed and the texts rise
+abbrev pub sorted_table_of : ℕ → List ℕ → Option (List (List ℕ))
+sorted_table_of n bytes = option_and_then sorted_of (table_of n bytes)
+
 -- whether the keys are packed and rise, and the values have m bytes for each
 abbrev pub are_packed : ℕ → ℕ → List ℕ → List ℕ → Bool
 are_packed n m keys values =
@@ -25,3 +29,12 @@ are_packed n m keys values =
 abbrev pub map_of : ℕ → ℕ → List ℕ → List ℕ → Option (List (List ℕ × List ℕ))
 map_of n m keys values =
     if are_packed n m keys values then Some (zip (texts_of n keys) (records_of m values)) else None
+
+-- each key with its text, where there are as many texts as keys
+abbrev pub entries_of : List (List ℕ) → List (List ℕ) → Option (List (List ℕ × List ℕ))
+entries_of keys values = if length values == length keys then Some (zip keys values) else None
+
+-- the same of bytes, where those of the keys are packed and rise, and those of the texts are packed
+abbrev pub text_map_of : ℕ → ℕ → List ℕ → List ℕ → Option (List (List ℕ × List ℕ))
+text_map_of n m keys values =
+    option_and_then (λ ks. option_and_then (entries_of ks) (table_of m values)) (sorted_table_of n keys)

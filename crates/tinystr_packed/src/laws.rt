@@ -2,7 +2,7 @@
 
 ghost use Rattle.std.specs.Prelude.{◌≡◌, ◌<◌, ◌*◌, ◌↔◌, ℕ, List, All, IsTrue, length};
 ghost use Rattle.std.specs.List.{flat_map};
-ghost use Rattle.std.specs.Map.{keys_of};
+ghost use Rattle.std.specs.Map.{keys_of, values_of};
 ghost use Rattle.tinystr_words.specs.Text.{IsStrictText, pad};
 ghost use Rattle.tinystr_packed.specs.Map.{ArePacked};
 ghost use Rattle.tinystr_packed.specs.Reading.{are_packed};
@@ -11,6 +11,7 @@ ghost use Rattle.tinystr_packed.specs.TextMap.{ArePackedTexts};
 
 use crate::map::PackedMap;
 use crate::sorted::SortedTable;
+use crate::text_map::TextMap;
 
 /// Packed bytes determine their list of texts.
 #[tactic(auto, using(crate::proofs::ForCallers::texts_once))]
@@ -42,6 +43,14 @@ pub fn map_len()
         ArePacked entries keys values n m → length values ≡ length entries * m }
 {}
 
+/// There are `n` bytes for each key, and `m` for each text.
+pub fn text_map_len()
+    ensures keys { (entries : List (List ℕ × List ℕ)) (keys values : List ℕ) (n m : ℕ) →
+        ArePackedTexts entries keys values n m → length keys ≡ length entries * n }
+    ensures values { (entries : List (List ℕ × List ℕ)) (keys values : List ℕ) (n m : ℕ) →
+        ArePackedTexts entries keys values n m → length values ≡ length entries * m }
+{}
+
 /// Each Boolean test is true exactly if the proposition of its name holds.
 #[tactic(auto, using(crate::proofs::ForCallers::tests_decide))]
 pub fn tests_decide()
@@ -65,4 +74,15 @@ pub fn map_keys<const N: usize, const M: usize>(map: &PackedMap<'_, N, M>)
     ensures rising { IsRising (keys_of map.now) }
 {
     sorted_texts(map.keys());
+}
+
+/// The keys of a map of texts fit in `N` bytes and rise, and its texts fit in `M` bytes.
+pub fn text_map_texts<const N: usize, const M: usize>(map: &TextMap<'_, N, M>)
+    ensures strict { All (λ t. IsStrictText t N) (keys_of map.now) }
+    ensures rising { IsRising (keys_of map.now) }
+    ensures texts { All (λ t. IsStrictText t M) (values_of map.now) }
+{
+    let keys = map.keys();
+    sorted_texts(keys);
+    let _ = map.values().len();
 }

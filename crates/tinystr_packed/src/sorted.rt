@@ -4,7 +4,7 @@ ghost use Rattle.std.specs.Prelude.{◌≡◌, ◌<◌, ◌≤◌, ◌-◌, ◌^
 ghost use Rattle.std.specs.List.{starts_with};
 ghost use Rattle.std.specs.Result.{result_ok};
 ghost use Rattle.tinystr_words.specs.Text.{IsStrictText};
-ghost use Rattle.tinystr_packed.specs.Reading.{sorted_of};
+ghost use Rattle.tinystr_packed.specs.Reading.{sorted_of, sorted_table_of};
 ghost use Rattle.tinystr_packed.specs.Rising.{IsRising, ArePackedRising, IsFirstFall, IsPlaceFor, IsFirstNotBelow, IsPrefixRange};
 ghost use Rattle.tinystr_packed.specs.Sorting.{RefusesSorted};
 
@@ -97,6 +97,7 @@ impl<'a, const N: usize> SortedTable<'a, N> {
         ensures accepted { IsOk result ↔ ((texts : List (List ℕ)) × ArePackedRising texts bytes.now N) }
         ensures texts { IfOk result (λ sorted. ArePackedRising sorted bytes.now N) }
         ensures fault { IfErr result (λ e. RefusesSorted e bytes.now N) }
+        ensures value { result_ok result ≡ sorted_table_of N bytes.now }
     {
         let table = match Table::new(bytes) {
             Ok(table) => table,

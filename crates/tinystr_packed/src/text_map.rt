@@ -4,7 +4,9 @@ ghost use Rattle.std.specs.Prelude.{◌≡◌, ◌<◌, ◌^◌, ◌↔◌, [], 
 ghost use Rattle.std.specs.Iterator.{YieldsFirst, item_count};
 ghost use Rattle.std.specs.List.{starts_with};
 ghost use Rattle.std.specs.Map.{keys_of, values_of};
+ghost use Rattle.std.specs.Result.{result_ok};
 ghost use Rattle.tinystr_packed.specs.Map.{get};
+ghost use Rattle.tinystr_packed.specs.Reading.{text_map_of};
 ghost use Rattle.tinystr_packed.specs.Rising.{IsRising};
 ghost use Rattle.tinystr_packed.specs.TextMap.{ArePackedTexts, RefusesTextMap};
 
@@ -75,6 +77,7 @@ impl<'a, const N: usize, const M: usize> TextMap<'a, N, M> {
             ↔ ((entries : List (List ℕ × List ℕ)) × ArePackedTexts entries keys.now values.now N M) }
         ensures entries { IfOk result (λ map. ArePackedTexts map keys.now values.now N M) }
         ensures fault { IfErr result (λ e. RefusesTextMap e keys.now values.now N M) }
+        ensures value { result_ok result ≡ text_map_of N M keys.now values.now }
     {
         let keys = match SortedTable::from_bytes(keys) {
             Ok(keys) => keys,

@@ -96,6 +96,7 @@ impl<'a, const N: usize> SortedTable<'a, N> {
     /// ensures accepted { IsOk result ↔ ((texts : List (List ℕ)) × ArePackedRising texts bytes.now N) }
     /// ensures texts { IfOk result (λ sorted. ArePackedRising sorted bytes.now N) }
     /// ensures fault { IfErr result (λ e. RefusesSorted e bytes.now N) }
+    /// ensures value { result_ok result ≡ sorted_table_of N bytes.now }
     /// ```
     ///
     /// # Panics

@@ -65,6 +65,7 @@ impl<'a, const N: usize, const M: usize> TextMap<'a, N, M> {
     /// ensures accepted { IsOk result ↔ ((entries : List (List ℕ × List ℕ)) × ArePackedTexts entries keys.now values.now N M) }
     /// ensures entries { IfOk result (λ map. ArePackedTexts map keys.now values.now N M) }
     /// ensures fault { IfErr result (λ e. RefusesTextMap e keys.now values.now N M) }
+    /// ensures value { result_ok result ≡ text_map_of N M keys.now values.now }
     /// ```
     ///
     /// # Panics
