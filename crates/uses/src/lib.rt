@@ -3,16 +3,22 @@
 
 pub mod airports;
 pub mod columns;
+pub mod counting;
 pub mod countries;
 pub mod currency;
+pub mod cutting;
 pub mod handed;
 pub mod joining;
 pub mod json;
 pub mod keys;
+pub mod literals;
 pub mod locale;
 pub mod packed;
 pub mod preconditions;
+pub mod printing;
+pub mod refusals;
 pub mod round_trip;
 pub mod script_code;
 pub mod tags;
+pub mod text_in_map;
 pub mod through_str;

@@ -8,8 +8,10 @@ ghost use Rattle.std.specs.Ordering.{nat_cmp};
 use std::alloc::{AllocError, Global};
 use std::collections::BTreeMap;
 use tinystr::TinyAsciiStr;
-use tinystr_packed::laws::{map_once, texts_once};
-use tinystr_packed::{PackedMap, SortedTable, Table, pack, pack_map, pack_sorted, unpack};
+use tinystr_packed::laws::{map_once, text_map_once, texts_once};
+use tinystr_packed::{
+    PackedMap, SortedTable, Table, TextMap, pack, pack_map, pack_sorted, pack_text_map, unpack,
+};
 
 /// The texts of a list, packed and read back. It fails only if an allocation fails.
 pub fn through_table<const N: usize>(
@@ -55,4 +57,20 @@ pub fn value_in_map<const N: usize, const M: usize>(
     let (keys, values) = pack_map(alloc, map)?;
     let packed = PackedMap::<N, M>::new(keys.as_slice(), values.as_slice()).unwrap();
     Ok(packed.get(key).copied())
+}
+
+/// The text of a key of a map, found in what that is packed to. Only memory can stop it.
+pub fn text_in_map<const N: usize, const M: usize>(
+    alloc: Global,
+    map: &BTreeMap<TinyAsciiStr<N>, TinyAsciiStr<M>>,
+    key: &TinyAsciiStr<N>,
+) -> Result<Option<TinyAsciiStr<M>>, AllocError>
+    requires keys { 0 < N }
+    requires values { 0 < M }
+    ensures { IfOk result (λ text. text ≡ get (slice_cmp nat_cmp) map.now key.now) }
+{
+    text_map_once();
+    let (keys, values) = pack_text_map(alloc, map)?;
+    let packed = TextMap::<N, M>::new(keys.as_slice(), values.as_slice()).unwrap();
+    Ok(packed.get(key))
 }

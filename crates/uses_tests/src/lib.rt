@@ -7,9 +7,13 @@ mod airports;
 #[cfg(test)]
 mod columns;
 #[cfg(test)]
+mod counting;
+#[cfg(test)]
 mod countries;
 #[cfg(test)]
 mod currency;
+#[cfg(test)]
+mod cutting;
 #[cfg(test)]
 mod handed;
 #[cfg(test)]
@@ -19,16 +23,24 @@ mod json;
 #[cfg(test)]
 mod keys;
 #[cfg(test)]
+mod literals;
+#[cfg(test)]
 mod locale;
 #[cfg(test)]
 mod packed;
 #[cfg(test)]
 mod preconditions;
 #[cfg(test)]
+mod printing;
+#[cfg(test)]
+mod refusals;
+#[cfg(test)]
 mod round_trip;
 #[cfg(test)]
 mod script_code;
 #[cfg(test)]
 mod tags;
+#[cfg(test)]
+mod text_in_map;
 #[cfg(test)]
 mod through_str;

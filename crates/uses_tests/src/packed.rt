@@ -3,7 +3,7 @@
 use std::alloc::Global;
 use std::collections::BTreeMap;
 use tinystr::TinyAsciiStr;
-use uses::packed::{is_in_sorted, through_table, value_in_map};
+use uses::packed::{is_in_sorted, text_in_map, through_table, value_in_map};
 
 fn texts(alloc: Global, words: &str) -> Option<Vec<TinyAsciiStr<4>>> {
     let mut made = Vec::new(alloc);
@@ -98,5 +98,55 @@ fn has_value(alloc: Global, rows: &str, key: &str, value: Option<[u8; 2]>) -> bo
     match TinyAsciiStr::try_from_str(key) {
         Ok(key) => matches!(value_in_map(alloc, &map, &key), Ok(found) if found == value),
         Err(_) => false,
+    }
+}
+
+#[test]
+fn keys_of_a_map_have_their_texts_in_what_it_is_packed_to(rt: HostRuntime) {
+    for (key, text) in [
+        ("CHF", Some("Franc")),
+        ("EUR", Some("Euro")),
+        ("", Some("none")),
+        ("USD", Some("")),
+        ("CH", None),
+        ("JPY", None),
+        ("zzz", None),
+    ] {
+        assert!(rt;
+            has_text(
+                rt.alloc(),
+                "USD= =none CHF=franc EUR=Euro CHF=Franc",
+                key,
+                text
+            ),
+            "{key}"
+        );
+        assert!(rt; has_text(rt.alloc(), "", key, None), "{key}");
+    }
+}
+
+fn has_text(alloc: Global, rows: &str, key: &str, text: Option<&str>) -> bool {
+    let mut map = BTreeMap::new(alloc);
+    for row in rows.split_whitespace() {
+        let Some((key, text)) = row.split_once('=') else {
+            return false;
+        };
+        match (
+            TinyAsciiStr::<3>::try_from_str(key),
+            TinyAsciiStr::<5>::try_from_str(text),
+        ) {
+            (Ok(key), Ok(text)) => if map.insert(key, text).is_err() {
+                return false;
+            },
+            _ => return false,
+        }
+    }
+    let Ok(key) = TinyAsciiStr::try_from_str(key) else {
+        return false;
+    };
+    match (text_in_map(alloc, &map, &key), text) {
+        (Ok(Some(found)), Some(text)) => found.as_str() == text,
+        (Ok(None), None) => true,
+        _ => false,
     }
 }
