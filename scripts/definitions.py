@@ -14,7 +14,7 @@ CONTRACTS = {
     "tinystr_lines": CRATES / "tinystr_lines/src/engine.rt",
     "tinystr_c": CRATES / "tinystr_c/src/lib.rt",
 }
-HEAD = re.compile(r"(?:\w+ )?pub (?:record |data )?(?!mod )([^\s({]+) ")
+HEAD = re.compile(r"(?:\w+ )?pub (?:record |data )?(?!mod |use )([^\s({]+) ")
 # What in a clause is no word of a definition: its own name, an import, and a field of a value.
 NO_WORD = re.compile(r"^ *ghost use .*|\b(?:requires|ensures)(?: \w+)? \{|\.[a-z]\w*")
 WORD = re.compile(r"[A-Za-z_]\w*")

@@ -13,7 +13,8 @@ ARM = re.compile(r" +(?:\| )?(?:Width|Question|Case|Command|TextCall|Self)::\w+.
 
 @dataclass(frozen=True)
 class Item:
-    """A function with a body or a constant: its file, the head of its impl or trait, its name, and where its body stands."""
+    """A function with a body, a law or a constant: its file, the head of its impl or trait, its name, and where its body
+    stands or, of a law that computes nothing, its statement."""
 
     file: str
     block: str
@@ -44,7 +45,7 @@ class Item:
 
 
 def items(file, text):
-    """The functions with a body, and the constants, of a source."""
+    """The functions with a body, the laws that have none, and the constants, of a source."""
     found, block, at = [], "", 0
     lines, starts = text.split("\n"), []
     for line in lines:
@@ -54,7 +55,7 @@ def items(file, text):
         if re.match(r"\S", line) and not line.startswith(("//", "#", ")", "{")):
             block = line if BLOCK.match(line) else ""
         function, constant = FUNCTION.match(line), CONSTANT.match(line)
-        if function and (body := body_of(lines, number, function[1])):
+        if function and (body := body_of(lines, number, function[1]) or statement_of(file, lines, number)):
             first, last = body
             found.append(Item(file, block, function[2], False, starts[first], starts[last] + len(lines[last])))
         elif constant:
@@ -74,6 +75,11 @@ def body_of(lines, number, indent):
         if line == indent + "{}" or line == "}" or at > number and FUNCTION.match(line):
             return None
     return None
+
+
+def statement_of(file, lines, number):
+    """The lines of a law that computes nothing, from its head to its empty body."""
+    return (number, lines.index("{}", number)) if file == "src/laws.rt" else None
 
 
 def texts_of(crate):
@@ -99,14 +105,6 @@ def below(crate):
     for it in uses[crate]:
         found += [lower for lower in [*below(it), it] if lower not in found]
     return found
-
-
-def count_of_wrong_bodies(crate):
-    """How many edits of a crate the prover has to refuse: those that name the goal that does, and those of must-fail."""
-    folder = TOP / "crates" / crate
-    files = [it for it in (folder / "wrong-bodies").rglob("*.edit*") if it.is_file()]
-    named = sum(len(re.findall(r"^refused:", it.read_text(encoding="utf-8"), re.M)) for it in files)
-    return named + len(list((folder / "must-fail").glob("*.edit")))
 
 
 def arms(texts):

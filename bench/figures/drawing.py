@@ -12,6 +12,8 @@ BLUE = "#0969da"
 PALE_BLUE = "#9ac7f7"
 ORANGE = "#bc4c00"
 PALE_ORANGE = "#f3bd93"
+GREEN = "#1a7f37"
+PURPLE = "#8250df"
 
 WIDTH = 860
 

@@ -9,6 +9,7 @@ from figures import THERE
 from inlined import cargo_description, inlined_table, look_ups
 from jobs import jobs_table
 from machine import machine
+from many_keys import TITLE as MANY_KEYS, many_keys_description, many_keys_tables
 from other_tables import all_cells, lines, loops, types
 from ratios import FAILING, mean_of, slowest_of
 
@@ -75,6 +76,8 @@ BLOCKS = {
     ),
     "inlined": fenced_of_all(inlined),
     "look-ups": fenced("cargo", look_ups),
+    "tables.svg": picture("tables.svg", lambda them: f"{MANY_KEYS}. {many_keys_description(them['tables'])}"),
+    "many keys": fenced("tables", many_keys_tables),
 }
 
 

@@ -38,7 +38,7 @@ STANDS_FOR = {
     ("tinystr/ascii/readers.rt", "IsPaddedText code_units N"): Unsafe(
         "The array has to be bytes from 1 to 127 and then NULs: `as_str` trusts it."
     ),
-    ("tinystr/ascii/joining.rt", "IsTextByte separator"): asserted(
+    ("tinystr/ascii/concat.rt", "IsTextByte separator"): asserted(
         CHARACTER.format("separator"), "the separator isn't from 1 to 127", NO_CHARACTER.format("separator")
     ),
     # without a check a range that begins behind its end would give a text

@@ -43,10 +43,15 @@ def edits_of(path, file):
     return found
 
 
-def wrong_bodies(crate):
+def has_wrong_bodies(crate):
+    """Whether a crate has wrong bodies beside those of must-fail."""
+    return (TOP / "crates" / crate / "wrong-bodies").is_dir()
+
+
+def read_blocks(crate):
     """The wrong bodies and controls of a crate, by the order of their files and of the blocks in each."""
     folder = TOP / "crates" / crate
-    if not (folder / "wrong-bodies").is_dir():
+    if not has_wrong_bodies(crate):
         raise Unreadable(f"no folder crates/{crate}/wrong-bodies")
     found = []
     for path in sorted(it for it in (folder / "wrong-bodies").rglob("*") if it.is_file()):
@@ -62,7 +67,7 @@ def wrong_bodies(crate):
     return named_once(found)
 
 
-def must_fail(crate):
+def read_must_fail(crate):
     """The edits of a crate that `rt ci` tries, each from a file of its own."""
     folder = TOP / "crates" / crate
     found = []

@@ -13,7 +13,7 @@ from dataclasses import dataclass
 from pathlib import Path
 
 from sources import texts_of
-from wrong_bodies.blocks import wrong_bodies
+from wrong_bodies.blocks import read_blocks
 from wrong_bodies.groups import groups_of
 from wrong_bodies.judging import judge
 from wrong_bodies.keeping import Kept
@@ -71,7 +71,7 @@ class Run:
     def trials(self, crate, only):
         """Begins the trials of a crate, or of those of its edits that are named."""
         texts = texts_of(crate)
-        groups = groups_of(wrong_bodies(crate), texts, only)
+        groups = groups_of(read_blocks(crate), texts, only)
         kept, is_begun = Kept(crate, self.version), False
         for number, group in enumerate(groups):
             lines = None if self.given.anew else kept.lines(group)

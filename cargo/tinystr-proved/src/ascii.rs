@@ -1,13 +1,14 @@
 //! The type of a text of bounded length.
 
+mod concat;
 mod decimals;
-mod joining;
 mod lanes;
 mod letters;
 mod order;
 mod print;
 mod questions;
 mod readers;
+mod resize;
 mod slicing;
 pub mod splitting;
 mod strict;

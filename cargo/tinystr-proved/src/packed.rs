@@ -3,6 +3,8 @@
 
 #[cfg(feature = "alloc")]
 mod counting;
+mod each;
+mod eight;
 pub mod in_place;
 mod map;
 mod number;
@@ -10,6 +12,7 @@ mod number;
 mod packing;
 mod record;
 mod search;
+mod side_by_side;
 mod sorted;
 #[cfg(feature = "alloc")]
 mod sorting;
@@ -18,7 +21,8 @@ mod text_map;
 
 #[cfg(feature = "alloc")]
 pub use counting::count_texts;
-pub use map::{Entries, MapError, PackedMap};
+pub use each::BinarySearchEach;
+pub use map::{Entries, GetEach, MapError, PackedMap};
 #[cfg(feature = "alloc")]
 pub use packing::{pack, pack_map, pack_text_map, unpack};
 pub use sorted::{NotRising, SortedError, SortedTable};

@@ -1,5 +1,6 @@
 -- The letters in front of an input, and its first subtag.
-use Rattle.std.proofs.Common.{◌≡◌, ◌<◌, ◌≤◌, ℕ, true, false, not, List, ◌∷◌, Option, length, take, get_or, refl, ap, sym, ◌∙◌, arith}
+use Rattle.std.proofs.Common.{◌≡◌, ◌<◌, ◌≤◌, ℕ, true, false, not, List, ◌∷◌, Option, length, take, get_or, take_all, refl, ap, sym, ◌∙◌, arith}
+use Rattle.std.specs.Prelude.{IsTrue}
 use Rattle.std.specs.List.{list_all, position_or_len, prefix_len}
 use Rattle.std.proofs.lemmas.Bool.{false_from_ne_true, false≢true}
 use Rattle.std.proofs.lemmas.Bool.Decides.{nat_tests}
@@ -27,6 +28,28 @@ first_subtag-letters u h =
     sym (prefix_len_is is_alphabetic (take 8 u) i 0 (omega arith)
     (λ k below. rw (get_or-take 8 u k 0 (omega arith), sym (get_or-take i u k 0 below)) (all k 0 (omega arith)))
     (λ more. let hit = passes_at_first is_separator u 0 (omega arith) in rw (get_or-take 8 u i 0 (omega arith)) (grind (arith, nat_tests))))
+
+-- and so is an input that is one
+language-all_letters : (u : List ℕ) → is_language u ≡ true → letters_in_front u ≡ length u
+language-all_letters u h =
+    let few : length u ≤ 8 = grind (arith, nat_tests) in
+    let letters : list_all is_alphabetic u ≡ true = grind arith in
+    rw (take_all 8 u few) (prefix_len_is is_alphabetic u (length u) 0 (omega arith) (λ k below. AllPass-from_list_all is_alphabetic u letters k 0 below) (λ more. absurd (omega arith)))
+
+-- letters in front that are all of an input are a language where they are as many as one has
+pub all_letters-language : (u : List ℕ) (n : ℕ) → n ≡ letters_in_front u → n ≡ length u → is_language_length n ≡ true → is_language u ≡ true
+all_letters-language u n is whole form =
+    let few : length u ≤ 8 = omega (arith, is, whole, prefix_len-le-length is_alphabetic (take 8 u), length-take 8 u) in
+    let all : prefix_len is_alphabetic u ≡ length u = rw (take_all 8 u few, whole) at (sym is) in
+    let letters : list_all is_alphabetic u ≡ true = list_all-from_AllPass is_alphabetic u (λ k d below. prefix_len_passes is_alphabetic u k d (omega (arith, all))) in
+    rw (letters, ← whole) form
+
+-- and no others are
+pub not_all_letters-no_language : (u : List ℕ) (n : ℕ) → n ≡ letters_in_front u → (n ≡ length u → is_language_length n ≡ false) → ¬ IsTrue (is_language u)
+not_all_letters-no_language u n is wrong h =
+    let whole : n ≡ length u = is ∙ language-all_letters u h in
+    let form : is_language_length n ≡ true = rw whole (grind arith) in
+    false≢true (sym (wrong whole) ∙ form)
 
 -- letters in front that end where all do, or before a separator, are the first subtag
 letters-first_subtag : (u : List ℕ) → ends_at (letters_in_front u) u ≡ true

@@ -33,16 +33,10 @@ impl SubtagKind<8> for LanguageKind {
     ghost refusal = { InvalidLanguage };
 
     #[inline]
-    #[tactic(auto, using(crate::proofs::FoldLemmas::subtag_steps))]
     fn read(code_units: &[u8]) -> Option<TinyAsciiStr<8>> {
-        if !is_language_length(code_units.len()) {
-            return None;
-        }
-        let Ok(text) = TinyAsciiStr::try_from_utf8(code_units) else {
-            return None;
-        };
-        if text.is_ascii_alphabetic() {
-            Some(text.to_ascii_lowercase())
+        let (text, len) = TinyAsciiStr::read_letters(code_units);
+        if len == code_units.len() && is_language_length(len) {
+            Some(text)
         } else {
             None
         }

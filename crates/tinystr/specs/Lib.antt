@@ -3,4 +3,14 @@ pub mod Reading
 pub mod Unvalidated
 pub mod Forms
 pub mod Records
+pub mod RecordLists
 pub mod Splitting
+pub use Rattle.tinystr_words.specs.ByteForm
+pub use Rattle.tinystr_words.specs.Case
+pub use Rattle.tinystr_words.specs.Classes
+pub use Rattle.tinystr_words.specs.Decimal
+pub use Rattle.tinystr_words.specs.Order
+pub use Rattle.tinystr_words.specs.Packed
+pub use Rattle.tinystr_words.specs.Questions
+pub use Rattle.tinystr_words.specs.Reading as ReadingCodeUnits
+pub use Rattle.tinystr_words.specs.Text

@@ -4,14 +4,15 @@ ghost use Rattle.std.specs.Prelude.{◌≡◌, []};
 ghost use Rattle.tinystr.specs.Reading.{IsStrictRead};
 ghost use Rattle.tinystr.specs.Error.{fault_of};
 
+mod concat;
 mod decimals;
-mod joining;
 mod lanes;
 mod letters;
 mod order;
 mod print;
 mod questions;
 mod readers;
+mod resize;
 mod slicing;
 pub mod splitting;
 mod strict;

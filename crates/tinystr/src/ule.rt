@@ -4,7 +4,8 @@
 ghost use Rattle.std.specs.Prelude.{◌≡◌, ◌≢◌, ◌<◌, ◌≤◌, ◌%◌, ◌↔◌, length, replicate, take, All, IsOk, IfErr, IsErrOf};
 ghost use Rattle.tinystr_words.specs.Text.{IsPaddedText};
 ghost use Rattle.tinystr_words.specs.Packed.{IsPacked};
-ghost use Rattle.tinystr.specs.Records.{RefusesRecords, RefusesOneOf};
+ghost use Rattle.tinystr.specs.Records.{RefusesRecords};
+ghost use Rattle.tinystr.specs.RecordLists.{RefusesOneOf};
 
 use crate::ascii::{TinyAsciiStr, are_padded};
 use crate::error::ParseError;

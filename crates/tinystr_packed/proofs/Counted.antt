@@ -5,15 +5,11 @@ use Rattle.std.specs.Cmp.Lexicographic.{slice_cmp}
 use Rattle.std.specs.List.{list_any}
 use Rattle.std.specs.Ordering.{nat_cmp}
 use Rattle.std.specs.Str.{bytes_eq}
-use Rattle.std.proofs.lemmas.Bool.{false≢true}
+use Rattle.std.proofs.lemmas.Bool.{false_from_ne_true, false≢true}
 use Rattle.std.proofs.lemmas.List.Folds.{list_any_more}
 use Rattle.std.proofs.lemmas.List.Sums.{count_by_more_no, count_by_more_yes}
 use Rattle.std.proofs.lemmas.Map.Text.{is_eq-slice_cmp}
 use Rattle.std.proofs.lemmas.Slice.Eq.{bytes_eq-Decides}
-
-is_false : (b : Bool) → ¬ (b ≡ true) → b ≡ false
-is_false true h = absurd (h refl)
-is_false false h = refl
 
 or-true : (b : Bool) → (b || true) ≡ true
 or-true true = refl
@@ -28,7 +24,7 @@ here : (ts : List (List ℕ)) (i : ℕ) (k t : List ℕ) → k ≡ get_or ts i k
 here ts i k t is = elim_at (bytes_eq k t) refl where
   elim_at : (b : Bool) → bytes_eq k t ≡ b → bytes_eq t (get_or ts i k) ≡ b
   elim_at true e = (bytes_eq-Decides t (get_or ts i k)).1 (sym ((bytes_eq-Decides k t).0 e) ∙ is)
-  elim_at false e = is_false (bytes_eq t (get_or ts i k)) (λ yes. false≢true (sym e ∙ (bytes_eq-Decides k t).1 (is ∙ sym ((bytes_eq-Decides t (get_or ts i k)).0 yes))))
+  elim_at false e = false_from_ne_true (bytes_eq t (get_or ts i k)) (λ yes. false≢true (sym e ∙ (bytes_eq-Decides k t).1 (is ∙ sym ((bytes_eq-Decides t (get_or ts i k)).0 yes))))
 
 -- what m tells of each text becomes what n tells, where k is counted once more
 abbrev pub Counts : (List ℕ → Option ℕ) → (List ℕ → Option ℕ) → List ℕ → ℕ → Type 0

@@ -1,6 +1,7 @@
 pub mod Counted
 pub mod InPlace
 pub mod MapBytes
+pub mod NumberPlaces
 pub mod Numbers
 pub mod PackedMaps
 pub mod PackedTextMaps
@@ -8,6 +9,8 @@ pub mod PackedTexts
 pub mod Prefixes
 pub mod RecordOrder
 pub mod RisingTexts
+pub mod Searches
+pub mod SideBySide
 pub mod SortedPacks
 pub mod Computed
 pub mod ForCallers

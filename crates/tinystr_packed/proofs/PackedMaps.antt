@@ -22,8 +22,8 @@ use Rattle.std.proofs.lemmas.Map.Views.{Contains-keys_from_lookup, IsSome-lookup
 use Rattle.std.proofs.lemmas.Option.{slice_get-get_or, slice_get-map, slice_get_past, get_or_from_slice_get, slice_get_within}
 use Rattle.std.proofs.lemmas.Slice.Zip.{get_or-zip, length-zip, seconds-zip}
 use Rattle.tinystr_words.specs.Text.{IsStrictText, pad}
-use Rattle.tinystr_words.proofs.Packing.{length-first_chunks}
-use Rattle.tinystr_packed.proofs.PackedTexts.{packed, AllStrict, packed_injective}
+use Rattle.tinystr_words.proofs.Packing.{AllStrict, length-first_chunks}
+use Rattle.tinystr_packed.proofs.PackedTexts.{packed, packed_injective}
 use Rattle.tinystr_packed.specs.Map.{ArePacked, get}
 use Rattle.tinystr_packed.specs.Rising.{IsRising}
 
@@ -61,6 +61,10 @@ same_from_eq t s e = exact_bytes t s (grind (arith, Equal-is))
 -- what isn't a key has no value
 pub get-absent : (es : List (List ℕ × List ℕ)) (key : List ℕ) → ¬ Contains (keys_of es) key → get es key ≡ None
 get-absent es key absent = none_from (get es key) (λ some. absent (Contains-keys_from_lookup same_from_eq key es some))
+
+-- nor has what doesn't fit, where the keys do
+pub get-unfit : (es : List (List ℕ × List ℕ)) (key : List ℕ) (n : ℕ) → AllStrict n (keys_of es) → ¬ IsStrictText key n → get es key ≡ None
+get-unfit es key n strict other = get-absent es key (λ found. other (rw found.2 at (strict found.0 key found.1)))
 
 same_from_iff : {P : Type 0} (a b : Bool) → (IsTrue a ↔ P) → (IsTrue b ↔ P) → a ≡ b
 same_from_iff true true h k = refl

@@ -10,13 +10,10 @@ use Rattle.std.proofs.Math.Nat.{mul-div_cancel}
 use Rattle.tinystr_words.specs.Text.{IsStrictText, IsPaddedText, text_of, pad}
 use Rattle.tinystr_words.specs.Packed.{IsPacked}
 use Rattle.tinystr_words.proofs.Texts.{length-pad, text_of-pad}
-use Rattle.tinystr_words.proofs.Packing.{length-joined, AllPadded-packed, IsPacked-length}
+use Rattle.tinystr_words.proofs.Packing.{AllStrict, length-joined, AllPadded-packed, IsPacked-length}
 
 abbrev pub packed : ℕ → List (List ℕ) → List ℕ
 packed n ts = flat_map (λ (t : List ℕ). pad t n) ts
-
-abbrev pub AllStrict : ℕ → List (List ℕ) → Type 0
-AllStrict n ts = All (λ (t : List ℕ). IsStrictText t n) ts
 
 -- one more text
 pub packed-take_more : (n : ℕ) (ts : List (List ℕ)) (i : ℕ) (x bytes : List ℕ) → i < length ts → x ≡ get_or ts i x → bytes ≡ packed n (take i ts) → bytes ++ pad x n ≡ packed n (take (i + 1) ts)

@@ -6,7 +6,7 @@ use Rattle.std.specs.Map.{keys_of}
 use Rattle.std.specs.Ordering.{nat_cmp}
 use Rattle.std.proofs.lemmas.Slice.Eq.{bytes_eq-Decides}
 use Rattle.std.specs.declared.cmp.Ordering.TheVariants.{Less, Equal, Greater}
-use Rattle.std.proofs.lemmas.Bool.{cases_lt, false≢true}
+use Rattle.std.proofs.lemmas.Bool.{and_parts, cases_lt, false_from_ne_true, false≢true}
 use Rattle.std.proofs.lemmas.Bool.Decides.{nat_tests}
 use Rattle.std.proofs.lemmas.Cmp.{nat_list_cmp_total, tied_itself}
 use Rattle.std.proofs.lemmas.List.{get_or-drop, get_or-map, get_or-take, get_or_default, append-nil, length-drop, length-map, length-take, length-take-le, take-append-drop}
@@ -52,21 +52,13 @@ not_below_beginning (x ∷ p) (y ∷ t) h less =
       ]
     ]
 
-is_false : (b : Bool) → b ≢ true → b ≡ false
-is_false true h = absurd (h refl)
-is_false false h = refl
-
-both_true : (a b : Bool) → (a && b) ≡ true → (a ≡ true) × (b ≡ true)
-both_true true b h = (refl, h)
-both_true false b h = absurd (false≢true h)
-
 -- between p and a text that begins with p all begin with p
 begins-between : (p t s : List ℕ) → order t p ≢ Less → order t s ≢ Greater → begins p s ≡ true → begins p t ≡ true
 begins-between [] t s low high h = refl
 begins-between (x ∷ p) t [] low high h = absurd (false≢true h)
 begins-between (x ∷ p) [] (y ∷ s) low high h = absurd (low refl)
 begins-between (x ∷ p) (z ∷ t) (y ∷ s) low high h =
-    let parts = both_true (nat_eq x y) (begins p s) h in
+    let parts = and_parts (nat_eq x y) (begins p s) h in
     let same : y ≡ x = grind (arith, nat_tests, parts.0) in
     elim (cases_lt z x) [
       | inl less ↦ (let e : nat_cmp z x ≡ Less = grind (arith, nat_tests) in absurd (low (rw e refl)))
@@ -137,12 +129,12 @@ below_raised : (p t : List ℕ) (k i : ℕ) → i < length p → begins p t ≡ 
 below_raised [] t k i inside h = absurd (omega arith)
 below_raised (x ∷ p) [] k i inside h = absurd (false≢true h)
 below_raised (x ∷ p) (y ∷ t) k zero inside h =
-    let parts = both_true (nat_eq x y) (begins p t) h in
+    let parts = and_parts (nat_eq x y) (begins p t) h in
     let same : y ≡ x = grind (arith, nat_tests, parts.0) in
     let less : nat_cmp y (x + 1) ≡ Less = grind (arith, nat_tests) in
     rw less refl
 below_raised (x ∷ p) (y ∷ t) k (suc i) inside h =
-    let parts = both_true (nat_eq x y) (begins p t) h in
+    let parts = and_parts (nat_eq x y) (begins p t) h in
     let same : y ≡ x = grind (arith, nat_tests, parts.0) in
     let tie : nat_cmp x x ≡ Equal = grind (arith, nat_tests) in
     rw (same, tie) (below_raised p t k i (omega arith) parts.1)
@@ -196,7 +188,7 @@ IsPartitionPoint-raised records p n i m h low last fits found =
           let inside : j < length records = omega (arith, found.inside) in
           rw (get_or_default records j d [] inside) (begins-below_raised p (text_at records j) k i last (omega (arith, (h.each j inside).long)) (low.not_below j (omega arith) inside) (found.below j before)),
       λ j d behind inside.
-          rw (get_or_default records j d [] inside) (is_false (begins p (text_at records j)) (λ yes. found.not_below j behind inside (below_raised p (text_at records j) k i (omega arith) yes))),
+          rw (get_or_default records j d [] inside) (false_from_ne_true (begins p (text_at records j)) (λ yes. found.not_below j behind inside (below_raised p (text_at records j) k i (omega arith) yes))),
     )
 
 -- ---- what a filter keeps of a list of three parts
@@ -229,7 +221,7 @@ IsPrefixRange-counted records rest ts p n i m h view text first cut parts count 
     record {
       ordered = omega arith;
       inside = omega (arith, first.inside);
-      before = λ k below. is_false (begins p (text_at ts k)) (λ yes. not_below_beginning p (text_at ts k) yes (first.below k below));
+      before = λ k below. false_from_ne_true (begins p (text_at ts k)) (λ yes. not_below_beginning p (text_at ts k) yes (first.below k below));
       within = λ k from to.
           let place : i + (k - i) ≡ k = omega arith in
           sym (begins-text records ts p [] n k h view text (omega (arith, first.inside))) ∙ (rw (cut, get_or-drop, place) at (parts.0 (k - i) [] (omega arith) (omega arith)));

@@ -51,11 +51,11 @@ nat_lt-slice_cmp xs ys x y same fits a b ex ey = rw (← slice_cmp-numbers xs ys
 
 -- ---- records of at most eight bytes
 
-is_lt-short : (xs ys : List ℕ) (n : ℕ) → n ≤ 8 → IsRecord n xs → IsRecord n ys → nat_lt (number_at 0 xs) (number_at 0 ys) ≡ is_lt (slice_cmp nat_cmp xs ys)
+pub is_lt-short : (xs ys : List ℕ) (n : ℕ) → n ≤ 8 → IsRecord n xs → IsRecord n ys → nat_lt (number_at 0 xs) (number_at 0 ys) ≡ is_lt (slice_cmp nat_cmp xs ys)
 is_lt-short xs ys n short x y =
     rw (← slice_cmp-numbers xs ys (number_at 0 xs) (number_at 0 ys) (x.long ∙ sym y.long) (omega (arith, x.long)) x.bytes y.bytes (number_at-short xs (omega (arith, x.long))) (number_at-short ys (omega (arith, y.long)))) (sym (is_lt-nat_cmp (number_at 0 xs) (number_at 0 ys)))
 
-not_below-short : (xs ys : List ℕ) (n : ℕ) → n ≤ 8 → IsRecord n xs → IsRecord n ys → number_at 0 ys ≤ number_at 0 xs → order xs ys ≢ Less
+pub not_below-short : (xs ys : List ℕ) (n : ℕ) → n ≤ 8 → IsRecord n xs → IsRecord n ys → number_at 0 ys ≤ number_at 0 xs → order xs ys ≢ Less
 not_below-short xs ys n short x y le less =
     let test = is_lt-short xs ys n short x y in
     let fewer = ltb-true (number_at 0 xs) (number_at 0 ys) (test ∙ rw less refl) in
@@ -105,7 +105,7 @@ Less-long xs ys n s fits x y same less =
     slice_cmp-same_start s xs ys same ∙ cut ∙ ap (λ (o : Ordering). ordering_then o (slice_cmp nat_cmp (drop 8 (drop s xs)) (drop 8 (drop s ys)))) (sym (nat_cmp_is (number_at s xs) (number_at s ys) Less less))
 
 -- what is above isn't below
-turned : (xs ys : List ℕ) → order ys xs ≡ Less → order xs ys ≢ Less
+pub turned : (xs ys : List ℕ) → order ys xs ≡ Less → order xs ys ≢ Less
 turned xs ys above less =
     let other = nat_list_cmp_total.antisymm xs ys in
     cc
@@ -147,11 +147,11 @@ begin_alike-next xs ys n s next fits le x y same number =
 
 -- ---- records that sixteen bytes tell apart
 
-pair_at-parts : (raw : List ℕ) (n s : ℕ) → IsRecord n raw → pair_at s raw ≡ number_at s raw * 18446744073709551616 + number_at (min (s + 8) (n - 8)) raw
+pub pair_at-parts : (raw : List ℕ) (n s : ℕ) → IsRecord n raw → pair_at s raw ≡ number_at s raw * 18446744073709551616 + number_at (min (s + 8) (n - 8)) raw
 unfolding pair_at
 pair_at-parts raw n s h = rw h.long refl
 
-Less-pair : (xs ys : List ℕ) (n s : ℕ) → s + 8 ≤ n → IsRecord n xs → IsRecord n ys → take s xs ≡ take s ys → pair_at s xs < pair_at s ys → order xs ys ≡ Less
+pub Less-pair : (xs ys : List ℕ) (n s : ℕ) → s + 8 ≤ n → IsRecord n xs → IsRecord n ys → take s xs ≡ take s ys → pair_at s xs < pair_at s ys → order xs ys ≡ Less
 Less-pair xs ys n s fits x y same less =
     let next = min (s + 8) (n - 8) in
     let inside : next + 8 ≤ n = omega arith in
@@ -172,7 +172,7 @@ Tells-pair records key n s fits h is_record alike = record {
 }
 
 -- which are all of a record of nine to sixteen
-same-pair : (xs ys : List ℕ) (n : ℕ) → 8 < n → n ≤ 16 → IsRecord n xs → IsRecord n ys → pair_at 0 xs ≡ pair_at 0 ys → xs ≡ ys
+pub same-pair : (xs ys : List ℕ) (n : ℕ) → 8 < n → n ≤ 16 → IsRecord n xs → IsRecord n ys → pair_at 0 xs ≡ pair_at 0 ys → xs ≡ ys
 same-pair xs ys n long short x y is =
     let next = min (0 + 8) (n - 8) in
     let inside : next + 8 ≡ n = omega arith in

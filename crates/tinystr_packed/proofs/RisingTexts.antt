@@ -109,7 +109,7 @@ abbrev pub is_below_key : List ℕ → List ℕ → Bool
 is_below_key key raw = is_lt (slice_cmp nat_cmp raw key)
 
 -- no byte of a padded text is above 127
-ascii-padded : (raw : List ℕ) (n i : ℕ) → IsPaddedText raw n → get_or raw i 0 < 128
+pub ascii-padded : (raw : List ℕ) (n i : ℕ) → IsPaddedText raw n → get_or raw i 0 < 128
 ascii-padded raw n i h = rw (h.padded, get_or-pad (text_of raw) n i) (elim (cases_lt i (length (text_of raw))) [
   | inl inside ↦ (let char = h.text i 0 inside in omega arith)
   | inr past ↦ (let none = get_or_past (text_of raw) i 0 past in omega arith)

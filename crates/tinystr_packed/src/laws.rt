@@ -1,10 +1,10 @@
 //! Laws of packed bytes, each a function whose contract is the law.
 
-ghost use Rattle.std.specs.Prelude.{◌≡◌, ◌<◌, ◌*◌, ◌↔◌, ℕ, List, All, IsTrue, length};
+ghost use Rattle.std.specs.Prelude.{◌≡◌, ◌<◌, ◌*◌, ◌↔◌, ℕ, List, All, IsTrue, None, length};
 ghost use Rattle.std.specs.List.{flat_map};
 ghost use Rattle.std.specs.Map.{keys_of, values_of};
 ghost use Rattle.tinystr_words.specs.Text.{IsStrictText, pad};
-ghost use Rattle.tinystr_packed.specs.Map.{ArePacked};
+ghost use Rattle.tinystr_packed.specs.Map.{ArePacked, get};
 ghost use Rattle.tinystr_packed.specs.Reading.{are_packed};
 ghost use Rattle.tinystr_packed.specs.Rising.{IsRising, is_rising};
 ghost use Rattle.tinystr_packed.specs.TextMap.{ArePackedTexts};
@@ -68,18 +68,21 @@ pub fn sorted_texts<const N: usize>(sorted: &SortedTable<'_, N>)
     let _ = sorted.table().len();
 }
 
-/// The keys of a map fit in `N` bytes and rise.
+/// The keys of a map fit in `N` bytes and rise, and a text that doesn't fit has no value.
 pub fn map_keys<const N: usize, const M: usize>(map: &PackedMap<'_, N, M>)
     ensures strict { All (λ t. IsStrictText t N) (keys_of map.now) }
     ensures rising { IsRising (keys_of map.now) }
+    ensures absent { (key : List ℕ) → ¬ IsStrictText key N → get map.now key ≡ None }
 {
     sorted_texts(map.keys());
 }
 
-/// The keys of a map of texts fit in `N` bytes and rise, and its texts fit in `M` bytes.
+/// The keys of a map of texts fit in `N` bytes and rise, a text that doesn't fit has no value, and the map's texts fit in
+/// `M` bytes.
 pub fn text_map_texts<const N: usize, const M: usize>(map: &TextMap<'_, N, M>)
     ensures strict { All (λ t. IsStrictText t N) (keys_of map.now) }
     ensures rising { IsRising (keys_of map.now) }
+    ensures absent { (key : List ℕ) → ¬ IsStrictText key N → get map.now key ≡ None }
     ensures texts { All (λ t. IsStrictText t M) (values_of map.now) }
 {
     let keys = map.keys();

@@ -3,6 +3,8 @@
 #![tactic(auto)]
 
 mod counting;
+mod each;
+mod eight;
 pub mod in_place;
 pub mod laws;
 mod map;
@@ -10,13 +12,15 @@ mod number;
 mod packing;
 mod record;
 mod search;
+mod side_by_side;
 mod sorted;
 mod sorting;
 mod table;
 mod text_map;
 
 pub use counting::count_texts;
-pub use map::{Entries, MapError, PackedMap};
+pub use each::BinarySearchEach;
+pub use map::{Entries, GetEach, MapError, PackedMap};
 pub use packing::{pack, pack_map, pack_text_map, unpack};
 pub use sorted::{NotRising, SortedError, SortedTable};
 pub use sorting::pack_sorted;

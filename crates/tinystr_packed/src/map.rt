@@ -1,6 +1,6 @@
 //! Maps whose keys and values are packed, read in place.
 
-ghost use Rattle.std.specs.Prelude.{◌≡◌, ◌<◌, ◌^◌, ◌↔◌, [], List, ℕ, filter, is_some, length, nat_eq, IsOk, IsTrue, IfOk, IfErr};
+ghost use Rattle.std.specs.Prelude.{◌≡◌, ◌<◌, ◌^◌, ◌↔◌, [], List, ℕ, filter, is_some, length, map, nat_eq, IsOk, IsTrue, IfOk, IfErr};
 ghost use Rattle.std.specs.Iterator.{YieldsFirstBy, item_count};
 ghost use Rattle.std.specs.List.{starts_with};
 ghost use Rattle.std.specs.Map.{keys_of, values_of};
@@ -10,6 +10,7 @@ ghost use Rattle.tinystr_packed.specs.Map.{ArePacked, RefusesMap, get};
 ghost use Rattle.tinystr_packed.specs.Reading.{map_of};
 ghost use Rattle.tinystr_packed.specs.Rising.{IsRising};
 
+use crate::each::BinarySearchEach;
 use crate::sorted::{NotRising, SortedTable};
 use crate::table::{Table, Texts};
 use std::marker::Model;
@@ -128,6 +129,26 @@ impl<'a, const N: usize, const M: usize> PackedMap<'a, N, M> {
         }
     }
 
+    /// What `get` gives for each of many keys, in their order. `SortedTable::binary_search_each` tells what it saves.
+    ///
+    /// ```rust
+    /// let places = PackedMap::<3, 1>::new(b"EURJPY", &[2, 0]).unwrap();
+    /// let keys = [tinystr!(3, "JPY")?, tinystr!(3, "CHF")?];
+    /// let mut values = places.get_each(&keys);
+    /// assert_eq!(rt; values.next(), Some(Some(&[0])));
+    /// assert_eq!(rt; values.next(), Some(None));
+    /// assert_eq!(rt; values.next(), None);
+    /// ```
+    pub fn get_each<'k>(&self, keys: &'k [TinyAsciiStr<N>]) -> GetEach<'a, 'k, N, M>
+        ensures values { result ≡ map (get self.now) keys.now }
+        ensures rising { IsRising (keys_of self.now) }
+    {
+        GetEach {
+            answers: self.keys.binary_search_each(keys),
+            values: self.values,
+        }
+    }
+
     /// Whether the map has a key.
     pub fn contains_key(&self, key: &TinyAsciiStr<N>) -> bool
         ensures { result ≡ is_some (get self.now key.now) }
@@ -226,5 +247,55 @@ impl<'a, const N: usize, const M: usize> Iterator for Entries<'a, N, M> {
     fn size_hint(&self) -> (usize, Option<usize>) {
         let len = self.values.len();
         (len, Some(len))
+    }
+}
+
+/// What `PackedMap::get` gives for each of many keys, in their order. A clause sees the values that are left.
+///
+/// ```rust
+/// let places = PackedMap::<3, 1>::new(b"EURJPY", &[2, 0]).unwrap();
+/// let keys = [tinystr!(3, "JPY")?, tinystr!(3, "CHF")?];
+/// let mut found = places.get_each(&keys);
+/// assert!(rt; found.any(|value| value.is_none()));
+/// ```
+#[derive(Drop)]
+pub struct GetEach<'a, 'k, const N: usize, const M: usize> {
+    answers: BinarySearchEach<'a, 'k, N>,
+    values: &'a [[u8; M]],
+}
+
+impl<'a, 'k, const N: usize, const M: usize> Model for GetEach<'a, 'k, N, M> {
+    ghost use Rattle.std.specs.Prelude.{List, ℕ, map};
+    ghost use Rattle.std.specs.declared.option.Option.{Option};
+    ghost use Rattle.tinystr_packed.specs.Search.{value_at};
+
+    ghost Value = { List (Option (List ℕ)) };
+
+    ghost view = { λ s. map (value_at s.values.now) s.answers };
+}
+
+impl<'a, 'k, const N: usize, const M: usize> Iterator for GetEach<'a, 'k, N, M> {
+    type Item = Option<&'a [u8; M]>;
+
+    ghost next_gives = { YieldsFirstBy (λ value. option_copied value) (λ rest. rest) };
+
+    ghost remaining = { item_count (λ rest. rest) };
+
+    #[inline]
+    fn next(&mut self) -> Option<Option<&'a [u8; M]>> {
+        match self.answers.next()? {
+            Ok(index) => Some(self.values.get(index)),
+            Err(_) => Some(None),
+        }
+    }
+
+    fn size_hint(&self) -> (usize, Option<usize>) {
+        self.answers.size_hint()
+    }
+}
+
+impl<'a, 'k, const N: usize, const M: usize> ExactSizeIterator for GetEach<'a, 'k, N, M> {
+    fn len(&self) -> usize {
+        self.answers.len()
     }
 }

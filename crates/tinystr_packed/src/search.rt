@@ -17,7 +17,7 @@ use std::hint::select_unpredictable;
 use std::ops::Range;
 use tinystr::TinyAsciiStr;
 
-// Below this number, records of more than sixteen bytes are compared whole: to narrow their range first takes longer.
+/// Below this number, records of more than sixteen bytes are compared whole: to narrow their range first takes longer.
 const FEW: usize = 32;
 
 /// The index of the first record that isn't below a key, or the number of records.
@@ -107,9 +107,9 @@ fn first_not_below_near_start<const N: usize>(records: &[[u8; N]], key: &[u8; N]
     start + first_not_below(&records[start..end], key)
 }
 
-// Whether there is a record at an index, and it is below a key.
+/// Whether there is a record at an index, and it is below a key.
 #[inline(always)]
-fn is_below_at<const N: usize>(records: &[[u8; N]], index: usize, key: &[u8; N]) -> bool
+pub(crate) fn is_below_at<const N: usize>(records: &[[u8; N]], index: usize, key: &[u8; N]) -> bool
     ensures { IsTrue result ↔ ((index < length records.now) × (order (text_at records.now index) key.now ≡ Less)) }
 {
     index < records.len() && is_below(&records[index][..], &key[..])
@@ -200,10 +200,10 @@ pub(crate) fn first_not_below_by_halves<const N: usize>(records: &[[u8; N]], key
     )
 }
 
-// How many bytes the key and all records share in front, counted by eights, and at most all but the last eight. It only
-// guides: by a lower number the same place is found.
+/// How many bytes the key and all records share in front, counted by eights, and at most all but the last eight. It only
+/// guides: by a lower number the same place is found.
 #[inline(always)]
-fn shared_len<const N: usize>(records: &[[u8; N]], key: &[u8; N]) -> usize
+pub(crate) fn shared_len<const N: usize>(records: &[[u8; N]], key: &[u8; N]) -> usize
     requires long { 8 < N }
     requires records { AreRisingRecords N records.now }
     requires key { IsRecord N key.now }

@@ -178,6 +178,15 @@ impl<'a, const N: usize> Table<'a, N> {
         }
     }
 
+    // The same table.
+    #[inline(always)]
+    pub(crate) fn copied(&self) -> Table<'a, N>
+        ensures { result ≡ self.now }
+    {
+        let all = self.records;
+        Table { records: all }
+    }
+
     // The records themselves.
     #[inline(always)]
     pub(crate) fn records(&self) -> &'a [[u8; N]]

@@ -4,6 +4,8 @@
 #[cfg(test)]
 mod counting;
 #[cfg(test)]
+mod each;
+#[cfg(test)]
 mod errors;
 #[cfg(test)]
 mod many;

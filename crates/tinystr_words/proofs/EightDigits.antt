@@ -4,7 +4,7 @@ use lib.Count.{count_trailing_zeros, under}
 use Rattle.std.proofs.Math.Nat.{pow-suc, mul_assoc, mul_comm, mul-le-mul_right, mul-mod_left}
 use Rattle.std.proofs.lemmas.Bool.{cases_lt}
 use Rattle.std.proofs.lemmas.Fmt.{decimal_nonempty}
-use Rattle.std.proofs.lemmas.List.{length-take-le}
+use Rattle.std.proofs.lemmas.List.{drop_at, length-replicate, length-take-le}
 use Rattle.std.proofs.lemmas.List.Elements.{All-head, All-tail, All-drop}
 use Rattle.std.proofs.lemmas.Nat.{and_block, and_mask, or_block, or_mod, le_or_l, le_or_r, mod-pow-add, pow-add, pow_pos, div-mul-add}
 use Rattle.std.proofs.lemmas.Simd.{Each1-chunk}
@@ -15,7 +15,7 @@ use Rattle.tinystr_words.specs.Text.{IsTextByte, IsText}
 use Rattle.tinystr_words.specs.Words.{word}
 use Rattle.tinystr_words.proofs.Decimals.{word_onto, word_is_onto, word_onto-two_digits, word_onto-one_digit}
 use Rattle.tinystr_words.proofs.Lanes.{IsBytes, IsBytes-from_IsText, word-lt}
-use Rattle.tinystr_words.proofs.Numerals.{IsDigit, IsText-decimal, digits-decimal, no_leading_zero, eight_digits, digits-eight_digits, length-eight_digits, eight_digits-zeros, eight_digits-last, drop-zeros}
+use Rattle.tinystr_words.proofs.Numerals.{IsDigit, IsText-decimal, digits-decimal, no_leading_zero, eight_digits, digits-eight_digits, length-eight_digits, eight_digits-zeros, eight_digits-last}
 use Rattle.tinystr_words.proofs.WordAsNumber.{pow_256}
 use Rattle.tinystr_words.proofs.WordFromPieces.{word_split}
 
@@ -241,6 +241,6 @@ word-last k n v z some most fits is whole cut =
           let told : z ≡ j = whole all ∙ ap (λ w. count_trailing_zeros 64 (bit_or w (2 ^ 56)) / 8) (same ∙ ap (λ (l : List ℕ). word (values l)) zeros)
           ∙ trailing-digits j (decimal n) (omega arith) (digits-decimal n (omega arith)) (no_leading_zero n (omega arith)) one in
           let none : length (decimal n) - k ≡ 0 = omega arith in
-          left j told (omega arith) (ap (λ (l : List ℕ). drop j l) zeros ∙ drop-zeros j (decimal n) ∙ sym (ap (λ i. drop i (decimal n)) none))
+          left j told (omega arith) (ap (λ (l : List ℕ). drop j l) zeros ∙ drop_at (replicate j 48) (decimal n) j (length-replicate {A = ℕ} j 48) ∙ sym (ap (λ i. drop i (decimal n)) none))
           )
     ]

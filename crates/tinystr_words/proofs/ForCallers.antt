@@ -5,13 +5,15 @@ use Rattle.std.specs.Char.{is_ascii_alphabetic, is_ascii_alphanumeric, is_ascii_
 use Rattle.std.specs.Cmp.Lexicographic.{slice_cmp}
 use Rattle.std.specs.Fmt.{char_count, decimal, padded, spec_fill, styled_text, take_chars}
 use Rattle.std.specs.Int.{IsInRange}
-use Rattle.std.specs.List.{after_first, before_first, flat_map, join_with_byte, list_all, position, position_or_len, slice_index, slice_index_or, slice_split}
+use Rattle.std.specs.List.{after_first, before_first, flat_map, join_with_byte, list_all, list_any, position, position_or_len, slice_index, slice_index_or, slice_split}
 use Rattle.std.specs.Ordering.{nat_cmp}
-use Rattle.std.specs.Str.{str_to_ascii_lowercase, str_to_ascii_uppercase}
+use Rattle.std.specs.Str.{bytes_eq, str_to_ascii_lowercase, str_to_ascii_uppercase}
 use Rattle.std.specs.declared.cmp.Ordering.TheVariants.{Less, Equal}
+use Rattle.std.proofs.lemmas.Bool.{false≢true}
 use Rattle.std.proofs.lemmas.Bool.Decides.{nat_tests}
-use Rattle.std.proofs.lemmas.List.{append-nil, get_or-replicate, length-append, length-map, length-replicate, map-append, take_all, take_at}
+use Rattle.std.proofs.lemmas.List.{append-nil, drop_at, get_or-replicate, length-append, length-map, length-replicate, map-append, take_all, take_at}
 use Rattle.std.proofs.lemmas.List.Splits.{join_with_byte-slice_split}
+use Rattle.std.proofs.lemmas.Slice.Eq.{bytes_eq-Decides}
 use Rattle.tinystr_words.specs.ByteForm.{byte_fault}
 use Rattle.tinystr_words.specs.Case.{lower, raise, lowercase, titlecase, uppercase}
 use Rattle.tinystr_words.specs.Classes.{ask, is_alphabetic, is_alphanumeric, is_digit, is_lower, is_upper, is_not_lower, is_not_upper}
@@ -33,7 +35,7 @@ use Rattle.tinystr_words.proofs.Parts.{IsStrictText-after_first, IsStrictText-be
 use Rattle.tinystr_words.proofs.Printing.{char_count-text, length-padded, padded-before, padded-behind, padded-between, styled-padded, take_chars-text}
 use Rattle.tinystr_words.proofs.Readers.{IsScanned-none, fault_in-fits, first_fault-high}
 use Rattle.tinystr_words.proofs.SameAsStd.{is_alphanumeric-std, lower-std, lowercase-std, raise-std, uppercase-std}
-use Rattle.tinystr_words.proofs.Texts.{IsAscii-padded, IsPaddedText-pad, length-pad}
+use Rattle.tinystr_words.proofs.Texts.{IsAscii-padded, IsPaddedText-pad, length-pad, text_of-pad}
 use Rattle.tinystr_words.proofs.Texts as texts
 use Rattle.tinystr_words.proofs.TextsByPieces.{ask-append, ask-same, in_case-append, length-in_case}
 use Rattle.tinystr_words.proofs.TextsDecided.{is_packed-Decides, is_padded_text-Decides, is_strict_text-Decides, is_text_byte-Decides}
@@ -228,12 +230,23 @@ class_texts_upper t h = IsText-asked is_upper is_upper (λ b k. grind (arith, na
 
 pub ruleset class_texts = (class_texts_alphanumeric, class_texts_alphabetic, class_texts_digit, class_texts_lower, class_texts_title, class_texts_upper)
 
--- A padded text is read back as its text, whatever follows it.
+-- A text that is one of a list fits if each of the list does.
+pub listed_texts : (t : List ℕ) (ts : List (List ℕ)) (n : ℕ) → IsTrue (list_all (λ s. is_strict_text s n) ts) → IsTrue (list_any (bytes_eq t) ts) → IsStrictText t n
+listed_texts t [] n fit one = absurd (false≢true one)
+listed_texts t (s ∷ ts) n fit one = let others = listed_texts t ts n in let same = bytes_eq-Decides t s in let fits = is_strict_text-Decides s n in grind (arith, same, fits, others)
+
+-- A padded text is read back as its text, whatever follows it, and what follows it is the rest.
 pub bytes_back_clean : (t rest : List ℕ) (n : ℕ) → IsStrictText t n → byte_fault n (pad t n ++ rest) ≡ None
 bytes_back_clean = byte_fault-padded
 
 pub bytes_back_first : (t rest : List ℕ) (n : ℕ) → IsStrictText t n → take n (pad t n ++ rest) ≡ pad t n
 bytes_back_first t rest n h = take_at (pad t n) rest n (length-pad t n h.fits)
+
+pub bytes_back_text : (t rest : List ℕ) (n : ℕ) → IsStrictText t n → text_of (take n (pad t n ++ rest)) ≡ t
+bytes_back_text t rest n h = rw (take_at (pad t n) rest n (length-pad t n h.fits)) (text_of-pad t n h.text)
+
+pub bytes_back_rest : (t rest : List ℕ) (n : ℕ) → IsStrictText t n → drop n (pad t n ++ rest) ≡ rest
+bytes_back_rest t rest n h = drop_at (pad t n) rest n (length-pad t n h.fits)
 
 pub bytes_back_strict : (t : List ℕ) (n : ℕ) → IsText t → length t ≤ n → IsStrictText t n
 bytes_back_strict t n text fits = record { text = text; fits = fits }
@@ -246,7 +259,7 @@ bytes_back_alone bytes n h =
 pub bytes_back_front : (input : List ℕ) (n : ℕ) → n ≤ length input → IsPaddedText (take n input) n → byte_fault n input ≡ None
 bytes_back_front input n = byte_fault-first_padded n input
 
-pub ruleset bytes_back = (bytes_back_clean, bytes_back_first, bytes_back_strict, bytes_back_alone, bytes_back_front)
+pub ruleset bytes_back = (bytes_back_clean, bytes_back_first, bytes_back_text, bytes_back_rest, bytes_back_strict, bytes_back_alone, bytes_back_front)
 
 -- Texts without the separator come back if they are joined by it and then split, and a text comes back if it is split
 -- and then joined. Each part of a text that fits also fits.

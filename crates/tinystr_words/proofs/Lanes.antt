@@ -2,6 +2,7 @@
 use Rattle.std.proofs.Common.{ℕ, zero, suc, ◌+◌, ◌-◌, ◌*◌, ◌/◌, ◌%◌, ◌^◌, ◌<◌, ◌≡◌, Bool, true, false, ◌&&◌, List, [], ◌∷◌, ◌++◌, length, get_or, refl, sym, ap, ◌∙◌, arith, bit_and, bit_or, nat_eq, Fits, w8}
 use Rattle.std.proofs.Math.Nat.{pow-suc}
 use Rattle.std.proofs.Math.Facts.{Fits-lt-pow}
+use Rattle.std.proofs.lemmas.Bool.{and_parts}
 use Rattle.std.proofs.lemmas.Bool.Decides.{Decides-below_and, nat_tests}
 use Rattle.std.proofs.lemmas.Nat.{and_block, or_block, xor_block}
 use Rattle.std.specs.Int.Bits.{bit_xor}
@@ -21,11 +22,6 @@ below p (suc n) = p n && below p n
 pub below_at : (p : ℕ → Bool) (n : ℕ) → below p n ≡ true → (b : ℕ) → b < n → p b ≡ true
 below_at p n h = (Decides-below_and p (λ b. p b ≡ true) (below p) (λ b. (λ e. e, λ e. e)) refl (λ m. refl) n).0 h
 
--- each of two tests
-both_true : (p q : Bool) → (p && q) ≡ true → (p ≡ true) × (q ≡ true)
-both_true true q h = (refl, h)
-both_true false q h = cc
-
 -- of each ASCII byte, as the first and as a later one
 unfoldable pub everywhere : (Bool → ℕ → Bool) → Bool
 everywhere p = below (λ b. p true b && p false b) 128
@@ -33,8 +29,8 @@ everywhere p = below (λ b. p true b && p false b) 128
 -- a test that computing finds true everywhere is true of each ASCII byte
 pub true_from_everywhere : (p : Bool → ℕ → Bool) → everywhere p ≡ true → (i : Bool) (b : ℕ) → b < 128 → p i b ≡ true
 unfolding everywhere
-true_from_everywhere p h true b l = (both_true (p true b) (p false b) (below_at (λ b. p true b && p false b) 128 h b l)).0
-true_from_everywhere p h false b l = (both_true (p true b) (p false b) (below_at (λ b. p true b && p false b) 128 h b l)).1
+true_from_everywhere p h true b l = (and_parts (p true b) (p false b) (below_at (λ b. p true b && p false b) 128 h b l)).0
+true_from_everywhere p h false b l = (and_parts (p true b) (p false b) (below_at (λ b. p true b && p false b) 128 h b l)).1
 
 -- ---- words of bytes
 

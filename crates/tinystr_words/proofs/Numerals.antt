@@ -98,11 +98,6 @@ number_of-zeros : (j : ℕ) (l : List ℕ) → number_of (replicate j 48 ++ l) �
 number_of-zeros zero l = refl
 number_of-zeros (suc j) l = omega (arith, number_of-zeros j l)
 
--- and go away
-pub drop-zeros : (j : ℕ) (l : List ℕ) → drop j (replicate j 48 ++ l) ≡ l
-drop-zeros zero l = refl
-drop-zeros (suc j) l = drop-zeros j l
-
 -- the digits behind a 1 that keeps their zeros
 abbrev pub eight_digits : ℕ → List ℕ
 eight_digits n = drop 1 (decimal (10 ^ 8 + n % 10 ^ 8))

@@ -8,7 +8,8 @@ use Rattle.std.proofs.lemmas.List.{length-append, length-drop, length-take, drop
 use Rattle.std.proofs.lemmas.List.Elements.{All-append, All-more, All-nil, All-cons, All-get_or, All-head, All-tail}
 use Rattle.tinystr_words.specs.Text.{IsStrictText, IsPaddedText, text_of, pad}
 use Rattle.tinystr_words.specs.Reading.{fault_in}
-use Rattle.tinystr_words.specs.Packed.{IsPacked, record_at, IsFirstBad, IsFirstUnpadded}
+use Rattle.tinystr_words.specs.Packed.{IsPacked, record_at, IsFirstBad}
+use Rattle.tinystr_words.specs.RecordLists.{IsFirstUnpadded}
 use Rattle.tinystr_words.proofs.Texts.{IsPaddedText-pad, length-pad, text_of-pad}
 
 abbrev padded : ℕ → List ℕ → List ℕ
@@ -17,7 +18,7 @@ padded n t = pad t n
 abbrev AllPadded : ℕ → List (List ℕ) → Type 0
 AllPadded n records = All (λ raw. IsPaddedText raw n) records
 
-abbrev AllStrict : ℕ → List (List ℕ) → Type 0
+abbrev pub AllStrict : ℕ → List (List ℕ) → Type 0
 AllStrict n ts = All (λ t. IsStrictText t n) ts
 
 -- texts that are padded to n bytes and joined have n bytes for each

@@ -10,6 +10,7 @@ use Rattle.std.proofs.lemmas.List.Elements.{All-append, All-cons, All-drop, All-
 use Rattle.std.proofs.lemmas.List.Splits.{length-slice_split, slice_split_at, slice_split_first, slice_split_none}
 use Rattle.tinystr_words.specs.Classes.{ask}
 use Rattle.tinystr_words.specs.Text.{IsStrictText, IsText, IsTextByte}
+use Rattle.tinystr_words.proofs.Packing.{AllStrict}
 use Rattle.tinystr_words.proofs.TextsByPieces.{ask-same}
 
 -- ---- cut at a place
@@ -30,9 +31,6 @@ pub IsStrictText-after_first : (p : ℕ → Bool) (t : List ℕ) (n : ℕ) → I
 IsStrictText-after_first p t n h = IsStrictText-drop (position_or_len p t + 1) t n h
 
 -- ---- split
-
-abbrev AllStrict : ℕ → List (List ℕ) → Type 0
-AllStrict n ts = All (λ t. IsStrictText t n) ts
 
 AllStrict-weaker : (n m : ℕ) (ts : List (List ℕ)) → n ≤ m → AllStrict n ts → AllStrict m ts
 AllStrict-weaker n m ts le h =

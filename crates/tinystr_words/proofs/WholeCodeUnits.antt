@@ -1,5 +1,5 @@
 -- Code units that were read as a whole, and their array.
-use Rattle.std.proofs.Common.{Bool, IsTrue, List, ap, arith, false, get_or, inl, inr, length, map, not, set, sym, take, true, ℕ, ◌+◌, ◌<◌, ◌||◌, ◌%◌, ◌↔◌, ◌∙◌, ◌≡◌, ◌≤◌}
+use Rattle.std.proofs.Common.{Bool, IsTrue, List, ap, arith, false, get_or, inl, inr, length, map, set, sym, take, true, ℕ, ◌+◌, ◌<◌, ◌&&◌, ◌%◌, ◌↔◌, ◌∙◌, ◌≡◌, ◌≤◌}
 use Rattle.std.proofs.lemmas.List.{get_or-map, get_or_past, length-map, length-take, take-map, take_all}
 use Rattle.std.proofs.lemmas.List.Elements.{All-from_get_or, All-map, All-weaker}
 use Rattle.std.proofs.lemmas.Bool.{cases_lt}
@@ -16,22 +16,22 @@ use Rattle.tinystr_words.proofs.Copying.{IsPaddedText-pad_take, pad-full}
 use Rattle.std.proofs.lemmas.Bool.Decides.{nat_tests}
 
 abbrev Tested : Bool → List ℕ → ℕ → ℕ → Type 0
-Tested is_bad units i j = MatchBool is_bad (¬ IsText units) ((k : ℕ) → i ≤ k → k < j → IsTextByte (get_or units k 0))
+Tested all units i j = MatchBool all ((k : ℕ) → i ≤ k → k < j → IsTextByte (get_or units k 0)) (¬ IsText units)
 
 -- one more code unit tested
-Tested-more : (units : List ℕ) (i j : ℕ) (bad char : Bool) → j < length units → Tested bad units i j → (IsTrue char ↔ IsTextByte (get_or units j 0)) → Tested (bad || not char) units i (j + 1)
-Tested-more units i j true char inside h is = h
-Tested-more units i j false true inside h is = grind (arith, common_steps)
-Tested-more units i j false false inside h is = λ text. (let no : false ≡ true = is.1 (text j 0 inside) in grind arith)
+Tested-more : (units : List ℕ) (i j : ℕ) (all char : Bool) → j < length units → Tested all units i j → (IsTrue char ↔ IsTextByte (get_or units j 0)) → Tested (all && char) units i (j + 1)
+Tested-more units i j false char inside h is = h
+Tested-more units i j true true inside h is = grind (arith, common_steps)
+Tested-more units i j true false inside h is = λ text. (let no : false ≡ true = is.1 (text j 0 inside) in grind arith)
 
 -- characters are read as they are
 map-lossy_byte : (r : ℕ) (t : List ℕ) → IsText t → map (lossy_byte r) t ≡ t
 map-lossy_byte r t h = map_fixed (lossy_byte r) t (All-weaker IsTextByte (λ u. lossy_byte r u ≡ u) (λ u char. grind (arith, nat_tests)) t h)
 
 -- what was read from one end to the other
-pub IsReadPiece-whole : (is_bad : Bool) (bytes units : List ℕ) (r n : ℕ) → length units ≤ n → length bytes ≡ n
-    → IsReadPiece is_bad (NULS n) bytes units r 0 (length units) → bytes ≡ pad (map (lossy_byte r) units) n
-IsReadPiece-whole is_bad bytes units r n fits len read =
+pub IsReadPiece-whole : (all : Bool) (bytes units : List ℕ) (r n : ℕ) → length units ≤ n → length bytes ≡ n
+    → IsReadPiece all (NULS n) bytes units r 0 (length units) → bytes ≡ pad (map (lossy_byte r) units) n
+IsReadPiece-whole all bytes units r n fits len read =
     let made = map (lossy_byte r) units in
     let long : length made ≡ length units = length-map units (lossy_byte r) in
     same_number_lists bytes (pad made n) (len ∙ sym (length-pad made n (omega arith))) (λ k below. rw get_or-pad (elim (cases_lt k (length units)) [
@@ -46,12 +46,12 @@ IsPaddedText-text bytes units n fits text made =
     let strict : IsStrictText units n = record { text = text; fits = fits } in
     (strict, (IsPaddedText-made bytes units n made strict, text_of-made bytes units n made text))
 
--- where no code unit is bad, all are read as they are
+-- where all code units are characters, they are read as they are
 pub IsReadPiece-text : (bytes units : List ℕ) (r n : ℕ) → length units ≤ n → length bytes ≡ n
-    → IsReadPiece false (NULS n) bytes units r 0 (length units) → IsStrictText units n × (IsPaddedText bytes n × (text_of bytes ≡ units))
+    → IsReadPiece true (NULS n) bytes units r 0 (length units) → IsStrictText units n × (IsPaddedText bytes n × (text_of bytes ≡ units))
 IsReadPiece-text bytes units r n fits len read =
     let text : IsText units = All-from_get_or IsTextByte units 0 (λ k inside. read.tested k (omega arith) inside) in
-    IsPaddedText-text bytes units n fits text (IsReadPiece-whole false bytes units r n fits len read ∙ ap (λ (l : List ℕ). pad l n) (map-lossy_byte r units text))
+    IsPaddedText-text bytes units n fits text (IsReadPiece-whole true bytes units r n fits len read ∙ ap (λ (l : List ℕ). pad l n) (map-lossy_byte r units text))
 
 -- a text that fills its array
 pub IsPaddedText-full : {X : Type 0} (number : X → ℕ) (bytes : List ℕ) (units : List X) (n : ℕ) → length units ≡ n → IsText (map number units)
@@ -61,13 +61,13 @@ IsPaddedText-full number bytes units n len text made =
     IsPaddedText-text bytes (map number units) n (omega arith) text (made ∙ map-mod_text number units text ∙ sym (pad-full (map number units) n (omega arith)))
 
 -- one more code unit
-pub IsReadPiece-more : (old bytes units : List ℕ) (r i j x : ℕ) (bad char : Bool) → length units ≤ length bytes → j < length units → IsReadPiece bad old bytes units r i j
+pub IsReadPiece-more : (old bytes units : List ℕ) (r i j x : ℕ) (all char : Bool) → length units ≤ length bytes → j < length units → IsReadPiece all old bytes units r i j
     → (IsTrue char ↔ IsTextByte (get_or units j 0)) → x ≡ lossy_byte r (get_or units j 0)
-    → IsReadPiece (bad || not char) old (set bytes j x) units r i (j + 1)
-IsReadPiece-more old bytes units r i j x bad char room inside h is copy =
+    → IsReadPiece (all && char) old (set bytes j x) units r i (j + 1)
+IsReadPiece-more old bytes units r i j x all char room inside h is copy =
     let here : get_or (map (lossy_byte r) units) j 0 ≡ x = get_or-map (lossy_byte r) units j 0 0 inside ∙ sym copy in
     record {
-      tested = Tested-more units i j bad char inside h.tested is;
+      tested = Tested-more units i j all char inside h.tested is;
       read = grind (arith, common_steps);
       kept = grind (arith, common_steps);
     }

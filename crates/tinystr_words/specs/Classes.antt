@@ -1,8 +1,7 @@
 -- Classes of bytes, and the questions that texts are asked.
-use Rattle.std.specs.Prelude.{ℕ, ◌-◌, Bool, true, ◌&&◌, ◌||◌, not, List, [], ◌∷◌}
+use Rattle.std.specs.Prelude.{ℕ, Bool, true, ◌&&◌, ◌||◌, not, List, [], ◌∷◌}
 use Rattle.std.specs.Int.{is_in_range}
 use Rattle.std.specs.List.{list_all}
-use Rattle.tinystr_words.specs.declared.kernel.Range.{Range}
 
 abbrev pub is_upper : ℕ → Bool
 is_upper b = is_in_range 0x41 0x5A b
@@ -24,13 +23,6 @@ is_not_upper b = not (is_upper b)
 
 abbrev pub is_not_lower : ℕ → Bool
 is_not_lower b = not (is_lower b)
-
--- whether a byte is in a range, which is given by what sets its high bit: from the first byte on, and past the last
-abbrev pub is_in : Range → ℕ → Bool
-is_in r b = is_in_range (0x80 - r.low) (0x7f - r.high) b
-
-abbrev pub is_not_in : Range → ℕ → Bool
-is_not_in r b = not (is_in r b)
 
 -- whether the first byte is in one class and each later one in another; the empty text passes
 abbrev pub ask : (ℕ → Bool) → (ℕ → Bool) → List ℕ → Bool

@@ -10,3 +10,5 @@ pub mod ByteForm
 pub mod Packed
 pub mod ReadPieces
 pub mod Padded
+pub mod Ranges
+pub mod RecordLists

@@ -1,5 +1,5 @@
 -- Packed records: padded texts, one behind another.
-use Rattle.std.specs.Prelude.{◌≡◌, ℕ, ◌*◌, ◌/◌, ◌%◌, ◌<◌, ◌==◌, ◌&&◌, Bool, List, [], length, take, drop, slice_index_or, All}
+use Rattle.std.specs.Prelude.{◌≡◌, ℕ, ◌*◌, ◌/◌, ◌%◌, ◌<◌, ◌==◌, ◌&&◌, Bool, List, length, take, drop, All}
 use Rattle.std.specs.List.{flat_map, list_all}
 use Rattle.std.specs.Simd.{first_chunks}
 use Rattle.tinystr_words.specs.Text.{IsStrictText, IsPaddedText, pad, is_padded_text}
@@ -27,9 +27,3 @@ pub record IsFirstBad (bytes : List ℕ) (n i : ℕ) : Type 0 where
   pub inside : i * n < length bytes
   pub bad : ¬ IsPaddedText (record_at n bytes i) n
   pub before : (k : ℕ) → k < i → IsPaddedText (record_at n bytes k) n
-
--- in a list of records, the one at i is the first that isn't a padded text
-pub record IsFirstUnpadded (records : List (List ℕ)) (n i : ℕ) : Type 0 where
-  pub inside : i < length records
-  pub bad : ¬ IsPaddedText (slice_index_or records i []) n
-  pub before : All (λ raw. IsPaddedText raw n) (take i records)

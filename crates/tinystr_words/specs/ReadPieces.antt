@@ -8,8 +8,8 @@ abbrev pub IsSame : List ℕ → List ℕ → ℕ → Type 0
 IsSame bytes units k = slice_index bytes k ≡ slice_index units k
 
 -- Places i to j - 1 now hold the code units, with r for each non-character; the places that held theirs before still
--- do. If `is_bad` is false, the code units from i to j - 1 are characters. If it is true, some code unit isn't one.
-pub record IsReadPiece (is_bad : Bool) (old bytes units : List ℕ) (r i j : ℕ) : Type 0 where
-  pub tested : MatchBool is_bad (¬ IsText units) ((k : ℕ) → i ≤ k → k < j → IsTextByte (slice_index units k))
+-- do. If `are_characters` is true, the code units from i to j - 1 are characters. If it is false, some code unit isn't one.
+pub record IsReadPiece (are_characters : Bool) (old bytes units : List ℕ) (r i j : ℕ) : Type 0 where
+  pub tested : MatchBool are_characters ((k : ℕ) → i ≤ k → k < j → IsTextByte (slice_index units k)) (¬ IsText units)
   pub read : (k : ℕ) → i ≤ k → k < j → IsSame bytes (map (lossy_byte r) units) k
   pub kept : (k : ℕ) → IsSame old (map (lossy_byte r) units) k → IsSame bytes (map (lossy_byte r) units) k

@@ -5,9 +5,9 @@ ghost use Rattle.std.specs.Cmp.Lexicographic.{slice_cmp};
 ghost use Rattle.std.specs.Char.{is_ascii_alphabetic, is_ascii_alphanumeric, is_ascii_digit, is_ascii_lowercase, is_ascii_uppercase, to_ascii_lowercase, to_ascii_uppercase};
 ghost use Rattle.std.specs.Fmt.{char_count, decimal, padded, spec_fill, styled_text, take_chars};
 ghost use Rattle.std.specs.Int.{IsInRange};
-ghost use Rattle.std.specs.List.{after_first, before_first, flat_map, join_with_byte, list_all, slice_split};
+ghost use Rattle.std.specs.List.{after_first, before_first, flat_map, join_with_byte, list_all, list_any, slice_split};
 ghost use Rattle.std.specs.Ordering.{nat_cmp};
-ghost use Rattle.std.specs.Str.{str_to_ascii_lowercase, str_to_ascii_uppercase};
+ghost use Rattle.std.specs.Str.{bytes_eq, str_to_ascii_lowercase, str_to_ascii_uppercase};
 ghost use Rattle.std.specs.declared.cmp.Ordering.TheVariants.{Less, Equal};
 ghost use Rattle.tinystr_words.specs.ByteForm.{byte_fault};
 ghost use Rattle.tinystr_words.specs.Case.{lower, raise, lowercase, titlecase, uppercase};
@@ -181,13 +181,24 @@ pub fn class_texts()
     ensures upper { (t : List ℕ) → IsTrue (ask is_upper is_upper t) → IsText t }
 {}
 
-/// A padded text is read back as its text, whatever follows it.
+/// A text that is one of a list fits if each of the list does.
+#[tactic(auto, using(crate::proofs::ForCallers::listed_texts))]
+pub fn listed_texts()
+    ensures { (t : List ℕ) (ts : List (List ℕ)) (n : ℕ) → IsTrue (list_all (λ s. is_strict_text s n) ts) →
+        IsTrue (list_any (bytes_eq t) ts) → IsStrictText t n }
+{}
+
+/// A padded text is read back as its text, whatever follows it, and what follows it is the rest.
 #[tactic(auto, using(crate::proofs::ForCallers::bytes_back))]
 pub fn bytes_back()
     ensures clean { (t rest : List ℕ) (n : ℕ) → IsStrictText t n →
         byte_fault n (pad t n ++ rest) ≡ None }
     ensures first { (t rest : List ℕ) (n : ℕ) → IsStrictText t n →
         take n (pad t n ++ rest) ≡ pad t n }
+    ensures text { (t rest : List ℕ) (n : ℕ) → IsStrictText t n →
+        text_of (take n (pad t n ++ rest)) ≡ t }
+    ensures rest { (t rest : List ℕ) (n : ℕ) → IsStrictText t n →
+        drop n (pad t n ++ rest) ≡ rest }
     ensures strict { (t : List ℕ) (n : ℕ) → IsText t → length t ≤ n → IsStrictText t n }
     ensures alone { (bytes : List ℕ) (n : ℕ) → IsPaddedText bytes n → byte_fault n bytes ≡ None }
     ensures front { (input : List ℕ) (n : ℕ) → n ≤ length input → IsPaddedText (take n input) n →

@@ -6,7 +6,6 @@ ghost use Rattle.uses.specs.Airports.{IsAirportOf, IsRecord, RefusesField, recor
 use tinystr::TinyAsciiStr;
 use tinystr::forms::BytesReadError;
 use tinystr::laws::fits;
-use tinystr_words::laws::bytes_back;
 
 /// An airport, by its code, its country and its city.
 #[derive(Clone, Copy, Debug, PartialEq, Eq)]
@@ -82,7 +81,6 @@ impl Airport {
 pub fn through_record(airport: &Airport) -> Result<Airport, RecordError>
     ensures { result ≡ Ok airport.now }
 {
-    bytes_back();
     fits(&airport.code);
     fits(&airport.country);
     fits(&airport.city);

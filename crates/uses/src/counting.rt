@@ -12,7 +12,7 @@ use std::collections::BTreeMap;
 use tinystr::TinyAsciiStr;
 use tinystr_packed::count_texts;
 
-/// The codes of a list, in order. What isn't a code is left out. Only memory can stop it.
+/// The codes of a list, in order. What isn't a code is left out. It fails only if an allocation fails.
 pub fn codes_of(alloc: Global, texts: &[&str]) -> Result<Vec<TinyAsciiStr<3>>, AllocError>
     ensures { IfOk result (λ codes. codes.items ≡ filter_map (λ text. strict_of 3 text.now) texts.now) }
 {
@@ -22,7 +22,7 @@ pub fn codes_of(alloc: Global, texts: &[&str]) -> Result<Vec<TinyAsciiStr<3>>, A
         .collect(alloc)
 }
 
-/// How often each of these codes is one of the list. Only memory can stop it.
+/// How often each of these codes is one of the list. It fails only if an allocation fails.
 pub fn codes_counted(
     alloc: Global,
     texts: &[&str],
@@ -34,7 +34,7 @@ pub fn codes_counted(
     count_texts(alloc, codes.as_slice())
 }
 
-/// How often a code is one of a list. Only memory can stop it.
+/// How often a code is one of a list. It fails only if an allocation fails.
 pub fn times(
     alloc: Global,
     codes: &[TinyAsciiStr<3>],
@@ -46,7 +46,7 @@ pub fn times(
     Ok(counts.get(code).copied().unwrap_or(0))
 }
 
-/// Whether a code is one of a list, asked of the counted ones. Only memory can stop it.
+/// Whether a code is one of a list, asked of the counted ones. It fails only if an allocation fails.
 pub fn is_counted(
     alloc: Global,
     codes: &[TinyAsciiStr<3>],

@@ -22,3 +22,4 @@ pub mod script_code;
 pub mod tags;
 pub mod text_in_map;
 pub mod through_str;
+pub mod unit_column;

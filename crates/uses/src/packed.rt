@@ -59,7 +59,7 @@ pub fn value_in_map<const N: usize, const M: usize>(
     Ok(packed.get(key).copied())
 }
 
-/// The text of a key of a map, found in what that is packed to. Only memory can stop it.
+/// The text of a key of a map, found in the packed map. It fails only if an allocation fails.
 pub fn text_in_map<const N: usize, const M: usize>(
     alloc: Global,
     map: &BTreeMap<TinyAsciiStr<N>, TinyAsciiStr<M>>,

@@ -41,14 +41,14 @@ impl Display for Route {
     }
 }
 
-/// A route in brackets. Only memory can stop it.
+/// A route in brackets. It fails only if an allocation fails.
 pub fn in_brackets(route: &Route, alloc: Global) -> Result<String, AllocError>
     ensures { IfOk result (λ text. string_bytes text ≡ 0x5b ∷ (route.now.from.text ++ 0x2d ∷ route.now.to.text) ++ 0x5d ∷ []) }
 {
     format!(in alloc; "[{route}]")
 }
 
-/// A code at the right of a column of six. Only memory can stop it.
+/// A code at the right of a column of six. It fails only if an allocation fails.
 pub fn code_cell(code: &Code, alloc: Global) -> Result<String, AllocError>
     ensures { IfOk result (λ cell. string_bytes cell ≡ replicate (6 - length code.now.text) 0x20 ++ code.now.text) }
 {

@@ -8,7 +8,7 @@ ghost use Rattle.tinystr.specs.Reading.{read_of};
 use std::alloc::{AllocError, Global};
 use tinystr::{ParseError, TinyStr8};
 
-/// The key that each text is, or why it is none. Only memory can stop it.
+/// The key that each text is, or why it is none. It fails only if an allocation fails.
 pub fn readings(
     alloc: Global,
     texts: &[&str],
@@ -21,7 +21,7 @@ pub fn readings(
         .collect(alloc)
 }
 
-/// Why those texts that aren't keys are none, in order. Only memory can stop it.
+/// Why those texts that aren't keys are none, in order. It fails only if an allocation fails.
 pub fn refusals(alloc: Global, texts: &[&str]) -> Result<Vec<ParseError>, AllocError>
     ensures { IfOk result (λ refusals. refusals.items
         ≡ filter_map (λ text. result_err (read_of 8 text.now)) texts.now) }

@@ -1,17 +1,17 @@
 //! Texts looked up by texts, in a map that is read in place.
 
-ghost use Rattle.std.specs.Prelude.{◌≡◌, ◌↔◌, Contains, IfSome, IsSome, None, Some, slice_get};
+ghost use Rattle.std.specs.Prelude.{◌≡◌, ◌↔◌, Contains, IfSome, IsSome, Some, slice_get};
 ghost use Rattle.tinystr_packed.specs.Map.{get};
-ghost use Rattle.tinystr_words.specs.Text.{IsStrictText};
 
 use tinystr::{TinyAsciiStr, TinyStr8};
+use tinystr_packed::laws::text_map_texts;
 use tinystr_packed::{SortedTable, TextMap};
 
-/// The currency of a country, by its code of at most two characters; None if it isn't a code.
+/// The currency of a country, by its code. A text that isn't a code of at most two characters has none, by the law.
 pub fn currency_of(currencies: &TextMap<'_, 2, 3>, country: &str) -> Option<TinyAsciiStr<3>>
-    ensures code { IsStrictText country.now 2 → result ≡ get currencies.now country.now }
-    ensures no_code { ¬ IsStrictText country.now 2 → result ≡ None }
+    ensures { result ≡ get currencies.now country.now }
 {
+    text_map_texts(currencies);
     let country = TinyAsciiStr::try_from_str(country).ok()?;
     currencies.get(&country)
 }

@@ -44,3 +44,5 @@ mod tags;
 mod text_in_map;
 #[cfg(test)]
 mod through_str;
+#[cfg(test)]
+mod unit_column;

@@ -1,9 +1,10 @@
 //! A byte found in a text, and texts split at it.
 
 use crate::ascii::TinyAsciiStr;
+use crate::ascii::lanes::{first_sixteen, kept, text_of_lanes};
 use crate::simd::*;
-use crate::words::int_ops::{Aligned8, Aligned16};
-use crate::words::padded::{cut, resize};
+use crate::words::int_ops::Aligned8;
+use crate::words::padded::cut;
 use crate::words::word::Word;
 
 /// An iterator over the parts of a text, in order. A contract sees it as the list of those that are left.
@@ -47,7 +48,7 @@ impl<const N: usize> TinyAsciiStr<N> {
         let bytes = &self.bytes[..];
         let found = find_in_sixteen(first_sixteen(bytes), byte);
         if found.is_none() && N > 16 && bytes[16] != 0 {
-            return find(bytes, byte);
+            return find_past_sixteen(bytes, byte);
         }
         found
     }
@@ -76,7 +77,7 @@ impl<const N: usize> TinyAsciiStr<N> {
             let (before, behind) = around(self.resize(), at);
             return Some((before.resize(), behind.resize()));
         }
-        Some((self.take(at), self.slice(at + 1..N)))
+        Some((self.take(at), self.suffix(at + 1)))
     }
 
     /// The parts before, between and behind the separators, in order. A text without a separator is a single part, and
@@ -214,7 +215,7 @@ fn split_first_by_copy<const N: usize>(
     bytes: &[u8],
     separator: u8,
 ) -> (TinyAsciiStr<N>, Option<&[u8]>) {
-    match find(bytes, separator) {
+    match find_past_sixteen(bytes, separator) {
         Some(at) => (
             TinyAsciiStr::from_padded(cut(&bytes[..at])),
             Some(&bytes[at + 1..]),
@@ -228,7 +229,7 @@ fn split_first_by_copy<const N: usize>(
 //     requires padded { IsPadded bytes.now }
 //     requires missed { position (λ b. b == byte) (take 16 (text_of bytes.now)) ≡ None }
 //     ensures { result ≡ position (λ b. b == byte) (text_of bytes.now) }
-fn find(bytes: &[u8], byte: u8) -> Option<usize> {
+fn find_past_sixteen(bytes: &[u8], byte: u8) -> Option<usize> {
     let mut start = 16;
     while start < bytes.len() {
         if let Some(at) = find_in_sixteen(first_sixteen(&bytes[start..]), byte) {
@@ -237,20 +238,6 @@ fn find(bytes: &[u8], byte: u8) -> Option<usize> {
         start += 16;
     }
     None
-}
-
-// The first sixteen bytes of the text, and then NULs.
-// Proved:
-//     requires { IsPadded bytes.now }
-//     ensures len { length result ≡ 16 }
-//     ensures padded { IsPadded result }
-//     ensures text { text_of result ≡ take 16 (text_of bytes.now) }
-#[inline(always)]
-fn first_sixteen(bytes: &[u8]) -> u8x16 {
-    match bytes.first_chunk::<16>() {
-        Some(sixteen) => u8x16::from_array(*sixteen),
-        None => Aligned16::from_padded(bytes).to_lanes(),
-    }
 }
 
 // Where the byte first stands in a text of at most sixteen bytes, all asked at once. A NUL stands behind it alone.
@@ -265,29 +252,4 @@ fn find_in_sixteen(lanes: u8x16, byte: u8) -> Option<usize> {
         return None;
     }
     Some(equal.trailing_zeros() as usize)
-}
-
-// So many of the first bytes of a text, and then NULs. Sixteen lanes are compared with their places; for eight, `lanes` has
-// a table.
-// Proved:
-//     requires len { length lanes ≡ 16 }
-//     requires padded { IsPadded lanes }
-//     requires count { count ≤ 16 }
-//     ensures padded { IsPadded result }
-//     ensures text { text_of result ≡ take count (text_of lanes) }
-#[inline(always)]
-fn kept(lanes: u8x16, count: usize) -> u8x16 {
-    let places = u8x16::from_array([0, 1, 2, 3, 4, 5, 6, 7, 8, 9, 10, 11, 12, 13, 14, 15]);
-    let is_kept = places.simd_lt(u8x16::splat(count as u8));
-    is_kept.select(lanes, u8x16::splat(0))
-}
-
-// The text in the lanes, which has to fit.
-// Proved:
-//     requires padded { IsPadded lanes }
-//     requires fits { length (text_of lanes) ≤ N }
-//     ensures { result ≡ text_of lanes }
-#[inline(always)]
-fn text_of_lanes<const N: usize>(lanes: u8x16) -> TinyAsciiStr<N> {
-    TinyAsciiStr::from_padded(resize(&lanes.to_array()[..]))
 }

@@ -84,7 +84,8 @@ pub(crate) fn are_padded<const N: usize>(records: &[[u8; N]]) -> bool {
     are_padded
 }
 
-// The text of the code units, read by pieces, or its fault.
+// The text of the code units, read by pieces, or its fault. A refusal stands where it is found: one for both ways, at the
+// end, made texts that fill their capacity slower.
 // Proved:
 //     ensures accepted { IsOk result ↔ IsStrictText (map U.number units.now) N }
 //     ensures text { IfOk result (λ t. t ≡ map U.number units.now) }
@@ -101,7 +102,7 @@ fn read_pieces<U: CodeUnit, const N: usize>(units: &[U]) -> Result<TinyAsciiStr<
         return Ok(TinyAsciiStr::from_padded(padded::low_bytes(units)));
     }
     let mut bytes = [0; N];
-    if padded::read_all(&mut bytes[..], units, 0) {
+    if !padded::read_all(&mut bytes[..], units, 0) {
         return Err(fault::<U, N>(units));
     }
     Ok(TinyAsciiStr::from_padded(bytes))

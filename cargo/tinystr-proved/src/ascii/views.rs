@@ -102,8 +102,9 @@ impl<const N: usize> TinyAsciiStr<N> {
     #[inline]
     #[must_use]
     pub fn as_str(&self) -> &str {
-        // proved: what `as_utf8` gives is ASCII, so it is UTF-8
-        unsafe { core::str::from_utf8_unchecked(self.as_utf8()) }
+        let text = self.as_utf8();
+        // proved: these bytes are ASCII, so they are UTF-8
+        unsafe { core::str::from_utf8_unchecked(text) }
     }
 
     /// Borrows all `N` bytes: the text and then NULs.

@@ -1,5 +1,6 @@
 //! Maps whose keys and values are packed, read in place.
 
+use crate::packed::each::BinarySearchEach;
 use crate::packed::sorted::{NotRising, SortedTable};
 use crate::packed::table::{Table, Texts};
 use core::ops::Range;
@@ -135,6 +136,34 @@ impl<'a, const N: usize, const M: usize> PackedMap<'a, N, M> {
         }
     }
 
+    /// What `get` gives for each of many keys, in their order. `SortedTable::binary_search_each` tells what it saves.
+    ///
+    /// ```
+    /// use tinystr::tinystr;
+    /// use tinystr::packed::PackedMap;
+    ///
+    /// let places = PackedMap::<3, 1>::new(b"EURJPY", &[2, 0]).unwrap();
+    /// let keys = [tinystr!(3, "JPY"), tinystr!(3, "CHF")];
+    /// let mut values = places.get_each(&keys);
+    /// assert_eq!(values.next(), Some(Some(&[0])));
+    /// assert_eq!(values.next(), Some(None));
+    /// assert_eq!(values.next(), None);
+    /// ```
+    ///
+    /// # Contract
+    ///
+    /// ```text
+    /// ensures values { result ≡ map (get self.now) keys.now }
+    /// ensures rising { IsRising (keys_of self.now) }
+    /// ```
+    #[must_use]
+    pub fn get_each<'k>(&self, keys: &'k [TinyAsciiStr<N>]) -> GetEach<'a, 'k, N, M> {
+        GetEach {
+            answers: self.keys.binary_search_each(keys),
+            values: self.values,
+        }
+    }
+
     /// Whether the map has a key.
     ///
     /// # Contract
@@ -246,5 +275,43 @@ impl<'a, const N: usize, const M: usize> Iterator for Entries<'a, N, M> {
     fn size_hint(&self) -> (usize, Option<usize>) {
         let len = self.values.len();
         (len, Some(len))
+    }
+}
+
+/// What `PackedMap::get` gives for each of many keys, in their order. A clause sees the values that are left.
+///
+/// ```
+/// use tinystr::tinystr;
+/// use tinystr::packed::PackedMap;
+///
+/// let places = PackedMap::<3, 1>::new(b"EURJPY", &[2, 0]).unwrap();
+/// let keys = [tinystr!(3, "JPY"), tinystr!(3, "CHF")];
+/// let mut found = places.get_each(&keys);
+/// assert!(found.any(|value| value.is_none()));
+/// ```
+pub struct GetEach<'a, 'k, const N: usize, const M: usize> {
+    answers: BinarySearchEach<'a, 'k, N>,
+    values: &'a [[u8; M]],
+}
+
+impl<'a, 'k, const N: usize, const M: usize> Iterator for GetEach<'a, 'k, N, M> {
+    type Item = Option<&'a [u8; M]>;
+
+    #[inline]
+    fn next(&mut self) -> Option<Option<&'a [u8; M]>> {
+        match self.answers.next()? {
+            Ok(index) => Some(self.values.get(index)),
+            Err(_) => Some(None),
+        }
+    }
+
+    fn size_hint(&self) -> (usize, Option<usize>) {
+        self.answers.size_hint()
+    }
+}
+
+impl<'a, 'k, const N: usize, const M: usize> ExactSizeIterator for GetEach<'a, 'k, N, M> {
+    fn len(&self) -> usize {
+        self.answers.len()
     }
 }

@@ -7,7 +7,7 @@ use core::hint::select_unpredictable;
 use core::ops::Range;
 use crate::TinyAsciiStr;
 
-// Below this number, records of more than sixteen bytes are compared whole: to narrow their range first takes longer.
+/// Below this number, records of more than sixteen bytes are compared whole: to narrow their range first takes longer.
 const FEW: usize = 32;
 
 /// The index of the first record that isn't below a key, or the number of records.
@@ -109,11 +109,15 @@ fn first_not_below_near_start<const N: usize>(records: &[[u8; N]], key: &[u8; N]
     start + first_not_below(&records[start..end], key)
 }
 
-// Whether there is a record at an index, and it is below a key.
-// Proved:
-//     ensures { IsTrue result ↔ ((index < length records.now) × (order (text_at records.now index) key.now ≡ Less)) }
+/// Whether there is a record at an index, and it is below a key.
+///
+/// # Contract
+///
+/// ```text
+/// ensures { IsTrue result ↔ ((index < length records.now) × (order (text_at records.now index) key.now ≡ Less)) }
+/// ```
 #[inline(always)]
-fn is_below_at<const N: usize>(records: &[[u8; N]], index: usize, key: &[u8; N]) -> bool {
+pub(crate) fn is_below_at<const N: usize>(records: &[[u8; N]], index: usize, key: &[u8; N]) -> bool {
     index < records.len() && is_below(&records[index][..], &key[..])
 }
 
@@ -202,16 +206,20 @@ pub(crate) fn first_not_below_by_halves<const N: usize>(records: &[[u8; N]], key
     )
 }
 
-// How many bytes the key and all records share in front, counted by eights, and at most all but the last eight. It only
-// guides: by a lower number the same place is found.
-// Proved:
-//     requires long { 8 < N }
-//     requires records { AreRisingRecords N records.now }
-//     requires key { IsRecord N key.now }
-//     ensures bound { result ≤ N - 8 }
-//     ensures alike { BeginAlike result key.now records.now }
+/// How many bytes the key and all records share in front, counted by eights, and at most all but the last eight. It only
+/// guides: by a lower number the same place is found.
+///
+/// # Contract
+///
+/// ```text
+/// requires long { 8 < N }
+/// requires records { AreRisingRecords N records.now }
+/// requires key { IsRecord N key.now }
+/// ensures bound { result ≤ N - 8 }
+/// ensures alike { BeginAlike result key.now records.now }
+/// ```
 #[inline(always)]
-fn shared_len<const N: usize>(records: &[[u8; N]], key: &[u8; N]) -> usize {
+pub(crate) fn shared_len<const N: usize>(records: &[[u8; N]], key: &[u8; N]) -> usize {
     let (Some(first), Some(last)) = (records.first(), records.last()) else {
         return 0;
     };

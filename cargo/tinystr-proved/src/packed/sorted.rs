@@ -1,6 +1,8 @@
 //! Tables whose texts rise, and the search in them.
 
+use crate::packed::each::BinarySearchEach;
 use crate::packed::search::{count_with_prefix, first_not_below};
+use crate::packed::side_by_side::first_not_below_each;
 use crate::packed::table::Table;
 use core::ops::Range;
 use crate::TinyAsciiStr;
@@ -137,14 +139,38 @@ impl<'a, const N: usize> SortedTable<'a, N> {
     /// ensures place { IfErr result (λ place. IsPlaceFor key.now self.now place) }
     /// ensures exact { IsOk result ↔ Contains self.now key.now }
     /// ensures rising { IsRising self.now }
+    /// ensures answer { result ≡ search self.now key.now }
     /// ```
     pub fn binary_search(&self, key: &TinyAsciiStr<N>) -> Result<usize, usize> {
-        let place = self.first_not_below(key);
-        if self.table.has_text_at(place, key) {
-            Ok(place)
-        } else {
-            Err(place)
-        }
+        self.answer_at(self.first_not_below(key), key)
+    }
+
+    /// What `binary_search` gives for each of many keys, in their order.
+    ///
+    /// Eight keys at a time are searched for, so that each search waits for memory while the others do. Keys in order, as a
+    /// column that is sorted or has runs of one key, are found a little behind the last one.
+    ///
+    /// ```
+    /// use tinystr::tinystr;
+    /// use tinystr::packed::{SortedTable, Table};
+    ///
+    /// let codes = SortedTable::new(Table::<3>::new(b"CHFEURJPYUSD").unwrap()).unwrap();
+    /// let keys = [tinystr!(3, "JPY"), tinystr!(3, "GBP")];
+    /// let mut places = codes.binary_search_each(&keys);
+    /// assert_eq!(places.next(), Some(Ok(2)));
+    /// assert_eq!(places.next(), Some(Err(2)));
+    /// assert_eq!(places.next(), None);
+    /// ```
+    ///
+    /// # Contract
+    ///
+    /// ```text
+    /// ensures answers { result ≡ map (search self.now) keys.now }
+    /// ensures rising { IsRising self.now }
+    /// ```
+    #[must_use]
+    pub fn binary_search_each<'k>(&self, keys: &'k [TinyAsciiStr<N>]) -> BinarySearchEach<'a, 'k, N> {
+        BinarySearchEach::new(self.copied(), keys)
     }
 
     /// The index of a text of any capacity, or `None` if the table doesn't have it. Both capacities must be below 2^63.
@@ -233,6 +259,46 @@ impl<'a, const N: usize> SortedTable<'a, N> {
         let (_, rest) = self.table.records().split_at(start);
         let len = count_with_prefix(rest, beginning);
         start..start + len
+    }
+
+    // The same table.
+    // Proved:
+    //     ensures { result ≡ self.now }
+    #[inline(always)]
+    fn copied(&self) -> SortedTable<'a, N> {
+        SortedTable {
+            table: self.table.copied(),
+        }
+    }
+
+    // What a search gives that ends at a place.
+    // Proved:
+    //     requires { IsFirstNotBelow key.now self.now place }
+    //     ensures found { IfOk result (λ index. slice_get self.now index ≡ Some key.now) }
+    //     ensures place { IfErr result (λ place. IsPlaceFor key.now self.now place) }
+    //     ensures exact { IsOk result ↔ Contains self.now key.now }
+    //     ensures answer { result ≡ search self.now key.now }
+    //     ensures rising { IsRising self.now }
+    #[inline(always)]
+    pub(crate) fn answer_at(&self, place: usize, key: &TinyAsciiStr<N>) -> Result<usize, usize> {
+        if self.table.has_text_at(place, key) {
+            Ok(place)
+        } else {
+            Err(place)
+        }
+    }
+
+    // The places of the first eight keys, and whether one of them was searched for by itself.
+    // Proved:
+    //     requires { 8 ≤ length keys.now }
+    //     ensures { (i : ℕ) → i < 8 → IsFirstNotBelow (text_at keys.now i) self.now (slice_index result.0 i) }
+    #[inline(always)]
+    pub(crate) fn first_not_below_each(
+        &self,
+        keys: &[TinyAsciiStr<N>],
+        near: usize,
+    ) -> ([usize; 8], bool) {
+        first_not_below_each(self.table.records(), keys, near)
     }
 
     // The index of the first text that isn't below a key, or the number of texts.

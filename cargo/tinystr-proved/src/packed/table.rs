@@ -221,6 +221,15 @@ impl<'a, const N: usize> Table<'a, N> {
         }
     }
 
+    // The same table.
+    // Proved:
+    //     ensures { result ≡ self.now }
+    #[inline(always)]
+    pub(crate) fn copied(&self) -> Table<'a, N> {
+        let all = self.records;
+        Table { records: all }
+    }
+
     // The records themselves.
     // Proved:
     //     ensures texts { map text_of result.now ≡ self.now }

@@ -3,7 +3,7 @@
 ghost use Rattle.std.specs.Prelude.{◌≡◌, ◌≤◌, ◌-◌, take, drop};
 
 use crate::ascii::TinyAsciiStr;
-use crate::ascii::lanes::first_lanes;
+use crate::ascii::lanes::{first_lanes, first_sixteen, kept, text_of_lanes};
 use std::ops::Range;
 use std::simd::prelude::*;
 use tinystr_words::padded::{cut, resize};
@@ -23,7 +23,8 @@ impl<const N: usize> TinyAsciiStr<N> {
         requires { range.start ≤ range.end }
         ensures { result ≡ take M (take (range.end - range.start) (drop range.start self.now)) }
     {
-        self.behind::<M>(range.start).front(range.end - range.start)
+        self.suffix::<M>(range.start)
+            .prefix(range.end - range.start)
     }
 
     /// The first `len` bytes of the text, or all of it if it has no more.
@@ -37,35 +38,42 @@ impl<const N: usize> TinyAsciiStr<N> {
     pub fn take(&self, len: usize) -> Self
         ensures { result ≡ take len self.now }
     {
-        self.front(len)
+        self.prefix(len)
     }
 
     // What stands behind the first bytes, as much as there is room for. Where `M` bytes of the array stand there, they are
-    // copied at once.
+    // copied at once. Up to sixteen others stay in a vector.
     #[inline(always)]
-    fn behind<const M: usize>(&self, start: usize) -> TinyAsciiStr<M>
+    pub(crate) fn suffix<const M: usize>(&self, start: usize) -> TinyAsciiStr<M>
         ensures { result ≡ take M (drop start self.now) }
     {
         let bytes = &self.bytes[..];
         if M <= N && start <= N - M {
             return TinyAsciiStr::from_padded(cut(&bytes[start..start + M]));
         }
-        TinyAsciiStr::from_padded(cut(&bytes[start.min(N)..]))
+        let rest = &bytes[start.min(N)..];
+        if rest.len() <= 16 || rest[16] == 0 {
+            return text_of_lanes(first_sixteen(rest));
+        }
+        TinyAsciiStr::from_padded(cut(rest))
     }
 
-    // The first bytes. Up to eight stay in a vector.
+    // The first bytes. Up to sixteen stay in a vector.
     #[inline(always)]
-    fn front(self, len: usize) -> Self
+    fn prefix(self, len: usize) -> Self
         ensures { result ≡ take len self.entry }
     {
         if len >= N {
             return self;
         }
         let bytes = &self.bytes[..];
-        if N > 8 {
-            return TinyAsciiStr::from_padded(cut(&bytes[..len]));
+        if N <= 8 {
+            let lanes = first_lanes(u8x8::from_array(resize(bytes)), len);
+            return TinyAsciiStr::from_padded(resize(&lanes.to_array()[..]));
         }
-        let lanes = first_lanes(u8x8::from_array(resize(bytes)), len);
-        TinyAsciiStr::from_padded(resize(&lanes.to_array()[..]))
+        if len <= 16 {
+            return text_of_lanes(kept(first_sixteen(bytes), len));
+        }
+        TinyAsciiStr::from_padded(cut(&bytes[..len]))
     }
 }

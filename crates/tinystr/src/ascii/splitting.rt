@@ -8,11 +8,12 @@ ghost use Rattle.tinystr_words.specs.Text.{IsPadded, text_of};
 ghost use Rattle.tinystr.specs.Splitting.{parts_left};
 
 use crate::ascii::TinyAsciiStr;
+use crate::ascii::lanes::{first_sixteen, kept, text_of_lanes};
 use crate::laws;
 use std::marker::Model;
 use std::simd::prelude::*;
-use tinystr_words::int_ops::{Aligned8, Aligned16};
-use tinystr_words::padded::{cut, resize};
+use tinystr_words::int_ops::Aligned8;
+use tinystr_words::padded::cut;
 use tinystr_words::word::Word;
 
 /// An iterator over the parts of a text, in order. A contract sees it as the list of those that are left.
@@ -61,7 +62,7 @@ impl<const N: usize> TinyAsciiStr<N> {
         let bytes = &self.bytes[..];
         let found = find_in_sixteen(first_sixteen(bytes), byte);
         if found.is_none() && N > 16 && bytes[16] != 0 {
-            return find(bytes, byte);
+            return find_past_sixteen(bytes, byte);
         }
         found
     }
@@ -85,7 +86,7 @@ impl<const N: usize> TinyAsciiStr<N> {
             let (before, behind) = around(self.resize(), at);
             return Some((before.resize(), behind.resize()));
         }
-        Some((self.take(at), self.slice(at + 1..N)))
+        Some((self.take(at), self.suffix(at + 1)))
     }
 
     /// The parts before, between and behind the separators, in order. A text without a separator is a single part, and
@@ -223,7 +224,7 @@ fn split_first_by_copy<const N: usize>(
         ≡ result.0 ∷ parts_left separator (option_map text_of (option_copied result.1)) }
     ensures rest { IfSome result.1 (λ rest. IsPadded rest.now × (length rest.now ≤ N)) }
 {
-    match find(bytes, separator) {
+    match find_past_sixteen(bytes, separator) {
         Some(at) => (
             TinyAsciiStr::from_padded(cut(&bytes[..at])),
             Some(&bytes[at + 1..]),
@@ -233,7 +234,7 @@ fn split_first_by_copy<const N: usize>(
 }
 
 // Where the byte first stands in the text, by sixteen bytes at once. The first sixteen were asked already.
-fn find(bytes: &[u8], byte: u8) -> Option<usize>
+fn find_past_sixteen(bytes: &[u8], byte: u8) -> Option<usize>
     requires padded { IsPadded bytes.now }
     requires missed { position (λ b. b == byte) (take 16 (text_of bytes.now)) ≡ None }
     ensures { result ≡ position (λ b. b == byte) (text_of bytes.now) }
@@ -248,20 +249,6 @@ fn find(bytes: &[u8], byte: u8) -> Option<usize>
     None
 }
 
-// The first sixteen bytes of the text, and then NULs.
-#[inline(always)]
-fn first_sixteen(bytes: &[u8]) -> u8x16
-    requires { IsPadded bytes.now }
-    ensures len { length result ≡ 16 }
-    ensures padded { IsPadded result }
-    ensures text { text_of result ≡ take 16 (text_of bytes.now) }
-{
-    match bytes.first_chunk::<16>() {
-        Some(sixteen) => u8x16::from_array(*sixteen),
-        None => Aligned16::from_padded(bytes).to_lanes(),
-    }
-}
-
 // Where the byte first stands in a text of at most sixteen bytes, all asked at once. A NUL stands behind it alone.
 #[inline(always)]
 fn find_in_sixteen(lanes: u8x16, byte: u8) -> Option<usize>
@@ -274,29 +261,4 @@ fn find_in_sixteen(lanes: u8x16, byte: u8) -> Option<usize>
         return None;
     }
     Some(equal.trailing_zeros() as usize)
-}
-
-// So many of the first bytes of a text, and then NULs. Sixteen lanes are compared with their places; for eight, `lanes` has
-// a table.
-#[inline(always)]
-fn kept(lanes: u8x16, count: usize) -> u8x16
-    requires len { length lanes ≡ 16 }
-    requires padded { IsPadded lanes }
-    requires count { count ≤ 16 }
-    ensures padded { IsPadded result }
-    ensures text { text_of result ≡ take count (text_of lanes) }
-{
-    let places = u8x16::from_array([0, 1, 2, 3, 4, 5, 6, 7, 8, 9, 10, 11, 12, 13, 14, 15]);
-    let is_kept = places.simd_lt(u8x16::splat(count as u8));
-    is_kept.select(lanes, u8x16::splat(0))
-}
-
-// The text in the lanes, which has to fit.
-#[inline(always)]
-fn text_of_lanes<const N: usize>(lanes: u8x16) -> TinyAsciiStr<N>
-    requires padded { IsPadded lanes }
-    requires fits { length (text_of lanes) ≤ N }
-    ensures { result ≡ text_of lanes }
-{
-    TinyAsciiStr::from_padded(resize(&lanes.to_array()[..]))
 }

@@ -75,8 +75,9 @@ impl<const N: usize> TinyAsciiStr<N> {
         ensures fits { length result.now ≤ N }
         ensures strict { IsStrictText self.now N }
     {
-        // proved: what `as_utf8` gives is ASCII, so it is UTF-8
-        unsafe { std::str::from_utf8_unchecked(self.as_utf8()) }
+        let text = self.as_utf8();
+        // proved: these bytes are ASCII, so they are UTF-8
+        unsafe { std::str::from_utf8_unchecked(text) }
     }
 
     /// Borrows all `N` bytes: the text and then NULs.

@@ -2,7 +2,7 @@
 
 ghost use Rattle.std.specs.Prelude.{◌<◌, ◌≤◌, ◌^◌};
 
-use super::{FORTY, HUNDRED, is_text};
+use super::{FORTY, HUNDRED, is_text, letters};
 use std::ops::Range;
 use tinystr::TinyAsciiStr;
 
@@ -85,4 +85,45 @@ fn the_first_bytes_of_a_text(rt: HostRuntime) {
     );
     assert!(rt; is_front::<40>(FORTY, 39, &FORTY[..39]) && is_front::<40>(FORTY, 40, FORTY));
     assert!(rt; is_front::<100>(HUNDRED, 40, FORTY) && is_front::<100>(FORTY, 99, FORTY));
+}
+
+// Whether the letters before a place and those from it on, of texts of each length up to N, are taken and cut at M.
+fn are_cut_anywhere<const N: usize, const M: usize>() -> bool
+    requires held { N < 2 ^ 63 }
+    requires asked { M < 2 ^ 63 }
+{
+    let letters = letters::<N>();
+    let letters = &letters[..];
+    for len in 0..=N {
+        let text = &letters[..len];
+        let Ok(value) = TinyAsciiStr::<N>::try_from_utf8(text) else {
+            return false;
+        };
+        for at in 0..=len {
+            let (front, rest) = text.split_at(at);
+            if value.take(at).as_utf8() != front
+                || value.slice::<M>(at..N).as_utf8() != &rest[..rest.len().min(M)]
+            {
+                return false;
+            }
+        }
+    }
+    true
+}
+
+#[test]
+fn a_text_of_any_length_is_cut_anywhere(rt: HostRuntime) {
+    assert!(rt;
+        are_cut_anywhere::<8, 8>() && are_cut_anywhere::<9, 9>() && are_cut_anywhere::<9, 8>()
+    );
+    assert!(rt;
+        are_cut_anywhere::<15, 15>() && are_cut_anywhere::<16, 16>() && are_cut_anywhere::<17, 17>()
+    );
+    assert!(rt;
+        are_cut_anywhere::<16, 17>() && are_cut_anywhere::<17, 16>() && are_cut_anywhere::<24, 24>()
+    );
+    assert!(rt;
+        are_cut_anywhere::<32, 32>() && are_cut_anywhere::<33, 33>() && are_cut_anywhere::<33, 17>()
+    );
+    assert!(rt; are_cut_anywhere::<255, 255>() && are_cut_anywhere::<8, 40>());
 }

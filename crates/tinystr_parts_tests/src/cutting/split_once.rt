@@ -1,8 +1,8 @@
 //! A text split at the first such byte.
 
-ghost use Rattle.std.specs.Prelude.{◌<◌, ◌^◌};
+ghost use Rattle.std.specs.Prelude.{◌<◌, ◌≤◌, ◌^◌, length};
 
-use super::{FORTY, HUNDRED};
+use super::{FORTY, HUNDRED, letters};
 use tinystr::TinyAsciiStr;
 
 // Whether the text, held at N, is split into what stands before the first separator and what stands behind it.
@@ -64,4 +64,49 @@ fn a_text_without_the_separator_is_not_split(rt: HostRuntime) {
     }
     assert!(rt; is_split::<2>("\u{1}\u{7f}", 1, "", "\u{7f}"));
     assert!(rt; is_split::<2>("\u{1}\u{7f}", 127, "\u{1}", ""));
+}
+
+// Whether letters with a separator among them, held at N, are split at its place.
+fn is_split_at<const N: usize>(text: &[u8], at: usize) -> bool
+    requires held { N < 2 ^ 63 }
+    requires inside { at < length text.now }
+{
+    match TinyAsciiStr::<N>::try_from_utf8(text) {
+        Ok(value) => match value.split_once(b'-') {
+            Some((before, behind)) => {
+                before.as_utf8() == &text[..at] && behind.as_utf8() == &text[at + 1..]
+            }
+            None => false,
+        },
+        Err(_) => false,
+    }
+}
+
+// Whether texts of each length up to N are split wherever the separator stands.
+fn is_split_anywhere<const N: usize>() -> bool
+    requires { N < 2 ^ 63 }
+{
+    for at in 0..N {
+        let mut text = letters::<N>();
+        text[at] = b'-';
+        let text = &text[..];
+        for len in at + 1..=N {
+            if !is_split_at::<N>(&text[..len], at) {
+                return false;
+            }
+        }
+    }
+    true
+}
+
+#[test]
+fn a_text_of_any_length_is_split_anywhere(rt: HostRuntime) {
+    assert!(rt; is_split_anywhere::<8>() && is_split_anywhere::<9>() && is_split_anywhere::<15>());
+    assert!(rt;
+        is_split_anywhere::<16>() && is_split_anywhere::<17>() && is_split_anywhere::<18>()
+    );
+    assert!(rt;
+        is_split_anywhere::<24>() && is_split_anywhere::<32>() && is_split_anywhere::<33>()
+    );
+    assert!(rt; is_split_anywhere::<255>());
 }

@@ -16,7 +16,7 @@ fn byte_or<U: CodeUnit>(unit: U, replacement: u8) -> u8 {
 }
 
 // Reads `K` code units into the bytes at the same places, with the replacement for each that isn't a character, and
-// tells whether there is one. There is no early exit, so that the compiler can take all code units at once.
+// tells whether all are characters. There is no early exit, so that the compiler can take all code units at once.
 // Proved:
 //     requires inside { at + K ≤ length units.now }
 //     requires room { length units.now ≤ length bytes.old }
@@ -29,13 +29,13 @@ fn read_piece<U: CodeUnit, const K: usize>(
     replacement: u8,
     at: usize,
 ) -> bool {
-    let mut is_bad = false;
+    let mut are_characters = true;
     for i in at..at + K {
         let unit = units[i];
-        is_bad |= !unit.is_character();
+        are_characters &= unit.is_character();
         bytes[i] = byte_or(unit, replacement);
     }
-    is_bad
+    are_characters
 }
 
 // Two pieces, which may overlap, are all code units.
@@ -47,8 +47,8 @@ fn read_piece<U: CodeUnit, const K: usize>(
 //     ensures len { length bytes.new ≡ length bytes.old }
 #[inline(always)]
 fn read_pair<U: CodeUnit, const K: usize>(bytes: &mut [u8], units: &[U], replacement: u8) -> bool {
-    let is_bad = read_piece::<U, K>(bytes, units, replacement, 0);
-    is_bad | read_piece::<U, K>(bytes, units, replacement, units.len() - K)
+    let are_characters = read_piece::<U, K>(bytes, units, replacement, 0);
+    are_characters & read_piece::<U, K>(bytes, units, replacement, units.len() - K)
 }
 
 // Pieces of 32 code units, the last of which may overlap the one before it.
@@ -60,17 +60,17 @@ fn read_pair<U: CodeUnit, const K: usize>(bytes: &mut [u8], units: &[U], replace
 #[inline(always)]
 fn read_many<U: CodeUnit>(bytes: &mut [u8], units: &[U], replacement: u8) -> bool {
     let last = units.len() - 32;
-    let mut is_bad = false;
+    let mut are_characters = true;
     let mut at = 0;
     while at < last {
-        is_bad |= read_piece::<U, 32>(bytes, units, replacement, at);
+        are_characters &= read_piece::<U, 32>(bytes, units, replacement, at);
         at += 32;
     }
-    is_bad | read_piece::<U, 32>(bytes, units, replacement, last)
+    are_characters & read_piece::<U, 32>(bytes, units, replacement, last)
 }
 
 /// Reads all code units in the largest pieces that fit, writes the replacement for each that isn't a character, and
-/// tells whether there was such a code unit.
+/// tells whether all are characters.
 ///
 /// # Contract
 ///
@@ -95,7 +95,7 @@ pub fn read_all<U: CodeUnit>(bytes: &mut [u8], units: &[U], replacement: u8) -> 
     } else if len >= 2 {
         read_pair::<U, 2>(bytes, units, replacement)
     } else {
-        len == 1 && read_pair::<U, 1>(bytes, units, replacement)
+        len == 0 || read_pair::<U, 1>(bytes, units, replacement)
     }
 }
 
@@ -171,9 +171,10 @@ pub fn lossy<U: CodeUnit, const N: usize>(units: &[U], replacement: u8) -> [u8; 
             _ => lossy_chunk(front, replacement),
         };
     }
-    match U::as_bytes(units) {
-        Some(bytes) if bytes.len() <= 16 => return lossy_word(bytes, replacement),
-        _ => {}
+    if let Some(bytes) = U::as_bytes(units)
+        && bytes.len() <= 16
+    {
+        return lossy_word(bytes, replacement);
     }
     let mut bytes = [0; N];
     read_all(&mut bytes[..], units, replacement);

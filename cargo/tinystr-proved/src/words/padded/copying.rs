@@ -37,8 +37,8 @@ pub fn resize<const M: usize>(bytes: &[u8]) -> [u8; M] {
     resized
 }
 
-/// The first `M` bytes of a text, and NULs after them, by one copy: for bytes that a word has just given, in pieces, which
-/// the compiler takes apart as they were made. `resize` copies those in memory.
+/// A text cut to `M` bytes, or padded with NULs to as many, by one copy: for bytes that a word has just given, in pieces,
+/// which the compiler takes apart as they were made. `resize` copies those in memory.
 ///
 /// # Contract
 ///

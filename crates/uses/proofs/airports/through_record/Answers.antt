@@ -1,36 +1,31 @@
-use Rattle.std.proofs.Common.{◌≡◌, ◌↔◌, ◌∙◌, ap, List, ℕ, ◌++◌, None, drop, take, take_at, take_all, le_of_eq, sym, drop-drop, drop_at}
+use Rattle.std.proofs.Common.{◌≡◌, ◌↔◌, ◌∙◌, ap, List, [], ℕ, ◌++◌, append-nil, drop, sym, drop-drop}
 use Rattle.std.proofs.lemmas.Bool.{false≢true}
 use Rattle.std.specs.Result.{IsOk, IfOk}
 use Rattle.std.specs.declared.result.Result.{Result}
 use Rattle.std.specs.declared.result.Result.TheVariants.{Ok, Err}
-use Rattle.tinystr_words.specs.ByteForm.{byte_fault}
-use Rattle.tinystr_words.specs.Text.{IsStrictText, IsPaddedText, pad, text_of}
-use Rattle.tinystr_words.proofs.Texts.{IsPaddedText-pad, length-pad, text_of-pad}
+use Rattle.tinystr_words.specs.Text.{IsStrictText, pad}
+use Rattle.tinystr_words.proofs.ForCallers.{bytes_back_clean, bytes_back_rest, bytes_back_text}
 use Rattle.uses.specs.Airports.{IsAirportOf, IsRecord, record_of}
 use Rattle.uses.specs.declared.airports.Airport.{Airport}
 use Rattle.uses.specs.declared.airports.RecordError.{RecordError}
 use Rattle.uses.proofs.airports.through_record.Goals as goal
 
--- a padded text in front of others is read first
-read-front : (t rest : List ℕ) (n : ℕ) → IsStrictText t n → t ≡ text_of (take n (pad t n ++ rest))
-read-front t rest n h = rw (take_at (pad t n) rest n (length-pad t n h.fits)) (sym (text_of-pad t n h.text))
-
 -- a record that was written is one, and of that airport
-IsRecord-written : (a : Airport) → ((t rest : List ℕ) (n : ℕ) → IsStrictText t n → byte_fault n (pad t n ++ rest) ≡ None) → ((bytes : List ℕ) (n : ℕ) → IsPaddedText bytes n → byte_fault n bytes ≡ None)
-    → IsStrictText a.code 3 → IsStrictText a.country 2 → IsStrictText a.city 11 → IsRecord (record_of a) × IsAirportOf a (record_of a)
-IsRecord-written a clean alone code country city =
-    let behind_code : drop 3 (record_of a) ≡ pad a.country 2 ++ pad a.city 11 = drop_at (pad a.code 3) _ 3 (length-pad a.code 3 code.fits) in
-    let behind_country : drop 5 (record_of a) ≡ pad a.city 11 =
-    sym (drop-drop 2 3 (record_of a)) ∙ rw behind_code (drop_at (pad a.country 2) (pad a.city 11) 2 (length-pad a.country 2 country.fits)) in (
+IsRecord-written : (a : Airport) → IsStrictText a.code 3 → IsStrictText a.country 2 → IsStrictText a.city 11 → IsRecord (record_of a) × IsAirportOf a (record_of a)
+IsRecord-written a code country city =
+    let last : pad a.city 11 ≡ pad a.city 11 ++ [] = sym (append-nil (pad a.city 11)) in
+    let behind_code : drop 3 (record_of a) ≡ pad a.country 2 ++ pad a.city 11 = bytes_back_rest a.code _ 3 code in
+    let behind_country : drop 5 (record_of a) ≡ pad a.city 11 ++ [] =
+    sym (drop-drop 2 3 (record_of a)) ∙ rw behind_code (bytes_back_rest a.country (pad a.city 11) 2 country) ∙ last in (
       record {
-        code = clean a.code _ 3 code;
-        country = rw behind_code (clean a.country _ 2 country);
-        city = rw behind_country (alone _ 11 (IsPaddedText-pad a.city 11 city));
+        code = bytes_back_clean a.code _ 3 code;
+        country = rw behind_code (bytes_back_clean a.country _ 2 country);
+        city = rw behind_country (bytes_back_clean a.city [] 11 city);
       },
       record {
-        code = read-front a.code _ 3 code;
-        country = rw behind_code (read-front a.country _ 2 country);
-        city = rw (behind_country, take_all 11 (pad a.city 11) (le_of_eq (length-pad a.city 11 city.fits))) (sym (text_of-pad a.city 11 city.text));
+        code = sym (bytes_back_text a.code _ 3 code);
+        country = rw behind_code (sym (bytes_back_text a.country _ 2 country));
+        city = rw behind_country (sym (bytes_back_text a.city [] 11 city));
       },
     )
 
@@ -44,5 +39,5 @@ read-is (Err e) a bytes written accepted fields = absurd (false≢true (accepted
 
 pub returns : goal.returns
 returns c =
-    let written = IsRecord-written c.args.airport.now c.bytes_back.ensures.clean c.bytes_back.ensures.alone c.fits.ensures c.fits-2.ensures c.fits-3.ensures in
+    let written = IsRecord-written c.args.airport.now c.fits.ensures c.fits-2.ensures c.fits-3.ensures in
     read-is c.read.result c.args.airport.now c.write.new.bytes (rw c.write.ensures written) c.read.ensures.accepted c.read.ensures.fields

@@ -1,4 +1,4 @@
-use Rattle.std.proofs.Common.{◌≤◌, ◌+◌, ◌-◌, ◌∙◌, take, drop, length, ap, sym, arith}
+use Rattle.std.proofs.Common.{◌+◌, ◌∙◌, take, drop, ap, sym, arith}
 use Rattle.std.proofs.lemmas.List.{length-drop, length-take, take_all}
 use Rattle.tinystr.proofs.Splits.{split_once-found, split_once-missed}
 use Rattle.tinystr.proofs.ascii.TinyAsciiStr.split_once.Goals as goal
@@ -19,7 +19,5 @@ pub returns : goal.returns
 returns g c =
     let t = c.args.self.now in
     let at = c.in_ok-at.at in
-    let behind = drop (at + 1) t in
-    let short : length behind ≤ g.row.N - (at + 1) = omega (arith, length-drop (at + 1) t, c.fits.ensures.fits) in
-    let back = c.slice.ensures ∙ rw (take_all (g.row.N - (at + 1)) behind short) (take_all g.row.N behind (omega (arith, short))) in
-    split_once-found c.args.separator t c.take.result c.slice.result at (sym c.in_ok-at.ensures.place) c.take.ensures back
+    let back = c.suffix.ensures ∙ take_all g.row.N (drop (at + 1) t) (omega (arith, length-drop (at + 1) t, c.fits.ensures.fits)) in
+    split_once-found c.args.separator t c.take.result c.suffix.result at (sym c.in_ok-at.ensures.place) c.take.ensures back

@@ -16,11 +16,11 @@ pub from_padded-requires-2 : goal.from_padded-requires-2
 from_padded-requires-2 g c =
     let units = map g.U.CodeUnit.number c.args.units.now in
     let len : length units ≡ length c.args.units.now = length-map c.args.units.now g.U.CodeUnit.number in
-    (search rules, (search rules, (IsReadPiece-text c.read_all.new.bytes units 0 g.row.N (omega arith) (search rules) (rw len c.if-read_all.ensures.read)).1.0))
+    (search rules, (search rules, (IsReadPiece-text c.read_all.new.bytes units 0 g.row.N (omega arith) (search rules) (rw len c.if-not-read_all.ensures.read)).1.0))
 
 pub returns : goal.returns
 returns g c =
     let units = map g.U.CodeUnit.number c.args.units.now in
     let len : length units ≡ length c.args.units.now = length-map c.args.units.now g.U.CodeUnit.number in
-    let read = IsReadPiece-text c.read_all.new.bytes units 0 g.row.N (omega arith) (search rules) (rw len c.if-read_all.ensures.read) in
+    let read = IsReadPiece-text c.read_all.new.bytes units 0 g.row.N (omega arith) (search rules) (rw len c.if-not-read_all.ensures.read) in
     record { accepted = (λ _. read.0, λ _. refl); text = c.from_padded-2.ensures ∙ read.1.1; fault = tt }

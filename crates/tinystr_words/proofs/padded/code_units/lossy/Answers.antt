@@ -13,13 +13,13 @@ returns-in-Some g c =
 pub returns-in_default : goal.returns-in_default
 returns-in_default g c = c.lossy_chunk.ensures ∙ lossy-full g.U.CodeUnit.number c.args.units.now c.args.replacement g.row.N (omega arith)
 
-pub returns-in-Some-as_bytes : goal.returns-in-Some-as_bytes
-returns-in-Some-as_bytes g c =
-    c.lossy_word-in-Some-as_bytes.ensures ∙ ap (λ (l : List ℕ). pad (map (lossy_byte c.args.replacement) l) g.row.N) c.in-Some-as_bytes.ensures
-    ∙ ap (λ (l : List ℕ). pad l g.row.N) (lossy-all g.U.CodeUnit.number c.args.units.now c.args.replacement g.row.N (omega arith))
-
 pub returns : goal.returns
 returns g c =
+    c.lossy_word-2.ensures ∙ ap (λ (l : List ℕ). pad (map (lossy_byte c.args.replacement) l) g.row.N) c.in-Some-as_bytes.ensures
+    ∙ ap (λ (l : List ℕ). pad l g.row.N) (lossy-all g.U.CodeUnit.number c.args.units.now c.args.replacement g.row.N (omega arith))
+
+pub returns-2 : goal.returns-2
+returns-2 g c =
     let number = g.U.CodeUnit.number in
     let units = map number c.args.units.now in
     let len : length units ≡ length c.args.units.now = length-map c.args.units.now number in

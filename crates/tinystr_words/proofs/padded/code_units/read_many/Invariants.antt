@@ -5,7 +5,7 @@ use Rattle.tinystr_words.proofs.padded.code_units.read_many.Given as goal
 abbrev pub invariant-loop-at : goal.invariant-loop-at
 invariant-loop-at g l = record {
   inside : l.at < l.last + 32;
-  read : IsReadPiece l.is_bad l.initial.bytes l.bytes (map g.U.CodeUnit.number l.units) l.replacement 0 l.at;
+  read : IsReadPiece l.are_characters l.initial.bytes l.bytes (map g.U.CodeUnit.number l.units) l.replacement 0 l.at;
   len : length l.bytes ≡ length l.initial.bytes;
 }
 

@@ -1,0 +1,124 @@
+//! The answers for eight keys at a time.
+
+use crate::packed::sorted::SortedTable;
+use crate::TinyAsciiStr;
+
+// How many eights are searched for one key after another, behind one of which a key had to be.
+const ALONE: u8 = 15;
+
+/// The answers for eight keys.
+#[derive(Clone, Copy)]
+pub(crate) struct Eight {
+    pub answers: [Result<usize, usize>; 8],
+    /// The index near which the next ones are looked for first.
+    pub near: usize,
+    /// How many of the next eights are to be searched for one key after another.
+    pub alone: u8,
+}
+
+/// Those for the first eight of many keys. It isn't inlined, so that a caller's loop stays short.
+///
+/// # Contract
+///
+/// ```text
+/// requires { 8 ≤ length keys.now }
+/// ensures { AreAnswers sorted.now keys.now result.answers 8 }
+/// ```
+#[inline(never)]
+pub(crate) fn search_eight<const N: usize>(
+    sorted: &SortedTable<'_, N>,
+    keys: &[TinyAsciiStr<N>],
+    near: usize,
+    alone: u8,
+) -> Eight {
+    if are_two_by_turns(keys) {
+        let answers = answers_of_two(sorted, keys);
+        let (Ok(near) | Err(near)) = answers[7];
+        return Eight {
+            answers,
+            near,
+            alone,
+        };
+    }
+    if N > 16 && alone > 0 {
+        let answers = answers_one_by_one(sorted, keys);
+        return Eight {
+            answers,
+            near,
+            alone: alone - 1,
+        };
+    }
+    let (places, was_alone) = sorted.first_not_below_each(keys, near);
+    Eight {
+        answers: answers_at(sorted, keys, &places),
+        near: places[7],
+        alone: if was_alone { ALONE } else { 0 },
+    }
+}
+
+// Those of searches that end at these places.
+// Proved:
+//     requires eight { 8 ≤ length keys.now }
+//     requires places { (i : ℕ) → i < 8 → IsFirstNotBelow (text_at keys.now i) sorted.now (slice_index places.now i) }
+//     ensures { AreAnswers sorted.now keys.now result 8 }
+#[inline(always)]
+fn answers_at<const N: usize>(
+    sorted: &SortedTable<'_, N>,
+    keys: &[TinyAsciiStr<N>],
+    places: &[usize; 8],
+) -> [Result<usize, usize>; 8] {
+    let mut answers = [Err(0); 8];
+    for lane in 0..8usize {
+        answers[lane] = sorted.answer_at(places[lane], &keys[lane]);
+    }
+    answers
+}
+
+// Those of one search after another.
+// Proved:
+//     requires { 8 ≤ length keys.now }
+//     ensures { AreAnswers sorted.now keys.now result 8 }
+#[inline(always)]
+fn answers_one_by_one<const N: usize>(
+    sorted: &SortedTable<'_, N>,
+    keys: &[TinyAsciiStr<N>],
+) -> [Result<usize, usize>; 8] {
+    let mut answers = [Err(0); 8];
+    for lane in 0..8usize {
+        answers[lane] = sorted.binary_search(&keys[lane]);
+    }
+    answers
+}
+
+// Those for one key, or for two by turns: a search for each.
+// Proved:
+//     requires eight { 8 ≤ length keys.now }
+//     requires by_turns { (i : ℕ) → i < 6 → text_at keys.now (i + 2) ≡ text_at keys.now i }
+//     ensures { AreAnswers sorted.now keys.now result 8 }
+#[inline(always)]
+fn answers_of_two<const N: usize>(
+    sorted: &SortedTable<'_, N>,
+    keys: &[TinyAsciiStr<N>],
+) -> [Result<usize, usize>; 8] {
+    let first = sorted.binary_search(&keys[0]);
+    let second = if keys[1] == keys[0] {
+        first
+    } else {
+        sorted.binary_search(&keys[1])
+    };
+    [first, second, first, second, first, second, first, second]
+}
+
+// Whether the first eight are one key, or two by turns.
+// Proved:
+//     requires { 8 ≤ length keys.now }
+//     ensures { IsTrue result → (i : ℕ) → i < 6 → text_at keys.now (i + 2) ≡ text_at keys.now i }
+#[inline(always)]
+fn are_two_by_turns<const N: usize>(keys: &[TinyAsciiStr<N>]) -> bool {
+    for lane in 0..6usize {
+        if keys[lane + 2] != keys[lane] {
+            return false;
+        }
+    }
+    true
+}

@@ -1,0 +1,484 @@
+//! The search for eight keys side by side. It halves by the same sizes whatever a key is, so that each waits for memory while
+//! the others do.
+
+use crate::packed::record::number_at;
+use crate::packed::search::{first_not_below, is_below_at, shared_len};
+use core::ops::Range;
+use crate::TinyAsciiStr;
+
+// How far behind the last place keys in order are looked for first: a part of the table, at least `CLOSE` and at most `FAR`
+// records. The steps to each key are branches, which may all be guessed wrong, and so far they take no longer than a search.
+const PART: usize = 256;
+
+const CLOSE: usize = 2;
+
+const FAR: usize = 128;
+
+// Two halves of a number: eight bytes of a record, and the next eight.
+#[derive(Clone, Copy)]
+struct Halves {
+    first: u64,
+    next: u64,
+}
+
+// Eight of them.
+#[derive(Clone, Copy)]
+struct Numbers {
+    first: [u64; 8],
+    next: [u64; 8],
+}
+
+// Those of a record from `start` on.
+// Proved:
+//     requires start { start ≤ N - 8 }
+//     requires padded { IsPaddedText raw.now N }
+//     ensures halves { AreHalves N result.first result.next }
+//     ensures first { result.first ≡ number_at start raw.now }
+//     ensures number { paired result.first result.next ≡ pair_at start raw.now }
+#[inline(always)]
+fn halves_at<const N: usize>(raw: &[u8; N], start: usize) -> Halves {
+    let next = (start + 8).min(N.saturating_sub(8));
+    Halves {
+        first: number_at(raw, start),
+        next: number_at(raw, next),
+    }
+}
+
+// 1 where a number is below the sum of another and `more`, and else 0: the highest bit of the difference. Of a comparison, a
+// branch would be made.
+// Proved:
+//     requires number { number < 2 ^ 63 }
+//     requires other { other < 2 ^ 63 }
+//     requires more { more ≤ 1 }
+//     ensures { result ≡ cond (nat_lt number (other + more)) 1 0 }
+#[inline(always)]
+fn borrow(number: u64, other: u64, more: u64) -> u64 {
+    number.wrapping_sub(other).wrapping_sub(more) >> 63
+}
+
+// 1 where a number is below another, and else 0.
+// Proved:
+//     requires number { AreHalves N number.first number.next }
+//     requires other { AreHalves N other.first other.next }
+//     ensures { result ≡ cond (nat_lt (paired number.first number.next) (paired other.first other.next)) 1 0 }
+#[inline(always)]
+fn bit_below<const N: usize>(number: Halves, other: Halves) -> u64 {
+    if N <= 8 {
+        borrow(number.first, other.first, 0)
+    } else {
+        borrow(
+            number.first,
+            other.first,
+            borrow(number.next, other.next, 0),
+        )
+    }
+}
+
+// A number where a bit is 1, and else 0. Of a choice, a branch would be made.
+// Proved:
+//     requires { bit ≤ 1 }
+//     ensures { result ≡ cond (nat_eq bit 1) number 0 }
+#[inline(always)]
+fn number_if(number: usize, bit: u64) -> usize {
+    number & (bit as usize).wrapping_neg()
+}
+
+// One step of a search: the middle of a range is below a number, or it isn't.
+// Proved:
+//     requires start { start ≤ N - 8 }
+//     requires padded { All (λ raw. IsPaddedText raw N) records.now }
+//     requires rising { DoNotFall (pair_at start) records.now }
+//     requires halves { AreHalves N number.first number.next }
+//     requires many { 1 < size }
+//     requires within { IsPlaceWithin (pair_at start) records.now (paired number.first number.next) base (base + size) }
+//     ensures { IsPlaceWithin (pair_at start) records.now (paired number.first number.next) result (result + (size - size / 2)) }
+#[inline(always)]
+fn halved<const N: usize>(
+    records: &[[u8; N]],
+    start: usize,
+    number: Halves,
+    base: usize,
+    size: usize,
+) -> usize {
+    let half = size / 2;
+    let found = halves_at(&records[base + half], start);
+    base + number_if(half, bit_below::<N>(found, number))
+}
+
+// The last step: the one record that is left is below a number, or it isn't.
+// Proved:
+//     requires start { start ≤ N - 8 }
+//     requires padded { All (λ raw. IsPaddedText raw N) records.now }
+//     requires rising { DoNotFall (pair_at start) records.now }
+//     requires halves { AreHalves N number.first number.next }
+//     requires within { IsPlaceWithin (pair_at start) records.now (paired number.first number.next) base (base + 1) }
+//     ensures { IsPlaceWithin (pair_at start) records.now (paired number.first number.next) result result }
+#[inline(always)]
+fn last<const N: usize>(records: &[[u8; N]], start: usize, number: Halves, base: usize) -> usize {
+    let found = halves_at(&records[base], start);
+    base + bit_below::<N>(found, number) as usize
+}
+
+// The numbers of eight keys.
+// Proved:
+//     requires eight { 8 ≤ length keys.now }
+//     requires start { start ≤ N - 8 }
+//     ensures halves { AreAllHalves N result.first result.next }
+//     ensures numbers { (i : ℕ) → i < 8 → wanted result.first result.next i ≡ pair_at start (pad (text_at keys.now i) N) }
+//     ensures strict { (i : ℕ) → i < 8 → IsStrictText (text_at keys.now i) N }
+#[inline(always)]
+fn numbers_of<const N: usize>(keys: &[TinyAsciiStr<N>], start: usize) -> Numbers {
+    let mut first = [0u64; 8];
+    let mut next = [0u64; 8];
+    for lane in 0..8usize {
+        let halves = halves_at(keys[lane].all_bytes(), start);
+        first[lane] = halves.first;
+        next[lane] = halves.next;
+    }
+    Numbers { first, next }
+}
+
+// Whether each of eight numbers but the last is at most the next.
+// Proved:
+//     requires { AreAllHalves N numbers.now.first numbers.now.next }
+//     ensures { IsTrue result → DoNotFallInTurn (wanted numbers.now.first numbers.now.next) }
+#[inline(always)]
+fn are_rising<const N: usize>(numbers: &Numbers) -> bool {
+    let mut falls = 0u64;
+    for lane in 0..7usize {
+        let number = Halves {
+            first: numbers.first[lane],
+            next: numbers.next[lane],
+        };
+        let other = Halves {
+            first: numbers.first[lane + 1],
+            next: numbers.next[lane + 1],
+        };
+        falls += bit_below::<N>(other, number);
+    }
+    falls == 0
+}
+
+// One step of each of eight searches.
+// Proved:
+//     requires start { start ≤ N - 8 }
+//     requires padded { All (λ raw. IsPaddedText raw N) records.now }
+//     requires rising { DoNotFall (pair_at start) records.now }
+//     requires halves { AreAllHalves N numbers.now.first numbers.now.next }
+//     requires many { 1 < size }
+//     requires within { ArePlacesWithin (pair_at start) records.now (wanted numbers.now.first numbers.now.next) places.old size }
+//     ensures { ArePlacesWithin (pair_at start) records.now (wanted numbers.now.first numbers.now.next) places.new (size - size / 2) }
+#[inline(always)]
+fn halved_each<const N: usize>(
+    records: &[[u8; N]],
+    start: usize,
+    numbers: &Numbers,
+    places: &mut [usize; 8],
+    size: usize,
+) {
+    for lane in 0..8usize {
+        let number = Halves {
+            first: numbers.first[lane],
+            next: numbers.next[lane],
+        };
+        places[lane] = halved(records, start, number, places[lane], size);
+    }
+}
+
+// The last step of each.
+// Proved:
+//     requires start { start ≤ N - 8 }
+//     requires padded { All (λ raw. IsPaddedText raw N) records.now }
+//     requires rising { DoNotFall (pair_at start) records.now }
+//     requires halves { AreAllHalves N numbers.now.first numbers.now.next }
+//     requires within { ArePlacesWithin (pair_at start) records.now (wanted numbers.now.first numbers.now.next) places.old 1 }
+//     ensures { ArePlacesWithin (pair_at start) records.now (wanted numbers.now.first numbers.now.next) places.new 0 }
+#[inline(always)]
+fn last_each<const N: usize>(
+    records: &[[u8; N]],
+    start: usize,
+    numbers: &Numbers,
+    places: &mut [usize; 8],
+) {
+    for lane in 0..8usize {
+        let number = Halves {
+            first: numbers.first[lane],
+            next: numbers.next[lane],
+        };
+        places[lane] = last(records, start, number, places[lane]);
+    }
+}
+
+// The places of eight numbers within a range that holds them all.
+// Proved:
+//     requires start { start ≤ N - 8 }
+//     requires padded { All (λ raw. IsPaddedText raw N) records.now }
+//     requires rising { DoNotFall (pair_at start) records.now }
+//     requires halves { AreAllHalves N numbers.now.first numbers.now.next }
+//     requires within { AreWithin (pair_at start) records.now (wanted numbers.now.first numbers.now.next) range.start range.end }
+//     ensures { ArePlacesWithin (pair_at start) records.now (wanted numbers.now.first numbers.now.next) result 0 }
+#[inline(always)]
+fn places_within<const N: usize>(
+    records: &[[u8; N]],
+    start: usize,
+    numbers: &Numbers,
+    range: Range<usize>,
+) -> [usize; 8] {
+    let mut places = [range.start; 8];
+    let mut size = range.end - range.start;
+    if size == 0 {
+        return places;
+    }
+    while size > 1 {
+        halved_each(records, start, numbers, &mut places, size);
+        size -= size / 2;
+    }
+    last_each(records, start, numbers, &mut places);
+    places
+}
+
+// Whether eight places are at most an index, where the numbers rise: the last one tells.
+// Proved:
+//     requires start { start ≤ N - 8 }
+//     requires padded { All (λ raw. IsPaddedText raw N) records.now }
+//     requires rising { DoNotFall (pair_at start) records.now }
+//     requires halves { AreAllHalves N numbers.now.first numbers.now.next }
+//     requires in_turn { DoNotFallInTurn (wanted numbers.now.first numbers.now.next) }
+//     requires inside { index ≤ length records.now }
+//     ensures { IsTrue result → (i k : ℕ) → i < 8 → index ≤ k → k < length records.now → wanted numbers.now.first numbers.now.next i ≤ pair_at start (text_at records.now k) }
+#[inline(always)]
+fn are_at_most<const N: usize>(
+    records: &[[u8; N]],
+    start: usize,
+    numbers: &Numbers,
+    index: usize,
+) -> bool {
+    let last = Halves {
+        first: numbers.first[7],
+        next: numbers.next[7],
+    };
+    index == records.len() || bit_below::<N>(halves_at(&records[index], start), last) == 0
+}
+
+// Whether they are at least an index: the first one tells.
+// Proved:
+//     requires start { start ≤ N - 8 }
+//     requires padded { All (λ raw. IsPaddedText raw N) records.now }
+//     requires rising { DoNotFall (pair_at start) records.now }
+//     requires halves { AreAllHalves N numbers.now.first numbers.now.next }
+//     requires in_turn { DoNotFallInTurn (wanted numbers.now.first numbers.now.next) }
+//     requires inside { index ≤ length records.now }
+//     ensures { IsTrue result → (i k : ℕ) → i < 8 → k < index → pair_at start (text_at records.now k) < wanted numbers.now.first numbers.now.next i }
+#[inline(always)]
+fn are_at_least<const N: usize>(
+    records: &[[u8; N]],
+    start: usize,
+    numbers: &Numbers,
+    index: usize,
+) -> bool {
+    let first = Halves {
+        first: numbers.first[0],
+        next: numbers.next[0],
+    };
+    index == 0 || bit_below::<N>(halves_at(&records[index - 1], start), first) == 1
+}
+
+// Whether a range holds eight places, where the numbers rise.
+// Proved:
+//     requires start { start ≤ N - 8 }
+//     requires padded { All (λ raw. IsPaddedText raw N) records.now }
+//     requires rising { DoNotFall (pair_at start) records.now }
+//     requires halves { AreAllHalves N numbers.now.first numbers.now.next }
+//     requires in_turn { DoNotFallInTurn (wanted numbers.now.first numbers.now.next) }
+//     requires ordered { range.now.start ≤ range.now.end }
+//     requires inside { range.now.end ≤ length records.now }
+//     ensures { IsTrue result → AreWithin (pair_at start) records.now (wanted numbers.now.first numbers.now.next) range.now.start range.now.end }
+#[inline(always)]
+fn holds_each<const N: usize>(
+    records: &[[u8; N]],
+    start: usize,
+    numbers: &Numbers,
+    range: &Range<usize>,
+) -> bool {
+    are_at_most(records, start, numbers, range.end)
+        && are_at_least(records, start, numbers, range.start)
+}
+
+// The place of a number within a range that holds it, in time that grows as the logarithm of its distance from the start: by
+// steps that double, and then by halves.
+// Proved:
+//     requires start { start ≤ N - 8 }
+//     requires padded { All (λ raw. IsPaddedText raw N) records.now }
+//     requires rising { DoNotFall (pair_at start) records.now }
+//     requires halves { AreHalves N number.first number.next }
+//     requires within { IsPlaceWithin (pair_at start) records.now (paired number.first number.next) range.start range.end }
+//     ensures bound { result ≤ range.end }
+//     ensures place { IsPlaceWithin (pair_at start) records.now (paired number.first number.next) result result }
+#[inline(always)]
+fn place_from<const N: usize>(
+    records: &[[u8; N]],
+    start: usize,
+    number: Halves,
+    range: Range<usize>,
+) -> usize {
+    let mut base = range.start;
+    let mut end = range.end;
+    let mut step = 0;
+    while base < end {
+        let ahead = ((end - base) / 2).min(step);
+        let found = halves_at(&records[base + ahead], start);
+        if bit_below::<N>(found, number) == 1 {
+            base += ahead + 1;
+            step = 2 * ahead + 1;
+        } else {
+            end = base + ahead;
+        }
+    }
+    base
+}
+
+// The places of eight numbers that rise, within a range that holds them all, each looked for behind the one before it.
+// Proved:
+//     requires start { start ≤ N - 8 }
+//     requires padded { All (λ raw. IsPaddedText raw N) records.now }
+//     requires rising { DoNotFall (pair_at start) records.now }
+//     requires halves { AreAllHalves N numbers.now.first numbers.now.next }
+//     requires in_turn { DoNotFallInTurn (wanted numbers.now.first numbers.now.next) }
+//     requires within { AreWithin (pair_at start) records.now (wanted numbers.now.first numbers.now.next) range.start range.end }
+//     ensures { ArePlacesWithin (pair_at start) records.now (wanted numbers.now.first numbers.now.next) result 0 }
+#[inline(always)]
+fn places_in_turn<const N: usize>(
+    records: &[[u8; N]],
+    start: usize,
+    numbers: &Numbers,
+    range: Range<usize>,
+) -> [usize; 8] {
+    let mut base = range.start;
+    let mut places = [base; 8];
+    for lane in 0..8usize {
+        let number = Halves {
+            first: numbers.first[lane],
+            next: numbers.next[lane],
+        };
+        base = place_from(records, start, number, base..range.end);
+        places[lane] = base;
+    }
+    places
+}
+
+// The places of eight numbers: a little behind an index, where they are there in order, and else anywhere.
+// Proved:
+//     requires start { start ≤ N - 8 }
+//     requires padded { All (λ raw. IsPaddedText raw N) records.now }
+//     requires rising { DoNotFall (pair_at start) records.now }
+//     requires halves { AreAllHalves N numbers.now.first numbers.now.next }
+//     ensures { ArePlacesWithin (pair_at start) records.now (wanted numbers.now.first numbers.now.next) result 0 }
+#[inline(always)]
+fn places_near<const N: usize>(
+    records: &[[u8; N]],
+    start: usize,
+    numbers: &Numbers,
+    near: usize,
+) -> [usize; 8] {
+    let len = records.len();
+    if are_rising::<N>(numbers) {
+        let near = near.min(len);
+        let distance = (len / PART).max(CLOSE).min(FAR);
+        let range = near..near.saturating_add(distance).min(len);
+        if holds_each(records, start, numbers, &range) {
+            return places_in_turn(records, start, numbers, range);
+        }
+    }
+    places_within(records, start, numbers, 0..len)
+}
+
+// The places of eight keys among records, by their numbers from `start` on.
+// Proved:
+//     requires eight { 8 ≤ length keys.now }
+//     requires start { start ≤ N - 8 }
+//     requires padded { All (λ raw. IsPaddedText raw N) records.now }
+//     requires rising { DoNotFall (pair_at start) records.now }
+//     ensures places { (i : ℕ) → i < 8 → IsPlaceWithin (pair_at start) records.now (pair_at start (pad (text_at keys.now i) N)) (slice_index result i) (slice_index result i) }
+//     ensures strict { (i : ℕ) → i < 8 → IsStrictText (text_at keys.now i) N }
+#[inline(always)]
+fn places_by_numbers<const N: usize>(
+    records: &[[u8; N]],
+    keys: &[TinyAsciiStr<N>],
+    start: usize,
+    near: usize,
+) -> [usize; 8] {
+    let numbers = numbers_of(keys, start);
+    places_near(records, start, &numbers, near)
+}
+
+// How many bytes each of eight keys shares with all records in front. It only guides, as `shared_len` does.
+// Proved:
+//     requires eight { 8 ≤ length keys.now }
+//     requires long { 8 < N }
+//     requires records { AreRisingRecords N records.now }
+//     ensures bound { result ≤ N - 8 }
+//     ensures alike { (i : ℕ) → i < 8 → BeginAlike result (pad (text_at keys.now i) N) records.now }
+#[inline(always)]
+fn shared_len_of_each<const N: usize>(records: &[[u8; N]], keys: &[TinyAsciiStr<N>]) -> usize {
+    let mut len = shared_len(records, keys[0].all_bytes());
+    for lane in 1..8usize {
+        if len == 0 {
+            return 0;
+        }
+        len = len.min(shared_len(records, keys[lane].all_bytes()));
+    }
+    len
+}
+
+/// The places of eight keys among records, and whether one of them was searched for by itself. Keys in order are looked for
+/// behind an index first.
+///
+/// # Contract
+///
+/// ```text
+/// requires eight { 8 ≤ length keys.now }
+/// requires padded { All (λ raw. IsPaddedText raw N) records.now }
+/// requires records { AreRisingRecords N records.now }
+/// ensures places { (i : ℕ) → i < 8 → IsFirstNotBelow (pad (text_at keys.now i) N) records.now (slice_index result.0 i) }
+/// ensures strict { (i : ℕ) → i < 8 → IsStrictText (text_at keys.now i) N }
+/// ```
+#[inline(always)]
+pub(crate) fn first_not_below_each<const N: usize>(
+    records: &[[u8; N]],
+    keys: &[TinyAsciiStr<N>],
+    near: usize,
+) -> ([usize; 8], bool) {
+    if N <= 16 {
+        (places_by_numbers(records, keys, 0, near), false)
+    } else {
+        first_not_below_each_long(records, keys, near)
+    }
+}
+
+// Those among records of more than sixteen bytes. Where a record has a key's number and is below the key, it is searched for by
+// itself.
+// Proved:
+//     requires eight { 8 ≤ length keys.now }
+//     requires long { 16 < N }
+//     requires padded { All (λ raw. IsPaddedText raw N) records.now }
+//     requires records { AreRisingRecords N records.now }
+//     ensures places { (i : ℕ) → i < 8 → IsFirstNotBelow (pad (text_at keys.now i) N) records.now (slice_index result.0 i) }
+//     ensures strict { (i : ℕ) → i < 8 → IsStrictText (text_at keys.now i) N }
+#[inline(always)]
+fn first_not_below_each_long<const N: usize>(
+    records: &[[u8; N]],
+    keys: &[TinyAsciiStr<N>],
+    near: usize,
+) -> ([usize; 8], bool) {
+    let start = shared_len_of_each(records, keys);
+    let mut places = places_by_numbers(records, keys, start, near);
+    let mut alone = false;
+    for lane in 0..8usize {
+        let key = keys[lane].all_bytes();
+        if is_below_at(records, places[lane], key) {
+            places[lane] = first_not_below(records, key);
+            alone = true;
+        }
+    }
+    (places, alone)
+}

@@ -1,0 +1,162 @@
+-- Searches side by side.
+use Rattle.std.proofs.Common.{◌≡◌, ◌≢◌, ℕ, suc, zero, ◌+◌, ◌-◌, ◌*◌, ◌/◌, ◌<◌, ◌≤◌, ◌^◌, List, [], ◌∷◌, length, map, take, drop, get_or, slice_set, refl, sym, ap, ◌∙◌, arith, min, nat_lt, nat_eq, cond, inl, inr, Bool, true, false}
+use Rattle.std.specs.Int.{from_be_bytes, w64}
+use Rattle.std.specs.declared.result.Result.{Result}
+use Rattle.std.specs.declared.result.Result.TheVariants.{Ok}
+use Rattle.std.proofs.lemmas.Bool.{cases_lt}
+use Rattle.std.proofs.lemmas.Bool.Decides.{nat_tests}
+use Rattle.std.proofs.lemmas.List.{at_drop_more, get_or_default, get_or-drop, get_or-replicate, get_or-set_other, get_or-set_same, length-drop, length-take, places, take_all}
+use Rattle.tinystr_words.specs.Text.{IsPaddedText, IsStrictText, pad}
+use Rattle.tinystr_words.proofs.Texts.{get_or-pad, length-pad}
+use Rattle.tinystr_packed.specs.Numbers.{number_at, pair_at}
+use Rattle.tinystr_packed.specs.Rising.{text_at}
+use Rattle.tinystr_packed.specs.Search.{search}
+use Rattle.tinystr_packed.specs.SideBySide.{paired, AreAnswers, AreHalves, AreReady, AreWithin, DoNotFall, DoNotFallInTurn, IsPlaceWithin, ArePlacesWithin}
+use Rattle.tinystr_packed.proofs.RisingTexts.{ascii-padded}
+
+-- eight bytes of a text spell a number without its highest bit
+from_be_bytes-fits : (bs : List ℕ) → length bs ≡ 8 → ((i : ℕ) → get_or bs i 0 < 128) → from_be_bytes w64 bs < 9223372036854775808
+from_be_bytes-fits bs long bytes = omega (arith, bytes 0, bytes 1, bytes 2, bytes 3, bytes 4, bytes 5, bytes 6, bytes 7)
+
+pub number_at-fits : (raw : List ℕ) (n s : ℕ) → IsPaddedText raw n → number_at s raw < 9223372036854775808
+unfolding number_at
+number_at-fits raw n s h =
+    let eight = take 8 (drop s raw) in
+    from_be_bytes-fits (pad eight 8) (length-pad eight 8 (omega (arith, length-take 8 (drop s raw)))) (λ i. rw (get_or-pad eight 8 i) (let byte = ascii-padded raw n (s + i) h in grind (arith, places, byte)))
+
+-- a range halves where the number of its middle is below w, or isn't
+pub IsPlaceWithin-halved : (number : List ℕ → ℕ) (records : List (List ℕ)) (w base size found taken : ℕ) → DoNotFall number records → IsPlaceWithin number records w base (base + size) → 1 < size
+    → found ≡ number (text_at records (base + size / 2)) → taken ≡ cond (nat_lt found w) (size / 2) 0 → IsPlaceWithin number records w (base + taken) (base + taken + (size - size / 2))
+IsPlaceWithin-halved number records w base size found taken up h many is chosen = elim (cases_lt found w) [
+  | inl less ↦ (let half : taken ≡ size / 2 = grind (arith, nat_tests) in
+      record {
+        ordered = omega arith;
+        inside = omega (arith, h.inside);
+        below = λ k before. omega (arith, up.each k (base + size / 2) (omega arith) (omega (arith, h.inside)), is);
+        not_below = λ k from inside. h.not_below k (omega arith) inside;
+      })
+  | inr rest ↦ (let none : taken ≡ 0 = grind (arith, nat_tests) in
+      record {
+        ordered = omega arith;
+        inside = omega (arith, h.inside);
+        below = λ k before. h.below k (omega arith);
+        not_below = λ k from inside. omega (arith, up.each (base + size / 2) k (omega arith) inside, is);
+      })
+]
+
+-- the record at k is below w: the place is behind it
+pub IsPlaceWithin-behind : (number : List ℕ → ℕ) (records : List (List ℕ)) (w i j k : ℕ) → DoNotFall number records → IsPlaceWithin number records w i j → k < j → number (text_at records k) < w → i ≤ k → IsPlaceWithin number records w (k + 1) j
+IsPlaceWithin-behind number records w i j k up h before less le = record {
+  ordered = omega arith;
+  inside = h.inside;
+  below = λ m first. omega (arith, up.each m k (omega arith) (omega (arith, h.inside)));
+  not_below = h.not_below;
+}
+
+-- and it isn't: the place is there or before it
+pub IsPlaceWithin-before : (number : List ℕ → ℕ) (records : List (List ℕ)) (w i j k : ℕ) → DoNotFall number records → IsPlaceWithin number records w i j → k < j → w ≤ number (text_at records k) → i ≤ k → IsPlaceWithin number records w i k
+IsPlaceWithin-before number records w i j k up h before other le = record {
+  ordered = le;
+  inside = omega (arith, h.inside);
+  below = h.below;
+  not_below = λ m from inside. omega (arith, up.each k m from inside);
+}
+
+-- the place of a number that isn't less is no earlier
+pub IsPlaceWithin-next : (number : List ℕ → ℕ) (records : List (List ℕ)) (v w i j k : ℕ) → IsPlaceWithin number records v i i → v ≤ w → i ≤ j → IsPlaceWithin number records w k j → IsPlaceWithin number records w i j
+IsPlaceWithin-next number records v w i j k place up le h = record {
+  ordered = le;
+  inside = h.inside;
+  below = λ m before. omega (arith, place.below m before);
+  not_below = h.not_below;
+}
+
+-- of eight numbers that rise, none is below one before it
+pub DoNotFallInTurn-later : (w : ℕ → ℕ) → DoNotFallInTurn w → (i j : ℕ) → i ≤ j → j < 8 → w i ≤ w j
+DoNotFallInTurn-later w up i zero le less =
+    let same : i ≡ 0 = omega arith in
+    rw same (omega arith)
+DoNotFallInTurn-later w up i (suc j) le less = elim (cases_lt i (suc j)) [
+  | inl before ↦ (let next : j + 1 ≡ suc j = omega arith in
+      omega (arith, DoNotFallInTurn-later w up i j (omega arith) (omega arith), rw next at (up.each j (omega arith))))
+  | inr rest ↦ (let same : i ≡ suc j = omega arith in rw same (omega arith))
+]
+
+-- ---- eight of something, of which one more is put in its place
+
+-- what is so of those before it is so with it
+pub so_far-set : (P : ℕ → ℕ → Type 0) (xs : List ℕ) (m x : ℕ) → m < length xs → ((i : ℕ) → i < m → P i (get_or xs i 0)) → P m x → (i : ℕ) → i < m + 1 → P i (get_or (slice_set xs m x) i 0)
+so_far-set P xs m x inside before here i within = elim (cases_lt i m) [
+  | inl less ↦ rw (get_or-set_other xs m i x 0 (λ e. absurd (omega arith))) (before i less)
+  | inr rest ↦ (let same : i ≡ m = omega arith in rw (same, get_or-set_same xs m x 0 inside) here)
+]
+
+-- and what is so of those behind it stays
+pub still-set : (P : ℕ → ℕ → Type 0) (xs : List ℕ) (m x : ℕ) → ((i : ℕ) → m ≤ i → i < 8 → P i (get_or xs i 0)) → (i : ℕ) → m + 1 ≤ i → i < 8 → P i (get_or (slice_set xs m x) i 0)
+still-set P xs m x behind i from within = rw (get_or-set_other xs m i x 0 (λ e. absurd (omega arith))) (behind i (omega arith) within)
+
+-- two lists at once
+pub so_far-set_both : (P : ℕ → ℕ → ℕ → Type 0) (xs ys : List ℕ) (m x y : ℕ) → m < length xs → m < length ys → ((i : ℕ) → i < m → P i (get_or xs i 0) (get_or ys i 0)) → P m x y
+    → (i : ℕ) → i < m + 1 → P i (get_or (slice_set xs m x) i 0) (get_or (slice_set ys m y) i 0)
+so_far-set_both P xs ys m x y inside within before here i below = elim (cases_lt i m) [
+  | inl less ↦ (let other : i ≢ m = λ e. absurd (omega arith) in
+      rw (get_or-set_other xs m i x 0 other, get_or-set_other ys m i y 0 other) (before i less))
+  | inr rest ↦ (let same : i ≡ m = omega arith in rw (same, get_or-set_same xs m x 0 inside, get_or-set_same ys m y 0 within) here)
+]
+
+-- the number of a key
+pub record IsNumberOf (n start : ℕ) (key : List ℕ) (first next : ℕ) : Type 0 where
+  pub halves : AreHalves n first next
+  pub number : paired first next ≡ pair_at start (pad key n)
+  pub strict : IsStrictText key n
+
+-- at first all stand at the start of a range
+pub ArePlacesWithin-start : (number : List ℕ → ℕ) (records : List (List ℕ)) (w : ℕ → ℕ) (i j size : ℕ) → i + size ≡ j → AreWithin number records w i j → ArePlacesWithin number records w (i ∷ i ∷ i ∷ i ∷ i ∷ i ∷ i ∷ i ∷ []) size
+ArePlacesWithin-start number records w i j size end h = record {
+  each = λ lane within. rw (get_or-replicate {A = ℕ} 8 lane i 0 within, end) (h.each lane within);
+}
+
+-- ---- answers for eight keys
+
+-- one more answer in its place
+pub AreAnswers-set : (texts keys : List (List ℕ)) (answers : List (Result ℕ ℕ)) (n : ℕ) (r : Result ℕ ℕ) → n < length answers → AreAnswers texts keys answers n → r ≡ search texts (text_at keys n) → AreAnswers texts keys (slice_set answers n r) (n + 1)
+AreAnswers-set texts keys answers n r inside before here i within = elim (cases_lt i n) [
+  | inl less ↦ get_or-set_other answers n i r (Ok 0) (λ e. absurd (omega arith)) ∙ before i less
+  | inr rest ↦ (let same : i ≡ n = omega arith in rw same (get_or-set_same answers n r (Ok 0) inside ∙ here))
+]
+
+-- two answers by turns, for two keys by turns
+pub AreAnswers-by_turns : (texts keys : List (List ℕ)) (r s : Result ℕ ℕ) → ((i : ℕ) → i < 6 → text_at keys (i + 2) ≡ text_at keys i) → r ≡ search texts (text_at keys 0) → s ≡ search texts (text_at keys 1) → AreAnswers texts keys (r ∷ s ∷ r ∷ s ∷ r ∷ s ∷ r ∷ s ∷ []) 8
+AreAnswers-by_turns texts keys r s turns first second zero within = first
+AreAnswers-by_turns texts keys r s turns first second (suc zero) within = second
+AreAnswers-by_turns texts keys r s turns first second (suc (suc zero)) within = first ∙ ap (search texts) (sym (turns 0 (omega arith)))
+AreAnswers-by_turns texts keys r s turns first second (suc (suc (suc zero))) within = second ∙ ap (search texts) (sym (turns 1 (omega arith)))
+AreAnswers-by_turns texts keys r s turns first second (suc (suc (suc (suc zero)))) within = first ∙ ap (search texts) (sym (turns 2 (omega arith) ∙ turns 0 (omega arith)))
+AreAnswers-by_turns texts keys r s turns first second (suc (suc (suc (suc (suc zero))))) within = second ∙ ap (search texts) (sym (turns 3 (omega arith) ∙ turns 1 (omega arith)))
+AreAnswers-by_turns texts keys r s turns first second (suc (suc (suc (suc (suc (suc zero)))))) within = first ∙ ap (search texts) (sym (turns 4 (omega arith) ∙ turns 2 (omega arith) ∙ turns 0 (omega arith)))
+AreAnswers-by_turns texts keys r s turns first second (suc (suc (suc (suc (suc (suc (suc zero))))))) within = second ∙ ap (search texts) (sym (turns 5 (omega arith) ∙ turns 3 (omega arith) ∙ turns 1 (omega arith)))
+AreAnswers-by_turns texts keys r s turns first second (suc (suc (suc (suc (suc (suc (suc (suc i)))))))) within = absurd (omega arith)
+
+-- the answer that is ready for the next key
+pub AreReady-first : (texts keys : List (List ℕ)) (answers : List (Result ℕ ℕ)) (m n : ℕ) → 0 < n → AreReady texts keys answers m n → get_or answers (8 - n) (Ok 0) ≡ search texts (text_at keys m)
+AreReady-first texts keys answers m n some h =
+    let a : m + 0 ≡ m = omega arith in
+    let b : 8 - n + 0 ≡ 8 - n = omega arith in
+    rw (a, b) at (h 0 some)
+
+-- and those behind it
+pub AreReady-rest : (texts keys : List (List ℕ)) (answers : List (Result ℕ ℕ)) (m n : ℕ) → 0 < n → n ≤ 8 → AreReady texts keys answers m n → AreReady texts keys answers (m + 1) (n - 1)
+AreReady-rest texts keys answers m n some fits h i less =
+    let a : m + (i + 1) ≡ m + 1 + i = omega arith in
+    let b : 8 - n + (i + 1) ≡ 8 - (n - 1) + i = omega arith in
+    rw (a, b) at (h (i + 1) (omega arith))
+
+-- the answers for the keys that are left are those that are ready
+pub AreReady-filled : (texts keys : List (List ℕ)) (answers : List (Result ℕ ℕ)) (m : ℕ) → AreAnswers texts (take (length keys - m) (drop m keys)) answers 8 → AreReady texts keys answers m 8
+AreReady-filled texts keys answers m h i less =
+    let a : 8 - 8 + i ≡ i = omega arith in
+    rw a (rw (take_all (length keys - m) (drop m keys) (omega (arith, length-drop m keys)), get_or-drop m keys i []) at (h i less))
+
+-- the first of the answers that are left
+pub search-next : (texts keys : List (List ℕ)) (m : ℕ) (r : Result ℕ ℕ) → m < length keys → r ≡ search texts (text_at keys m) → map (search texts) (drop m keys) ≡ r ∷ map (search texts) (drop (m + 1) keys)
+search-next texts keys m r inside is = at_drop_more (map (search texts)) keys m [] inside ∙ ap (λ (x : Result ℕ ℕ). x ∷ map (search texts) (drop (m + 1) keys)) (sym is)

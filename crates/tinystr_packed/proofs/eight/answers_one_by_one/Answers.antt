@@ -1,0 +1,17 @@
+use Rattle.std.proofs.Common.{◌≡◌, ◌∙◌, [], ap, arith}
+use Rattle.std.proofs.lemmas.List.{get_or_default, length-set}
+use Rattle.tinystr_packed.specs.Search.{search}
+use Rattle.tinystr_packed.proofs.SideBySide.{AreAnswers-set}
+use Rattle.tinystr_packed.proofs.eight.answers_one_by_one.Goals as goal
+
+pub loop-lane-preserved : goal.loop-lane-preserved
+loop-lane-preserved g c =
+    let texts = c.args.sorted.now in
+    let keys = c.args.keys.now in
+    let answers = c.loop-lane.answers in
+    let lane = c.loop-lane.lane in
+    let here = c.index-keys-lane.is ∙ get_or_default keys lane c.index-keys-lane.result [] (omega (arith, c.requires)) in
+    record {
+      long = length-set answers lane c.binary_search.result ∙ c.loop-lane.invariant.long;
+      each = AreAnswers-set texts keys answers lane c.binary_search.result (omega (arith, c.loop-lane.invariant.long)) c.loop-lane.invariant.each (c.binary_search.ensures.answer ∙ ap (search texts) here);
+    }

@@ -1,0 +1,9 @@
+use Rattle.std.proofs.Common.{◌≡◌, length}
+use Rattle.tinystr_packed.specs.SideBySide.{AreAnswers}
+use Rattle.tinystr_packed.proofs.eight.answers_one_by_one.Given as goal
+
+abbrev pub invariant-loop-lane : goal.invariant-loop-lane
+invariant-loop-lane g l = record {
+  long : length l.answers ≡ 8;
+  each : AreAnswers l.sorted l.keys l.answers l.lane;
+}

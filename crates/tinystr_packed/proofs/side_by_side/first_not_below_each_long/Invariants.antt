@@ -1,0 +1,14 @@
+use Rattle.std.proofs.Common.{◌≡◌, ℕ, ◌<◌, ◌≤◌, length}
+use Rattle.std.specs.List.{slice_index}
+use Rattle.tinystr_words.specs.Text.{pad}
+use Rattle.tinystr_packed.specs.Numbers.{pair_at}
+use Rattle.tinystr_packed.specs.Rising.{text_at, IsFirstNotBelow}
+use Rattle.tinystr_packed.specs.SideBySide.{IsPlaceWithin}
+use Rattle.tinystr_packed.proofs.side_by_side.first_not_below_each_long.Given as goal
+
+abbrev pub invariant-loop-lane : goal.invariant-loop-lane
+invariant-loop-lane g l = record {
+  long : length l.places ≡ 8;
+  done : (i : ℕ) → i < l.lane → IsFirstNotBelow (pad (text_at l.keys i) g.row.N) l.records (slice_index l.places i);
+  left : (i : ℕ) → l.lane ≤ i → i < 8 → IsPlaceWithin (pair_at l.start) l.records (pair_at l.start (pad (text_at l.keys i) g.row.N)) (slice_index l.places i) (slice_index l.places i);
+}

@@ -1,0 +1,55 @@
+-- Searches side by side, for numbers of two halves.
+use Rattle.std.specs.Prelude.{◌≡◌, ℕ, ◌+◌, ◌-◌, ◌*◌, ◌^◌, ◌<◌, ◌≤◌, List, length, slice_index, slice_index_or}
+use Rattle.std.specs.declared.result.Result.{Result}
+use Rattle.std.specs.declared.result.Result.TheVariants.{Ok}
+use Rattle.tinystr_packed.specs.Rising.{text_at}
+use Rattle.tinystr_packed.specs.Search.{search}
+
+-- the number of two halves
+abbrev pub paired : ℕ → ℕ → ℕ
+paired first next = first * 2 ^ 64 + next
+
+-- halves as texts of n bytes have them: neither has its highest bit, and where there are at most eight bytes, both are all
+pub record AreHalves (n first next : ℕ) : Type 0 where
+  pub first_fits : first < 2 ^ 63
+  pub next_fits : next < 2 ^ 63
+  pub short : n ≤ 8 → first ≡ next
+
+-- eight of them
+pub record AreAllHalves (n : ℕ) (first next : List ℕ) : Type 0 where
+  pub each : (i : ℕ) → i < 8 → AreHalves n (slice_index first i) (slice_index next i)
+
+-- one of them
+abbrev pub wanted : List ℕ → List ℕ → ℕ → ℕ
+wanted first next i = paired (slice_index first i) (slice_index next i)
+
+-- the numbers of records don't fall
+pub record DoNotFall (number : List ℕ → ℕ) (records : List (List ℕ)) : Type 0 where
+  pub each : (i j : ℕ) → i ≤ j → j < length records → number (text_at records i) ≤ number (text_at records j)
+
+-- nor do eight numbers
+pub record DoNotFallInTurn (w : ℕ → ℕ) : Type 0 where
+  pub each : (i : ℕ) → i < 7 → w i ≤ w (i + 1)
+
+-- the numbers of the records before i are below w, and none from j on is
+pub record IsPlaceWithin (number : List ℕ → ℕ) (records : List (List ℕ)) (w i j : ℕ) : Type 0 where
+  pub ordered : i ≤ j
+  pub inside : j ≤ length records
+  pub below : (k : ℕ) → k < i → number (text_at records k) < w
+  pub not_below : (k : ℕ) → j ≤ k → k < length records → w ≤ number (text_at records k)
+
+-- so it is of eight numbers
+pub record AreWithin (number : List ℕ → ℕ) (records : List (List ℕ)) (w : ℕ → ℕ) (i j : ℕ) : Type 0 where
+  pub each : (lane : ℕ) → lane < 8 → IsPlaceWithin number records (w lane) i j
+
+-- and each from its own place on
+pub record ArePlacesWithin (number : List ℕ → ℕ) (records : List (List ℕ)) (w : ℕ → ℕ) (places : List ℕ) (size : ℕ) : Type 0 where
+  pub each : (i : ℕ) → i < 8 → IsPlaceWithin number records (w i) (slice_index places i) (slice_index places i + size)
+
+-- the first n of eight answers are those for the first keys
+abbrev pub AreAnswers : List (List ℕ) → List (List ℕ) → List (Result ℕ ℕ) → ℕ → Type 0
+AreAnswers texts keys answers n = (i : ℕ) → i < n → slice_index_or answers i (Ok 0) ≡ search texts (text_at keys i)
+
+-- the last n of eight answers are those for the keys from m on
+abbrev pub AreReady : List (List ℕ) → List (List ℕ) → List (Result ℕ ℕ) → ℕ → ℕ → Type 0
+AreReady texts keys answers m n = (i : ℕ) → i < n → slice_index_or answers (8 - n + i) (Ok 0) ≡ search texts (text_at keys (m + i))

@@ -1,0 +1,215 @@
+//! Searches for many keys, beside a search for each.
+
+ghost use Rattle.std.specs.Prelude.{◌<◌, ◌^◌};
+
+use std::alloc::{AllocError, Global};
+use std::test::Fail;
+use tinystr::TinyAsciiStr;
+use tinystr_packed::{PackedMap, SortedTable, Table};
+
+// Tables of so many texts: none, fewer than eight, about eight, and so many that keys in order are looked for near and far.
+const COUNTS: &[usize] = &[0, 1, 2, 7, 8, 9, 40, 300, 5000];
+
+// The steps from each key to the next: the same key, the next, each second, and far ones.
+const STEPS: &[usize] = &[0, 1, 2, 5, 37, 256, 999];
+
+/// The text of a number below 26^3 by three letters, of which the first stands in front where texts are to be in groups. The
+/// even numbers are those of a table's texts.
+fn text<const N: usize>(number: usize, is_grouped: bool) -> Option<TinyAsciiStr<N>> {
+    let mut raw = [b'm'; N];
+    let front = if is_grouped { N } else { 3 };
+    for (index, byte) in raw.iter_mut().rev().enumerate() {
+        if index == 0 {
+            *byte = letter(number);
+        } else if index == 1 {
+            *byte = letter(number / 26);
+        } else if index.saturating_add(1) == front {
+            *byte = letter(number / 676);
+        }
+    }
+    TinyAsciiStr::try_from_raw(raw).ok()
+}
+
+fn letter(number: usize) -> u8 {
+    b'a' + (number % 26) as u8
+}
+
+fn file<const N: usize>(
+    alloc: Global,
+    count: usize,
+    is_grouped: bool,
+) -> Result<Vec<u8>, AllocError>
+    requires { N < 2 ^ 63 }
+{
+    let mut file = Vec::new(alloc);
+    for index in 0..count {
+        if let Some(text) = text::<N>(index.saturating_mul(2), is_grouped) {
+            file.extend_from_slice(text.all_bytes())?;
+        }
+    }
+    Ok(file)
+}
+
+/// How keys come: the number of the first, the step to the next, and whether each third step is twice as far. Where they
+/// fall, each goes as far back.
+#[derive(Clone, Copy)]
+struct Course {
+    first: usize,
+    step: usize,
+    is_uneven: bool,
+    falls: bool,
+}
+
+impl Course {
+    /// The number of a key of those below a number.
+    fn number(&self, turn: usize, below: usize) -> usize {
+        let more = if self.is_uneven { turn / 3 } else { 0 };
+        let way = turn.saturating_add(more).saturating_mul(self.step) % below.max(1);
+        let far = if self.falls {
+            below.saturating_sub(way)
+        } else {
+            way
+        };
+        self.first.saturating_add(far) % below.max(1)
+    }
+}
+
+const COURSES: &[Course] = &[
+    Course {
+        first: 0,
+        step: 1,
+        is_uneven: false,
+        falls: false,
+    },
+    Course {
+        first: 301,
+        step: 1,
+        is_uneven: true,
+        falls: false,
+    },
+    Course {
+        first: 77,
+        step: 1,
+        is_uneven: true,
+        falls: true,
+    },
+];
+
+/// So many keys of a table, some of which are before it and behind.
+fn keys<const N: usize>(
+    alloc: Global,
+    course: Course,
+    count: usize,
+    texts: usize,
+    is_grouped: bool,
+) -> Result<Vec<TinyAsciiStr<N>>, AllocError> {
+    let below = texts.saturating_mul(2).saturating_add(3);
+    let mut keys = Vec::new(alloc);
+    for turn in 0..count {
+        if let Some(text) = text::<N>(course.number(turn, below), is_grouped) {
+            keys.push(text)?;
+        }
+    }
+    Ok(keys)
+}
+
+/// Whether all answers are those of a search for each key, and as many.
+fn are_same<const N: usize>(sorted: &SortedTable<'_, N>, keys: &[TinyAsciiStr<N>]) -> bool {
+    let mut answers = sorted.binary_search_each(keys);
+    let mut left = keys.len();
+    for key in keys {
+        if answers.size_hint() != (left, Some(left)) || answers.len() != left {
+            return false;
+        }
+        if answers.next() != Some(sorted.binary_search(key)) {
+            return false;
+        }
+        left = left.saturating_sub(1);
+    }
+    answers.next().is_none()
+}
+
+/// Whether that is so of a table of so many texts, with keys in each order.
+fn are_same_of<const N: usize>(
+    alloc: Global,
+    count: usize,
+    is_grouped: bool,
+) -> Result<bool, AllocError>
+    requires above { 0 < N }
+    requires below { N < 2 ^ 63 }
+{
+    let file = file::<N>(alloc, count, is_grouped)?;
+    let Ok(table) = Table::<N>::new(file.as_slice()) else {
+        return Ok(false);
+    };
+    let Ok(sorted) = SortedTable::new(table) else {
+        return Ok(false);
+    };
+    for course in COURSES {
+        for step in STEPS {
+            let mut course = *course;
+            course.step = *step;
+            let keys = keys::<N>(alloc, course, 45, count, is_grouped)?;
+            if !are_same(&sorted, &keys) {
+                return Ok(false);
+            }
+        }
+    }
+    for few in 0..10usize {
+        let keys = keys::<N>(alloc, COURSES[0], few, count, is_grouped)?;
+        if !are_same(&sorted, &keys) {
+            return Ok(false);
+        }
+    }
+    Ok(true)
+}
+
+#[test]
+fn each_answer_is_that_of_one_search(rt: HostRuntime) -> Result<(), Fail> {
+    for count in COUNTS {
+        assert!(rt; are_same_of::<3>(rt.alloc(), *count, false)?);
+        assert!(rt; are_same_of::<8>(rt.alloc(), *count, true)?);
+        assert!(rt; are_same_of::<9>(rt.alloc(), *count, false)?);
+        assert!(rt; are_same_of::<16>(rt.alloc(), *count, true)?);
+        assert!(rt; are_same_of::<17>(rt.alloc(), *count, false)?);
+        assert!(rt; are_same_of::<40>(rt.alloc(), *count, false)?);
+        assert!(rt; are_same_of::<40>(rt.alloc(), *count, true)?);
+    }
+    Ok(())
+}
+
+/// Whether all values are those of each key.
+fn have_values(map: &PackedMap<'_, 3, 1>, keys: &[TinyAsciiStr<3>]) -> bool {
+    let mut values = map.get_each(keys);
+    for key in keys {
+        if values.next() != Some(map.get(key)) {
+            return false;
+        }
+    }
+    values.next().is_none()
+}
+
+/// Whether that is so of a map of a hundred texts, with keys in each order.
+fn values_are_same(alloc: Global) -> Result<bool, AllocError> {
+    let file = file::<3>(alloc, 100, false)?;
+    let mut values = Vec::new(alloc);
+    for index in 0..100u8 {
+        values.push(index)?;
+    }
+    let Ok(map) = PackedMap::<3, 1>::new(file.as_slice(), values.as_slice()) else {
+        return Ok(false);
+    };
+    for course in COURSES {
+        let keys = keys::<3>(alloc, *course, 45, 100, false)?;
+        if !have_values(&map, &keys) {
+            return Ok(false);
+        }
+    }
+    Ok(true)
+}
+
+#[test]
+fn each_value_is_that_of_its_key(rt: HostRuntime) -> Result<(), Fail> {
+    assert!(rt; values_are_same(rt.alloc())?);
+    Ok(())
+}
