@@ -1,12 +1,13 @@
 -- Places by numbers are places of records.
-use Rattle.std.proofs.Common.{◌≡◌, ◌≢◌, ℕ, ◌+◌, ◌-◌, ◌*◌, min, ◌<◌, ◌≤◌, List, length, take, refl, sym, ap, ◌∙◌, arith, inl, inr}
+use Rattle.std.proofs.Common.{◌≡◌, ◌≢◌, ℕ, ◌+◌, ◌-◌, ◌*◌, min, ◌<◌, ◌≤◌, List, length, take, refl, sym, ap, ◌∙◌, arith, inl, inr, All}
 use Rattle.std.specs.declared.cmp.Ordering.TheVariants.{Less}
 use Rattle.std.proofs.lemmas.Bool.{cases_lt, lt-ltb}
 use Rattle.std.proofs.lemmas.Cmp.{nat_list_cmp_total, tied_itself}
 use Rattle.std.proofs.lemmas.List.{take-take}
+use Rattle.tinystr_words.specs.Text.{IsPaddedText}
 use Rattle.tinystr_packed.specs.Numbers.{number_at, pair_at, IsRecord, AreRisingRecords, BeginAlike}
 use Rattle.tinystr_packed.specs.Rising.{order, text_at, IsFirstNotBelow}
-use Rattle.tinystr_packed.specs.SideBySide.{DoNotFall, IsPlaceWithin}
+use Rattle.tinystr_packed.specs.SideBySide.{AreNumbered, DoNotFall, IsPlaceWithin}
 use Rattle.tinystr_packed.proofs.RecordOrder.{Less-pair, turned, same-pair, is_lt-short, not_below-short, pair_at-parts}
 use Rattle.tinystr_packed.proofs.RisingTexts.{Less-from_is_lt, below_from_rising}
 
@@ -43,7 +44,7 @@ not_below-by_number xs ys n fits x y le = elim (cases_lt 8 n) [
 ]
 
 -- the numbers of records that rise don't fall
-pub DoNotFall-rising : (records : List (List ℕ)) (key : List ℕ) (n s : ℕ) → s ≤ n - 8 → AreRisingRecords n records → BeginAlike s key records → DoNotFall (pair_at s) records
+DoNotFall-rising : (records : List (List ℕ)) (key : List ℕ) (n s : ℕ) → s ≤ n - 8 → AreRisingRecords n records → BeginAlike s key records → DoNotFall (pair_at s) records
 DoNotFall-rising records key n s fits h alike = record {
   each = λ i j le inside. elim (cases_lt (pair_at s (text_at records j)) (pair_at s (text_at records i))) [
     | inl falls ↦ (let less = Less-by_number (text_at records j) (text_at records i) n s fits (h.each j inside) (h.each i (omega arith)) (alike.each j inside ∙ sym (alike.each i (omega arith))) falls in
@@ -54,23 +55,33 @@ DoNotFall-rising records key n s fits h alike = record {
   ];
 }
 
+-- so padded records that rise are numbered
+pub AreNumbered-rising : (records : List (List ℕ)) (key : List ℕ) (n s : ℕ) → s ≤ n - 8 → All (λ raw. IsPaddedText raw n) records → AreRisingRecords n records → BeginAlike s key records → AreNumbered n s records
+AreNumbered-rising records key n s fits padded h alike = record { padded = padded; rising = DoNotFall-rising records key n s fits h alike }
+
 -- where a number is all of a record, its place is that of the record
-pub IsFirstNotBelow-number : (records : List (List ℕ)) (key : List ℕ) (n i : ℕ) → n ≤ 16 → AreRisingRecords n records → IsRecord n key → IsPlaceWithin (pair_at 0) records (pair_at 0 key) i i → IsFirstNotBelow key records i
-IsFirstNotBelow-number records key n i fits h is_record place = record {
+pub IsFirstNotBelow-number : (records : List (List ℕ)) (key : List ℕ) (n i : ℕ) → n ≤ 16 → AreRisingRecords n records → IsRecord n key → AreNumbered n 0 records → IsPlaceWithin n 0 records (pair_at 0 key) i i → IsFirstNotBelow key records i
+IsFirstNotBelow-number records key n i fits h is_record numbered place = record {
   inside = place.inside;
-  below = λ k before. Less-by_number (text_at records k) key n 0 (omega arith) (h.each k (omega (arith, place.inside))) is_record refl (place.below k before);
-  not_below = λ k from inside. not_below-by_number (text_at records k) key n fits (h.each k inside) is_record (place.not_below k from inside);
+  below = λ k before. Less-by_number (text_at records k) key n 0 (omega arith) (h.each k (omega (arith, place.inside))) is_record refl (place.below numbered k before);
+  not_below = λ k from inside. not_below-by_number (text_at records k) key n fits (h.each k inside) is_record (place.not_below numbered k from inside);
 }
 
--- and elsewhere, where no record below the key stands there
-pub IsFirstNotBelow-tested : (records : List (List ℕ)) (key : List ℕ) (n s i : ℕ) → s ≤ n - 8 → AreRisingRecords n records → IsRecord n key → BeginAlike s key records → IsPlaceWithin (pair_at s) records (pair_at s key) i i
-    → ¬ ((i < length records) × (order (text_at records i) key ≡ Less)) → IsFirstNotBelow key records i
-IsFirstNotBelow-tested records key n s i fits h is_record alike place other = record {
+-- and elsewhere, where no record of the key's number that is below the key stands there
+pub IsFirstNotBelow-tested : (records : List (List ℕ)) (key : List ℕ) (n s i : ℕ) → s ≤ n - 8 → AreRisingRecords n records → IsRecord n key → BeginAlike s key records → AreNumbered n s records → IsPlaceWithin n s records (pair_at s key) i i
+    → (i < length records → pair_at s (text_at records i) ≡ pair_at s key → order (text_at records i) key ≢ Less) → IsFirstNotBelow key records i
+IsFirstNotBelow-tested records key n s i fits h is_record alike numbered place other = record {
   inside = place.inside;
   below = λ k before.
       let inside : k < length records = omega (arith, place.inside) in
-      Less-by_number (text_at records k) key n s fits (h.each k inside) is_record (alike.each k inside) (place.below k before);
-  not_below = λ k from inside less. other (omega arith, below_from_rising records key i k h.rising from inside less);
+      Less-by_number (text_at records k) key n s fits (h.each k inside) is_record (alike.each k inside) (place.below numbered k before);
+  not_below = λ k from inside less.
+      let here : i < length records = omega arith in
+      let below = below_from_rising records key i k h.rising from inside less in
+      elim (cases_lt (pair_at s key) (pair_at s (text_at records i))) [
+        | inl more ↦ turned (text_at records i) key (Less-by_number key (text_at records i) n s fits is_record (h.each i here) (sym (alike.each i here)) more) below
+        | inr rest ↦ other here (omega (arith, place.not_below numbered i (omega arith) here)) below
+      ];
 }
 
 -- records that begin alike do so in fewer bytes

@@ -1,17 +1,17 @@
 -- Searches side by side.
-use Rattle.std.proofs.Common.{◌≡◌, ◌≢◌, ℕ, suc, zero, ◌+◌, ◌-◌, ◌*◌, ◌/◌, ◌<◌, ◌≤◌, ◌^◌, List, [], ◌∷◌, length, map, take, drop, get_or, slice_set, refl, sym, ap, ◌∙◌, arith, min, nat_lt, nat_eq, cond, inl, inr, Bool, true, false}
+use Rattle.std.proofs.Common.{◌≡◌, ◌≢◌, ℕ, suc, zero, ◌+◌, ◌-◌, ◌/◌, ◌<◌, ◌≤◌, List, [], ◌∷◌, length, map, take, drop, get_or, slice_set, sym, ap, ◌∙◌, arith, nat_lt, cond, inl, inr}
 use Rattle.std.specs.Int.{from_be_bytes, w64}
 use Rattle.std.specs.declared.result.Result.{Result}
 use Rattle.std.specs.declared.result.Result.TheVariants.{Ok}
 use Rattle.std.proofs.lemmas.Bool.{cases_lt}
 use Rattle.std.proofs.lemmas.Bool.Decides.{nat_tests}
-use Rattle.std.proofs.lemmas.List.{at_drop_more, get_or_default, get_or-drop, get_or-replicate, get_or-set_other, get_or-set_same, length-drop, length-take, places, take_all}
+use Rattle.std.proofs.lemmas.List.{at_drop_more, get_or-drop, get_or-replicate, get_or-set_other, get_or-set_same, length-drop, length-take, places, take_all}
 use Rattle.tinystr_words.specs.Text.{IsPaddedText, IsStrictText, pad}
 use Rattle.tinystr_words.proofs.Texts.{get_or-pad, length-pad}
 use Rattle.tinystr_packed.specs.Numbers.{number_at, pair_at}
 use Rattle.tinystr_packed.specs.Rising.{text_at}
 use Rattle.tinystr_packed.specs.Search.{search}
-use Rattle.tinystr_packed.specs.SideBySide.{paired, AreAnswers, AreHalves, AreReady, AreWithin, DoNotFall, DoNotFallInTurn, IsPlaceWithin, ArePlacesWithin}
+use Rattle.tinystr_packed.specs.SideBySide.{paired, AreAnswers, AreHalves, AreNumbered, AreReady, AreWithin, DoNotFallInTurn, IsPlaceWithin, ArePlacesWithin}
 use Rattle.tinystr_packed.proofs.RisingTexts.{ascii-padded}
 
 -- eight bytes of a text spell a number without its highest bit
@@ -25,50 +25,35 @@ number_at-fits raw n s h =
     from_be_bytes-fits (pad eight 8) (length-pad eight 8 (omega (arith, length-take 8 (drop s raw)))) (λ i. rw (get_or-pad eight 8 i) (let byte = ascii-padded raw n (s + i) h in grind (arith, places, byte)))
 
 -- a range halves where the number of its middle is below w, or isn't
-pub IsPlaceWithin-halved : (number : List ℕ → ℕ) (records : List (List ℕ)) (w base size found taken : ℕ) → DoNotFall number records → IsPlaceWithin number records w base (base + size) → 1 < size
-    → found ≡ number (text_at records (base + size / 2)) → taken ≡ cond (nat_lt found w) (size / 2) 0 → IsPlaceWithin number records w (base + taken) (base + taken + (size - size / 2))
-IsPlaceWithin-halved number records w base size found taken up h many is chosen = elim (cases_lt found w) [
-  | inl less ↦ (let half : taken ≡ size / 2 = grind (arith, nat_tests) in
-      record {
-        ordered = omega arith;
-        inside = omega (arith, h.inside);
-        below = λ k before. omega (arith, up.each k (base + size / 2) (omega arith) (omega (arith, h.inside)), is);
-        not_below = λ k from inside. h.not_below k (omega arith) inside;
-      })
-  | inr rest ↦ (let none : taken ≡ 0 = grind (arith, nat_tests) in
-      record {
-        ordered = omega arith;
-        inside = omega (arith, h.inside);
-        below = λ k before. h.below k (omega arith);
-        not_below = λ k from inside. omega (arith, up.each (base + size / 2) k (omega arith) inside, is);
-      })
-]
-
--- the record at k is below w: the place is behind it
-pub IsPlaceWithin-behind : (number : List ℕ → ℕ) (records : List (List ℕ)) (w i j k : ℕ) → DoNotFall number records → IsPlaceWithin number records w i j → k < j → number (text_at records k) < w → i ≤ k → IsPlaceWithin number records w (k + 1) j
-IsPlaceWithin-behind number records w i j k up h before less le = record {
+pub IsPlaceWithin-halved : (n s : ℕ) (records : List (List ℕ)) (w base size taken : ℕ) → IsPlaceWithin n s records w base (base + size) → 1 < size → taken ≤ size / 2
+    → (AreNumbered n s records → taken ≡ cond (nat_lt (pair_at s (text_at records (base + size / 2))) w) (size / 2) 0) → IsPlaceWithin n s records w (base + taken) (base + taken + (size - size / 2))
+IsPlaceWithin-halved n s records w base size taken h many le chosen = record {
   ordered = omega arith;
-  inside = h.inside;
-  below = λ m first. omega (arith, up.each m k (omega arith) (omega (arith, h.inside)));
-  not_below = h.not_below;
-}
-
--- and it isn't: the place is there or before it
-pub IsPlaceWithin-before : (number : List ℕ → ℕ) (records : List (List ℕ)) (w i j k : ℕ) → DoNotFall number records → IsPlaceWithin number records w i j → k < j → w ≤ number (text_at records k) → i ≤ k → IsPlaceWithin number records w i k
-IsPlaceWithin-before number records w i j k up h before other le = record {
-  ordered = le;
   inside = omega (arith, h.inside);
-  below = h.below;
-  not_below = λ m from inside. omega (arith, up.each k m from inside);
+  below = λ p k before. elim (cases_lt (pair_at s (text_at records (base + size / 2))) w) [
+    | inl less ↦ omega (arith, p.rising.each k (base + size / 2) (omega arith) (omega (arith, h.inside)), less)
+    | inr rest ↦ (let none : taken ≡ 0 = grind (arith, nat_tests, chosen p) in h.below p k (omega arith))
+  ];
+  not_below = λ p k from inside. elim (cases_lt (pair_at s (text_at records (base + size / 2))) w) [
+    | inl less ↦ (let half : taken ≡ size / 2 = grind (arith, nat_tests, chosen p) in h.not_below p k (omega arith) inside)
+    | inr rest ↦ omega (arith, p.rising.each (base + size / 2) k (omega arith) inside, rest)
+  ];
 }
 
--- the place of a number that isn't less is no earlier
-pub IsPlaceWithin-next : (number : List ℕ → ℕ) (records : List (List ℕ)) (v w i j k : ℕ) → IsPlaceWithin number records v i i → v ≤ w → i ≤ j → IsPlaceWithin number records w k j → IsPlaceWithin number records w i j
-IsPlaceWithin-next number records v w i j k place up le h = record {
-  ordered = le;
-  inside = h.inside;
-  below = λ m before. omega (arith, place.below m before);
-  not_below = h.not_below;
+-- and the last record is below w, or isn't
+pub IsPlaceWithin-last : (n s : ℕ) (records : List (List ℕ)) (w base taken : ℕ) → IsPlaceWithin n s records w base (base + 1) → taken ≤ 1
+    → (AreNumbered n s records → taken ≡ cond (nat_lt (pair_at s (text_at records base)) w) 1 0) → IsPlaceWithin n s records w (base + taken) (base + taken)
+IsPlaceWithin-last n s records w base taken h le chosen = record {
+  ordered = omega arith;
+  inside = omega (arith, h.inside);
+  below = λ p k before. elim (cases_lt (pair_at s (text_at records base)) w) [
+    | inl less ↦ omega (arith, p.rising.each k base (omega arith) (omega (arith, h.inside)), less)
+    | inr rest ↦ (let none : taken ≡ 0 = grind (arith, nat_tests, chosen p) in h.below p k (omega arith))
+  ];
+  not_below = λ p k from inside. elim (cases_lt (pair_at s (text_at records base)) w) [
+    | inl less ↦ (let one : taken ≡ 1 = grind (arith, nat_tests, chosen p) in h.not_below p k (omega arith) inside)
+    | inr rest ↦ omega (arith, p.rising.each base k (omega arith) inside, rest)
+  ];
 }
 
 -- of eight numbers that rise, none is below one before it
@@ -85,10 +70,10 @@ DoNotFallInTurn-later w up i (suc j) le less = elim (cases_lt i (suc j)) [
 -- ---- eight of something, of which one more is put in its place
 
 -- what is so of those before it is so with it
-pub so_far-set : (P : ℕ → ℕ → Type 0) (xs : List ℕ) (m x : ℕ) → m < length xs → ((i : ℕ) → i < m → P i (get_or xs i 0)) → P m x → (i : ℕ) → i < m + 1 → P i (get_or (slice_set xs m x) i 0)
-so_far-set P xs m x inside before here i within = elim (cases_lt i m) [
-  | inl less ↦ rw (get_or-set_other xs m i x 0 (λ e. absurd (omega arith))) (before i less)
-  | inr rest ↦ (let same : i ≡ m = omega arith in rw (same, get_or-set_same xs m x 0 inside) here)
+pub so_far-set : {X : Type 0} (d : X) (P : ℕ → X → Type 0) (xs : List X) (m : ℕ) (x : X) → m < length xs → ((i : ℕ) → i < m → P i (get_or xs i d)) → P m x → (i : ℕ) → i < m + 1 → P i (get_or (slice_set xs m x) i d)
+so_far-set d P xs m x inside before here i within = elim (cases_lt i m) [
+  | inl less ↦ rw (get_or-set_other xs m i x d (λ e. absurd (omega arith))) (before i less)
+  | inr rest ↦ (let same : i ≡ m = omega arith in rw (same, get_or-set_same xs m x d inside) here)
 ]
 
 -- and what is so of those behind it stays
@@ -111,19 +96,12 @@ pub record IsNumberOf (n start : ℕ) (key : List ℕ) (first next : ℕ) : Type
   pub strict : IsStrictText key n
 
 -- at first all stand at the start of a range
-pub ArePlacesWithin-start : (number : List ℕ → ℕ) (records : List (List ℕ)) (w : ℕ → ℕ) (i j size : ℕ) → i + size ≡ j → AreWithin number records w i j → ArePlacesWithin number records w (i ∷ i ∷ i ∷ i ∷ i ∷ i ∷ i ∷ i ∷ []) size
-ArePlacesWithin-start number records w i j size end h = record {
+pub ArePlacesWithin-start : (n s : ℕ) (records : List (List ℕ)) (w : ℕ → ℕ) (i j size : ℕ) → i + size ≡ j → AreWithin n s records w i j → ArePlacesWithin n s records w (i ∷ i ∷ i ∷ i ∷ i ∷ i ∷ i ∷ i ∷ []) size
+ArePlacesWithin-start n s records w i j size end h = record {
   each = λ lane within. rw (get_or-replicate {A = ℕ} 8 lane i 0 within, end) (h.each lane within);
 }
 
 -- ---- answers for eight keys
-
--- one more answer in its place
-pub AreAnswers-set : (texts keys : List (List ℕ)) (answers : List (Result ℕ ℕ)) (n : ℕ) (r : Result ℕ ℕ) → n < length answers → AreAnswers texts keys answers n → r ≡ search texts (text_at keys n) → AreAnswers texts keys (slice_set answers n r) (n + 1)
-AreAnswers-set texts keys answers n r inside before here i within = elim (cases_lt i n) [
-  | inl less ↦ get_or-set_other answers n i r (Ok 0) (λ e. absurd (omega arith)) ∙ before i less
-  | inr rest ↦ (let same : i ≡ n = omega arith in rw same (get_or-set_same answers n r (Ok 0) inside ∙ here))
-]
 
 -- two answers by turns, for two keys by turns
 pub AreAnswers-by_turns : (texts keys : List (List ℕ)) (r s : Result ℕ ℕ) → ((i : ℕ) → i < 6 → text_at keys (i + 2) ≡ text_at keys i) → r ≡ search texts (text_at keys 0) → s ≡ search texts (text_at keys 1) → AreAnswers texts keys (r ∷ s ∷ r ∷ s ∷ r ∷ s ∷ r ∷ s ∷ []) 8

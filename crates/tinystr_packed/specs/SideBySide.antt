@@ -1,7 +1,9 @@
 -- Searches side by side, for numbers of two halves.
-use Rattle.std.specs.Prelude.{◌≡◌, ℕ, ◌+◌, ◌-◌, ◌*◌, ◌^◌, ◌<◌, ◌≤◌, List, length, slice_index, slice_index_or}
+use Rattle.std.specs.Prelude.{◌≡◌, ℕ, ◌+◌, ◌-◌, ◌*◌, ◌^◌, ◌<◌, ◌≤◌, List, length, slice_index, slice_index_or, All}
 use Rattle.std.specs.declared.result.Result.{Result}
 use Rattle.std.specs.declared.result.Result.TheVariants.{Ok}
+use Rattle.tinystr_words.specs.Text.{IsPaddedText}
+use Rattle.tinystr_packed.specs.Numbers.{pair_at}
 use Rattle.tinystr_packed.specs.Rising.{text_at}
 use Rattle.tinystr_packed.specs.Search.{search}
 
@@ -31,20 +33,25 @@ pub record DoNotFall (number : List ℕ → ℕ) (records : List (List ℕ)) : T
 pub record DoNotFallInTurn (w : ℕ → ℕ) : Type 0 where
   pub each : (i : ℕ) → i < 7 → w i ≤ w (i + 1)
 
--- the numbers of the records before i are below w, and none from j on is
-pub record IsPlaceWithin (number : List ℕ → ℕ) (records : List (List ℕ)) (w i j : ℕ) : Type 0 where
+-- the records are padded texts of n bytes, and their numbers from start on don't fall
+pub record AreNumbered (n start : ℕ) (records : List (List ℕ)) : Type 0 where
+  pub padded : All (λ raw. IsPaddedText raw n) records
+  pub rising : DoNotFall (pair_at start) records
+
+-- i to j is a range of records and, if these are numbered, the numbers of those before i are below w, and none from j on is
+pub record IsPlaceWithin (n start : ℕ) (records : List (List ℕ)) (w i j : ℕ) : Type 0 where
   pub ordered : i ≤ j
   pub inside : j ≤ length records
-  pub below : (k : ℕ) → k < i → number (text_at records k) < w
-  pub not_below : (k : ℕ) → j ≤ k → k < length records → w ≤ number (text_at records k)
+  pub below : AreNumbered n start records → (k : ℕ) → k < i → pair_at start (text_at records k) < w
+  pub not_below : AreNumbered n start records → (k : ℕ) → j ≤ k → k < length records → w ≤ pair_at start (text_at records k)
 
 -- so it is of eight numbers
-pub record AreWithin (number : List ℕ → ℕ) (records : List (List ℕ)) (w : ℕ → ℕ) (i j : ℕ) : Type 0 where
-  pub each : (lane : ℕ) → lane < 8 → IsPlaceWithin number records (w lane) i j
+pub record AreWithin (n start : ℕ) (records : List (List ℕ)) (w : ℕ → ℕ) (i j : ℕ) : Type 0 where
+  pub each : (lane : ℕ) → lane < 8 → IsPlaceWithin n start records (w lane) i j
 
 -- and each from its own place on
-pub record ArePlacesWithin (number : List ℕ → ℕ) (records : List (List ℕ)) (w : ℕ → ℕ) (places : List ℕ) (size : ℕ) : Type 0 where
-  pub each : (i : ℕ) → i < 8 → IsPlaceWithin number records (w i) (slice_index places i) (slice_index places i + size)
+pub record ArePlacesWithin (n start : ℕ) (records : List (List ℕ)) (w : ℕ → ℕ) (places : List ℕ) (size : ℕ) : Type 0 where
+  pub each : (i : ℕ) → i < 8 → IsPlaceWithin n start records (w i) (slice_index places i) (slice_index places i + size)
 
 -- the first n of eight answers are those for the first keys
 abbrev pub AreAnswers : List (List ℕ) → List (List ℕ) → List (Result ℕ ℕ) → ℕ → Type 0

@@ -4,12 +4,13 @@ ghost use Rattle.std.specs.Prelude.{◌≡◌, List, ℕ, drop, length, map};
 ghost use Rattle.std.specs.Iterator.{YieldsFirst, item_count};
 ghost use Rattle.tinystr_packed.specs.Search.{search};
 
-use crate::eight::{Eight, search_eight};
+use crate::eight::{Eight, search_first_eight};
 use crate::sorted::SortedTable;
 use std::marker::Model;
 use tinystr::TinyAsciiStr;
 
-/// What `SortedTable::binary_search` gives for each of many keys, in their order. A clause sees the answers that are left.
+/// What `SortedTable::binary_search` gives for each of many keys, in their order. A contract sees it as the list of the
+/// answers that are left.
 ///
 /// ```rust
 /// let codes = SortedTable::new(Table::<3>::new(b"CHFEURJPYUSD").unwrap()).unwrap();
@@ -87,7 +88,7 @@ impl<'a, 'k, const N: usize> Iterator for BinarySearchEach<'a, 'k, N> {
             answers,
             near,
             alone,
-        } = search_eight(&self.sorted, keys, self.near, self.alone);
+        } = search_first_eight(&self.sorted, keys, self.near, self.alone);
         let answer = answers[0];
         self.given += 1;
         self.answers = answers;

@@ -107,9 +107,9 @@ fn first_not_below_near_start<const N: usize>(records: &[[u8; N]], key: &[u8; N]
     start + first_not_below(&records[start..end], key)
 }
 
-/// Whether there is a record at an index, and it is below a key.
+// Whether there is a record at an index, and it is below a key.
 #[inline(always)]
-pub(crate) fn is_below_at<const N: usize>(records: &[[u8; N]], index: usize, key: &[u8; N]) -> bool
+fn is_below_at<const N: usize>(records: &[[u8; N]], index: usize, key: &[u8; N]) -> bool
     ensures { IsTrue result ↔ ((index < length records.now) × (order (text_at records.now index) key.now ≡ Less)) }
 {
     index < records.len() && is_below(&records[index][..], &key[..])

@@ -5,7 +5,7 @@ ghost use Rattle.std.specs.Prelude.{◌<◌, ◌^◌};
 use std::alloc::{AllocError, Global};
 use std::test::Fail;
 use tinystr::TinyAsciiStr;
-use tinystr_packed::{PackedMap, SortedTable, Table};
+use tinystr_packed::{PackedMap, SortedTable, Table, in_place};
 
 // Tables of so many texts: none, fewer than eight, about eight, and so many that keys in order are looked for near and far.
 const COUNTS: &[usize] = &[0, 1, 2, 7, 8, 9, 40, 300, 5000];
@@ -14,7 +14,7 @@ const COUNTS: &[usize] = &[0, 1, 2, 7, 8, 9, 40, 300, 5000];
 const STEPS: &[usize] = &[0, 1, 2, 5, 37, 256, 999];
 
 /// The text of a number below 26^3 by three letters, of which the first stands in front where texts are to be in groups. The
-/// even numbers are those of a table's texts.
+/// even numbers from 2 on are those of a table's texts.
 fn text<const N: usize>(number: usize, is_grouped: bool) -> Option<TinyAsciiStr<N>> {
     let mut raw = [b'm'; N];
     let front = if is_grouped { N } else { 3 };
@@ -43,7 +43,7 @@ fn file<const N: usize>(
 {
     let mut file = Vec::new(alloc);
     for index in 0..count {
-        if let Some(text) = text::<N>(index.saturating_mul(2), is_grouped) {
+        if let Some(text) = text::<N>(index.saturating_mul(2).saturating_add(2), is_grouped) {
             file.extend_from_slice(text.all_bytes())?;
         }
     }
@@ -129,6 +129,44 @@ fn are_same<const N: usize>(sorted: &SortedTable<'_, N>, keys: &[TinyAsciiStr<N>
     answers.next().is_none()
 }
 
+/// Whether eight keys at a time have the answers of a search for each, wherever they are looked for first.
+fn are_same_in_place<const N: usize>(file: &[u8], keys: &[TinyAsciiStr<N>]) -> bool
+    requires { 0 < N }
+{
+    let mut near = 0usize;
+    for eight in keys.as_chunks::<8>().0 {
+        let answers = in_place::search_eight(file, eight, near);
+        if in_place::search_eight(file, eight, usize::MAX) != answers {
+            return false;
+        }
+        for (lane, key) in eight.iter().enumerate() {
+            if answers.get(lane) != Some(&in_place::search(file, key)) {
+                return false;
+            }
+        }
+        let (Ok(place) | Err(place)) = answers[7];
+        near = place;
+    }
+    true
+}
+
+/// Two keys by turns: those of these numbers.
+fn by_turns<const N: usize>(
+    alloc: Global,
+    first: usize,
+    second: usize,
+    is_grouped: bool,
+) -> Result<Vec<TinyAsciiStr<N>>, AllocError> {
+    let mut keys = Vec::new(alloc);
+    for turn in 0..19usize {
+        let number = if turn % 2 == 0 { first } else { second };
+        if let Some(text) = text::<N>(number, is_grouped) {
+            keys.push(text)?;
+        }
+    }
+    Ok(keys)
+}
+
 /// Whether that is so of a table of so many texts, with keys in each order.
 fn are_same_of<const N: usize>(
     alloc: Global,
@@ -150,9 +188,16 @@ fn are_same_of<const N: usize>(
             let mut course = *course;
             course.step = *step;
             let keys = keys::<N>(alloc, course, 45, count, is_grouped)?;
-            if !are_same(&sorted, &keys) {
+            if !are_same(&sorted, &keys) || !are_same_in_place(&file, &keys) {
                 return Ok(false);
             }
+        }
+    }
+    let last = count.saturating_mul(2);
+    for (first, second) in [(2, last), (last, 1), (3, 2), (5, last.saturating_add(1))] {
+        let keys = by_turns::<N>(alloc, first, second, is_grouped)?;
+        if !are_same(&sorted, &keys) || !are_same_in_place(&file, &keys) {
+            return Ok(false);
         }
     }
     for few in 0..10usize {
@@ -181,10 +226,15 @@ fn each_answer_is_that_of_one_search(rt: HostRuntime) -> Result<(), Fail> {
 /// Whether all values are those of each key.
 fn have_values(map: &PackedMap<'_, 3, 1>, keys: &[TinyAsciiStr<3>]) -> bool {
     let mut values = map.get_each(keys);
+    let mut left = keys.len();
     for key in keys {
+        if values.size_hint() != (left, Some(left)) || values.len() != left {
+            return false;
+        }
         if values.next() != Some(map.get(key)) {
             return false;
         }
+        left = left.saturating_sub(1);
     }
     values.next().is_none()
 }

@@ -16,11 +16,11 @@ pub struct UnitColumn {
     pub kinds: Vec<Option<[u8; 1]>>,
     /// How many rows have none.
     pub missing: usize,
-    /// The first of them.
+    /// The index of the first of these rows, or `None`.
     pub first_missing: Option<usize>,
 }
 
-/// The kinds of a column's units. Only memory can stop it.
+/// The kinds of a column's units. It fails only if an allocation fails.
 pub fn join_units(
     alloc: Global,
     units: &PackedMap<'_, 3, 1>,

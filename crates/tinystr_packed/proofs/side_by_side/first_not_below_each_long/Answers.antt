@@ -1,4 +1,4 @@
-use Rattle.std.proofs.Common.{◌≡◌, ◌∙◌, ap, arith, [], ℕ, List, rules, sym, true≢false, length, ◌<◌}
+use Rattle.std.proofs.Common.{◌≡◌, ◌≢◌, ◌∙◌, ap, arith, [], ℕ, List, rules, sym, true≢false, length, ◌<◌}
 use Rattle.std.specs.declared.cmp.Ordering.TheVariants.{Less}
 use borrow.Author.Count.{below_more}
 use Rattle.std.specs.List.{slice_index}
@@ -7,16 +7,11 @@ use Rattle.tinystr_words.specs.Text.{IsPaddedText, pad}
 use Rattle.tinystr_packed.specs.Numbers.{pair_at}
 use Rattle.tinystr_packed.specs.Rising.{order, text_at, IsFirstNotBelow}
 use Rattle.tinystr_packed.specs.SideBySide.{IsPlaceWithin}
-use Rattle.tinystr_packed.proofs.NumberPlaces.{DoNotFall-rising, IsFirstNotBelow-tested}
+use Rattle.tinystr_packed.proofs.NumberPlaces.{AreNumbered-rising, IsFirstNotBelow-tested}
 use Rattle.tinystr_packed.proofs.RisingTexts.{IsRecord-padded}
 use Rattle.tinystr_packed.proofs.SideBySide.{so_far-set, still-set}
-use Rattle.tinystr_packed.proofs.side_by_side.first_not_below_each_long.Goals.{then-is_below_at, else-is_below_at}
+use Rattle.tinystr_packed.proofs.side_by_side.first_not_below_each_long.Goals.{then-is_tied_below, else-is_tied_below}
 use Rattle.tinystr_packed.proofs.side_by_side.first_not_below_each_long.Goals as goal
-
-pub places_by_numbers-places-requires : goal.places_by_numbers-places-requires
-places_by_numbers-places-requires g c =
-    let start = c.shared_len_of_each-start in
-    (search rules, (search rules, (c.requires.eight, (start.ensures.bound, (c.requires.padded, DoNotFall-rising c.args.records.now (pad (text_at c.args.keys.now 0) g.row.N) g.row.N start.result start.ensures.bound c.requires.records (start.ensures.alike 0 (omega arith)))))))
 
 pub first_not_below-requires : goal.first_not_below-requires
 first_not_below-requires g c = (search rules, (c.requires.records, IsRecord-padded c.all_bytes-key.result.now g.row.N c.all_bytes-key.ensures.padded))
@@ -29,24 +24,27 @@ loop-lane-preserved g c =
     let places = c.loop-lane.places in
     let start = c.shared_len_of_each-start in
     let h = c.loop-lane.invariant in
+    let numbered = AreNumbered-rising records (pad (text_at keys 0) g.row.N) g.row.N start.result start.ensures.bound c.requires.padded c.requires.records (start.ensures.alike 0 (omega arith)) in
     let here = c.index-keys-lane.is ∙ get_or_default keys lane c.index-keys-lane.result [] (omega arith) in
     let bytes = c.all_bytes-key.ensures.bytes ∙ ap (λ (t : List ℕ). pad t g.row.N) here in
     let Done = λ (i place : ℕ). IsFirstNotBelow (pad (text_at keys i) g.row.N) records place in
-    let Left = λ (i place : ℕ). IsPlaceWithin (pair_at start.result) records (pair_at start.result (pad (text_at keys i) g.row.N)) place place in
+    let Left = λ (i place : ℕ). IsPlaceWithin g.row.N start.result records (pair_at start.result (pad (text_at keys i) g.row.N)) place place in
     let key = pad (text_at keys lane) g.row.N in
     let padded : IsPaddedText key g.row.N = rw bytes at c.all_bytes-key.ensures.padded in
-    elim c.if-is_below_at.branch [
-      | then-is_below_at w ↦ rw w.places-is (record {
+    elim c.if-is_tied_below.branch [
+      | then-is_tied_below w ↦ rw w.places-is (record {
         long = length-set places lane w.first_not_below.result ∙ h.long;
-        done = so_far-set Done places lane w.first_not_below.result (omega (arith, h.long)) h.done (rw bytes at w.first_not_below.ensures);
+        done = so_far-set 0 Done places lane w.first_not_below.result (omega (arith, h.long)) h.done (rw bytes at w.first_not_below.ensures);
         left = still-set Left places lane w.first_not_below.result h.left;
       })
-      | else-is_below_at w ↦ (let other : ¬ ((slice_index places lane < length records) × (order (text_at records (slice_index places lane)) c.all_bytes-key.result.now ≡ Less)) =
-          λ hit. true≢false (sym (c.is_below_at.ensures.1 hit) ∙ w.if-is_below_at.false) in
+      | else-is_tied_below w ↦ (let place = slice_index places lane in
+          let bytes_here = c.all_bytes-key.result.now in
+          let other : place < length records → pair_at start.result (text_at records place) ≡ pair_at start.result bytes_here → order (text_at records place) bytes_here ≢ Less =
+          λ inside tied less. true≢false (sym (c.is_tied_below.ensures inside tied less) ∙ w.if-is_tied_below.false) in
           rw w.places-is (record {
             long = h.long;
             done = below_more (λ (i : ℕ). Done i (slice_index places i)) lane h.done
-                (IsFirstNotBelow-tested records key g.row.N start.result (slice_index places lane) start.ensures.bound c.requires.records (IsRecord-padded key g.row.N padded) (start.ensures.alike lane (omega arith)) (h.left lane (omega arith) (omega arith)) (rw bytes at other));
+                (IsFirstNotBelow-tested records key g.row.N start.result (slice_index places lane) start.ensures.bound c.requires.records (IsRecord-padded key g.row.N padded) (start.ensures.alike lane (omega arith)) numbered (h.left lane (omega arith) (omega arith)) (rw bytes at other));
             left = λ i from within. h.left i (omega arith) within;
           }))
     ]

@@ -10,5 +10,5 @@ abbrev pub invariant-loop-lane : goal.invariant-loop-lane
 invariant-loop-lane g l = record {
   long : length l.places ≡ 8;
   done : (i : ℕ) → i < l.lane → IsFirstNotBelow (pad (text_at l.keys i) g.row.N) l.records (slice_index l.places i);
-  left : (i : ℕ) → l.lane ≤ i → i < 8 → IsPlaceWithin (pair_at l.start) l.records (pair_at l.start (pad (text_at l.keys i) g.row.N)) (slice_index l.places i) (slice_index l.places i);
+  left : (i : ℕ) → l.lane ≤ i → i < 8 → IsPlaceWithin g.row.N l.start l.records (pair_at l.start (pad (text_at l.keys i) g.row.N)) (slice_index l.places i) (slice_index l.places i);
 }

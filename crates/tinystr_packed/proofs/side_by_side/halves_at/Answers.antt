@@ -1,19 +1,17 @@
 use Rattle.std.proofs.Common.{◌≡◌, ◌-◌, ◌+◌, length, min, arith}
 use Rattle.tinystr_packed.specs.Numbers.{pair_at}
-use Rattle.tinystr_packed.proofs.RisingTexts.{IsRecord-padded}
 use Rattle.tinystr_packed.proofs.SideBySide.{number_at-fits}
 use Rattle.tinystr_packed.proofs.side_by_side.halves_at.Goals as goal
 
 pub returns-clause-halves : goal.returns-clause-halves
-returns-clause-halves g c = record {
-  first_fits = rw c.number_at.ensures (number_at-fits c.args.raw.now g.row.N c.args.start c.requires.padded);
-  next_fits = rw c.number_at-2.ensures (number_at-fits c.args.raw.now g.row.N c.min-next.result c.requires.padded);
+returns-clause-halves g c padded = record {
+  first_fits = rw c.number_at.ensures (number_at-fits c.args.raw.now g.row.N c.args.start padded);
+  next_fits = rw c.number_at-2.ensures (number_at-fits c.args.raw.now g.row.N c.min-next.result padded);
   short = λ short. let same : c.min-next.result ≡ c.args.start = omega arith in rw (c.number_at.ensures, c.number_at-2.ensures, same);
 }
 
 pub returns-clause-number : goal.returns-clause-number
 unfolding pair_at
 returns-clause-number g c =
-    let long = (IsRecord-padded c.args.raw.now g.row.N c.requires.padded).long in
-    let last : c.min-next.result ≡ min (c.args.start + 8) (length c.args.raw.now - 8) = omega (arith, long) in
+    let last : c.min-next.result ≡ min (c.args.start + 8) (length c.args.raw.now - 8) = omega arith in
     rw (← last, c.number_at.ensures, c.number_at-2.ensures)

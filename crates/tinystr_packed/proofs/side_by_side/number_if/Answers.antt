@@ -1,5 +1,5 @@
-use Rattle.std.proofs.Common.{◌≡◌, ◌-◌, ◌^◌, arith, inl, inr, ◌∙◌}
-use Rattle.std.specs.Int.Bits.{bit_and, and_zero_r}
+use Rattle.std.proofs.Common.{◌≡◌, ◌-◌, ◌^◌, arith, inl, inr}
+use Rattle.std.specs.Int.Bits.{and_zero_r}
 use Rattle.std.proofs.lemmas.Nat.{and_mask}
 use Rattle.std.proofs.lemmas.Bool.{cases_lt}
 use Rattle.std.proofs.lemmas.Bool.Decides.{nat_tests}

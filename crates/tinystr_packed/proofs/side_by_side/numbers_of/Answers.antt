@@ -1,4 +1,4 @@
-use Rattle.std.proofs.Common.{◌≡◌, ◌∙◌, ap, sym, arith, [], ℕ, List}
+use Rattle.std.proofs.Common.{◌∙◌, ap, arith, [], ℕ, List}
 use Rattle.std.proofs.lemmas.List.{get_or_default, length-set}
 use Rattle.tinystr_packed.specs.Rising.{text_at}
 use Rattle.tinystr_packed.specs.Numbers.{pair_at}
@@ -16,7 +16,7 @@ loop-lane-preserved g c =
       first_long = length-set c.loop-lane.first lane c.halves_at-halves.result.first ∙ c.loop-lane.invariant.first_long;
       next_long = length-set c.loop-lane.next lane c.halves_at-halves.result.next ∙ c.loop-lane.invariant.next_long;
       each = so_far-set_both (λ (i first next : ℕ). IsNumberOf g.row.N c.args.start (text_at keys i) first next) c.loop-lane.first c.loop-lane.next lane c.halves_at-halves.result.first c.halves_at-halves.result.next (omega (arith, c.loop-lane.invariant.first_long)) (omega (arith, c.loop-lane.invariant.next_long)) c.loop-lane.invariant.each (record {
-        halves = c.halves_at-halves.ensures.halves;
+        halves = c.halves_at-halves.ensures.halves c.all_bytes.ensures.padded;
         number = c.halves_at-halves.ensures.number ∙ ap (pair_at c.args.start) bytes;
         strict = rw (← here, ← c.all_bytes.ensures.text) (record { text = c.all_bytes.ensures.padded.text; fits = c.all_bytes.ensures.padded.fits });
       });

@@ -1,4 +1,4 @@
-use Rattle.std.proofs.Common.{◌≡◌, ◌∙◌, ap, arith, [], ℕ, List}
+use Rattle.std.proofs.Common.{◌∙◌, ap, arith, [], ℕ, List}
 use borrow.Author.Count.{below_more}
 use Rattle.std.proofs.lemmas.List.{get_or_default}
 use Rattle.tinystr_words.specs.Text.{pad}

@@ -1,5 +1,5 @@
 use Rattle.std.proofs.Common.{◌∙◌, ◌-◌, sym, arith, slice_index_or, Ok, rules}
-use Rattle.tinystr_packed.proofs.SideBySide.{AreReady-filled, AreReady-first, AreReady-rest, search-next}
+use Rattle.tinystr_packed.proofs.SideBySide.{AreReady-first, AreReady-rest, search-next}
 use Rattle.tinystr_packed.proofs.each.BinarySearchEachIterator.next.Goals as goal
 
 pub returns-then-self-gt0-clause-steps : goal.returns-then-self-gt0-clause-steps
@@ -18,5 +18,5 @@ invariant_of-self g c =
 pub binary_search-answer-requires : goal.binary_search-answer-requires
 binary_search-answer-requires g c = (search rules, omega (arith, c.self.invariant.0))
 
-pub search_eight-near-requires : goal.search_eight-near-requires
-search_eight-near-requires g c = (search rules, (omega (arith, c.self.invariant.0), omega arith))
+pub search_first_eight-near-requires : goal.search_first_eight-near-requires
+search_first_eight-near-requires g c = (search rules, (omega (arith, c.self.invariant.0), omega arith))

@@ -1,9 +1,8 @@
-use Rattle.std.proofs.Common.{◌≡◌, ◌∙◌, ap, List, ℕ, map}
+use Rattle.std.proofs.Common.{◌≡◌}
 use Rattle.std.specs.Map.{keys_of, values_of}
 use Rattle.std.proofs.lemmas.Map.Made.{keys_of-zip}
 use Rattle.std.proofs.lemmas.Slice.Zip.{seconds-zip}
 use Rattle.tinystr_packed.proofs.Searches.{values_at-search}
-use Rattle.tinystr_packed.specs.Search.{search, value_at}
 use Rattle.tinystr_packed.proofs.map.PackedMap.get_each.Goals as goal
 
 pub returns-clause-rising : goal.returns-clause-rising
