@@ -32,6 +32,7 @@ const REFUSED: [(&str, fn()); 27] = [
     ("TextMap::new of texts at 0", || ignore(TextMap::<3, 0>::new(b"EUR", b""))),
     ("TextMap::new of no texts at 0", || ignore(TextMap::<3, 0>::new(b"", b""))),
     ("in_place::search at 0", || ignore(in_place::search::<0>(b"", &tinystr!(0, "")))),
+    ("in_place::search_eight at 0", || ignore(in_place::search_eight::<0>(b"", &[tinystr!(0, ""); 8], 0))),
     ("in_place::with_prefix at 0", || ignore(in_place::with_prefix::<0>(b"", &tinystr!(0, "")))),
 ];
 

@@ -1,10 +1,11 @@
 //! Searches for many keys.
 
-use crate::packed::eight::{Eight, search_eight};
+use crate::packed::eight::{Eight, search_first_eight};
 use crate::packed::sorted::SortedTable;
 use crate::TinyAsciiStr;
 
-/// What `SortedTable::binary_search` gives for each of many keys, in their order. A clause sees the answers that are left.
+/// What `SortedTable::binary_search` gives for each of many keys, in their order. A contract sees it as the list of the
+/// answers that are left.
 ///
 /// ```
 /// use tinystr::tinystr;
@@ -66,7 +67,7 @@ impl<'a, 'k, const N: usize> Iterator for BinarySearchEach<'a, 'k, N> {
             answers,
             near,
             alone,
-        } = search_eight(&self.sorted, keys, self.near, self.alone);
+        } = search_first_eight(&self.sorted, keys, self.near, self.alone);
         let answer = answers[0];
         self.given += 1;
         self.answers = answers;

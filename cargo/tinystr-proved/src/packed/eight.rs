@@ -3,7 +3,7 @@
 use crate::packed::sorted::SortedTable;
 use crate::TinyAsciiStr;
 
-// How many eights are searched for one key after another, behind one of which a key had to be.
+// After eight keys of which one was searched for by itself, so many times eight keys are searched for one by one.
 const ALONE: u8 = 15;
 
 /// The answers for eight keys.
@@ -16,7 +16,7 @@ pub(crate) struct Eight {
     pub alone: u8,
 }
 
-/// Those for the first eight of many keys. It isn't inlined, so that a caller's loop stays short.
+/// The answers for the first eight of many keys. It isn't inlined, so that a caller's loop stays short.
 ///
 /// # Contract
 ///
@@ -25,7 +25,7 @@ pub(crate) struct Eight {
 /// ensures { AreAnswers sorted.now keys.now result.answers 8 }
 /// ```
 #[inline(never)]
-pub(crate) fn search_eight<const N: usize>(
+pub(crate) fn search_first_eight<const N: usize>(
     sorted: &SortedTable<'_, N>,
     keys: &[TinyAsciiStr<N>],
     near: usize,
@@ -56,7 +56,7 @@ pub(crate) fn search_eight<const N: usize>(
     }
 }
 
-// Those of searches that end at these places.
+// The answers of searches that end at these places.
 // Proved:
 //     requires eight { 8 ≤ length keys.now }
 //     requires places { (i : ℕ) → i < 8 → IsFirstNotBelow (text_at keys.now i) sorted.now (slice_index places.now i) }
@@ -74,7 +74,7 @@ fn answers_at<const N: usize>(
     answers
 }
 
-// Those of one search after another.
+// The answers of one search after another.
 // Proved:
 //     requires { 8 ≤ length keys.now }
 //     ensures { AreAnswers sorted.now keys.now result 8 }
@@ -90,7 +90,7 @@ fn answers_one_by_one<const N: usize>(
     answers
 }
 
-// Those for one key, or for two by turns: a search for each.
+// The answers for one key, or for two by turns: a search for each.
 // Proved:
 //     requires eight { 8 ≤ length keys.now }
 //     requires by_turns { (i : ℕ) → i < 6 → text_at keys.now (i + 2) ≡ text_at keys.now i }
@@ -109,12 +109,16 @@ fn answers_of_two<const N: usize>(
     [first, second, first, second, first, second, first, second]
 }
 
-// Whether the first eight are one key, or two by turns.
-// Proved:
-//     requires { 8 ≤ length keys.now }
-//     ensures { IsTrue result → (i : ℕ) → i < 6 → text_at keys.now (i + 2) ≡ text_at keys.now i }
+/// Whether the first eight are one key, or two by turns.
+///
+/// # Contract
+///
+/// ```text
+/// requires { 8 ≤ length keys.now }
+/// ensures { IsTrue result → (i : ℕ) → i < 6 → text_at keys.now (i + 2) ≡ text_at keys.now i }
+/// ```
 #[inline(always)]
-fn are_two_by_turns<const N: usize>(keys: &[TinyAsciiStr<N>]) -> bool {
+pub(crate) fn are_two_by_turns<const N: usize>(keys: &[TinyAsciiStr<N>]) -> bool {
     for lane in 0..6usize {
         if keys[lane + 2] != keys[lane] {
             return false;

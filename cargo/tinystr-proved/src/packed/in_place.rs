@@ -1,7 +1,9 @@
 //! Searches in the bytes of records that were checked before, and aren't checked again. For any other bytes they answer
 //! with places inside them.
 
+use crate::packed::eight::are_two_by_turns;
 use crate::packed::search::{first_not_below_by_halves, first_not_below_by_number};
+use crate::packed::side_by_side::first_not_below_each_by_number;
 use crate::TinyAsciiStr;
 
 /// The index of a text among packed records whose texts rise, or as the error the index at which it belongs, as
@@ -34,6 +36,50 @@ pub fn search<const N: usize>(bytes: &[u8], key: &TinyAsciiStr<N>) -> Result<usi
         return Err(0);
     }
     search_records(bytes.as_chunks().0, key)
+}
+
+/// What `search` gives for each of eight keys. `N` must be above 0.
+///
+/// Among records of at most sixteen bytes they are searched for together, so that each search waits for memory while the
+/// others do, unless they are one key or two by turns. Keys in order are looked for a little behind the index `near` first,
+/// that of the last answer, say. `near` changes nothing but the time.
+///
+/// ```
+/// use tinystr::tinystr;
+/// use tinystr::packed::in_place;
+///
+/// let keys = [tinystr!(3, "EUR"); 8];
+/// assert_eq!(in_place::search_eight(b"CHFEURJPY", &keys, 0), [Ok(1); 8]);
+/// ```
+///
+/// # Contract
+///
+/// ```text
+/// requires { 0 < N }
+/// ensures inside { (i : ℕ) → i < 8 → IfOk (slice_index_or result i (Ok 0)) (λ index. index < length bytes.now / N) }
+/// ensures bound { (i : ℕ) → i < 8 → IfErr (slice_index_or result i (Ok 0)) (λ place. place ≤ length bytes.now / N) }
+/// ensures searched { (texts : List (List ℕ)) → ArePackedRising texts bytes.now N → (i : ℕ) → i < 8 → IsSearched (text_at keys.now i) texts (slice_index_or result i (Ok 0)) }
+/// ```
+///
+/// # Panics
+///
+/// Where `N` is 0.
+#[must_use]
+pub fn search_eight<const N: usize>(
+    bytes: &[u8],
+    keys: &[TinyAsciiStr<N>; 8],
+    near: usize,
+) -> [Result<usize, usize>; 8] {
+    assert!(N > 0, "a record has at least one byte");
+    if bytes.is_empty() {
+        return [Err(0); 8];
+    }
+    let records = bytes.as_chunks().0;
+    if N > 16 || are_two_by_turns(keys) {
+        search_one_by_one(records, keys)
+    } else {
+        search_side_by_side(records, keys, near)
+    }
 }
 
 /// The range of the texts with a prefix, among packed records whose texts rise: the index of the first, or the index at
@@ -69,14 +115,58 @@ pub fn with_prefix<const N: usize>(bytes: &[u8], beginning: &TinyAsciiStr<N>) ->
 }
 
 // Proved:
-//     ensures inside { IfOk result (λ index. index < length records.now) }
-//     ensures bound { IfErr result (λ place. place ≤ length records.now) }
-//     ensures searched { All (λ raw. IsPaddedText raw N) records.now → IsRising (map text_of records.now) → IsSearched key.now (map text_of records.now) result }
+//     ensures { IsAnswer N key.now records.now result }
 fn search_records<const N: usize>(
     records: &[[u8; N]],
     key: &TinyAsciiStr<N>,
 ) -> Result<usize, usize> {
-    let place = first_not_below(records, key);
+    answer_at(records, first_not_below(records, key), key)
+}
+
+// One search after another.
+// Proved:
+//     ensures { (i : ℕ) → i < 8 → IsAnswer N (text_at keys.now i) records.now (slice_index_or result i (Ok 0)) }
+#[inline(always)]
+fn search_one_by_one<const N: usize>(
+    records: &[[u8; N]],
+    keys: &[TinyAsciiStr<N>; 8],
+) -> [Result<usize, usize>; 8] {
+    let mut answers = [Err(0); 8];
+    for lane in 0..8usize {
+        answers[lane] = search_records(records, &keys[lane]);
+    }
+    answers
+}
+
+// The searches together.
+// Proved:
+//     requires { N ≤ 16 }
+//     ensures { (i : ℕ) → i < 8 → IsAnswer N (text_at keys.now i) records.now (slice_index_or result i (Ok 0)) }
+#[inline(always)]
+fn search_side_by_side<const N: usize>(
+    records: &[[u8; N]],
+    keys: &[TinyAsciiStr<N>; 8],
+    near: usize,
+) -> [Result<usize, usize>; 8] {
+    let places = first_not_below_each_by_number(records, keys, near);
+    let mut answers = [Err(0); 8];
+    for lane in 0..8usize {
+        answers[lane] = answer_at(records, places[lane], &keys[lane]);
+    }
+    answers
+}
+
+// The answer of a search for a key that ends at a place.
+// Proved:
+//     requires bound { place ≤ length records.now }
+//     requires place { All (λ raw. IsPaddedText raw N) records.now → IsRising (map text_of records.now) → IsFirstNotBelow key.now (map text_of records.now) place }
+//     ensures { IsAnswer N key.now records.now result }
+#[inline(always)]
+fn answer_at<const N: usize>(
+    records: &[[u8; N]],
+    place: usize,
+    key: &TinyAsciiStr<N>,
+) -> Result<usize, usize> {
     let Some(raw) = records.get(place) else {
         return Err(place);
     };

@@ -136,7 +136,8 @@ impl<'a, const N: usize, const M: usize> PackedMap<'a, N, M> {
         }
     }
 
-    /// What `get` gives for each of many keys, in their order. `SortedTable::binary_search_each` tells what it saves.
+    /// What `get` gives for each of many keys, in their order. `SortedTable::binary_search_each` tells how the keys are
+    /// looked up.
     ///
     /// ```
     /// use tinystr::tinystr;
@@ -278,7 +279,8 @@ impl<'a, const N: usize, const M: usize> Iterator for Entries<'a, N, M> {
     }
 }
 
-/// What `PackedMap::get` gives for each of many keys, in their order. A clause sees the values that are left.
+/// What `PackedMap::get` gives for each of many keys, in their order. A contract sees it as the list of the values
+/// that are left.
 ///
 /// ```
 /// use tinystr::tinystr;

@@ -109,15 +109,11 @@ fn first_not_below_near_start<const N: usize>(records: &[[u8; N]], key: &[u8; N]
     start + first_not_below(&records[start..end], key)
 }
 
-/// Whether there is a record at an index, and it is below a key.
-///
-/// # Contract
-///
-/// ```text
-/// ensures { IsTrue result ↔ ((index < length records.now) × (order (text_at records.now index) key.now ≡ Less)) }
-/// ```
+// Whether there is a record at an index, and it is below a key.
+// Proved:
+//     ensures { IsTrue result ↔ ((index < length records.now) × (order (text_at records.now index) key.now ≡ Less)) }
 #[inline(always)]
-pub(crate) fn is_below_at<const N: usize>(records: &[[u8; N]], index: usize, key: &[u8; N]) -> bool {
+fn is_below_at<const N: usize>(records: &[[u8; N]], index: usize, key: &[u8; N]) -> bool {
     index < records.len() && is_below(&records[index][..], &key[..])
 }
 

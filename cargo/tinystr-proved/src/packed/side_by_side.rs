@@ -1,20 +1,18 @@
 //! The search for eight keys side by side. It halves by the same sizes whatever a key is, so that each waits for memory while
 //! the others do.
 
-use crate::packed::record::number_at;
-use crate::packed::search::{first_not_below, is_below_at, shared_len};
+use crate::packed::record::{is_below, number_at};
+use crate::packed::search::{first_not_below, shared_len};
 use core::ops::Range;
 use crate::TinyAsciiStr;
 
-// How far behind the last place keys in order are looked for first: a part of the table, at least `CLOSE` and at most `FAR`
-// records. The steps to each key are branches, which may all be guessed wrong, and so far they take no longer than a search.
-const PART: usize = 256;
+// Keys in order are looked for first among so many records behind the last place, and then among so many.
+const FEW: usize = 15;
 
-const CLOSE: usize = 2;
+const SOME: usize = 127;
 
-const FAR: usize = 128;
-
-// Two halves of a number: eight bytes of a record, and the next eight.
+// Two halves of a number: eight bytes of a record, and the next eight. Padded texts have numbers without the highest bit;
+// of any other bytes the functions below still give places among the records.
 #[derive(Clone, Copy)]
 struct Halves {
     first: u64,
@@ -31,8 +29,7 @@ struct Numbers {
 // Those of a record from `start` on.
 // Proved:
 //     requires start { start ≤ N - 8 }
-//     requires padded { IsPaddedText raw.now N }
-//     ensures halves { AreHalves N result.first result.next }
+//     ensures halves { IsPaddedText raw.now N → AreHalves N result.first result.next }
 //     ensures first { result.first ≡ number_at start raw.now }
 //     ensures number { paired result.first result.next ≡ pair_at start raw.now }
 #[inline(always)]
@@ -47,10 +44,8 @@ fn halves_at<const N: usize>(raw: &[u8; N], start: usize) -> Halves {
 // 1 where a number is below the sum of another and `more`, and else 0: the highest bit of the difference. Of a comparison, a
 // branch would be made.
 // Proved:
-//     requires number { number < 2 ^ 63 }
-//     requires other { other < 2 ^ 63 }
-//     requires more { more ≤ 1 }
-//     ensures { result ≡ cond (nat_lt number (other + more)) 1 0 }
+//     ensures bound { result ≤ 1 }
+//     ensures bit { number < 2 ^ 63 → other < 2 ^ 63 → more ≤ 1 → result ≡ cond (nat_lt number (other + more)) 1 0 }
 #[inline(always)]
 fn borrow(number: u64, other: u64, more: u64) -> u64 {
     number.wrapping_sub(other).wrapping_sub(more) >> 63
@@ -58,9 +53,8 @@ fn borrow(number: u64, other: u64, more: u64) -> u64 {
 
 // 1 where a number is below another, and else 0.
 // Proved:
-//     requires number { AreHalves N number.first number.next }
-//     requires other { AreHalves N other.first other.next }
-//     ensures { result ≡ cond (nat_lt (paired number.first number.next) (paired other.first other.next)) 1 0 }
+//     ensures bound { result ≤ 1 }
+//     ensures bit { AreHalves N number.first number.next → AreHalves N other.first other.next → result ≡ cond (nat_lt (paired number.first number.next) (paired other.first other.next)) 1 0 }
 #[inline(always)]
 fn bit_below<const N: usize>(number: Halves, other: Halves) -> u64 {
     if N <= 8 {
@@ -72,6 +66,23 @@ fn bit_below<const N: usize>(number: Halves, other: Halves) -> u64 {
             borrow(number.next, other.next, 0),
         )
     }
+}
+
+// 1 where the number of the record at an index is below another, and else 0.
+// Proved:
+//     requires start { start ≤ N - 8 }
+//     requires inside { index < length records.now }
+//     requires halves { AreHalves N number.first number.next }
+//     ensures bound { result ≤ 1 }
+//     ensures bit { AreNumbered N start records.now → result ≡ cond (nat_lt (pair_at start (text_at records.now index)) (paired number.first number.next)) 1 0 }
+#[inline(always)]
+fn bit_below_at<const N: usize>(
+    records: &[[u8; N]],
+    start: usize,
+    index: usize,
+    number: Halves,
+) -> u64 {
+    bit_below::<N>(halves_at(&records[index], start), number)
 }
 
 // A number where a bit is 1, and else 0. Of a choice, a branch would be made.
@@ -86,12 +97,10 @@ fn number_if(number: usize, bit: u64) -> usize {
 // One step of a search: the middle of a range is below a number, or it isn't.
 // Proved:
 //     requires start { start ≤ N - 8 }
-//     requires padded { All (λ raw. IsPaddedText raw N) records.now }
-//     requires rising { DoNotFall (pair_at start) records.now }
 //     requires halves { AreHalves N number.first number.next }
 //     requires many { 1 < size }
-//     requires within { IsPlaceWithin (pair_at start) records.now (paired number.first number.next) base (base + size) }
-//     ensures { IsPlaceWithin (pair_at start) records.now (paired number.first number.next) result (result + (size - size / 2)) }
+//     requires within { IsPlaceWithin N start records.now (paired number.first number.next) base (base + size) }
+//     ensures { IsPlaceWithin N start records.now (paired number.first number.next) result (result + (size - size / 2)) }
 #[inline(always)]
 fn halved<const N: usize>(
     records: &[[u8; N]],
@@ -101,22 +110,18 @@ fn halved<const N: usize>(
     size: usize,
 ) -> usize {
     let half = size / 2;
-    let found = halves_at(&records[base + half], start);
-    base + number_if(half, bit_below::<N>(found, number))
+    base + number_if(half, bit_below_at(records, start, base + half, number))
 }
 
 // The last step: the one record that is left is below a number, or it isn't.
 // Proved:
 //     requires start { start ≤ N - 8 }
-//     requires padded { All (λ raw. IsPaddedText raw N) records.now }
-//     requires rising { DoNotFall (pair_at start) records.now }
 //     requires halves { AreHalves N number.first number.next }
-//     requires within { IsPlaceWithin (pair_at start) records.now (paired number.first number.next) base (base + 1) }
-//     ensures { IsPlaceWithin (pair_at start) records.now (paired number.first number.next) result result }
+//     requires within { IsPlaceWithin N start records.now (paired number.first number.next) base (base + 1) }
+//     ensures { IsPlaceWithin N start records.now (paired number.first number.next) result result }
 #[inline(always)]
 fn last<const N: usize>(records: &[[u8; N]], start: usize, number: Halves, base: usize) -> usize {
-    let found = halves_at(&records[base], start);
-    base + bit_below::<N>(found, number) as usize
+    base + bit_below_at(records, start, base, number) as usize
 }
 
 // The numbers of eight keys.
@@ -162,12 +167,10 @@ fn are_rising<const N: usize>(numbers: &Numbers) -> bool {
 // One step of each of eight searches.
 // Proved:
 //     requires start { start ≤ N - 8 }
-//     requires padded { All (λ raw. IsPaddedText raw N) records.now }
-//     requires rising { DoNotFall (pair_at start) records.now }
 //     requires halves { AreAllHalves N numbers.now.first numbers.now.next }
 //     requires many { 1 < size }
-//     requires within { ArePlacesWithin (pair_at start) records.now (wanted numbers.now.first numbers.now.next) places.old size }
-//     ensures { ArePlacesWithin (pair_at start) records.now (wanted numbers.now.first numbers.now.next) places.new (size - size / 2) }
+//     requires within { ArePlacesWithin N start records.now (wanted numbers.now.first numbers.now.next) places.old size }
+//     ensures { ArePlacesWithin N start records.now (wanted numbers.now.first numbers.now.next) places.new (size - size / 2) }
 #[inline(always)]
 fn halved_each<const N: usize>(
     records: &[[u8; N]],
@@ -188,11 +191,9 @@ fn halved_each<const N: usize>(
 // The last step of each.
 // Proved:
 //     requires start { start ≤ N - 8 }
-//     requires padded { All (λ raw. IsPaddedText raw N) records.now }
-//     requires rising { DoNotFall (pair_at start) records.now }
 //     requires halves { AreAllHalves N numbers.now.first numbers.now.next }
-//     requires within { ArePlacesWithin (pair_at start) records.now (wanted numbers.now.first numbers.now.next) places.old 1 }
-//     ensures { ArePlacesWithin (pair_at start) records.now (wanted numbers.now.first numbers.now.next) places.new 0 }
+//     requires within { ArePlacesWithin N start records.now (wanted numbers.now.first numbers.now.next) places.old 1 }
+//     ensures { ArePlacesWithin N start records.now (wanted numbers.now.first numbers.now.next) places.new 0 }
 #[inline(always)]
 fn last_each<const N: usize>(
     records: &[[u8; N]],
@@ -212,11 +213,9 @@ fn last_each<const N: usize>(
 // The places of eight numbers within a range that holds them all.
 // Proved:
 //     requires start { start ≤ N - 8 }
-//     requires padded { All (λ raw. IsPaddedText raw N) records.now }
-//     requires rising { DoNotFall (pair_at start) records.now }
 //     requires halves { AreAllHalves N numbers.now.first numbers.now.next }
-//     requires within { AreWithin (pair_at start) records.now (wanted numbers.now.first numbers.now.next) range.start range.end }
-//     ensures { ArePlacesWithin (pair_at start) records.now (wanted numbers.now.first numbers.now.next) result 0 }
+//     requires within { AreWithin N start records.now (wanted numbers.now.first numbers.now.next) range.start range.end }
+//     ensures { ArePlacesWithin N start records.now (wanted numbers.now.first numbers.now.next) result 0 }
 #[inline(always)]
 fn places_within<const N: usize>(
     records: &[[u8; N]],
@@ -240,12 +239,10 @@ fn places_within<const N: usize>(
 // Whether eight places are at most an index, where the numbers rise: the last one tells.
 // Proved:
 //     requires start { start ≤ N - 8 }
-//     requires padded { All (λ raw. IsPaddedText raw N) records.now }
-//     requires rising { DoNotFall (pair_at start) records.now }
 //     requires halves { AreAllHalves N numbers.now.first numbers.now.next }
 //     requires in_turn { DoNotFallInTurn (wanted numbers.now.first numbers.now.next) }
 //     requires inside { index ≤ length records.now }
-//     ensures { IsTrue result → (i k : ℕ) → i < 8 → index ≤ k → k < length records.now → wanted numbers.now.first numbers.now.next i ≤ pair_at start (text_at records.now k) }
+//     ensures { IsTrue result → AreNumbered N start records.now → (i k : ℕ) → i < 8 → index ≤ k → k < length records.now → wanted numbers.now.first numbers.now.next i ≤ pair_at start (text_at records.now k) }
 #[inline(always)]
 fn are_at_most<const N: usize>(
     records: &[[u8; N]],
@@ -257,18 +254,16 @@ fn are_at_most<const N: usize>(
         first: numbers.first[7],
         next: numbers.next[7],
     };
-    index == records.len() || bit_below::<N>(halves_at(&records[index], start), last) == 0
+    index == records.len() || bit_below_at(records, start, index, last) == 0
 }
 
 // Whether they are at least an index: the first one tells.
 // Proved:
 //     requires start { start ≤ N - 8 }
-//     requires padded { All (λ raw. IsPaddedText raw N) records.now }
-//     requires rising { DoNotFall (pair_at start) records.now }
 //     requires halves { AreAllHalves N numbers.now.first numbers.now.next }
 //     requires in_turn { DoNotFallInTurn (wanted numbers.now.first numbers.now.next) }
 //     requires inside { index ≤ length records.now }
-//     ensures { IsTrue result → (i k : ℕ) → i < 8 → k < index → pair_at start (text_at records.now k) < wanted numbers.now.first numbers.now.next i }
+//     ensures { IsTrue result → AreNumbered N start records.now → (i k : ℕ) → i < 8 → k < index → pair_at start (text_at records.now k) < wanted numbers.now.first numbers.now.next i }
 #[inline(always)]
 fn are_at_least<const N: usize>(
     records: &[[u8; N]],
@@ -280,19 +275,17 @@ fn are_at_least<const N: usize>(
         first: numbers.first[0],
         next: numbers.next[0],
     };
-    index == 0 || bit_below::<N>(halves_at(&records[index - 1], start), first) == 1
+    index == 0 || bit_below_at(records, start, index - 1, first) == 1
 }
 
 // Whether a range holds eight places, where the numbers rise.
 // Proved:
 //     requires start { start ≤ N - 8 }
-//     requires padded { All (λ raw. IsPaddedText raw N) records.now }
-//     requires rising { DoNotFall (pair_at start) records.now }
 //     requires halves { AreAllHalves N numbers.now.first numbers.now.next }
 //     requires in_turn { DoNotFallInTurn (wanted numbers.now.first numbers.now.next) }
 //     requires ordered { range.now.start ≤ range.now.end }
 //     requires inside { range.now.end ≤ length records.now }
-//     ensures { IsTrue result → AreWithin (pair_at start) records.now (wanted numbers.now.first numbers.now.next) range.now.start range.now.end }
+//     ensures { IsTrue result → AreWithin N start records.now (wanted numbers.now.first numbers.now.next) range.now.start range.now.end }
 #[inline(always)]
 fn holds_each<const N: usize>(
     records: &[[u8; N]],
@@ -304,101 +297,40 @@ fn holds_each<const N: usize>(
         && are_at_least(records, start, numbers, range.start)
 }
 
-// The place of a number within a range that holds it, in time that grows as the logarithm of its distance from the start: by
-// steps that double, and then by halves.
+// A range of records that holds eight places: few or some behind an index, where the numbers rise and these hold them, or else
+// all. Fewer records than a quarter of all save steps, and no others are tried.
 // Proved:
 //     requires start { start ≤ N - 8 }
-//     requires padded { All (λ raw. IsPaddedText raw N) records.now }
-//     requires rising { DoNotFall (pair_at start) records.now }
-//     requires halves { AreHalves N number.first number.next }
-//     requires within { IsPlaceWithin (pair_at start) records.now (paired number.first number.next) range.start range.end }
-//     ensures bound { result ≤ range.end }
-//     ensures place { IsPlaceWithin (pair_at start) records.now (paired number.first number.next) result result }
-#[inline(always)]
-fn place_from<const N: usize>(
-    records: &[[u8; N]],
-    start: usize,
-    number: Halves,
-    range: Range<usize>,
-) -> usize {
-    let mut base = range.start;
-    let mut end = range.end;
-    let mut step = 0;
-    while base < end {
-        let ahead = ((end - base) / 2).min(step);
-        let found = halves_at(&records[base + ahead], start);
-        if bit_below::<N>(found, number) == 1 {
-            base += ahead + 1;
-            step = 2 * ahead + 1;
-        } else {
-            end = base + ahead;
-        }
-    }
-    base
-}
-
-// The places of eight numbers that rise, within a range that holds them all, each looked for behind the one before it.
-// Proved:
-//     requires start { start ≤ N - 8 }
-//     requires padded { All (λ raw. IsPaddedText raw N) records.now }
-//     requires rising { DoNotFall (pair_at start) records.now }
 //     requires halves { AreAllHalves N numbers.now.first numbers.now.next }
-//     requires in_turn { DoNotFallInTurn (wanted numbers.now.first numbers.now.next) }
-//     requires within { AreWithin (pair_at start) records.now (wanted numbers.now.first numbers.now.next) range.start range.end }
-//     ensures { ArePlacesWithin (pair_at start) records.now (wanted numbers.now.first numbers.now.next) result 0 }
+//     ensures { AreWithin N start records.now (wanted numbers.now.first numbers.now.next) result.start result.end }
 #[inline(always)]
-fn places_in_turn<const N: usize>(
-    records: &[[u8; N]],
-    start: usize,
-    numbers: &Numbers,
-    range: Range<usize>,
-) -> [usize; 8] {
-    let mut base = range.start;
-    let mut places = [base; 8];
-    for lane in 0..8usize {
-        let number = Halves {
-            first: numbers.first[lane],
-            next: numbers.next[lane],
-        };
-        base = place_from(records, start, number, base..range.end);
-        places[lane] = base;
-    }
-    places
-}
-
-// The places of eight numbers: a little behind an index, where they are there in order, and else anywhere.
-// Proved:
-//     requires start { start ≤ N - 8 }
-//     requires padded { All (λ raw. IsPaddedText raw N) records.now }
-//     requires rising { DoNotFall (pair_at start) records.now }
-//     requires halves { AreAllHalves N numbers.now.first numbers.now.next }
-//     ensures { ArePlacesWithin (pair_at start) records.now (wanted numbers.now.first numbers.now.next) result 0 }
-#[inline(always)]
-fn places_near<const N: usize>(
+fn range_near<const N: usize>(
     records: &[[u8; N]],
     start: usize,
     numbers: &Numbers,
     near: usize,
-) -> [usize; 8] {
+) -> Range<usize> {
     let len = records.len();
-    if are_rising::<N>(numbers) {
-        let near = near.min(len);
-        let distance = (len / PART).max(CLOSE).min(FAR);
-        let range = near..near.saturating_add(distance).min(len);
-        if holds_each(records, start, numbers, &range) {
-            return places_in_turn(records, start, numbers, range);
-        }
+    if !are_rising::<N>(numbers) {
+        return 0..len;
     }
-    places_within(records, start, numbers, 0..len)
+    let near = near.min(len);
+    let few = near..near.saturating_add(FEW).min(len);
+    if FEW < len / 4 && holds_each(records, start, numbers, &few) {
+        return few;
+    }
+    let some = near..near.saturating_add(SOME).min(len);
+    if SOME < len / 4 && holds_each(records, start, numbers, &some) {
+        return some;
+    }
+    0..len
 }
 
 // The places of eight keys among records, by their numbers from `start` on.
 // Proved:
 //     requires eight { 8 ≤ length keys.now }
 //     requires start { start ≤ N - 8 }
-//     requires padded { All (λ raw. IsPaddedText raw N) records.now }
-//     requires rising { DoNotFall (pair_at start) records.now }
-//     ensures places { (i : ℕ) → i < 8 → IsPlaceWithin (pair_at start) records.now (pair_at start (pad (text_at keys.now i) N)) (slice_index result i) (slice_index result i) }
+//     ensures places { (i : ℕ) → i < 8 → IsPlaceWithin N start records.now (pair_at start (pad (text_at keys.now i) N)) (slice_index result i) (slice_index result i) }
 //     ensures strict { (i : ℕ) → i < 8 → IsStrictText (text_at keys.now i) N }
 #[inline(always)]
 fn places_by_numbers<const N: usize>(
@@ -408,10 +340,11 @@ fn places_by_numbers<const N: usize>(
     near: usize,
 ) -> [usize; 8] {
     let numbers = numbers_of(keys, start);
-    places_near(records, start, &numbers, near)
+    let range = range_near(records, start, &numbers, near);
+    places_within(records, start, &numbers, range)
 }
 
-// How many bytes each of eight keys shares with all records in front. It only guides, as `shared_len` does.
+// How many first bytes each of eight keys and all records share. It only guides, as `shared_len` does.
 // Proved:
 //     requires eight { 8 ≤ length keys.now }
 //     requires long { 8 < N }
@@ -428,6 +361,27 @@ fn shared_len_of_each<const N: usize>(records: &[[u8; N]], keys: &[TinyAsciiStr<
         len = len.min(shared_len(records, keys[lane].all_bytes()));
     }
     len
+}
+
+/// The places of eight keys among records of at most sixteen bytes. Keys in order are looked for behind an index first. If the
+/// records don't rise, they are some indices up to their number.
+///
+/// # Contract
+///
+/// ```text
+/// requires eight { 8 ≤ length keys.now }
+/// requires short { N ≤ 16 }
+/// ensures bound { (i : ℕ) → i < 8 → slice_index result i ≤ length records.now }
+/// ensures places { All (λ raw. IsPaddedText raw N) records.now → AreRisingRecords N records.now → (i : ℕ) → i < 8 → IsFirstNotBelow (pad (text_at keys.now i) N) records.now (slice_index result i) }
+/// ensures strict { (i : ℕ) → i < 8 → IsStrictText (text_at keys.now i) N }
+/// ```
+#[inline(always)]
+pub(crate) fn first_not_below_each_by_number<const N: usize>(
+    records: &[[u8; N]],
+    keys: &[TinyAsciiStr<N>],
+    near: usize,
+) -> [usize; 8] {
+    places_by_numbers(records, keys, 0, near)
 }
 
 /// The places of eight keys among records, and whether one of them was searched for by itself. Keys in order are looked for
@@ -449,14 +403,34 @@ pub(crate) fn first_not_below_each<const N: usize>(
     near: usize,
 ) -> ([usize; 8], bool) {
     if N <= 16 {
-        (places_by_numbers(records, keys, 0, near), false)
+        (first_not_below_each_by_number(records, keys, near), false)
     } else {
         first_not_below_each_long(records, keys, near)
     }
 }
 
-// Those among records of more than sixteen bytes. Where a record has a key's number and is below the key, it is searched for by
-// itself.
+// Whether the record at an index has a key's number, and is below the key.
+// Proved:
+//     requires { start ≤ N - 8 }
+//     ensures { index < length records.now → pair_at start (text_at records.now index) ≡ pair_at start key.now → order (text_at records.now index) key.now ≡ Less → IsTrue result }
+#[inline(always)]
+fn is_tied_below<const N: usize>(
+    records: &[[u8; N]],
+    start: usize,
+    index: usize,
+    key: &[u8; N],
+) -> bool {
+    if index >= records.len() {
+        return false;
+    }
+    let raw = &records[index];
+    let found = halves_at(raw, start);
+    let wanted = halves_at(key, start);
+    found.first == wanted.first && found.next == wanted.next && is_below(&raw[..], &key[..])
+}
+
+// The places among records of more than sixteen bytes. Where the record at a key's place is below the key, the key is searched
+// for by itself.
 // Proved:
 //     requires eight { 8 ≤ length keys.now }
 //     requires long { 16 < N }
@@ -475,7 +449,7 @@ fn first_not_below_each_long<const N: usize>(
     let mut alone = false;
     for lane in 0..8usize {
         let key = keys[lane].all_bytes();
-        if is_below_at(records, places[lane], key) {
+        if is_tied_below(records, start, places[lane], key) {
             places[lane] = first_not_below(records, key);
             alone = true;
         }

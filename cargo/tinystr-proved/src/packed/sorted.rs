@@ -147,8 +147,9 @@ impl<'a, const N: usize> SortedTable<'a, N> {
 
     /// What `binary_search` gives for each of many keys, in their order.
     ///
-    /// Eight keys at a time are searched for, so that each search waits for memory while the others do. Keys in order, as a
-    /// column that is sorted or has runs of one key, are found a little behind the last one.
+    /// Eight keys at a time are searched for, so that each search waits for memory while the others do. Eight keys in order
+    /// are looked for a little behind the last one first. Eight that are one key, or two by turns, take a search for each of
+    /// these, and fewer than eight are searched for one by one.
     ///
     /// ```
     /// use tinystr::tinystr;
