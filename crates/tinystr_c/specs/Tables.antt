@@ -1,15 +1,15 @@
 -- What the exports answer of packed records and maps.
-use Rattle.std.specs.Prelude.{◌≡◌, ◌≢◌, ◌↔◌, ℕ, ◌==◌, ◌+◌, ◌/◌, ◌<◌, ◌≤◌, Bool, ◌||◌, IsTrue, List, length, take, drop, filter, nat_eq, Result, IfOk, IfErr}
+use Rattle.std.specs.Prelude.{◌≡◌, ◌≢◌, ◌↔◌, ℕ, ◌==◌, ◌+◌, ◌/◌, ◌<◌, ◌≤◌, Bool, ◌||◌, IsTrue, List, length, take, drop, filter, nat_eq, slice_index_or, Result, IfOk, IfErr}
 use Rattle.std.specs.List.{starts_with}
 use Rattle.tinystr.specs.Records.{RefusesRecords}
 use Rattle.tinystr.specs.declared.ule.UleError.{UleError}
 use Rattle.tinystr_packed.specs.Map.{ArePacked, RefusesMap}
-use Rattle.tinystr_packed.specs.Rising.{ArePackedRising, IsFirstFall, IsFirstNotBelow, IsSearched}
+use Rattle.tinystr_packed.specs.Rising.{text_at, ArePackedRising, IsFirstFall, IsFirstNotBelow, IsSearched}
 use Rattle.tinystr_packed.specs.declared.map.MapError.{MapError}
 use Rattle.tinystr_words.specs.Packed.{IsPacked}
 use Rattle.tinystr_words.specs.Reading.{fault_in}
 use Rattle.tinystr_words.specs.Text.{IsStrictText}
-use Rattle.tinystr_c.specs.Codes.{OK, NOT_RISING, fault_code, fault_answer, no_range, records_answer, map_answer, search_answer}
+use Rattle.tinystr_c.specs.Codes.{OK, NO_ROOM, NOT_RISING, answer, fault_code, fault_answer, no_range, records_answer, map_answer, search_answer}
 use Rattle.tinystr_c.specs.declared.answer.TinystrResult.{TinystrResult}
 use Rattle.tinystr_c.specs.declared.answer.TinystrRange.{TinystrRange}
 
@@ -53,6 +53,16 @@ pub record Searches (r : TinystrResult) (bytes key : List ℕ) (n : ℕ) : Type 
   pub answered : IsStrictText key n → (s : Result ℕ ℕ) × (r ≡ search_answer s)
       × IfOk s (λ index. index < length bytes / n) × IfErr s (λ place. place ≤ length bytes / n)
       × ((texts : List (List ℕ)) → ArePackedRising texts bytes n → IsSearched key texts s)
+
+-- the keys are refused, or there is no room for their answers, and nothing is changed; or each key has its own answer, and
+-- what is behind the answers isn't changed
+pub record SearchesEach (r : TinystrResult) (old new : List TinystrResult) (bytes keys : List ℕ) (n : ℕ) : Type 0 where
+  pub refused : ¬ IsPacked keys n → (e : UleError) × RefusesRecords e keys n × (r ≡ records_answer e) × (new ≡ old)
+  pub no_room : IsPacked keys n → length old < length keys / n → (r ≡ answer NO_ROOM (length keys / n)) × (new ≡ old)
+  pub answered : (packed : IsPacked keys n) → length keys / n ≤ length old → (r ≡ answer OK (length keys / n))
+      × (length new ≡ length old)
+      × ((i : ℕ) → i < length keys / n → Searches (slice_index_or new i (answer 0 0)) bytes (text_at packed.texts i) n)
+      × (drop (length keys / n) new ≡ drop (length keys / n) old)
 
 -- the beginning is refused; or the answer is a range in the bytes, whatever they are, and where they are packed records that
 -- rise, it is that of the texts that begin so, from the beginning's own place on

@@ -2,10 +2,11 @@
 
 ghost use Rattle.std.specs.Prelude.{◌≡◌};
 ghost use Rattle.tinystr.specs.Error.{fault_of};
-ghost use Rattle.tinystr_c.specs.Codes.{answer, no_range, fault_code, first_nul, first_non_ascii, fault_answer, refusal_code, records_answer, map_answer};
+ghost use Rattle.tinystr_c.specs.Codes.{answer, no_range, fault_code, first_nul, first_non_ascii, fault_answer, refusal_code, records_answer, map_answer, search_answer};
 
 use crate::numbers::{
-    BAD_LENGTH, BAD_VALUES, INVALID_LANGUAGE, INVALID_SUBTAG, NON_ASCII, NOT_RISING, NUL, TOO_LONG,
+    BAD_LENGTH, BAD_VALUES, INVALID_LANGUAGE, INVALID_SUBTAG, NON_ASCII, NOT_FOUND, NOT_RISING,
+    NUL, OK, TOO_LONG,
 };
 use subtags::LangIdError;
 use tinystr::ParseError;
@@ -119,5 +120,16 @@ pub fn map_answer(fault: MapError) -> TinystrResult
         MapError::Keys(fault) => records_answer(fault),
         MapError::Order(fault) => answer(NOT_RISING, fault.index),
         MapError::Values { len, .. } => answer(BAD_VALUES, len),
+    }
+}
+
+/// The index of a text, or the place at which it belongs.
+#[inline]
+pub fn search_answer(found: Result<usize, usize>) -> TinystrResult
+    ensures { result ≡ search_answer found }
+{
+    match found {
+        Ok(index) => answer(OK, index),
+        Err(place) => answer(NOT_FOUND, place),
     }
 }

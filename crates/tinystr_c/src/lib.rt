@@ -5,17 +5,19 @@
 mod answer;
 mod numbers;
 mod packed;
+mod search_each;
 mod texts;
 
 ghost use Rattle.std.specs.Prelude.{◌≡◌, length};
 ghost use Rattle.tinystr_c.specs.Codes.{answer, no_range, BAD_ARGUMENT, VERSION};
-ghost use Rattle.tinystr_c.specs.Tables.{IsCapacity, IsValueSize, ChecksTable, ChecksSorted, ChecksMap, Searches, FindsPrefix};
+ghost use Rattle.tinystr_c.specs.Tables.{IsCapacity, IsValueSize, ChecksTable, ChecksSorted, ChecksMap, Searches, SearchesEach, FindsPrefix};
 ghost use Rattle.tinystr_c.specs.Texts.{langid_answer, langid_bytes, read_answer, read_bytes, ask_answer, case_answer, case_bytes};
 
 pub use answer::{TinystrRange, TinystrResult};
 use answer::{answer, no_range};
 use numbers::{BAD_ARGUMENT, VERSION};
 use packed::{map_check, sorted_check, sorted_prefix, sorted_search, table_check};
+use search_each::sorted_search_each;
 
 /// The version of the library: 10,000 times the first number, 100 times the second, and the third.
 #[unsafe(no_mangle)]
@@ -98,6 +100,28 @@ pub extern "C" fn tinystr_sorted_search(bytes: &[u8], capacity: usize, key: &[u8
         answer(BAD_ARGUMENT, capacity),
         bytes,
         key
+    )
+}
+
+/// What `tinystr_sorted_search` answers for each of some keys, which are packed records too, at the start of `out`. Any code
+/// but OK leaves `out` as it was, and OK what is behind the answers.
+#[unsafe(no_mangle)]
+pub extern "C" fn tinystr_sorted_search_each(
+    bytes: &[u8],
+    capacity: usize,
+    keys: &[u8],
+    out: &mut [TinystrResult],
+) -> TinystrResult
+    ensures capacity { ¬ IsCapacity capacity → (result ≡ answer BAD_ARGUMENT capacity) × (out.new ≡ out.old) }
+    ensures searched { IsCapacity capacity → SearchesEach result out.old out.new bytes.now keys.now capacity }
+{
+    crate::at_capacity!(
+        capacity,
+        sorted_search_each,
+        answer(BAD_ARGUMENT, capacity),
+        bytes,
+        keys,
+        out
     )
 }
 

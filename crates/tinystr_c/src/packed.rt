@@ -6,9 +6,9 @@ ghost use Rattle.tinystr_c.specs.Tables.{IsValueSize, ChecksTable, ChecksSorted,
 
 use crate::answer::{
     TinystrRange, TinystrResult, answer, fault_answer, fault_code, map_answer, no_range,
-    records_answer,
+    records_answer, search_answer,
 };
-use crate::numbers::{BAD_ARGUMENT, NOT_FOUND, NOT_RISING, OK};
+use crate::numbers::{BAD_ARGUMENT, NOT_RISING, OK};
 use tinystr::TinyAsciiStr;
 use tinystr_packed::{PackedMap, SortedTable, Table, in_place};
 
@@ -59,10 +59,7 @@ pub fn sorted_search<const N: usize>(bytes: &[u8], key: &[u8]) -> TinystrResult
     ensures { Searches result bytes.now key.now N }
 {
     match TinyAsciiStr::<N>::try_from_utf8(key) {
-        Ok(text) => match in_place::search(bytes, &text) {
-            Ok(index) => answer(OK, index),
-            Err(place) => answer(NOT_FOUND, place),
-        },
+        Ok(text) => search_answer(in_place::search(bytes, &text)),
         Err(fault) => fault_answer(fault, key),
     }
 }

@@ -1,0 +1,18 @@
+use Rattle.std.proofs.Common.{◌≡◌, ℕ, ◌*◌, ◌<◌, length}
+use Rattle.std.specs.List.{slice_index_or}
+use Rattle.tinystr_packed.specs.Rising.{text_at}
+use Rattle.tinystr_c.specs.Codes.{answer}
+use Rattle.tinystr_c.specs.Tables.{Searches}
+use Rattle.tinystr_c.proofs.search_each.search_each.Given as goal
+
+abbrev pub invariant-loop-eight : goal.invariant-loop-eight
+invariant-loop-eight g l = record {
+  room : length l.out ≡ length l.fn.out;
+  each : (i : ℕ) → i < l.eight * 8 → Searches (slice_index_or l.out i (answer 0 0)) l.bytes (text_at l.keys i) g.row.N;
+}
+
+abbrev pub invariant-loop-index : goal.invariant-loop-index
+invariant-loop-index g l = record {
+  room : length l.out ≡ length l.fn.out;
+  each : (i : ℕ) → i < l.index → Searches (slice_index_or l.out i (answer 0 0)) l.bytes (text_at l.keys i) g.row.N;
+}
