@@ -2,8 +2,9 @@
 """expected.py FOLDER: writes what the programs beside it read, and what each of them has to print.
 
 FOLDER/words is a word a line: names of locales and codes from Debian's lists, and awkward words. FOLDER/table is packed
-records of 3 bytes that rise: the codes of ISO 639. FOLDER/wanted has a line for each word, made here by regular
-expressions, str and bisect, and not by the library. The lists that aren't there are named, and left out.
+records of 3 bytes that rise: the codes of ISO 639. FOLDER/wanted has a line for each word, and one for all that are texts of
+at most 3 bytes, made here by regular expressions, str and bisect, and not by the library. The lists that aren't there are
+named, and left out.
 """
 import bisect
 import json
@@ -73,7 +74,10 @@ def main():
     words = list(dict.fromkeys([*(word.encode() for word in AWKWARD + names + others), *table]))
     (folder / "words").write_bytes(b"".join(word + b"\n" for word in words))
     (folder / "table").write_bytes(b"".join(code.ljust(CAPACITY, b"\0") for code in table))
-    (folder / "wanted").write_bytes(b"records %d\n" % len(table) + b"".join(line(word, table) + b"\n" for word in words))
+    keys = [word for word in words if not refused(word)]
+    wanted = [b"records %d" % len(table), *(line(word, table) for word in words)]
+    wanted.append(b"keys %d, found %d" % (len(keys), len(set(keys) & set(table))))
+    (folder / "wanted").write_bytes(b"".join(it + b"\n" for it in wanted))
     print(f"{len(words)} words, {len(table)} records" + "".join(f"; left out: {path}" for path in missing))
 
 

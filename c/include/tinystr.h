@@ -5,7 +5,8 @@
  *
  * What the caller owes, and no call tests
  *   - A pointer and the number of bytes behind it name bytes of one object, which may be read; those of `out`, and of the
- *     `text` of tinystr_change_case, may be written too. The number is at most SSIZE_MAX.
+ *     `text` of tinystr_change_case, may be written too. The number is at most SSIZE_MAX. A pointer to results, whose number
+ *     stands behind it, names so many of them, in at most SSIZE_MAX bytes.
  *   - A pointer isn't NULL, not even where the number is 0.
  *   - No byte that a call may write is a byte that another argument names: `out` overlaps no input.
  *   - While the call runs, no other thread writes these bytes, or reads those that the call may write. Then any calls may
@@ -137,6 +138,19 @@ tinystr_result tinystr_sorted_check(const uint8_t *bytes, size_t bytes_len, size
  *   TOO_LONG, NUL, NON_ASCII   The key isn't a text of at most `capacity` bytes. */
 tinystr_result tinystr_sorted_search(const uint8_t *bytes, size_t bytes_len, size_t capacity,
                                      const uint8_t *key, size_t key_len);
+
+/* Searches each of some keys, as tinystr_sorted_search, in records that rise. The keys are records of the same capacity, and
+ * need not rise. The records aren't checked again, but the keys are. This pays where there are many keys: in any order among
+ * many records, since eight at a time are waited for together; and in a column that is sorted or has runs of one key, among
+ * few records too.
+ *   OK                 value: how many keys. As many of `out`, from the first on, are what tinystr_sorted_search answers for
+ *                      each key: OK with its index, or NOT_FOUND with the index at which it is to be inserted.
+ *   BAD_LENGTH, NUL, NON_ASCII   Of the keys, as tinystr_table_check answers.
+ *   NO_ROOM            value: how many keys, which is above `out_len`.
+ * With any code but OK, `out` is as it was; with OK, so is what is behind the answers. */
+tinystr_result tinystr_sorted_search_each(const uint8_t *bytes, size_t bytes_len, size_t capacity,
+                                          const uint8_t *keys, size_t keys_len,
+                                          tinystr_result *out, size_t out_len);
 
 /* Finds the texts that begin with a text, in records that rise. The records aren't checked again.
  *   OK                 start: the index of the first, or at which `beginning` is to be inserted. count: how many.

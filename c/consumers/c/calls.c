@@ -23,6 +23,16 @@ static int is_range(tinystr_range r, uint32_t code, size_t start, size_t count) 
 }
 static const uint8_t *bytes(const char *s) { return (const uint8_t *)s; }
 
+/* Results that no call makes. */
+static void fill(tinystr_result *out, size_t count) {
+    size_t k;
+    for (k = 0; k < count; k++) out[k].value = 77, out[k].code = 77;
+}
+static int are_filled(const tinystr_result *out, size_t start, size_t end) {
+    while (start < end && is(out[start], 77, 77)) start++;
+    return start == end;
+}
+
 static void langids(void) {
     static const char longest[] = "abcdefgh-Latn-419";
     uint8_t out[TINYSTR_LANGID_ROOM];
@@ -88,6 +98,7 @@ static void questions(void) {
 
 static void tables(void) {
     static const size_t none[] = {0, 1, 5, 6, 7, 9, 15, 17, SIZE_MAX};
+    tinystr_result out;
     size_t k;
     CHECK(is(tinystr_table_check(bytes("EURGB\0JPY"), 9, 3), TINYSTR_OK, 3));
     CHECK(is(tinystr_table_check(bytes(""), 0, 3), TINYSTR_OK, 0));
@@ -118,9 +129,55 @@ static void tables(void) {
         CHECK(is(tinystr_table_check(bytes("EURJPY"), 6, n), TINYSTR_BAD_ARGUMENT, n));
         CHECK(is(tinystr_sorted_check(bytes("EURJPY"), 6, n), TINYSTR_BAD_ARGUMENT, n));
         CHECK(is(tinystr_sorted_search(bytes("EURJPY"), 6, n, bytes("EUR"), 3), TINYSTR_BAD_ARGUMENT, n));
+        fill(&out, 1);
+        CHECK(is(tinystr_sorted_search_each(bytes("EURJPY"), 6, n, bytes("EUR"), 3, &out, 1), TINYSTR_BAD_ARGUMENT, n));
+        CHECK(are_filled(&out, 0, 1));
         CHECK(is_range(tinystr_sorted_prefix(bytes("EURJPY"), 6, n, bytes("E"), 1), TINYSTR_BAD_ARGUMENT, 0, 0));
         CHECK(is(tinystr_map_check(bytes("EURJPY"), 6, n, bytes("\2\0"), 2, 3), TINYSTR_BAD_ARGUMENT, n));
     }
+}
+
+static const char six[] = "CADCHFCZKEURGB\0JPY";
+static tinystr_result each_in_six(const uint8_t *keys, size_t keys_len, tinystr_result *out, size_t out_len) {
+    return tinystr_sorted_search_each(bytes(six), 18, 3, keys, keys_len, out, out_len);
+}
+
+/* Some of seventeen keys, with room for their answers, for more, and for fewer; and keys that aren't records. */
+static void many_keys(void) {
+    enum { KEYS = 17, ROOM = KEYS + 2 };
+    static const char keys[] = "JPYEURUSDCADGB\0GBP\0\0\0EUREURCHFZ\0\0AUDCZKEURC\0\0USDGB";
+    static const size_t counts[] = {0, 1, 7, 8, 9, 16, KEYS};
+    tinystr_result out[ROOM];
+    size_t k, i;
+    CHECK(sizeof six == 19 && sizeof keys == 3 * KEYS);
+    for (k = 0; k < sizeof counts / sizeof *counts; k++) {
+        size_t count = counts[k];
+        fill(out, ROOM);
+        for (i = 0; i < count; i++) CHECK(is(each_in_six(bytes(keys), 3 * count, out, i), TINYSTR_NO_ROOM, count));
+        CHECK(are_filled(out, 0, ROOM));
+        CHECK(is(each_in_six(bytes(keys), 3 * count, out, count), TINYSTR_OK, count) && are_filled(out, count, ROOM));
+        fill(out, ROOM);
+        CHECK(is(each_in_six(bytes(keys), 3 * count, out, ROOM), TINYSTR_OK, count) && are_filled(out, count, ROOM));
+        for (i = 0; i < count; i++) {
+            tinystr_result r = tinystr_sorted_search(bytes(six), 18, 3, bytes(keys + 3 * i), strnlen(keys + 3 * i, 3));
+            CHECK((r.code == TINYSTR_OK || r.code == TINYSTR_NOT_FOUND) && is(out[i], r.code, r.value));
+        }
+    }
+    CHECK(is(each_in_six(bytes("EURGBPZ\0\0"), 9, out, 3), TINYSTR_OK, 3));
+    CHECK(is(out[0], TINYSTR_OK, 3) && is(out[1], TINYSTR_NOT_FOUND, 5) && is(out[2], TINYSTR_NOT_FOUND, 6));
+    CHECK(is(tinystr_sorted_search_each(bytes(""), 0, 3, bytes(keys), 27, out, 9), TINYSTR_OK, 9));
+    for (i = 0; i < 9; i++) CHECK(is(out[i], TINYSTR_NOT_FOUND, 0));
+    fill(out, ROOM);
+    CHECK(is(each_in_six(bytes(keys), 50, out, ROOM), TINYSTR_BAD_LENGTH, 50));
+    CHECK(is(each_in_six(bytes("EURE\0RZ\0\0"), 9, out, ROOM), TINYSTR_NUL, 1));
+    CHECK(is(each_in_six(bytes("EURJPYE\xff" "R"), 9, out, 2), TINYSTR_NON_ASCII, 2));
+    CHECK(is(tinystr_sorted_search_each(bytes(six), 18, 5, bytes("EURJP"), 4, out, 0), TINYSTR_BAD_ARGUMENT, 5));
+    CHECK(are_filled(out, 0, ROOM));
+}
+
+/* A search for a text ends inside the records. */
+static int is_inside(tinystr_result r, size_t records) {
+    return (r.code == TINYSTR_OK && r.value < records) || (r.code == TINYSTR_NOT_FOUND && r.value <= records);
 }
 
 static uint32_t seed = 1;
@@ -129,6 +186,7 @@ static uint8_t next_byte(void) { return (uint8_t)((seed = seed * 1664525u + 1013
 /* 20,000 tables of any bytes, which were never checked: no call reads a byte outside, and each answers a place inside. A
  * table begins behind a page that can't be read, or ends before one. */
 static void unchecked_tables(void) {
+    enum { MOST_KEYS = 17 };
     static const size_t capacities[] = {2, 3, 4, 8, 16};
     size_t page = (size_t)sysconf(_SC_PAGESIZE), k, i;
     uint8_t *pages = mmap(NULL, 3 * page, PROT_NONE, MAP_PRIVATE | MAP_ANONYMOUS, -1, 0);
@@ -136,15 +194,22 @@ static void unchecked_tables(void) {
     if (has_failed) return;
     for (k = 0; k < 20000; k++) {
         size_t n = capacities[k % 5], len = k * 7 % 601, records = len / n, key_len = k / 5 % (n + 1);
-        uint8_t *table = k % 2 ? pages + page : pages + 2 * page - len, key[16];
-        tinystr_result r;
+        size_t key_count = k / 7 % (MOST_KEYS + 1);
+        uint8_t *table = k % 2 ? pages + page : pages + 2 * page - len, key[16], keys[16 * MOST_KEYS] = {0};
+        tinystr_result r, out[MOST_KEYS + 1];
         tinystr_range found;
         for (i = 0; i < len; i++) table[i] = next_byte();
         for (i = 0; i < key_len; i++) key[i] = (uint8_t)(1 + next_byte() % 127);
         r = tinystr_sorted_search(table, len, n, key, key_len);
-        CHECK((r.code == TINYSTR_OK && r.value < records) || (r.code == TINYSTR_NOT_FOUND && r.value <= records));
+        CHECK(is_inside(r, records));
         found = tinystr_sorted_prefix(table, len, n, key, key_len);
         CHECK(found.code == TINYSTR_OK && found.start <= records && found.count <= records - found.start);
+        for (i = 0; i < key_count * n; i++)
+            if (i % n < key_len) keys[i] = (uint8_t)(1 + next_byte() % 127);
+        fill(out, MOST_KEYS + 1);
+        r = tinystr_sorted_search_each(table, len, n, keys, key_count * n, out, MOST_KEYS + 1);
+        CHECK(is(r, TINYSTR_OK, key_count) && are_filled(out, key_count, MOST_KEYS + 1));
+        for (i = 0; i < key_count; i++) CHECK(is_inside(out[i], records));
     }
     CHECK(!munmap(pages, 3 * page));
 }
@@ -153,8 +218,13 @@ static void unchecked_tables(void) {
 static void falling_tables(void) {
     tinystr_result r = tinystr_sorted_search(bytes("JPYEURCHF"), 9, 3, bytes("CHF"), 3);
     tinystr_range found = tinystr_sorted_prefix(bytes("JPYEURCHF"), 9, 3, bytes("C"), 1);
+    tinystr_result out[9];
+    size_t i;
     CHECK(r.code == TINYSTR_NOT_FOUND && r.value <= 3);
     CHECK(found.code == TINYSTR_OK && found.count == 0);
+    r = tinystr_sorted_search_each(bytes("JPYEURCHF"), 9, 3, bytes("CHFUSDCADEURJPYAUDZARCHFCZK"), 27, out, 9);
+    CHECK(is(r, TINYSTR_OK, 9));
+    for (i = 0; i < 9; i++) CHECK(is_inside(out[i], 3));
 }
 
 /* What the header says that a caller owes, broken: NULL with no bytes, and `out` upon the input. Nothing is promised of these
@@ -169,6 +239,7 @@ static void broken_calls(void) {
     CHECK(is(tinystr_table_check(NULL, 0, 3), TINYSTR_OK, 0));
     CHECK(is(tinystr_sorted_check(NULL, 0, 16), TINYSTR_OK, 0));
     CHECK(is(tinystr_sorted_search(NULL, 0, 3, NULL, 0), TINYSTR_NOT_FOUND, 0));
+    CHECK(is(tinystr_sorted_search_each(NULL, 0, 3, NULL, 0, NULL, 0), TINYSTR_OK, 0));
     CHECK(is_range(tinystr_sorted_prefix(NULL, 0, 3, NULL, 0), TINYSTR_OK, 0, 0));
     CHECK(is(tinystr_map_check(NULL, 0, 3, NULL, 0, 8), TINYSTR_OK, 0));
     CHECK(is(tinystr_langid(both, 10, both, sizeof both), TINYSTR_OK, 10) && !strcmp((char *)both, "zh-Hant-TW"));
@@ -182,6 +253,7 @@ int main(void) {
     texts();
     questions();
     tables();
+    many_keys();
     unchecked_tables();
     falling_tables();
     broken_calls();

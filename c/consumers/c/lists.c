@@ -1,4 +1,5 @@
-/* lists WORDS TABLE: a line for each word of a file, about it alone and about the packed records of 3 bytes of another. */
+/* lists WORDS TABLE: a line for each word of a file, about it alone and about the packed records of 3 bytes of another. Then
+ * all words of at most 3 bytes are searched by one call, which answers of each as one for it alone. */
 #include <stdio.h>
 #include <stdlib.h>
 #include <string.h>
@@ -19,7 +20,7 @@ static uint8_t *read_file(const char *path, size_t *len) {
     return bytes;
 }
 
-static void about(const uint8_t *word, size_t len, const uint8_t *table, size_t table_len) {
+static tinystr_result about(const uint8_t *word, size_t len, const uint8_t *table, size_t table_len) {
     uint8_t text[TINYSTR_LANGID_ROOM] = {0}, code[CAPACITY + 1] = {0};
     tinystr_result r = tinystr_langid(word, len, text, sizeof text);
     tinystr_range found;
@@ -31,23 +32,46 @@ static void about(const uint8_t *word, size_t len, const uint8_t *table, size_t 
     r = tinystr_sorted_search(table, table_len, CAPACITY, word, len);
     found = tinystr_sorted_prefix(table, table_len, CAPACITY, word, len);
     printf(", search %u %zu, prefix %u %zu %zu\n", (unsigned)r.code, r.value, (unsigned)found.code, found.start, found.count);
+    return r;
+}
+
+static void all_at_once(const uint8_t *keys, const tinystr_result *alone, size_t count, const uint8_t *table, size_t table_len) {
+    tinystr_result *out = malloc((count + 1) * sizeof *out), r;
+    size_t k, found = 0;
+    if (!out) exit(2);
+    r = tinystr_sorted_search_each(table, table_len, CAPACITY, keys, count * CAPACITY, out, count);
+    if (r.code != TINYSTR_OK || r.value != count) exit(1);
+    for (k = 0; k < count; k++) {
+        if (out[k].code != alone[k].code || out[k].value != alone[k].value) exit(1);
+        found += out[k].code == TINYSTR_OK;
+    }
+    printf("keys %zu, found %zu\n", count, found);
+    free(out);
 }
 
 int main(int argc, char **argv) {
-    size_t words_len, table_len, start = 0, end;
-    uint8_t *words, *table;
-    tinystr_result r;
+    size_t words_len, table_len, start = 0, end, count = 0;
+    uint8_t *words, *table, *keys;
+    tinystr_result r, *alone;
     if (argc < 3) return 2;
     words = read_file(argv[1], &words_len);
     table = read_file(argv[2], &table_len);
     r = tinystr_sorted_check(table, table_len, CAPACITY);
     if (r.code != TINYSTR_OK) return 1;
     printf("records %zu\n", r.value);
+    keys = malloc(words_len * CAPACITY + 1);
+    alone = malloc(words_len * sizeof *alone + 1);
+    if (!keys || !alone) return 2;
     for (end = 0; end < words_len; end++) {
         if (words[end] != '\n') continue;
-        about(words + start, end - start, table, table_len);
+        alone[count] = about(words + start, end - start, table, table_len);
+        r = tinystr_read(words + start, end - start, keys + count * CAPACITY, CAPACITY);
+        count += r.code == TINYSTR_OK;
         start = end + 1;
     }
+    all_at_once(keys, alone, count, table, table_len);
+    free(keys);
+    free(alone);
     free(words);
     free(table);
     return 0;

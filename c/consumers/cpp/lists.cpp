@@ -6,6 +6,7 @@
 #include <iterator>
 #include <string>
 #include <string_view>
+#include <vector>
 
 namespace {
 
@@ -25,7 +26,7 @@ std::string read_file(const char *path) {
 
 std::string until_nul(const std::string &s) { return s.substr(0, s.find('\0')); }
 
-void about(std::string_view word, std::string_view table) {
+tinystr_result about(std::string_view word, std::string_view table) {
     std::string text(TINYSTR_LANGID_ROOM, '\0'), code(capacity, '\0');
     tinystr_result r = tinystr_langid(bytes(word), word.size(), bytes(text), text.size());
     std::cout << word << ": langid " << r.code << ' ' << r.value << " [" << until_nul(text) << ']';
@@ -37,6 +38,20 @@ void about(std::string_view word, std::string_view table) {
     const tinystr_range found = tinystr_sorted_prefix(bytes(table), table.size(), capacity, bytes(word), word.size());
     std::cout << ", alphabetic " << is_alphabetic << ", search " << r.code << ' ' << r.value << ", prefix " << found.code << ' '
               << found.start << ' ' << found.count << '\n';
+    return r;
+}
+
+// Searches all keys by one call. Of each it answers as one for it alone.
+bool all_at_once(std::string_view keys, const std::vector<tinystr_result> &alone, std::string_view table) {
+    std::vector<tinystr_result> out(alone.size() + 1);
+    const tinystr_result r = tinystr_sorted_search_each(bytes(table), table.size(), capacity, bytes(keys), keys.size(), out.data(), out.size());
+    std::size_t found = 0;
+    for (std::size_t k = 0; k < alone.size(); k++) {
+        if (out[k].code != alone[k].code || out[k].value != alone[k].value) return false;
+        found += out[k].code == TINYSTR_OK;
+    }
+    std::cout << "keys " << r.value << ", found " << found << '\n';
+    return r.code == TINYSTR_OK;
 }
 
 }  // namespace
@@ -48,5 +63,13 @@ int main(int argc, char **argv) {
     if (r.code != TINYSTR_OK) return 1;
     std::cout << "records " << r.value << '\n';
     std::ifstream words(argv[1], std::ios::binary);
-    for (std::string word; std::getline(words, word);) about(word, table);
+    std::string keys;
+    std::vector<tinystr_result> alone;
+    for (std::string word; std::getline(words, word);) {
+        const tinystr_result answer = about(word, table);
+        if (answer.code != TINYSTR_OK && answer.code != TINYSTR_NOT_FOUND) continue;
+        keys += word + std::string(capacity - word.size(), '\0');
+        alone.push_back(answer);
+    }
+    return all_at_once(keys, alone, table) ? 0 : 1;
 }

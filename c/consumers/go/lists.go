@@ -37,7 +37,7 @@ func untilNul(b []byte) []byte {
 	return b
 }
 
-func about(out *bufio.Writer, word, table []byte) {
+func about(out *bufio.Writer, word, table []byte) C.tinystr_result {
 	text, code := make([]byte, C.TINYSTR_LANGID_ROOM), make([]byte, capacity)
 	r := C.tinystr_langid(pointer(word), size(word), pointer(text), size(text))
 	fmt.Fprintf(out, "%s: langid %d %d [%s]", word, r.code, r.value, untilNul(text))
@@ -53,6 +53,23 @@ func about(out *bufio.Writer, word, table []byte) {
 	r = C.tinystr_sorted_search(pointer(table), size(table), capacity, pointer(word), size(word))
 	found := C.tinystr_sorted_prefix(pointer(table), size(table), capacity, pointer(word), size(word))
 	fmt.Fprintf(out, ", alphabetic %d, search %d %d, prefix %d %d %d\n", alphabetic, r.code, r.value, found.code, found.start, found.count)
+	return r
+}
+
+// Searches all keys by one call. Of each it answers as one for it alone.
+func allAtOnce(out *bufio.Writer, keys []byte, alone []C.tinystr_result, table []byte) {
+	answers := make([]C.tinystr_result, len(alone)+1)
+	r := C.tinystr_sorted_search_each(pointer(table), size(table), capacity, pointer(keys), size(keys), &answers[0], C.size_t(len(answers)))
+	found := 0
+	for i, answer := range alone {
+		if answers[i] != answer {
+			log.Fatal("another answer")
+		}
+		if answer.code == C.TINYSTR_OK {
+			found++
+		}
+	}
+	fmt.Fprintf(out, "keys %d, found %d\n", r.value, found)
 }
 
 func read(path string) []byte {
@@ -72,7 +89,14 @@ func main() {
 	out := bufio.NewWriter(os.Stdout)
 	defer out.Flush()
 	fmt.Fprintf(out, "records %d\n", checked.value)
+	var keys []byte
+	var alone []C.tinystr_result
 	for _, word := range bytes.Split(bytes.TrimSuffix(words, []byte("\n")), []byte("\n")) {
-		about(out, word, table)
+		r := about(out, word, table)
+		if r.code == C.TINYSTR_OK || r.code == C.TINYSTR_NOT_FOUND {
+			keys = append(append(keys, word...), make([]byte, capacity-len(word))...)
+			alone = append(alone, r)
+		}
 	}
+	allAtOnce(out, keys, alone, table)
 }

@@ -2,7 +2,7 @@
 import ctypes
 import sys
 
-OK, UPPER, ALPHABETIC, LANGID_ROOM, CAPACITY = 0, 2, 0, 18, 3
+OK, NOT_FOUND, UPPER, ALPHABETIC, LANGID_ROOM, CAPACITY = 0, 11, 2, 0, 18, 3
 
 
 class Result(ctypes.Structure):
@@ -30,6 +30,7 @@ ask = call("ask", Result, writable, size, ctypes.c_uint32)
 change_case = call("change_case", Result, writable, size, ctypes.c_uint32)
 sorted_check = call("sorted_check", Result, read_only, size, size)
 sorted_search = call("sorted_search", Result, read_only, size, size, read_only, size)
+sorted_search_each = call("sorted_search_each", Result, read_only, size, size, read_only, size, ctypes.POINTER(Result), size)
 sorted_prefix = call("sorted_prefix", Range, read_only, size, size, read_only, size)
 
 
@@ -44,7 +45,16 @@ def about(word, table):
     said += b", alphabetic %d" % (r.code == OK and ask(code, CAPACITY, ALPHABETIC).value)
     r = sorted_search(table, len(table), CAPACITY, word, len(word))
     found = sorted_prefix(table, len(table), CAPACITY, word, len(word))
-    return said + b", search %d %d, prefix %d %d %d\n" % (r.code, r.value, found.code, found.start, found.count)
+    return said + b", search %d %d, prefix %d %d %d\n" % (r.code, r.value, found.code, found.start, found.count), r
+
+
+def all_at_once(keys, alone, table):
+    """Searches all keys by one call. Of each it answers as one for it alone."""
+    packed, out = b"".join(key.ljust(CAPACITY, b"\0") for key in keys), (Result * len(keys))()
+    r = sorted_search_each(table, len(table), CAPACITY, packed, len(packed), out, len(out))
+    if (r.code, r.value) != (OK, len(keys)) or any((a.code, a.value) != (b.code, b.value) for a, b in zip(out, alone)):
+        sys.exit(1)
+    return b"keys %d, found %d\n" % (r.value, sum(answer.code == OK for answer in out))
 
 
 def main():
@@ -53,8 +63,15 @@ def main():
     if checked.code != OK:
         sys.exit(1)
     sys.stdout.buffer.write(b"records %d\n" % checked.value)
+    keys, alone = [], []
     for line in open(sys.argv[2], "rb"):
-        sys.stdout.buffer.write(about(line.rstrip(b"\n"), table))
+        word = line.rstrip(b"\n")
+        said, r = about(word, table)
+        sys.stdout.buffer.write(said)
+        if r.code in (OK, NOT_FOUND):
+            keys.append(word)
+            alone.append(r)
+    sys.stdout.buffer.write(all_at_once(keys, alone, table))
 
 
 main()

@@ -4,8 +4,10 @@ use std::io::{self, Write};
 
 #[path = "tinystr.rs"]
 mod tinystr;
+use tinystr::TinystrResult;
 
 const OK: u32 = 0;
+const NOT_FOUND: u32 = 11;
 const UPPER: u32 = 2;
 const ALPHABETIC: u32 = 0;
 const LANGID_ROOM: usize = 18;
@@ -16,7 +18,7 @@ fn until_nul(bytes: &[u8]) -> &str {
     std::str::from_utf8(&bytes[..len]).expect("an export writes bytes from 0 to 127")
 }
 
-fn about(out: &mut impl Write, word: &[u8], table: &[u8]) -> io::Result<()> {
+fn about(out: &mut impl Write, word: &[u8], table: &[u8]) -> io::Result<TinystrResult> {
     let (mut text, mut code) = ([0; LANGID_ROOM], [0; CAPACITY]);
     let r = tinystr::langid(word, &mut text);
     out.write_all(word)?;
@@ -30,7 +32,18 @@ fn about(out: &mut impl Write, word: &[u8], table: &[u8]) -> io::Result<()> {
     let r = tinystr::sorted_search(table, CAPACITY, word);
     let found = tinystr::sorted_prefix(table, CAPACITY, word);
     let range = format!("{} {} {}", found.code, found.start, found.count);
-    writeln!(out, ", alphabetic {alphabetic}, search {} {}, prefix {range}", r.code, r.value)
+    writeln!(out, ", alphabetic {alphabetic}, search {} {}, prefix {range}", r.code, r.value)?;
+    Ok(r)
+}
+
+/// Searches all keys by one call. Of each it answers as one for it alone.
+fn all_at_once(out: &mut impl Write, keys: &[[u8; CAPACITY]], alone: &[TinystrResult], table: &[u8]) -> io::Result<()> {
+    let mut answers = vec![TinystrResult { value: 0, code: 0 }; keys.len()];
+    let r = tinystr::sorted_search_each(table, CAPACITY, keys.as_flattened(), &mut answers);
+    assert_eq!((r.code, r.value), (OK, keys.len()), "there is room for each answer");
+    assert_eq!(answers, alone);
+    let found = answers.iter().filter(|answer| answer.code == OK).count();
+    writeln!(out, "keys {}, found {found}", r.value)
 }
 
 fn main() -> io::Result<()> {
@@ -39,9 +52,16 @@ fn main() -> io::Result<()> {
     let checked = tinystr::sorted_check(&table, CAPACITY);
     assert_eq!(checked.code, OK, "the records rise");
     let mut out = io::stdout().lock();
+    let (mut keys, mut alone) = (Vec::new(), Vec::new());
     writeln!(out, "records {}", checked.value)?;
     for word in words.strip_suffix(b"\n").unwrap_or(&words).split(|byte| *byte == b'\n') {
-        about(&mut out, word, &table)?;
+        let r = about(&mut out, word, &table)?;
+        if r.code == OK || r.code == NOT_FOUND {
+            let mut key = [0; CAPACITY];
+            key[..word.len()].copy_from_slice(word);
+            keys.push(key);
+            alone.push(r);
+        }
     }
-    Ok(())
+    all_at_once(&mut out, &keys, &alone, &table)
 }

@@ -25,11 +25,12 @@ unsafe extern "C" {
     fn tinystr_table_check(bytes: *const u8, bytes_len: usize, capacity: usize) -> TinystrResult;
     fn tinystr_sorted_check(bytes: *const u8, bytes_len: usize, capacity: usize) -> TinystrResult;
     fn tinystr_sorted_search(bytes: *const u8, bytes_len: usize, capacity: usize, key: *const u8, key_len: usize) -> TinystrResult;
+    fn tinystr_sorted_search_each(bytes: *const u8, bytes_len: usize, capacity: usize, keys: *const u8, keys_len: usize, out: *mut TinystrResult, out_len: usize) -> TinystrResult;
     fn tinystr_sorted_prefix(bytes: *const u8, bytes_len: usize, capacity: usize, beginning: *const u8, beginning_len: usize) -> TinystrRange;
     fn tinystr_map_check(keys: *const u8, keys_len: usize, capacity: usize, values: *const u8, values_len: usize, value_size: usize) -> TinystrResult;
 }
 
-// SAFETY of each block: a slice names bytes that may be read, or written and named by nothing else, and isn't null.
+// SAFETY of each block: a slice names bytes or results that may be read, or written and named by nothing else, and isn't null.
 
 pub fn langid(input: &[u8], out: &mut [u8]) -> TinystrResult {
     unsafe { tinystr_langid(input.as_ptr(), input.len(), out.as_mut_ptr(), out.len()) }
@@ -53,6 +54,10 @@ pub fn sorted_check(bytes: &[u8], capacity: usize) -> TinystrResult {
 
 pub fn sorted_search(bytes: &[u8], capacity: usize, key: &[u8]) -> TinystrResult {
     unsafe { tinystr_sorted_search(bytes.as_ptr(), bytes.len(), capacity, key.as_ptr(), key.len()) }
+}
+
+pub fn sorted_search_each(bytes: &[u8], capacity: usize, keys: &[u8], out: &mut [TinystrResult]) -> TinystrResult {
+    unsafe { tinystr_sorted_search_each(bytes.as_ptr(), bytes.len(), capacity, keys.as_ptr(), keys.len(), out.as_mut_ptr(), out.len()) }
 }
 
 pub fn sorted_prefix(bytes: &[u8], capacity: usize, beginning: &[u8]) -> TinystrRange {
