@@ -1,6 +1,7 @@
 /* c NAMES TABLE: nanoseconds a call from C, the least of 400 rounds, over the locale names of a file (one a line, of at most
- * 17 bytes) and packed records of 3 bytes that rise; beside each what a C programmer has: a function written by hand, ICU
- * where this is built with -DICU, bsearch and memcmp. Before anything is timed, the answers are compared. */
+ * 17 bytes) and packed records of 3 bytes that rise; and a key, where one call searches a column of 1,000 by chance. Beside
+ * each stands what a C programmer has: a function written by hand, ICU where this is built with -DICU, bsearch and memcmp.
+ * Before anything is timed, the answers are compared. */
 #define _POSIX_C_SOURCE 199309L
 #include <stdio.h>
 #include <stdlib.h>
@@ -11,10 +12,11 @@
 #include <unicode/uloc.h>
 #endif
 
-enum { MOST_NAMES = 600, CAPACITY = 3 };
+enum { MOST_NAMES = 600, CAPACITY = 3, KEYS = 1000 };
 static char names[MOST_NAMES][TINYSTR_LANGID_ROOM];
 static size_t lens[MOST_NAMES], name_count, record_count;
-static uint8_t table[1 << 20];
+static uint8_t table[1 << 20], keys[CAPACITY * KEYS];
+static tinystr_result found[KEYS];
 static volatile size_t sink;
 
 static double now(void) {
@@ -62,20 +64,22 @@ static int by_hand(const char *in, size_t len, char *out, size_t room) {
 
 static int compare(const void *a, const void *b) { return memcmp(a, b, CAPACITY); }
 
-/* Prints a line: a table, a call, a column without a name, whose call it is, and the nanoseconds. */
-#define TIME(name, whose, count, call) \
+/* Prints a line: a table, a call, a column without a name, whose call it is, and the nanoseconds of one of `count` answers, of
+ * `calls` calls. */
+#define TIME_CALLS(name, whose, count, calls, call) \
     do { \
         double least = 1e18; \
         int round; \
         for (round = 0; round < 400; round++) { \
             size_t i; \
             double begin = now(), each; \
-            for (i = 0; i < (count); i++) sink += (size_t)(call); \
+            for (i = 0; i < (calls); i++) sink += (size_t)(call); \
             each = (now() - begin) / (double)(count); \
             if (each < least) least = each; \
         } \
         printf("From C|%s||%s|%.2f\n", name, whose, least); \
     } while (0)
+#define TIME(name, whose, count, call) TIME_CALLS(name, whose, count, count, call)
 
 static void read_names(const char *path) {
     char line[256];
@@ -97,6 +101,23 @@ static void read_names(const char *path) {
     fclose(file);
 }
 
+static tinystr_result search(const uint8_t *key, size_t len) {
+    return tinystr_sorted_search(table, len, CAPACITY, key, key[2] ? 3 : 2);
+}
+
+/* Keys by chance, each found by one call for all as by one for it. */
+static void draw_keys(size_t len) {
+    uint32_t seed = 1;
+    size_t k;
+    for (k = 0; k < KEYS; k++) {
+        seed = seed * 1664525u + 1013904223u;
+        memcpy(keys + CAPACITY * k, table + CAPACITY * (((uint64_t)seed * record_count) >> 32), CAPACITY);
+    }
+    if (tinystr_sorted_search_each(table, len, CAPACITY, keys, sizeof keys, found, KEYS).value != KEYS) exit(3);
+    for (k = 0; k < KEYS; k++)
+        if (found[k].code || found[k].value != search(keys + CAPACITY * k, len).value) exit(3);
+}
+
 int main(int argc, char **argv) {
     char out[64];
     uint8_t text[TINYSTR_LANGID_ROOM];
@@ -110,9 +131,10 @@ int main(int argc, char **argv) {
     read_names(argv[1]);
     for (k = 0; k < record_count; k++) { /* each record is found by both */
         const uint8_t *record = table + CAPACITY * k;
-        if (tinystr_sorted_search(table, len, CAPACITY, record, record[2] ? 3 : 2).value != k) return 3;
+        if (search(record, len).value != k) return 3;
         if (bsearch(record, table, record_count, CAPACITY, compare) != record) return 3;
     }
+    draw_keys(len);
     printf("note|%zu identifiers, %zu records\n", name_count, record_count);
     TIME("tinystr_langid", "here", name_count, tinystr_langid((uint8_t *)names[i], lens[i], text, sizeof text).value);
     TIME("tinystr_langid", "by hand", name_count, by_hand(names[i], lens[i], out, sizeof out));
@@ -125,6 +147,10 @@ int main(int argc, char **argv) {
 #define RECORD (table + CAPACITY * (i * 7919 % record_count))
     TIME("tinystr_sorted_search", "here", record_count, tinystr_sorted_search(table, len, CAPACITY, RECORD, RECORD[2] ? 3 : 2).value);
     TIME("tinystr_sorted_search", "bsearch with memcmp", record_count, (uint8_t *)bsearch(RECORD, table, record_count, CAPACITY, compare) - table);
+#define KEY (keys + CAPACITY * i)
+    TIME_CALLS("tinystr_sorted_search_each, of 1,000 keys by chance", "here", KEYS, 1, tinystr_sorted_search_each(table, len, CAPACITY, keys, sizeof keys, found, KEYS).value);
+    TIME("tinystr_sorted_search_each, of 1,000 keys by chance", "one by one", KEYS, tinystr_sorted_search(table, len, CAPACITY, KEY, KEY[2] ? 3 : 2).value);
+    TIME("tinystr_sorted_search_each, of 1,000 keys by chance", "bsearch with memcmp", KEYS, (uint8_t *)bsearch(KEY, table, record_count, CAPACITY, compare) - table);
     TIME("tinystr_sorted_prefix, of one byte", "here", record_count, tinystr_sorted_prefix(table, len, CAPACITY, RECORD, 1).count);
     TIME("tinystr_read and tinystr_change_case at 8", "here", name_count,
          (tinystr_read((uint8_t *)names[i], lens[i] < 8 ? lens[i] : 8, text, 8), tinystr_change_case(text, 8, TINYSTR_UPPER).value));
