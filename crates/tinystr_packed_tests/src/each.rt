@@ -131,7 +131,8 @@ fn are_same<const N: usize>(sorted: &SortedTable<'_, N>, keys: &[TinyAsciiStr<N>
 
 /// Whether eight keys at a time have the answers of a search for each, wherever they are looked for first.
 fn are_same_in_place<const N: usize>(file: &[u8], keys: &[TinyAsciiStr<N>]) -> bool
-    requires { 0 < N }
+    requires above { 0 < N }
+    requires below { N < 2 ^ 60 }
 {
     let mut near = 0usize;
     for eight in keys.as_chunks::<8>().0 {
@@ -174,7 +175,7 @@ fn are_same_of<const N: usize>(
     is_grouped: bool,
 ) -> Result<bool, AllocError>
     requires above { 0 < N }
-    requires below { N < 2 ^ 63 }
+    requires below { N < 2 ^ 60 }
 {
     let file = file::<N>(alloc, count, is_grouped)?;
     let Ok(table) = Table::<N>::new(file.as_slice()) else {
