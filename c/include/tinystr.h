@@ -146,7 +146,7 @@ tinystr_result tinystr_sorted_search(const uint8_t *bytes, size_t bytes_len, siz
  *   OK                 value: how many keys. As many of `out`, from the first on, are what tinystr_sorted_search answers for
  *                      each key: OK with its index, or NOT_FOUND with the index at which it is to be inserted.
  *   BAD_LENGTH, NUL, NON_ASCII   Of the keys, as tinystr_table_check answers.
- *   NO_ROOM            value: how many keys, which is above `out_len`.
+ *   NO_ROOM            The keys are records. value: how many, which is above `out_len`.
  * With any code but OK, `out` is as it was; with OK, so is what is behind the answers. */
 tinystr_result tinystr_sorted_search_each(const uint8_t *bytes, size_t bytes_len, size_t capacity,
                                           const uint8_t *keys, size_t keys_len,
