@@ -82,5 +82,5 @@ def with_signatures(text, file, is_private):
 
 def must_use(found):
     """The function with `#[must_use]`, where it gives something that Rust doesn't ask to be used already."""
-    is_told = found["result"].startswith("Result<") or "&mut " in found[0]
+    is_told = found["result"].startswith(("Result<", "[Result<")) or "&mut " in found[0]
     return found[0] if is_told else f"{found[1]}#[must_use]\n{found[0]}"

@@ -5,7 +5,7 @@ use tinystr::packed::{PackedMap, SortedTable, Table, TextMap, in_place};
 use tinystr::{TinyAsciiStr, UnvalidatedTinyAsciiStr, tinystr};
 
 /// Each is a call whose condition doesn't hold, by its name.
-const REFUSED: [(&str, fn()); 27] = [
+const REFUSED: [(&str, fn()); 28] = [
     ("from_utf8_lossy by 0", || ignore(TinyAsciiStr::<2>::from_utf8_lossy(b"a", 0))),
     ("from_utf8_lossy by 128", || ignore(TinyAsciiStr::<2>::from_utf8_lossy(b"a", 128))),
     ("from_utf16_lossy by 0", || ignore(TinyAsciiStr::<2>::from_utf16_lossy(&[0x61], 0))),

@@ -64,7 +64,6 @@ pub fn search<const N: usize>(bytes: &[u8], key: &TinyAsciiStr<N>) -> Result<usi
 /// # Panics
 ///
 /// Where `N` is 0.
-#[must_use]
 pub fn search_eight<const N: usize>(
     bytes: &[u8],
     keys: &[TinyAsciiStr<N>; 8],
