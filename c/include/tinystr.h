@@ -140,9 +140,8 @@ tinystr_result tinystr_sorted_search(const uint8_t *bytes, size_t bytes_len, siz
                                      const uint8_t *key, size_t key_len);
 
 /* Searches each of some keys, as tinystr_sorted_search, in records that rise. The keys are records of the same capacity, and
- * need not rise. The records aren't checked again, but the keys are. This pays where there are many keys: in any order among
- * many records, since eight at a time are waited for together; and in a column that is sorted or has runs of one key, among
- * few records too.
+ * need not rise. The records aren't checked again, but the keys are. This pays for many keys among many records, since eight
+ * at a time are waited for together.
  *   OK                 value: how many keys. As many of `out`, from the first on, are what tinystr_sorted_search answers for
  *                      each key: OK with its index, or NOT_FOUND with the index at which it is to be inserted.
  *   BAD_LENGTH, NUL, NON_ASCII   Of the keys, as tinystr_table_check answers.
