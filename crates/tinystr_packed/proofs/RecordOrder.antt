@@ -1,12 +1,12 @@
 -- Records are in the order of the numbers that they spell.
-use Rattle.std.proofs.Common.{◌≡◌, ◌≢◌, ℕ, zero, suc, ◌+◌, ◌-◌, ◌*◌, min, ◌<◌, ◌≤◌, List, [], ◌∷◌, length, take, drop, refl, sym, ap, ◌∙◌, arith, Bool, true, false, cond, nat_lt, nat_eq, inl, inr}
+use Rattle.std.proofs.Common.{◌≡◌, ◌≢◌, ℕ, zero, suc, ◌+◌, ◌-◌, ◌*◌, min, ◌<◌, ◌≤◌, List, [], ◌∷◌, length, take, drop, refl, sym, ap, ◌∙◌, arith, nat_lt, inl, inr}
 use Rattle.std.specs.Cmp.Lexicographic.{slice_cmp}
 use Rattle.std.specs.Int.{from_be_bytes, to_be_bytes, w64}
 use Rattle.std.specs.Ordering.{nat_cmp, is_lt, ordering_then}
 use Rattle.std.specs.declared.cmp.Ordering.{Ordering}
-use Rattle.std.specs.declared.cmp.Ordering.TheVariants.{Less, Equal, Greater}
+use Rattle.std.specs.declared.cmp.Ordering.TheVariants.{Less}
 use Rattle.std.proofs.lemmas.Bool.{cases_lt, lt-ltb, ltb-true}
-use Rattle.std.proofs.lemmas.List.{take_all, take-take, drop_all, length-take, length-drop, places}
+use Rattle.std.proofs.lemmas.List.{take_all, take-take, length-take, length-drop, places}
 use Rattle.std.proofs.lemmas.Cmp.{nat_cmp_total, nat_list_cmp_total, tied_itself}
 use Rattle.std.specs.Cmp.{nat_cmp_is}
 use Rattle.std.proofs.lemmas.Nat.{be_bytes_8}
@@ -16,35 +16,10 @@ use Rattle.tinystr_packed.specs.Numbers.{number_at, pair_at, IsRecord, AreRising
 use Rattle.tinystr_packed.specs.Rising.{order, text_at}
 use Rattle.tinystr_packed.proofs.Numbers.{number_at-short, number_at-long}
 use Rattle.tinystr_packed.proofs.RisingTexts.{Less-from_is_lt}
-use Rattle.tinystr_words.proofs.OrderByNumbers.{AllFit, AreBytes, AreBytes-drop, AreBytes-from_type, pad-full, slice_cmp-first_eight, slice_cmp-widened}
+use Rattle.tinystr_words.proofs.OrderByNumbers.{AllFit, AreBytes, AreBytes-drop, AreBytes-from_type, is_lt-nat_cmp, slice_cmp-first_eight, slice_cmp-numbers}
+use Rattle.tinystr_words.proofs.Copying.{pad-full}
 
--- a comparison of numbers is below where the number is
-is_lt-chosen : (b c : Bool) → is_lt (cond b Less (cond c Equal Greater)) ≡ b
-is_lt-chosen true c = refl
-is_lt-chosen false true = refl
-is_lt-chosen false false = refl
-
-is_lt-nat_cmp : (x y : ℕ) → is_lt (nat_cmp x y) ≡ nat_lt x y
-is_lt-nat_cmp x y = is_lt-chosen (nat_lt x y) (nat_eq x y)
-
-ordering_then-Equal : (o : Ordering) → ordering_then o Equal ≡ o
-ordering_then-Equal Less = refl
-ordering_then-Equal Equal = refl
-ordering_then-Equal Greater = refl
-
--- the order of at most eight bytes is that of their numbers
-slice_cmp-numbers : (xs ys : List ℕ) (x y : ℕ) → length xs ≡ length ys → length xs ≤ 8 → AreBytes xs → AreBytes ys
-    → x ≡ from_be_bytes w64 (pad xs 8) → y ≡ from_be_bytes w64 (pad ys 8) → nat_cmp x y ≡ slice_cmp nat_cmp xs ys
-slice_cmp-numbers xs ys x y same fits a b ex ey = elim (cases_lt (length xs) 8) [
-  | inl less ↦ slice_cmp-widened xs ys (pad xs 8) (pad ys 8) x y (nat_cmp x y) same less a b refl refl ex ey refl
-  | inr full ↦ (let left : length xs ≡ 8 = omega arith in
-      let right : length ys ≡ 8 = omega arith in
-      let cut = slice_cmp-first_eight xs ys xs ys [] [] x y (nat_cmp x y) full same a b
-      (sym (take_all 8 xs fits), sym (drop_all 8 xs fits), omega arith) (sym (take_all 8 ys (omega arith)), sym (drop_all 8 ys (omega arith)), omega arith)
-      (rw pad-full at ex) (rw pad-full at ey) refl in
-      sym (cut ∙ ordering_then-Equal (nat_cmp x y)))
-]
-
+-- at most eight bytes are below others where their number is
 pub nat_lt-slice_cmp : (xs ys : List ℕ) (x y : ℕ) → length xs ≡ length ys → length xs ≤ 8 → AllFit xs → AllFit ys
     → x ≡ from_be_bytes w64 (pad xs 8) → y ≡ from_be_bytes w64 (pad ys 8) → nat_lt x y ≡ is_lt (slice_cmp nat_cmp xs ys)
 nat_lt-slice_cmp xs ys x y same fits a b ex ey = rw (← slice_cmp-numbers xs ys x y same fits (AreBytes-from_type xs a) (AreBytes-from_type ys b) ex ey) (sym (is_lt-nat_cmp x y))
@@ -91,7 +66,7 @@ slice_cmp-same_start (suc s) (x ∷ xs) (y ∷ ys) e =
 number_at-eight : (raw : List ℕ) (s : ℕ) → s + 8 ≤ length raw → number_at s raw ≡ from_be_bytes w64 (take 8 (drop s raw))
 number_at-eight raw s inside =
     let long : length (take 8 (drop s raw)) ≡ 8 = omega (arith, length-take 8 (drop s raw), length-drop s raw) in
-    sym (number_at-long raw s 8 (from_be_bytes w64 (take 8 (drop s raw))) refl (ap (λ (l : List ℕ). from_be_bytes w64 l) (sym (pad-full (take 8 (drop s raw)) long))))
+    sym (number_at-long raw s 8 (from_be_bytes w64 (take 8 (drop s raw))) refl (ap (λ (l : List ℕ). from_be_bytes w64 l) (sym (pad-full (take 8 (drop s raw)) 8 (omega arith)))))
 
 -- the lesser number is that of the lesser record
 Less-long : (xs ys : List ℕ) (n s : ℕ) → s + 8 ≤ n → IsRecord n xs → IsRecord n ys → take s xs ≡ take s ys → number_at s xs < number_at s ys → order xs ys ≡ Less

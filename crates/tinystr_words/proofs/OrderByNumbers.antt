@@ -1,11 +1,11 @@
 -- Bytes in order are the digits of a number, the greatest first: equally long lists compare as their numbers.
-use Rattle.std.proofs.Common.{Fits, map, ◌%◌, w8, List, [], ap, arith, drop, get_or, inl, inr, length, refl, suc, sym, take, ℕ, ◌*◌, ◌++◌, ◌+◌, ◌-◌, ◌<◌, ◌∙◌, ◌∷◌, ◌≡◌, ◌≤◌}
+use Rattle.std.proofs.Common.{Bool, cond, nat_eq, nat_lt, Fits, map, ◌%◌, w8, List, [], ap, arith, drop, get_or, inl, inr, length, refl, suc, sym, take, ℕ, ◌*◌, ◌++◌, ◌+◌, ◌-◌, ◌<◌, ◌∙◌, ◌∷◌, ◌≡◌, ◌≤◌}
 use Rattle.std.proofs.lemmas.Bool.{cases_lt}
-use Rattle.std.proofs.lemmas.List.{append-nil, get_or-drop, length-take-le, places, take-append-drop}
+use Rattle.std.proofs.lemmas.List.{append-nil, drop_all, get_or-drop, length-take-le, places, take-append-drop, take_all}
 use Rattle.std.proofs.lemmas.Cmp.{nat_cmp_total, nat_list_cmp_total, tied_itself}
 use Rattle.std.specs.Cmp.{nat_cmp_is}
 use Rattle.std.specs.Cmp.Lexicographic.{slice_cmp}
-use Rattle.std.specs.Ordering.{nat_cmp, ordering_index, ordering_then}
+use Rattle.std.specs.Ordering.{is_lt, nat_cmp, ordering_index, ordering_then}
 use Rattle.std.specs.Prelude.{false, not, true, ◌==◌}
 use Rattle.std.specs.declared.cmp.Ordering.{Ordering}
 use Rattle.std.specs.declared.cmp.Ordering.TheVariants.{Equal, Greater, Less}
@@ -17,6 +17,7 @@ use Rattle.tinystr_words.proofs.WordAsNumber.{word-nuls}
 use Rattle.tinystr_words.proofs.WordFromPieces.{map-mod_bytes}
 use Rattle.tinystr_words.specs.Text.{pad}
 use Rattle.tinystr_words.proofs.Texts.{NULS, get_or-pad, length-pad}
+use Rattle.tinystr_words.proofs.Copying.{pad-full}
 
 abbrev pub AreBytes : List ℕ → Type 0
 AreBytes xs = (i : ℕ) → get_or xs i 0 < 256
@@ -152,8 +153,24 @@ number-loaded bs w r fits bytes loaded swapped =
     let back : to_le_bytes w64 (word (pad bs 8)) ≡ pad bs 8 = le_bytes_8 (pad bs 8) (word (pad bs 8)) long (λ i. rw (get_or-pad bs 8 i) (AreBytes-from_type bs bytes i)) (from_le_bytes-word (pad bs 8) long) in
     swapped ∙ rw same (ap (λ (l : List ℕ). from_be_bytes w64 l) back)
 
--- eight bytes have nothing behind them
-pub pad-full : (xs : List ℕ) → length xs ≡ 8 → pad xs 8 ≡ xs
-pad-full xs long =
-    let none : 8 - length xs ≡ 0 = omega arith in
-    rw none (append-nil xs)
+-- ---- bytes compared by their numbers
+
+-- a comparison of numbers is below where the number is
+is_lt-chosen : (b c : Bool) → is_lt (cond b Less (cond c Equal Greater)) ≡ b
+is_lt-chosen true c = refl
+is_lt-chosen false true = refl
+is_lt-chosen false false = refl
+
+pub is_lt-nat_cmp : (x y : ℕ) → is_lt (nat_cmp x y) ≡ nat_lt x y
+is_lt-nat_cmp x y = is_lt-chosen (nat_lt x y) (nat_eq x y)
+
+-- the order of at most eight bytes is that of their numbers
+pub slice_cmp-numbers : (xs ys : List ℕ) (x y : ℕ) → length xs ≡ length ys → length xs ≤ 8 → AreBytes xs → AreBytes ys
+    → x ≡ from_be_bytes w64 (pad xs 8) → y ≡ from_be_bytes w64 (pad ys 8) → nat_cmp x y ≡ slice_cmp nat_cmp xs ys
+slice_cmp-numbers xs ys x y same fits a b ex ey = elim (cases_lt (length xs) 8) [
+  | inl less ↦ slice_cmp-widened xs ys (pad xs 8) (pad ys 8) x y (nat_cmp x y) same less a b refl refl ex ey refl
+  | inr full ↦ (let cut = slice_cmp-first_eight xs ys xs ys [] [] x y (nat_cmp x y) full same a b
+      (sym (take_all 8 xs fits), sym (drop_all 8 xs fits), omega arith) (sym (take_all 8 ys (omega arith)), sym (drop_all 8 ys (omega arith)), omega arith)
+      (rw (pad-full xs 8 full) at ex) (rw (pad-full ys 8 (omega arith)) at ey) refl in
+      sym (cut ∙ ordering_then-Equal (nat_cmp x y)))
+]
