@@ -1,11 +1,11 @@
 -- The parts of a padded text, found and taken in vectors of sixteen bytes.
-use Rattle.std.proofs.Common.{◌≡◌, ◌+◌, ◌*◌, ◌%◌, ◌-◌, ◌<◌, ◌≤◌, ℕ, suc, inl, inr, Bool, true, false, not, Option, Some, None, List, [], ◌∷◌, length, map, replicate, take, drop, get_or, cond, eqb, ap, ap₂, sym, ◌∙◌, w8, arith, refl, take_all, length-take, ltb, rules}
+use Rattle.std.proofs.Common.{◌≡◌, ◌+◌, ◌*◌, ◌%◌, ◌-◌, ◌<◌, ◌≤◌, ℕ, suc, inl, inr, Bool, true, false, not, Some, None, List, [], ◌∷◌, length, map, replicate, take, drop, get_or, cond, eqb, ap, ap₂, sym, ◌∙◌, w8, arith, refl, take_all, length-take, ltb, rules}
 use lib.Lanes.{zip2, mask_l, top, sel_l}
 use lib.Count.{count_trailing_zeros}
 use Rattle.std.specs.List.{Contains, after_first, before_first, position, position_or_len, range_with_len, slice_split}
 use Rattle.std.proofs.lemmas.Bool.{cases_lt}
 use Rattle.std.proofs.lemmas.Bool.Decides.{nat_tests}
-use Rattle.std.proofs.lemmas.List.{get_or-drop, get_or-take, get_or_default, length-drop, places, take_rest}
+use Rattle.std.proofs.lemmas.List.{get_or_default, places, take_rest}
 use Rattle.std.proofs.lemmas.List.Elements.{All-take}
 use Rattle.std.proofs.lemmas.List.Quantifiers.{position-Some}
 use Rattle.std.proofs.lemmas.Simd.{bitmask_splat, leading_from_mask_l, trailing_mask_l, get_or-sel_l, get_or-zip2, get_or-replicate, length-sel_l, length-zip2, tops_compared}
@@ -13,68 +13,8 @@ use Rattle.std.proofs.lemmas.List.FromFn.{get_or-range_with_len}
 use Rattle.std.proofs.lemmas.List.Sums.{fails_before_first, passes_at_first, position_or_len_is}
 use Rattle.tinystr_words.specs.Text.{IsPadded, IsPaddedText, IsText, IsTextByte, pad, text_of}
 use Rattle.tinystr_words.proofs.Parts.{slice_split-found, slice_split-missed}
+use Rattle.tinystr_words.proofs.Positions.{position-None, position-None-fails, position-at}
 use Rattle.tinystr_words.proofs.Texts.{IsPaddedText-made, IsPaddedText-drop, IsPaddedText-places, IsPaddedText-take, get_or-text_of, length-pad, length-text_of-le, text_of-drop, text_of-made, text_of-take}
-
--- ---- the first element that passes
-
--- where none is first, none passes
-position-None-fails : (p : ℕ → Bool) (xs : List ℕ) → position p xs ≡ None → (k : ℕ) → k < length xs → p (get_or xs k 0) ≡ false
-position-None-fails p xs none k inside = elim (cases_lt (position_or_len p xs) (length xs)) [
-  | inl some ↦ absurd (grind (arith, nat_tests))
-  | inr outside ↦ fails_before_first p xs k 0 (omega arith)
-]
-
--- where none passes, none is first
-position-None : (p : ℕ → Bool) (xs : List ℕ) → ((k : ℕ) → k < length xs → p (get_or xs k 0) ≡ false) → position p xs ≡ None
-position-None p xs fails =
-    let end : position_or_len p xs ≡ length xs = position_or_len_is p xs (length xs) 0 (omega arith) fails (λ inside. absurd (omega arith)) in
-    grind (arith, nat_tests)
-
--- one that passes, behind others that do not
-position-at : (p : ℕ → Bool) (xs : List ℕ) (i : ℕ) → i < length xs → ((k : ℕ) → k < i → p (get_or xs k 0) ≡ false) → p (get_or xs i 0) ≡ true → position p xs ≡ Some i
-position-at p xs i inside before here =
-    let at : position_or_len p xs ≡ i = position_or_len_is p xs i 0 (omega arith) before (λ _. here) in
-    grind (arith, nat_tests)
-
--- in a front of a list
-pub position-front : (p : ℕ → Bool) (t : List ℕ) (m i : ℕ) → position p (take m t) ≡ Some i → position p t ≡ Some i
-position-front p t m i at =
-    let is = position-Some p (take m t) i 0 at in
-    let inside : i < length (take m t) = is.0 in
-    position-at p t i (omega (arith, length-take m t))
-    (λ k below. rw (get_or-take m t k 0 (omega (arith, length-take m t))) at (is.2 k below))
-    (rw (get_or-take m t i 0 (omega (arith, length-take m t))) at is.1)
-
--- in a front that has it, or is all
-pub position-first : (p : ℕ → Bool) (t : List ℕ) (m : ℕ) (r : Option ℕ) → r ≡ position p (take m t) → (r ≡ None → length t ≤ m) → r ≡ position p t
-position-first p t m None at whole = rw (take_all m t (whole refl)) at at
-position-first p t m (Some i) at whole = sym (position-front p t m i (sym at))
-
--- behind n that do not pass
-pub position-behind : (p : ℕ → Bool) (t : List ℕ) (n i : ℕ) → position p (take n t) ≡ None → position p (take 16 (drop n t)) ≡ Some i → position p t ≡ Some (n + i)
-position-behind p t n i none at =
-    let is = position-Some p (drop n t) i 0 (position-front p (drop n t) 16 i at) in
-    let inside : i < length (drop n t) = is.0 in
-    position-at p t (n + i) (omega (arith, length-drop n t))
-    (λ k below. elim (cases_lt k n) [
-      | inl near ↦ rw (get_or-take n t k 0 near) at (position-None-fails p (take n t) none k (omega (arith, length-take n t, length-drop n t)))
-      | inr far ↦ (
-          let same : n + (k - n) ≡ k = omega arith in
-          rw (get_or-drop n t (k - n) 0, same) at (is.2 (k - n) (omega arith)))
-    ])
-    (rw (get_or-drop n t i 0) at is.1)
-
--- and none behind n either
-pub position-none_behind : (p : ℕ → Bool) (t : List ℕ) (n : ℕ) → position p (take n t) ≡ None → position p (take 16 (drop n t)) ≡ None → position p (take (n + 16) t) ≡ None
-position-none_behind p t n none more =
-    position-None p (take (n + 16) t) (λ k inside. rw (get_or-take (n + 16) t k 0 (omega (arith, length-take (n + 16) t))) (elim (cases_lt k n) [
-      | inl near ↦ rw (get_or-take n t k 0 near) at (position-None-fails p (take n t) none k (omega (arith, length-take n t, length-take (n + 16) t)))
-      | inr far ↦ (
-          let same : n + (k - n) ≡ k = omega arith in
-          let small : k - n < 16 = omega (arith, length-take (n + 16) t) in
-          rw (get_or-take 16 (drop n t) (k - n) 0 small, get_or-drop n t (k - n) 0, same) at
-          (position-None-fails p (take 16 (drop n t)) more (k - n) (omega (arith, length-take 16 (drop n t), length-drop n t, length-take (n + 16) t))))
-    ]))
 
 -- ---- a byte of a padded text
 

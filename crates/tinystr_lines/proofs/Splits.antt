@@ -1,5 +1,5 @@
 -- Whether there is a place to split at.
-use Rattle.std.proofs.Common.{◌≡◌, ◌+◌, ◌-◌, ◌%◌, ◌≤◌, ℕ, zero, suc, inl, inr, Bool, false, List, [], ◌∷◌, length, map, replicate, take, drop, min, cond, eqb, nat_lt, ap, sym, ◌∙◌, w8, arith, rules, take_all, drop_of_length-le}
+use Rattle.std.proofs.Common.{◌≡◌, ◌+◌, ◌-◌, ◌%◌, ◌≤◌, ℕ, inl, inr, Bool, false, List, length, map, replicate, take, drop, cond, eqb, nat_lt, ap, sym, ◌∙◌, w8, arith, take_all, drop_of_length-le}
 use lib.Lanes.{zip2, mask_l, top}
 use lib.Count.{count_trailing_zeros}
 use Rattle.std.specs.List.{position_or_len, list_any}
@@ -32,18 +32,6 @@ place-marks lanes byte long =
     let p : ℕ → Bool = λ b. eqb b byte in
     let is : marks lanes byte ≡ mask_l (map p lanes) = bitmask_splat w8 eqb lanes 32 byte long (omega arith) in
     rw is (first_set_mask_l p lanes 32 long (omega arith))
-
--- where the first to pass stands in a beginning
-pub position_or_len-take : (p : ℕ → Bool) (n : ℕ) (xs : List ℕ) → position_or_len p (take n xs) ≡ min n (position_or_len p xs)
-position_or_len-take p zero xs = search rules
-position_or_len-take p (suc n) [] = search rules
-position_or_len-take p (suc n) (x ∷ xs) = grind (arith, nat_tests, position_or_len-take p n xs)
-
--- where none of the first n passes, the first to pass stands n behind its place in what follows
-pub position_or_len-drop : (p : ℕ → Bool) (n : ℕ) (xs : List ℕ) → n ≤ position_or_len p xs → position_or_len p xs ≡ n + position_or_len p (drop n xs)
-position_or_len-drop p zero xs le = search rules
-position_or_len-drop p (suc n) [] le = absurd (omega arith)
-position_or_len-drop p (suc n) (x ∷ xs) le = grind (arith, nat_tests, position_or_len-drop p n xs)
 
 -- where none of the 32 in front of a place passes, and none from there on, none passes from the first of these on
 pub none_from-lanes : (p : ℕ → Bool) (n end : ℕ) (xs lanes : List ℕ) → end ≡ n + 32 → end ≤ length xs → lanes ≡ drop (length (take end xs) - 32) (take end xs)
