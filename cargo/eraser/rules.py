@@ -160,8 +160,8 @@ IN_FILE = {
     ],
     "tinystr_words/padded/concatenation.rt": [
         Rule(
-            "front_len <= LONGEST && back_len <= LONGEST",
-            'cfg!(target_feature = "ssse3") && front_len <= LONGEST && back_len <= LONGEST',
+            "first_len <= LONGEST && second_len <= LONGEST",
+            'cfg!(target_feature = "ssse3") && first_len <= LONGEST && second_len <= LONGEST',
             "without a shuffle another of the proved ways serves, and gives the same",
         ),
     ],

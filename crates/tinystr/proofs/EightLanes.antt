@@ -91,11 +91,11 @@ power-fits : (at : ℕ) → at < 8 → 1 * 2 ^ (8 * at) % 18446744073709551616 �
 power-fits at inside = let e = below_at (λ at. eqb (1 * 2 ^ (8 * at) % 18446744073709551616) (2 ^ (8 * at))) 8 refl at inside in grind (arith, nat_tests)
 
 -- the front of a text and its back, as shifts of its word give them
-pub lanes_of-around : (bytes : List ℕ) (w at : ℕ) → IsPaddedText bytes 8 → w ≡ word bytes → at < 8
+pub lanes_of-split_around : (bytes : List ℕ) (w at : ℕ) → IsPaddedText bytes 8 → w ≡ word bytes → at < 8
     → (let t = text_of bytes in
     (lanes_of 8 (w % (1 * 2 ^ (8 * at) % 18446744073709551616)) ≡ pad (take at t) 8) × IsStrictText (take at t) 8
     × (lanes_of 8 (w / 256 / 2 ^ (8 * at)) ≡ pad (drop (at + 1) t) 8) × IsStrictText (drop (at + 1) t) 8)
-lanes_of-around bytes w at padded is inside =
+lanes_of-split_around bytes w at padded is inside =
     let t = text_of bytes in
     let strict : IsStrictText t 8 = record { text = padded.text; fits = padded.fits } in
     let front = IsStrictText-take at t 8 strict in

@@ -28,7 +28,7 @@ use Rattle.tinystr_words.specs.declared.question.Case.TheVariants.{Title}
 use Rattle.tinystr_words.proofs.Before.{before_not_same, before_one_way, before_or_same, before_padded, cmp_is_before, cmp_is_same}
 use Rattle.tinystr_words.proofs.ByteForms.{byte_fault-first_padded, byte_fault-padded}
 use Rattle.tinystr_words.proofs.CaseFacts.{IsText-asked, ask-joined, lowercase-alone, map-map_same, titlecase-alone, titlecase-twice, uppercase-alone}
-use Rattle.tinystr_words.proofs.Cutting.{lowercase-take, take_join_cut, titlecase-take, uppercase-take}
+use Rattle.tinystr_words.proofs.Fronts.{lowercase-take, take_join_cut, titlecase-take, uppercase-take}
 use Rattle.tinystr_words.proofs.Numerals.{IsDecimalOf-decimal, IsDecimalOf-only, length-decimal-le_ten}
 use Rattle.tinystr_words.proofs.Packing.{IsPacked-joined, IsPacked-record, length-joined, text_of-record}
 use Rattle.tinystr_words.proofs.Parts.{IsStrictText-after_first, IsStrictText-before_first, IsStrictText-drop, IsStrictText-slice_split, IsStrictText-take, IsText-joined, ask-joined_texts, map-joined, slice_split-found, slice_split-joined, slice_split-missed}

@@ -1,4 +1,5 @@
-//! The code units that readers take: bytes and 16-bit numbers.
+//! What a code unit is, a byte or a 16-bit number: its value, its low byte, and whether it is a character.
+//! `padded::code_units` reads many of them into arrays.
 
 ghost use Rattle.std.specs.Prelude.{◌≡◌, ◌*◌, ◌%◌, ◌≤◌, ◌↔◌, ℕ, length, map, IsTrue, IfSome};
 ghost use Rattle.tinystr_words.specs.Text.{IsText, IsTextByte};

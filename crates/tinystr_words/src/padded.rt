@@ -24,7 +24,7 @@ use crate::int_ops::{Aligned4, Aligned8, Aligned16};
 use crate::{Case, Question};
 pub use code_units::{lossy, low_bytes, read_all};
 use concatenation::{concat_in_memory, concat_in_vectors, concat_in_word, fit_vectors};
-pub use copying::{cut, resize};
+pub use copying::{resize, resize_at_once};
 pub use order::{compare, number};
 
 /// The words that take padded bytes: the narrowest that holds them all, since it takes the fewest steps to load and to
@@ -81,12 +81,12 @@ pub fn decimal<const N: usize>(number: u32) -> Result<[u8; N], [u8; N]>
     match width_of(N) {
         // 5 to 8 digits, made at once
         Width::Eight => {
-            let digits = cut(&Aligned8::from_number(number, N).to_bytes());
+            let digits = resize_at_once(&Aligned8::from_number(number, N).to_bytes());
             if fits { Ok(digits) } else { Err(digits) }
         }
         // of others, two at a time
-        _ if fits => Ok(cut(&Aligned16::from_decimal(number).to_bytes())),
-        _ => Err(cut(&Aligned16::from_last_digits(number, N).to_bytes())),
+        _ if fits => Ok(resize_at_once(&Aligned16::from_decimal(number).to_bytes())),
+        _ => Err(resize_at_once(&Aligned16::from_last_digits(number, N).to_bytes())),
     }
 }
 
@@ -158,28 +158,28 @@ pub fn put_in_case<const N: usize>(bytes: &mut [u8; N], case: Case)
 /// The first `Q` bytes of the two texts joined. The way is chosen at compile time, except that a first text which fills
 /// the result is found at run time.
 #[inline(always)]
-#[tactic(auto, using(crate::proofs::Cutting::fronts_joined))]
+#[tactic(auto, using(crate::proofs::Fronts::fronts_joined))]
 pub fn concat<const N: usize, const M: usize, const Q: usize>(
-    front: &[u8; N],
-    back: &[u8; M],
+    first: &[u8; N],
+    second: &[u8; M],
 ) -> [u8; Q]
-    requires front { IsPaddedText front.now N }
-    requires back { IsPaddedText back.now M }
+    requires first { IsPaddedText first.now N }
+    requires second { IsPaddedText second.now M }
     ensures padded { IsPaddedText result Q }
-    ensures text { text_of result ≡ take Q (text_of front.now ++ text_of back.now) }
+    ensures text { text_of result ≡ take Q (text_of first.now ++ text_of second.now) }
 {
-    let first = &front[..N.min(Q)];
-    let second = &back[..M.min(Q)];
+    let first_part = &first[..N.min(Q)];
+    let second_part = &second[..M.min(Q)];
     match width_of(Q) {
         // short arrays to more than 8 bytes, as `concat::<8, 16>` of a text of at most 8
-        Width::Sixteen | Width::Many if fit_vectors(first.len(), second.len()) => {
-            concat_in_vectors(first, second)
+        Width::Sixteen | Width::Many if fit_vectors(first_part.len(), second_part.len()) => {
+            concat_in_vectors(first_part, second_part)
         }
         // a first text that fills the result is copied as it is
-        _ if Q > 0 && Q <= N && front[Q - 1] != 0 => cut(front),
+        _ if Q > 0 && Q <= N && first[Q - 1] != 0 => resize_at_once(first),
         // to at most 8 bytes, as `concat::<4, 8>`
-        Width::Four | Width::Eight => concat_in_word(first, second),
+        Width::Four | Width::Eight => concat_in_word(first_part, second_part),
         // a long array, as `concat::<64, 128>`
-        Width::Sixteen | Width::Many => concat_in_memory(*front, len(front), back),
+        Width::Sixteen | Width::Many => concat_in_memory(*first, len(first), second),
     }
 }

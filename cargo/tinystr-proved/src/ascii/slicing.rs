@@ -4,7 +4,7 @@ use crate::ascii::TinyAsciiStr;
 use crate::ascii::lanes::{first_lanes, first_sixteen, kept, text_of_lanes};
 use core::ops::Range;
 use crate::simd::*;
-use crate::words::padded::{cut, resize};
+use crate::words::padded::{resize, resize_at_once};
 
 impl<const N: usize> TinyAsciiStr<N> {
     /// The bytes of the text at a range of indices, as a text of capacity `M`: those that exist, and at most the first
@@ -66,13 +66,13 @@ impl<const N: usize> TinyAsciiStr<N> {
     pub(crate) fn suffix<const M: usize>(&self, start: usize) -> TinyAsciiStr<M> {
         let bytes = &self.bytes[..];
         if M <= N && start <= N - M {
-            return TinyAsciiStr::from_padded(cut(&bytes[start..start + M]));
+            return TinyAsciiStr::from_padded(resize_at_once(&bytes[start..start + M]));
         }
         let rest = &bytes[start.min(N)..];
         if rest.len() <= 16 || rest[16] == 0 {
             return text_of_lanes(first_sixteen(rest));
         }
-        TinyAsciiStr::from_padded(cut(rest))
+        TinyAsciiStr::from_padded(resize_at_once(rest))
     }
 
     // The first bytes. Up to sixteen stay in a vector.
@@ -91,6 +91,6 @@ impl<const N: usize> TinyAsciiStr<N> {
         if len <= 16 {
             return text_of_lanes(kept(first_sixteen(bytes), len));
         }
-        TinyAsciiStr::from_padded(cut(&bytes[..len]))
+        TinyAsciiStr::from_padded(resize_at_once(&bytes[..len]))
     }
 }

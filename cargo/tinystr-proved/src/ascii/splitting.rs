@@ -4,7 +4,7 @@ use crate::ascii::TinyAsciiStr;
 use crate::ascii::lanes::{first_sixteen, kept, text_of_lanes};
 use crate::simd::*;
 use crate::words::int_ops::Aligned8;
-use crate::words::padded::cut;
+use crate::words::padded::resize_at_once;
 use crate::words::word::Word;
 
 /// An iterator over the parts of a text, in order. A contract sees it as the list of those that are left.
@@ -74,7 +74,7 @@ impl<const N: usize> TinyAsciiStr<N> {
     pub fn split_once_byte(&self, separator: u8) -> Option<(Self, Self)> {
         let at = self.find_byte(separator)?;
         if N <= 8 {
-            let (before, behind) = around(self.resize(), at);
+            let (before, behind) = split_around(self.resize(), at);
             return Some((before.resize(), behind.resize()));
         }
         Some((self.take(at), self.suffix(at + 1)))
@@ -150,7 +150,7 @@ fn split_first_of_eight(
 ) -> (TinyAsciiStr<8>, Option<TinyAsciiStr<8>>) {
     match find_in_eight(text, separator) {
         Some(at) => {
-            let (part, rest) = around(text, at);
+            let (part, rest) = split_around(text, at);
             (part, Some(rest))
         }
         None => (text, None),
@@ -176,7 +176,7 @@ fn find_in_eight(text: TinyAsciiStr<8>, byte: u8) -> Option<usize> {
 //     ensures part { result.0 ≡ take at text }
 //     ensures rest { result.1 ≡ drop (at + 1) text }
 #[inline(always)]
-fn around(text: TinyAsciiStr<8>, at: usize) -> (TinyAsciiStr<8>, TinyAsciiStr<8>) {
+fn split_around(text: TinyAsciiStr<8>, at: usize) -> (TinyAsciiStr<8>, TinyAsciiStr<8>) {
     let word = <u64 as Word<8>>::from_le_bytes(&text.bytes);
     let bits = 8 * at;
     let part = word % (1 << bits);
@@ -217,10 +217,10 @@ fn split_first_by_copy<const N: usize>(
 ) -> (TinyAsciiStr<N>, Option<&[u8]>) {
     match find_past_sixteen(bytes, separator) {
         Some(at) => (
-            TinyAsciiStr::from_padded(cut(&bytes[..at])),
+            TinyAsciiStr::from_padded(resize_at_once(&bytes[..at])),
             Some(&bytes[at + 1..]),
         ),
-        None => (TinyAsciiStr::from_padded(cut(bytes)), None),
+        None => (TinyAsciiStr::from_padded(resize_at_once(bytes)), None),
     }
 }
 

@@ -13,7 +13,7 @@ use crate::laws;
 use std::marker::Model;
 use std::simd::prelude::*;
 use tinystr_words::int_ops::Aligned8;
-use tinystr_words::padded::cut;
+use tinystr_words::padded::resize_at_once;
 use tinystr_words::word::Word;
 
 /// An iterator over the parts of a text, in order. A contract sees it as the list of those that are left.
@@ -83,7 +83,7 @@ impl<const N: usize> TinyAsciiStr<N> {
         laws::fits(self);
         let at = self.find(separator)?;
         if N <= 8 {
-            let (before, behind) = around(self.resize(), at);
+            let (before, behind) = split_around(self.resize(), at);
             return Some((before.resize(), behind.resize()));
         }
         Some((self.take(at), self.suffix(at + 1)))
@@ -157,7 +157,7 @@ fn split_first_of_eight(
 {
     match find_in_eight(text, separator) {
         Some(at) => {
-            let (part, rest) = around(text, at);
+            let (part, rest) = split_around(text, at);
             (part, Some(rest))
         }
         None => (text, None),
@@ -179,7 +179,7 @@ fn find_in_eight(text: TinyAsciiStr<8>, byte: u8) -> Option<usize>
 
 // What stands in front of a byte, and what stands behind it, by shifts of the word.
 #[inline(always)]
-fn around(text: TinyAsciiStr<8>, at: usize) -> (TinyAsciiStr<8>, TinyAsciiStr<8>)
+fn split_around(text: TinyAsciiStr<8>, at: usize) -> (TinyAsciiStr<8>, TinyAsciiStr<8>)
     requires { at < 8 }
     ensures part { result.0 ≡ take at text }
     ensures rest { result.1 ≡ drop (at + 1) text }
@@ -226,10 +226,10 @@ fn split_first_by_copy<const N: usize>(
 {
     match find_past_sixteen(bytes, separator) {
         Some(at) => (
-            TinyAsciiStr::from_padded(cut(&bytes[..at])),
+            TinyAsciiStr::from_padded(resize_at_once(&bytes[..at])),
             Some(&bytes[at + 1..]),
         ),
-        None => (TinyAsciiStr::from_padded(cut(bytes)), None),
+        None => (TinyAsciiStr::from_padded(resize_at_once(bytes)), None),
     }
 }
 

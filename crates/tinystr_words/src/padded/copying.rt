@@ -1,5 +1,5 @@
-//! Bytes copied into arrays, also behind a text. `put` and `append` copy the same bytes, and so do `resize` and `cut`:
-//! the compiler makes different code of them.
+//! Bytes copied into arrays, also behind a text. `put` and `append` copy the same bytes, and so do `resize` and
+//! `resize_at_once`: the compiler makes different code of them.
 
 ghost use Rattle.std.specs.Prelude.{◌≡◌, ◌++◌, length, take, drop};
 ghost use Rattle.tinystr_words.specs.Text.{IsPadded, IsPaddedText, pad, text_of};
@@ -19,8 +19,8 @@ pub(crate) fn put(bytes: &mut [u8], src: &[u8])
     bytes[at..len].copy_from_slice(&src[at..len]);
 }
 
-/// The first `M` bytes, padded with NULs if there are fewer, eight at a time: for bytes in memory. `cut` copies those
-/// of a word.
+/// The first `M` bytes, padded with NULs if there are fewer, eight at a time: for bytes in memory. `resize_at_once`
+/// copies those of a word.
 #[inline(always)]
 pub fn resize<const M: usize>(bytes: &[u8]) -> [u8; M]
     ensures bytes { result ≡ pad (take M bytes.now) M }
@@ -32,10 +32,10 @@ pub fn resize<const M: usize>(bytes: &[u8]) -> [u8; M]
     resized
 }
 
-/// A text cut to `M` bytes, or padded with NULs to as many, by one copy: for bytes that a word has just given, in pieces,
-/// which the compiler takes apart as they were made. `resize` copies those in memory.
+/// The same of a padded text, by one copy: for bytes that a word has just given, in pieces, which the compiler takes
+/// apart as they were made. `resize` copies those in memory.
 #[inline(always)]
-pub fn cut<const M: usize>(padded: &[u8]) -> [u8; M]
+pub fn resize_at_once<const M: usize>(padded: &[u8]) -> [u8; M]
     requires { IsPadded padded.now }
     ensures padded { IsPaddedText result M }
     ensures text { text_of result ≡ take M (text_of padded.now) }

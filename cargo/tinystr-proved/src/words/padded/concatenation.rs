@@ -1,6 +1,6 @@
 //! The ways to join two texts in an array. `padded::concat` takes the first that applies.
 
-use super::copying::{append, cut, put, resize};
+use super::copying::{append, put, resize, resize_at_once};
 use super::words;
 use crate::words::int_ops::{Aligned8, Aligned16};
 use crate::simd::*;
@@ -31,12 +31,12 @@ static TAKEN_LANES: [u8; 7 * LANES] = [
 /// # Contract
 ///
 /// ```text
-/// ensures front { IsTrue result → front_len ≤ LONGEST }
-/// ensures back { IsTrue result → back_len ≤ LONGEST }
+/// ensures first { IsTrue result → first_len ≤ LONGEST }
+/// ensures second { IsTrue result → second_len ≤ LONGEST }
 /// ```
 #[inline(always)]
-pub(crate) fn fit_vectors(front_len: usize, back_len: usize) -> bool {
-    cfg!(target_feature = "ssse3") && front_len <= LONGEST && back_len <= LONGEST
+pub(crate) fn fit_vectors(first_len: usize, second_len: usize) -> bool {
+    cfg!(target_feature = "ssse3") && first_len <= LONGEST && second_len <= LONGEST
 }
 
 /// The first `Q` bytes of two texts joined, in one word of eight bytes, which a register holds: for results of at most
@@ -46,17 +46,17 @@ pub(crate) fn fit_vectors(front_len: usize, back_len: usize) -> bool {
 ///
 /// ```text
 /// requires result_fits { Q ≤ 8 }
-/// requires front { IsPadded front.now }
-/// requires front_fits { length front.now ≤ 8 }
-/// requires back { IsPadded back.now }
-/// requires back_fits { length back.now ≤ 8 }
+/// requires first { IsPadded first.now }
+/// requires first_fits { length first.now ≤ 8 }
+/// requires second { IsPadded second.now }
+/// requires second_fits { length second.now ≤ 8 }
 /// ensures padded { IsPaddedText result Q }
-/// ensures text { text_of result ≡ take Q (text_of front.now ++ text_of back.now) }
+/// ensures text { text_of result ≡ take Q (text_of first.now ++ text_of second.now) }
 /// ```
 #[inline(always)]
-pub(crate) fn concat_in_word<const Q: usize>(front: &[u8], back: &[u8]) -> [u8; Q] {
-    let text = Aligned8::from_padded(front).concat(&Aligned8::from_padded(back));
-    cut(&text.to_bytes())
+pub(crate) fn concat_in_word<const Q: usize>(first: &[u8], second: &[u8]) -> [u8; Q] {
+    let text = Aligned8::from_padded(first).concat(&Aligned8::from_padded(second));
+    resize_at_once(&text.to_bytes())
 }
 
 /// The first `Q` bytes of two texts joined, each in at most two vectors: for results past eight bytes. A shuffle moves
@@ -66,21 +66,21 @@ pub(crate) fn concat_in_word<const Q: usize>(front: &[u8], back: &[u8]) -> [u8; 
 /// # Contract
 ///
 /// ```text
-/// requires front { IsPadded front.now }
-/// requires front_fits { length front.now ≤ LONGEST }
-/// requires back { IsPadded back.now }
-/// requires back_fits { length back.now ≤ LONGEST }
+/// requires first { IsPadded first.now }
+/// requires first_fits { length first.now ≤ LONGEST }
+/// requires second { IsPadded second.now }
+/// requires second_fits { length second.now ≤ LONGEST }
 /// ensures padded { IsPaddedText result Q }
-/// ensures text { text_of result ≡ take Q (text_of front.now ++ text_of back.now) }
+/// ensures text { text_of result ≡ take Q (text_of first.now ++ text_of second.now) }
 /// ```
 #[inline(always)]
-pub(crate) fn concat_in_vectors<const Q: usize>(front: &[u8], back: &[u8]) -> [u8; Q] {
-    let front_len = words::len(front);
+pub(crate) fn concat_in_vectors<const Q: usize>(first: &[u8], second: &[u8]) -> [u8; Q] {
+    let first_len = words::len(first);
     let mut joined = [0; Q];
     let bytes = &mut joined[..];
     let mut at = 0;
     while at < Q {
-        let lanes = joined_from(front, front_len, back, at).to_array();
+        let lanes = joined_from(first, first_len, second, at).to_array();
         let count = (Q - at).min(LANES);
         bytes[at..at + count].copy_from_slice(&lanes[..count]);
         at += count;
@@ -90,23 +90,23 @@ pub(crate) fn concat_in_vectors<const Q: usize>(front: &[u8], back: &[u8]) -> [u
 
 // The sixteen bytes from `at` on of two texts joined.
 // Proved:
-//     requires front { IsPadded front.now }
-//     requires front_fits { length front.now ≤ LONGEST }
-//     requires front_len { front_len ≡ length (text_of front.now) }
-//     requires back { IsPadded back.now }
-//     requires back_fits { length back.now ≤ LONGEST }
-//     ensures { result ≡ sixteen_from (text_of front.now ++ text_of back.now) at }
+//     requires first { IsPadded first.now }
+//     requires first_fits { length first.now ≤ LONGEST }
+//     requires first_len { first_len ≡ length (text_of first.now) }
+//     requires second { IsPadded second.now }
+//     requires second_fits { length second.now ≤ LONGEST }
+//     ensures { result ≡ sixteen_from (text_of first.now ++ text_of second.now) at }
 #[inline(always)]
-fn joined_from(front: &[u8], front_len: usize, back: &[u8], at: usize) -> u8x16 {
-    let mut lanes = lanes_from(front, at);
+fn joined_from(first: &[u8], first_len: usize, second: &[u8], at: usize) -> u8x16 {
+    let mut lanes = lanes_from(first, at);
     // the second text's first vector ends at most one behind the longest first text
     if at < LONGEST + LANES {
-        lanes = lanes | moved(lanes_from(back, 0), NULS_IN_FRONT + at - front_len);
+        lanes = lanes | moved(lanes_from(second, 0), NULS_IN_FRONT + at - first_len);
     }
     // and its second stands behind its first
     if 0 < at && at < 2 * LONGEST {
-        let start = NULS_IN_FRONT - LANES + at - front_len;
-        lanes = lanes | moved(lanes_from(back, LANES), start);
+        let start = NULS_IN_FRONT - LANES + at - first_len;
+        lanes = lanes | moved(lanes_from(second, LANES), start);
     }
     lanes
 }
@@ -138,35 +138,35 @@ fn moved(lanes: u8x16, start: usize) -> u8x16 {
 /// # Contract
 ///
 /// ```text
-/// requires front { IsPaddedText front N }
-/// requires front_len { front_len ≡ length (text_of front) }
-/// requires back { IsPaddedText back.now M }
+/// requires first { IsPaddedText first N }
+/// requires first_len { first_len ≡ length (text_of first) }
+/// requires second { IsPaddedText second.now M }
 /// ensures padded { IsPaddedText result Q }
-/// ensures text { text_of result ≡ take Q (text_of front.entry ++ text_of back.now) }
+/// ensures text { text_of result ≡ take Q (text_of first.entry ++ text_of second.now) }
 /// ```
 #[inline(always)]
 pub(crate) fn concat_in_memory<const N: usize, const M: usize, const Q: usize>(
-    front: [u8; N],
-    front_len: usize,
-    back: &[u8; M],
+    first: [u8; N],
+    first_len: usize,
+    second: &[u8; M],
 ) -> [u8; Q] {
-    if N % 8 == 0 && front_len == N {
+    if N % 8 == 0 && first_len == N {
         // both places are known at compile time, so that no byte goes through memory
         let mut bytes = [0; Q];
-        put_both(&mut bytes[..], &front[..], &back[..]);
+        put_both(&mut bytes[..], &first[..], &second[..]);
         return bytes;
     }
-    let mut bytes = resize::<Q>(&front[..]);
-    append(&mut bytes[..], front_len.min(Q), &back[..]);
+    let mut bytes = resize::<Q>(&first[..]);
+    append(&mut bytes[..], first_len.min(Q), &second[..]);
     bytes
 }
 
 // Copies the bytes of one and then of another, as far as there is room.
 // Proved:
-//     ensures { bytes.new ≡ take (length bytes.old) (front.now ++ back.now) ++ drop (length (front.now ++ back.now)) bytes.old }
+//     ensures { bytes.new ≡ take (length bytes.old) (first.now ++ second.now) ++ drop (length (first.now ++ second.now)) bytes.old }
 #[inline(always)]
-fn put_both(bytes: &mut [u8], front: &[u8], back: &[u8]) {
-    put(bytes, front);
-    let end = front.len().min(bytes.len());
-    put(&mut bytes[end..], back);
+fn put_both(bytes: &mut [u8], first: &[u8], second: &[u8]) {
+    put(bytes, first);
+    let end = first.len().min(bytes.len());
+    put(&mut bytes[end..], second);
 }

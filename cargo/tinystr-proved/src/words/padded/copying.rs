@@ -1,5 +1,5 @@
-//! Bytes copied into arrays, also behind a text. `put` and `append` copy the same bytes, and so do `resize` and `cut`:
-//! the compiler makes different code of them.
+//! Bytes copied into arrays, also behind a text. `put` and `append` copy the same bytes, and so do `resize` and
+//! `resize_at_once`: the compiler makes different code of them.
 
 /// Copies the bytes that both have, eight at a time: where their number is known at compile time they go through
 /// registers, and a copy of all at once would keep the value in memory.
@@ -20,8 +20,8 @@ pub(crate) fn put(bytes: &mut [u8], src: &[u8]) {
     bytes[at..len].copy_from_slice(&src[at..len]);
 }
 
-/// The first `M` bytes, padded with NULs if there are fewer, eight at a time: for bytes in memory. `cut` copies those
-/// of a word.
+/// The first `M` bytes, padded with NULs if there are fewer, eight at a time: for bytes in memory. `resize_at_once`
+/// copies those of a word.
 ///
 /// # Contract
 ///
@@ -37,8 +37,8 @@ pub fn resize<const M: usize>(bytes: &[u8]) -> [u8; M] {
     resized
 }
 
-/// A text cut to `M` bytes, or padded with NULs to as many, by one copy: for bytes that a word has just given, in pieces,
-/// which the compiler takes apart as they were made. `resize` copies those in memory.
+/// The same of a padded text, by one copy: for bytes that a word has just given, in pieces, which the compiler takes
+/// apart as they were made. `resize` copies those in memory.
 ///
 /// # Contract
 ///
@@ -48,7 +48,7 @@ pub fn resize<const M: usize>(bytes: &[u8]) -> [u8; M] {
 /// ensures text { text_of result ≡ take M (text_of padded.now) }
 /// ```
 #[inline(always)]
-pub fn cut<const M: usize>(padded: &[u8]) -> [u8; M] {
+pub fn resize_at_once<const M: usize>(padded: &[u8]) -> [u8; M] {
     let mut bytes = [0; M];
     append(&mut bytes[..], 0, padded);
     bytes

@@ -34,12 +34,12 @@ returns-then-len-le16 g c =
     c.text_of_lanes.ensures ∙ c.kept.ensures.text ∙ ap (take c.args.len) c.first_sixteen.ensures.text ∙ take-take c.args.len 16 t (omega arith)
     ∙ ap (take c.args.len) c.self.view_is
 
-pub cut-requires : goal.cut-requires
-cut-requires g c = (omega arith, IsPaddedText-take c.self.inside.bytes g.row.N c.args.len c.self.invariant)
+pub resize_at_once-requires : goal.resize_at_once-requires
+resize_at_once-requires g c = (omega arith, IsPaddedText-take c.self.inside.bytes g.row.N c.args.len c.self.invariant)
 
 pub returns : goal.returns
 returns g c =
     let bytes = c.self.inside.bytes in
-    c.from_padded-2.ensures ∙ c.cut.ensures.text ∙ ap (take g.row.N) (text_of-take bytes g.row.N c.args.len c.self.invariant)
+    c.from_padded-2.ensures ∙ c.resize_at_once.ensures.text ∙ ap (take g.row.N) (text_of-take bytes g.row.N c.args.len c.self.invariant)
     ∙ take_all g.row.N (take c.args.len (text_of bytes)) (omega (arith, length-take c.args.len (text_of bytes)))
     ∙ ap (take c.args.len) c.self.view_is

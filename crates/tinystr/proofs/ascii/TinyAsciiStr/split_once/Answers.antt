@@ -11,8 +11,8 @@ returns-then-this-le8 g c =
     let t = c.args.self.now in
     let at = c.in_ok-at.at in
     let whole = c.resize.ensures.whole c.if-this-le8.true in
-    let front = c.resize-then-this-le8.ensures.text ∙ ap (take g.row.N) (c.around-before.ensures.part ∙ ap (take at) whole) ∙ take_all g.row.N (take at t) (omega (arith, length-take at t, c.fits.ensures.fits)) in
-    let back = c.resize-then-this-le8-2.ensures.text ∙ ap (take g.row.N) (c.around-before.ensures.rest ∙ ap (drop (at + 1)) whole) ∙ take_all g.row.N (drop (at + 1) t) (omega (arith, length-drop (at + 1) t, c.fits.ensures.fits)) in
+    let front = c.resize-then-this-le8.ensures.text ∙ ap (take g.row.N) (c.split_around-before.ensures.part ∙ ap (take at) whole) ∙ take_all g.row.N (take at t) (omega (arith, length-take at t, c.fits.ensures.fits)) in
+    let back = c.resize-then-this-le8-2.ensures.text ∙ ap (take g.row.N) (c.split_around-before.ensures.rest ∙ ap (drop (at + 1)) whole) ∙ take_all g.row.N (drop (at + 1) t) (omega (arith, length-drop (at + 1) t, c.fits.ensures.fits)) in
     split_once-found c.args.separator t c.resize-then-this-le8.result c.resize-then-this-le8-2.result at (sym c.in_ok-at.ensures.place) front back
 
 pub returns : goal.returns

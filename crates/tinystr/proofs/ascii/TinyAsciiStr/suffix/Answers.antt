@@ -12,8 +12,8 @@ use Rattle.tinystr.proofs.ascii.TinyAsciiStr.suffix.Goals.{else-this-via-then-th
 drop-min : (t : List ℕ) (n m start : ℕ) → length t ≤ n → m ≡ min start n → drop m t ≡ drop start t
 drop-min t n m start fits is = rw is (same_lists _ _ (search (rules, places)) (λ k d h. grind (arith, places)))
 
-pub cut-requires : goal.cut-requires
-cut-requires g c = (omega arith, IsPaddedText-take _ _ _ (IsPaddedText-drop c.self.inside.bytes g.row.N c.args.start c.self.invariant))
+pub resize_at_once-requires : goal.resize_at_once-requires
+resize_at_once-requires g c = (omega arith, IsPaddedText-take _ _ _ (IsPaddedText-drop c.self.inside.bytes g.row.N c.args.start c.self.invariant))
 
 pub returns-then-start : goal.returns-then-start
 returns-then-start g c =
@@ -21,7 +21,7 @@ returns-then-start g c =
     let bytes = c.self.inside.bytes in
     let count : c.args.start + m - c.args.start ≡ m = omega arith in
     let back = IsPaddedText-drop bytes g.row.N c.args.start c.self.invariant in
-    c.from_padded.ensures ∙ c.cut.ensures.text
+    c.from_padded.ensures ∙ c.resize_at_once.ensures.text
     ∙ ap (take m) (text_of-take (drop c.args.start bytes) _ _ back ∙ ap (take _) (text_of-drop bytes g.row.N c.args.start c.self.invariant))
     ∙ rw (count, take-take m m _ (omega arith), c.self.view_is) refl
 
@@ -53,13 +53,13 @@ returns-then-rest-le16 g c =
     sym (take_all g.row.M c.text_of_lanes.result fits)
     ∙ ap (take g.row.M) (is ∙ text_of-rest bytes m whole ∙ drop-min (text_of bytes) (length bytes) m c.args.start (length-text_of-le bytes) (omega (arith, c.min.ensures)) ∙ ap (drop c.args.start) c.self.view_is)
 
-pub cut-requires-2 : goal.cut-requires-2
-cut-requires-2 g c = (omega arith, IsPadded-rest c.self.inside.bytes c.min.result (IsPadded-whole c.self.inside.bytes g.row.N c.self.invariant))
+pub resize_at_once-requires-2 : goal.resize_at_once-requires-2
+resize_at_once-requires-2 g c = (omega arith, IsPadded-rest c.self.inside.bytes c.min.result (IsPadded-whole c.self.inside.bytes g.row.N c.self.invariant))
 
 pub returns : goal.returns
 returns g c =
     let bytes = c.self.inside.bytes in
     let m = c.min.result in
     let whole = IsPadded-whole bytes g.row.N c.self.invariant in
-    c.from_padded-2.ensures ∙ c.cut-2.ensures.text
+    c.from_padded-2.ensures ∙ c.resize_at_once-2.ensures.text
     ∙ ap (take g.row.M) (text_of-rest bytes m whole ∙ drop-min (text_of bytes) (length bytes) m c.args.start (length-text_of-le bytes) (omega (arith, c.min.ensures)) ∙ ap (drop c.args.start) c.self.view_is)

@@ -10,11 +10,11 @@ IsStrictText-from_word units word bytes read n h held cut fits = (record { text 
 pub returns-in-Some : goal.returns-in-Some
 returns-in-Some g c =
     let units = map g.U.CodeUnit.number c.args.units.now in
-    let read = IsStrictText-from_word units c.in-Some.text c.to_bytes.result c.from_padded.result g.row.N c.in-Some.ensures c.to_bytes.ensures.text (c.from_padded.ensures ∙ c.cut.ensures.text) (omega (arith, length-map c.args.units.now g.U.CodeUnit.number)) in
+    let read = IsStrictText-from_word units c.in-Some.text c.to_bytes.result c.from_padded.result g.row.N c.in-Some.ensures c.to_bytes.ensures.text (c.from_padded.ensures ∙ c.resize_at_once.ensures.text) (omega (arith, length-map c.args.units.now g.U.CodeUnit.number)) in
     record { accepted = (λ yes. read.0, λ strict. refl); text = read.1; fault = tt }
 
 pub returns-in-Some-try_from_text : goal.returns-in-Some-try_from_text
 returns-in-Some-try_from_text g c =
     let units = map g.U.CodeUnit.number c.args.units.now in
-    let read = IsStrictText-from_word units c.in-Some-try_from_text.text c.to_bytes-in-Some-try_from_text.result c.from_padded-in-Some-try_from_text.result g.row.N c.in-Some-try_from_text.ensures c.to_bytes-in-Some-try_from_text.ensures.text (c.from_padded-in-Some-try_from_text.ensures ∙ c.cut-in-Some-try_from_text.ensures.text) (omega (arith, length-map c.args.units.now g.U.CodeUnit.number)) in
+    let read = IsStrictText-from_word units c.in-Some-try_from_text.text c.to_bytes-in-Some-try_from_text.result c.from_padded-in-Some-try_from_text.result g.row.N c.in-Some-try_from_text.ensures c.to_bytes-in-Some-try_from_text.ensures.text (c.from_padded-in-Some-try_from_text.ensures ∙ c.resize_at_once-in-Some-try_from_text.ensures.text) (omega (arith, length-map c.args.units.now g.U.CodeUnit.number)) in
     record { accepted = (λ yes. read.0, λ strict. refl); text = read.1; fault = tt }

@@ -10,6 +10,6 @@ returns-in-Some g c =
     let padded : IsPaddedText raw g.row.N = rw len at c.in-Some.ensures.0 in
     record {
       accepted = (λ yes. padded, λ is. refl);
-      text = c.from_padded.ensures ∙ c.cut.ensures.text ∙ rw (c.to_bytes.ensures.text, c.in-Some.ensures.1) (take_all g.row.N (text_of raw) padded.fits);
+      text = c.from_padded.ensures ∙ c.resize_at_once.ensures.text ∙ rw (c.to_bytes.ensures.text, c.in-Some.ensures.1) (take_all g.row.N (text_of raw) padded.fits);
       fault = tt;
     }

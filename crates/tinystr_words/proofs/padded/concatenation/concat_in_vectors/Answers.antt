@@ -9,7 +9,7 @@ use Rattle.tinystr_words.proofs.padded.concatenation.concat_in_vectors.Goals as 
 pub loop-at-preserved : goal.loop-at-preserved
 loop-at-preserved g c =
     let n = g.row.Q in
-    let t = text_of c.args.front.now ++ text_of c.args.back.now in
+    let t = text_of c.args.first.now ++ text_of c.args.second.now in
     let now = c.loop-at in
     let whole = pad (take n t) n in
     let whole_long : length whole ≡ n = length-pad (take n t) n (omega (arith, length-take n t)) in
@@ -27,5 +27,5 @@ loop-at-preserved g c =
 
 pub returns : goal.returns
 returns g c =
-    let made = IsPaddedText-stored c.loop-at.bytes _ _ g.row.Q c.loop-at.at (omega arith) c.requires.front.text c.requires.back.text c.loop-at.invariant.stored in
+    let made = IsPaddedText-stored c.loop-at.bytes _ _ g.row.Q c.loop-at.at (omega arith) c.requires.first.text c.requires.second.text c.loop-at.invariant.stored in
     record { padded = made.0; text = made.1 }

@@ -7,7 +7,7 @@ abbrev pub invariant-loop-at : goal.invariant-loop-at
 invariant-loop-at g l = record {
   inside : l.at ≤ g.row.Q;
   len : length l.bytes ≡ g.row.Q;
-  stored : l.bytes ≡ take l.at (pad (take g.row.Q (text_of l.front ++ text_of l.back)) g.row.Q) ++ drop l.at (NULS g.row.Q);
+  stored : l.bytes ≡ take l.at (pad (take g.row.Q (text_of l.first ++ text_of l.second)) g.row.Q) ++ drop l.at (NULS g.row.Q);
 }
 
 abbrev pub decreases-loop-at : goal.decreases-loop-at

@@ -8,20 +8,20 @@ use Rattle.tinystr_words.proofs.padded.concatenation.joined_from.Goals.{then-at,
 
 pub returns : goal.returns
 returns c =
-    let a = text_of c.args.front.now in
-    let b = text_of c.args.back.now in
+    let a = text_of c.args.first.now in
+    let b = text_of c.args.second.now in
     let at = c.args.at in
-    let n = c.args.front_len in
+    let n = c.args.first_len in
     let lanes = c.lanes_from-lanes.result in
-    let whole = length-text_of-le c.args.front.now in
-    let fits = length-text_of-le c.args.back.now in
+    let whole = length-text_of-le c.args.first.now in
+    let fits = length-text_of-le c.args.second.now in
     let first_part = length-take 16 b in
     let last_part = length-drop 16 b in
     let front : HasLanes lanes a at = HasLanes-sixteen_from lanes a at c.lanes_from-lanes.ensures in
     let first : HasLanes c.if-at.lanes (a ++ take 16 b) at = elim c.if-at.branch [
-      | then-at w ↦ rw w.lanes-is (HasLanes-or lanes w.moved-lanes.result w.lanes_from.result a (take 16 b) n at (48 + at - n) (λ some. c.requires.front_len) (omega arith)
+      | then-at w ↦ rw w.lanes-is (HasLanes-or lanes w.moved-lanes.result w.lanes_from.result a (take 16 b) n at (48 + at - n) (λ some. c.requires.first_len) (omega arith)
           w.moved-lanes.ensures (get_or-first_sixteen w.lanes_from.result b w.lanes_from.ensures) front)
-      | else-at w ↦ rw w.lanes-is (HasLanes-same lanes a (take 16 b) n at (λ some. c.requires.front_len) front (inr (omega arith)))
+      | else-at w ↦ rw w.lanes-is (HasLanes-same lanes a (take 16 b) n at (λ some. c.requires.first_len) front (inr (omega arith)))
     ] in
     let end : 0 < length (drop 16 b) → n + 16 ≡ length (a ++ take 16 b) = λ some. omega (arith, length-append a (take 16 b)) in
     let second : HasLanes c.if-at-gt0.lanes ((a ++ take 16 b) ++ drop 16 b) at = elim c.if-at-gt0.branch [

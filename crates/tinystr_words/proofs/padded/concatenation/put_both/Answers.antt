@@ -2,4 +2,4 @@ use Rattle.tinystr_words.proofs.Copying.{copied_both}
 use Rattle.tinystr_words.proofs.padded.concatenation.put_both.Goals as goal
 
 pub returns : goal.returns
-returns c = copied_both c.args.bytes.now c.args.front.now c.args.back.now c.put.new.bytes c.put-2.new.bytes c.min-end.result c.put.ensures c.min-end.ensures c.put-2.ensures
+returns c = copied_both c.args.bytes.now c.args.first.now c.args.second.now c.put.new.bytes c.put-2.new.bytes c.min-end.result c.put.ensures c.min-end.ensures c.put-2.ensures

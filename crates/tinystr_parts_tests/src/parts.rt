@@ -1,4 +1,4 @@
-//! Values at another capacity, parts of values, values joined, and decimal texts.
+//! Parts taken of a value, parts put together, values at another capacity, and decimal texts.
 
 mod concat;
 mod decimals;
