@@ -22,7 +22,7 @@ WORD = re.compile(r"[A-Za-z_]\w*")
 
 @dataclass
 class Definition:
-    """A public word of specs/: its crate, its file and its lines."""
+    """A public word of specs/: its crate, its file, as `Text.antt` or `Private/Ranges.antt`, and its lines."""
 
     name: str
     crate: str
@@ -37,11 +37,12 @@ class Definition:
 def definitions(crate):
     """The public definitions of a crate, in the order of its files."""
     found = []
-    for path in sorted((CRATES / crate / "specs").glob("*.antt")):
+    folder = CRATES / crate / "specs"
+    for path in sorted(folder.rglob("*.antt")):
         inside = False
         for line in text_of(path).splitlines():
             if head := HEAD.match(line):
-                found.append(Definition(head[1], crate, path.name))
+                found.append(Definition(head[1], crate, str(path.relative_to(folder))))
             inside = bool(head) or inside and line != "" and not line.startswith("--")
             if inside:
                 found[-1].lines.append(line)

@@ -3,8 +3,7 @@ pub mod Reading
 pub mod Unvalidated
 pub mod Forms
 pub mod Records
-pub mod RecordLists
-pub mod Splitting
+pub mod Private
 pub use Rattle.tinystr_words.specs.ByteForm
 pub use Rattle.tinystr_words.specs.Case
 pub use Rattle.tinystr_words.specs.Classes

@@ -5,7 +5,7 @@ ghost use Rattle.std.specs.Prelude.{◌≡◌, ◌≢◌, ◌<◌, ◌≤◌, �
 ghost use Rattle.tinystr_words.specs.Text.{IsPaddedText};
 ghost use Rattle.tinystr_words.specs.Packed.{IsPacked};
 ghost use Rattle.tinystr.specs.Records.{RefusesRecords};
-ghost use Rattle.tinystr.specs.RecordLists.{RefusesOneOf};
+ghost use Rattle.tinystr.specs.Private.RecordLists.{RefusesOneOf};
 
 use crate::ascii::{TinyAsciiStr, are_padded};
 use crate::error::ParseError;

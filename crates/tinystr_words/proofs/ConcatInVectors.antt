@@ -11,7 +11,7 @@ use Rattle.tinystr_words.specs.Text.{IsPadded, IsPaddedText, IsText, IsTextByte,
 use Rattle.std.proofs.lemmas.List.Elements.{All-append}
 use Rattle.tinystr_words.proofs.Copying.{IsPaddedText-pad_take}
 use Rattle.tinystr_words.proofs.Texts.{IsPaddedText-drop, NULS, get_or-nuls, get_or-pad, length-text_of-le, text_of-drop, text_of-take}
-use Rattle.tinystr_words.specs.Padded.{sixteen_from}
+use Rattle.tinystr_words.specs.Private.Padded.{sixteen_from}
 use Rattle.tinystr_words.specs.declared.padded.concatenation.TheConstants.{TAKEN_LANES}
 use Rattle.tinystr_words.proofs.Lanes.{below_at}
 

@@ -6,7 +6,7 @@ use Rattle.std.proofs.lemmas.Nat.{le_or_l, le_or_r, or_lt, and_le_r, xor_lt, xor
 use Rattle.std.specs.Int.Bits.{bit_xor}
 use Rattle.std.specs.Bool.{beq}
 use Rattle.tinystr_words.specs.Classes.{is_alphabetic, is_alphanumeric}
-use Rattle.tinystr_words.specs.Ranges.{is_in, is_not_in}
+use Rattle.tinystr_words.specs.Private.Ranges.{is_in, is_not_in}
 use Rattle.tinystr_words.specs.declared.question.Case.{Case}
 use Rattle.tinystr_words.specs.declared.question.Case.TheVariants.{Lower, Title, Upper}
 use Rattle.tinystr_words.specs.declared.kernel.Range.{Range}

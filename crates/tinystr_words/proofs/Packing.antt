@@ -9,7 +9,7 @@ use Rattle.std.proofs.lemmas.List.Elements.{All-append, All-more, All-nil, All-c
 use Rattle.tinystr_words.specs.Text.{IsStrictText, IsPaddedText, text_of, pad}
 use Rattle.tinystr_words.specs.Reading.{fault_in}
 use Rattle.tinystr_words.specs.Packed.{IsPacked, record_at, IsFirstBad}
-use Rattle.tinystr_words.specs.RecordLists.{IsFirstUnpadded}
+use Rattle.tinystr_words.specs.Private.RecordLists.{IsFirstUnpadded}
 use Rattle.tinystr_words.proofs.Texts.{IsPaddedText-pad, length-pad, text_of-pad}
 
 abbrev padded : ℕ → List ℕ → List ℕ

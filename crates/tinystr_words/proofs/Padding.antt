@@ -5,7 +5,7 @@ use Rattle.std.proofs.lemmas.Bool.{cases_lt}
 use Rattle.std.proofs.lemmas.List.{length-append, places}
 use Rattle.std.proofs.lemmas.Simd.{get_or-chunk, length-chunk, length-sel_l, length-zip2, pick_l-range_with_len, tops_compared, Each1-from_get_or}
 use Rattle.std.proofs.lemmas.List.Elements.{All-nil}
-use Rattle.tinystr_words.specs.Padded.{ArePaddedFrom}
+use Rattle.tinystr_words.specs.Private.Padded.{ArePaddedFrom}
 use Rattle.tinystr_words.specs.Text.{IsPadded, IsTextByte}
 use Rattle.std.proofs.lemmas.Bool.Decides.{nat_tests}
 use Rattle.std.specs.Int.Bits.{or_zero_r}

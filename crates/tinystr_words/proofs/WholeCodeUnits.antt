@@ -11,7 +11,7 @@ use Rattle.tinystr_words.proofs.Texts.{IsPaddedText-made, NULS, get_or-nuls, get
 use Rattle.std.proofs.lemmas.Grind.{same_number_lists}
 use Rattle.std.proofs.lemmas.List.Folds.{map_fixed}
 use Rattle.tinystr_words.proofs.WordFromPieces.{map-mod_text}
-use Rattle.tinystr_words.specs.ReadPieces.{IsReadPiece}
+use Rattle.tinystr_words.specs.Private.ReadPieces.{IsReadPiece}
 use Rattle.tinystr_words.proofs.Copying.{IsPaddedText-pad_take, pad-full}
 use Rattle.std.proofs.lemmas.Bool.Decides.{nat_tests}
 

@@ -8,7 +8,4 @@ pub mod Words
 pub mod Questions
 pub mod ByteForm
 pub mod Packed
-pub mod ReadPieces
-pub mod Padded
-pub mod Ranges
-pub mod RecordLists
+pub mod Private

@@ -8,7 +8,7 @@ ghost use Rattle.std.specs.Str.{bytes_eq};
 ghost use Rattle.tinystr_words.specs.Text.{IsPaddedText, text_of, pad};
 ghost use Rattle.tinystr_words.specs.Decimal.{last};
 ghost use Rattle.tinystr_words.specs.Questions.{ask_question, in_case};
-ghost use Rattle.tinystr_words.specs.Padded.{IsWidthOf};
+ghost use Rattle.tinystr_words.specs.Private.Padded.{IsWidthOf};
 
 mod code_units;
 mod concatenation;

@@ -3,7 +3,7 @@
 ghost use Rattle.std.specs.Prelude.{◌≡◌, ◌+◌, ◌*◌, ◌%◌, ◌≤◌, map, length};
 ghost use Rattle.tinystr_words.specs.Text.{pad};
 ghost use Rattle.tinystr_words.specs.Reading.{lossy, lossy_byte};
-ghost use Rattle.tinystr_words.specs.ReadPieces.{IsReadPiece};
+ghost use Rattle.tinystr_words.specs.Private.ReadPieces.{IsReadPiece};
 
 use super::replacing::lossy_word;
 use crate::CodeUnit;

@@ -2,7 +2,7 @@
 
 ghost use Rattle.std.specs.Prelude.{◌≡◌, ◌≤◌, ◌*◌, ◌++◌, length, replicate, take, drop, IsTrue};
 ghost use Rattle.tinystr_words.specs.Text.{IsPadded, IsPaddedText, text_of};
-ghost use Rattle.tinystr_words.specs.Padded.{sixteen_from};
+ghost use Rattle.tinystr_words.specs.Private.Padded.{sixteen_from};
 
 use super::copying::{append, put, resize, resize_at_once};
 use super::words;

@@ -3,7 +3,7 @@
 ghost use Rattle.std.specs.Prelude.{◌≡◌, ◌≤◌, ◌↔◌, length, IsTrue};
 ghost use Rattle.tinystr_words.specs.Text.{IsPadded, pad};
 ghost use Rattle.tinystr_words.specs.Words.{word};
-ghost use Rattle.tinystr_words.specs.Padded.{ArePaddedFrom, sixteen_from};
+ghost use Rattle.tinystr_words.specs.Private.Padded.{ArePaddedFrom, sixteen_from};
 
 use crate::word::Word;
 use std::simd::prelude::*;

@@ -3,7 +3,7 @@
 ghost use Rattle.std.specs.Prelude.{◌≡◌, ◌<◌, length, MatchOption};
 ghost use Rattle.tinystr_words.specs.Text.{IsPadded, text_of, pad};
 ghost use Rattle.tinystr_words.specs.Questions.{ask_question, in_case};
-ghost use Rattle.tinystr_words.specs.Padded.{IsFirstWord};
+ghost use Rattle.tinystr_words.specs.Private.Padded.{IsFirstWord};
 
 use crate::int_ops::Aligned16;
 use crate::{Case, Question};

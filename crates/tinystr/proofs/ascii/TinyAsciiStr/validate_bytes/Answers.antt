@@ -6,7 +6,7 @@ use Rattle.std.proofs.Math.Nat.{mod-eq_of_lt}
 use Rattle.tinystr_words.specs.Reading.{fault_in}
 use Rattle.tinystr_words.proofs.Packing.{AreRecords, AllPadded-packed, IsFirstBad-records, IsPacked-length, IsPacked-records, get_or-AreRecords}
 use Rattle.tinystr.specs.Records.{RefusesRecords}
-use Rattle.tinystr.specs.RecordLists.{RefusesOneOf}
+use Rattle.tinystr.specs.Private.RecordLists.{RefusesOneOf}
 use Rattle.tinystr.specs.declared.ule.UleError.{UleError}
 use Rattle.tinystr.specs.declared.ule.UleError.TheVariants.{Length, Parse}
 use Rattle.tinystr.proofs.ascii.TinyAsciiStr.validate_bytes.Goals as goal

@@ -1,7 +1,7 @@
--- What a refusal of a list of records says. Only private functions speak of it.
+-- What a refusal of a list of records says.
 use Rattle.std.specs.Prelude.{◌≡◌, ℕ, List, [], slice_index_or}
 use Rattle.tinystr_words.specs.Reading.{fault_in}
-use Rattle.tinystr_words.specs.RecordLists.{IsFirstUnpadded}
+use Rattle.tinystr_words.specs.Private.RecordLists.{IsFirstUnpadded}
 use Rattle.tinystr.specs.Error.{fault_of}
 use Rattle.tinystr.specs.declared.ule.UleError.{UleError}
 use Rattle.tinystr.specs.declared.ule.UleError.TheVariants.{Length, Parse}

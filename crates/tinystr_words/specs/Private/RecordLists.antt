@@ -1,4 +1,4 @@
--- Lists of records, which may be no padded texts. Only private functions speak of them.
+-- Lists of records, which may be no padded texts.
 use Rattle.std.specs.Prelude.{ℕ, ◌<◌, List, [], length, take, slice_index_or, All}
 use Rattle.tinystr_words.specs.Text.{IsPaddedText}
 

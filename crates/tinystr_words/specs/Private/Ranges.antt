@@ -1,4 +1,4 @@
--- Classes of bytes by the ranges of the kernels. Only private functions speak of them.
+-- Classes of bytes by the ranges of the kernels.
 use Rattle.std.specs.Prelude.{ℕ, ◌-◌, Bool, not}
 use Rattle.std.specs.Int.{is_in_range}
 use Rattle.tinystr_words.specs.declared.kernel.Range.{Range}
