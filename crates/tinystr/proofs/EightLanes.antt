@@ -1,68 +1,17 @@
 -- The bytes of a text in eight lanes.
-use Rattle.std.proofs.Common.{◌≡◌, ◌+◌, ◌-◌, ◌*◌, ◌/◌, ◌%◌, ◌^◌, ◌<◌, ◌≤◌, ℕ, zero, suc, [], ◌∷◌, true, false, Bool, List, length, take, drop, get_or, cond, eqb, bit_and, nat_lt, ap, ap₂, sym, ◌∙◌, w8, arith, refl}
-use mir.Val.{Fits}
-use lib.Lanes.{Each1, zip2, chunk}
+use Rattle.std.proofs.Common.{◌≡◌, ◌+◌, ◌-◌, ◌*◌, ◌/◌, ◌%◌, ◌^◌, ◌<◌, ℕ, zero, suc, [], ◌∷◌, List, length, take, drop, eqb, ap, ap₂, sym, ◌∙◌, arith, refl}
 use Rattle.std.proofs.Math.Nat.{zero-div, zero-mod}
 use Rattle.std.proofs.lemmas.Bool.Decides.{nat_tests}
-use Rattle.std.proofs.lemmas.List.{places, length-take, length-drop, get_or-take, get_or-drop, take_all}
-use Rattle.std.proofs.lemmas.Grind.{same_number_lists}
-use Rattle.std.proofs.lemmas.List.Elements.{All-take}
-use Rattle.std.proofs.lemmas.Simd.{Each1-get_or, get_or-zip2, length-zip2}
-use Rattle.tinystr_words.specs.Text.{IsTextByte, IsPadded, IsPaddedText, IsStrictText, text_of, pad}
+use Rattle.tinystr_words.specs.Text.{IsPadded, IsPaddedText, IsStrictText, text_of, pad}
 use Rattle.tinystr_words.specs.Words.{word, lanes_of}
 use Rattle.tinystr_words.proofs.Lanes.{IsBytes, IsBytes-from_IsText, below_at}
 use Rattle.tinystr_words.proofs.Parts.{IsStrictText-drop, IsStrictText-take}
-use Rattle.tinystr_words.proofs.Texts.{get_or-text_of, get_or-pad, length-pad, IsPaddedText-places}
+use Rattle.tinystr_words.proofs.Texts.{length-pad}
 use Rattle.tinystr_words.proofs.WordAsNumber.{div-pow_256, mod-pow_256, lanes_of-word_pad, pow_256, word-nuls}
-use Rattle.tinystr.specs.declared.ascii.lanes.TheConstants.{KEPT_LANES}
-
-KEPT_LANES-at : (k : ℕ) → k < 16 → get_or KEPT_LANES k 0 ≡ cond (nat_lt k 8) 255 0
-KEPT_LANES-at k inside = let e = below_at (λ k. eqb (get_or KEPT_LANES k 0) (cond (nat_lt k 8) 255 0)) 16 refl k inside in grind (arith, nat_tests)
-
--- eight lanes of the table, as they are loaded
-abbrev pub kept_lanes : ℕ → List ℕ
-kept_lanes start = chunk 0 8 (take (16 - start) (drop start KEPT_LANES))
-
-length-kept_lanes : (start : ℕ) → start ≤ 8 → length (kept_lanes start) ≡ 8
-length-kept_lanes start inside = omega (arith, length-take {A = ℕ}, length-drop {A = ℕ})
-
-get_or-kept_lanes : (start i : ℕ) → start ≤ 8 → i < 8 → get_or (kept_lanes start) i 0 ≡ cond (nat_lt (start + i) 8) 255 0
-get_or-kept_lanes start i inside small =
-    get_or-take 8 (take (16 - start) (drop start KEPT_LANES)) i 0 small ∙ get_or-take (16 - start) (drop start KEPT_LANES) i 0 (omega arith) ∙ get_or-drop start KEPT_LANES i 0
-    ∙ KEPT_LANES-at (start + i) (omega arith)
-
--- a byte with all bits kept, and with none
-byte_kept : (r : ℕ) → r < 256 → (kept : Bool) → bit_and r (cond kept 255 0) ≡ cond kept r 0
-byte_kept r small true = let e = below_at (λ r. eqb (bit_and r 255) r) 256 refl r small in grind (arith, nat_tests)
-byte_kept r small false = let e = below_at (λ r. eqb (bit_and r 0) 0) 256 refl r small in grind (arith, nat_tests)
-
--- a lane up to a place, and 0 behind it
-kept_at : (lanes : List ℕ) (len i : ℕ) → len ≤ 8 → cond (nat_lt (8 - len + i) 8) (get_or lanes i 0) 0 ≡ get_or (pad (take len lanes) 8) i 0
-kept_at lanes len i few = rw get_or-pad (grind (arith, nat_tests, places))
-
--- lanes whose later ones were cleared
-pub zip2-kept_lanes : (lanes : List ℕ) (len : ℕ) → length lanes ≡ 8 → Each1 (Fits w8) lanes → len ≤ 8 → zip2 bit_and lanes (kept_lanes (8 - len)) ≡ pad (take len lanes) 8
-zip2-kept_lanes lanes len eight small few =
-    let kept = length-kept_lanes (8 - len) (omega arith) in
-    let all = length-zip2 bit_and lanes (kept_lanes (8 - len)) (eight ∙ sym kept) ∙ eight in
-    same_number_lists _ _ (all ∙ sym (length-pad (take len lanes) 8 (omega (arith, length-take len lanes)))) (λ i inside.
-    get_or-zip2 bit_and lanes (kept_lanes (8 - len)) i 0 0 0 (omega arith) (omega arith)
-    ∙ ap (bit_and (get_or lanes i 0)) (get_or-kept_lanes (8 - len) i (omega arith) (omega arith))
-    ∙ byte_kept (get_or lanes i 0) (Each1-get_or (Fits w8) lanes i 0 (omega arith) small).fits (nat_lt (8 - len + i) 8)
-    ∙ kept_at lanes len i few)
 
 -- padded bytes are all that the array has
 pub IsPadded-whole : (bytes : List ℕ) (n : ℕ) → IsPaddedText bytes n → IsPadded bytes
 IsPadded-whole bytes n padded = let size : length bytes ≡ n = ap length padded.padded ∙ length-pad (text_of bytes) n padded.fits in rw size padded
-
--- the lanes of a text up to a place are a front of the text
-pub IsPadded-first_lanes : (bytes lanes : List ℕ) (len : ℕ) → IsPaddedText bytes 8 → len ≤ 8 → lanes ≡ pad (take len bytes) 8 → IsPadded lanes × (text_of lanes ≡ take len (text_of bytes))
-IsPadded-first_lanes bytes lanes len padded few is =
-    let t = text_of bytes in
-    let size : length (pad (take len bytes) 8) ≡ 8 = length-pad (take len bytes) 8 (omega (arith, length-take len bytes)) in
-    let made = IsPaddedText-places (pad (take len bytes) 8) (take len t) 8 size (All-take IsTextByte len t padded.text)
-    (λ i near. rw get_or-pad (grind (arith, places, get_or-text_of bytes 8 i padded))) in
-    rw is (rw size made.0, made.1 ∙ take_all 8 (take len t) (omega (arith, length-take len t)))
 
 -- ---- a word cut at a byte
 

@@ -1,20 +1,19 @@
 -- The parts of a padded text, found and taken in vectors of sixteen bytes.
-use Rattle.std.proofs.Common.{◌≡◌, ◌+◌, ◌*◌, ◌%◌, ◌-◌, ◌<◌, ◌≤◌, ℕ, suc, inl, inr, Bool, true, false, not, Some, None, List, [], ◌∷◌, length, map, replicate, take, drop, get_or, cond, eqb, ap, ap₂, sym, ◌∙◌, w8, arith, refl, take_all, length-take, ltb, rules}
-use lib.Lanes.{zip2, mask_l, top, sel_l}
+use Rattle.std.proofs.Common.{◌≡◌, ◌+◌, ◌*◌, ◌%◌, ◌-◌, ◌<◌, ◌≤◌, ℕ, suc, inl, inr, Bool, true, false, not, Some, None, List, [], ◌∷◌, length, map, replicate, take, drop, get_or, cond, eqb, ap, sym, ◌∙◌, w8, arith, refl, take_all, rules}
+use lib.Lanes.{zip2, mask_l, top}
 use lib.Count.{count_trailing_zeros}
-use Rattle.std.specs.List.{Contains, after_first, before_first, position, position_or_len, range_with_len, slice_split}
+use Rattle.std.specs.List.{Contains, after_first, before_first, position, position_or_len, slice_split}
 use Rattle.std.proofs.lemmas.Bool.{cases_lt}
 use Rattle.std.proofs.lemmas.Bool.Decides.{nat_tests}
-use Rattle.std.proofs.lemmas.List.{get_or_default, places, take_rest}
-use Rattle.std.proofs.lemmas.List.Elements.{All-take}
+use Rattle.std.proofs.lemmas.List.{length-take, take-take, get_or_default, places, take_rest}
 use Rattle.std.proofs.lemmas.List.Quantifiers.{position-Some}
-use Rattle.std.proofs.lemmas.Simd.{bitmask_splat, leading_from_mask_l, trailing_mask_l, get_or-sel_l, get_or-zip2, get_or-replicate, length-sel_l, length-zip2, tops_compared}
-use Rattle.std.proofs.lemmas.List.FromFn.{get_or-range_with_len}
+use Rattle.std.proofs.lemmas.Simd.{bitmask_splat, leading_from_mask_l, trailing_mask_l}
 use Rattle.std.proofs.lemmas.List.Sums.{fails_before_first, passes_at_first, position_or_len_is}
-use Rattle.tinystr_words.specs.Text.{IsPadded, IsPaddedText, IsText, IsTextByte, pad, text_of}
+use Rattle.tinystr_words.specs.Text.{IsPadded, IsPaddedText, IsText, pad, text_of}
+use Rattle.tinystr_words.proofs.KeptLanes.{IsPadded-first_lanes}
 use Rattle.tinystr_words.proofs.Parts.{slice_split-found, slice_split-missed}
 use Rattle.tinystr_words.proofs.Positions.{position-None, position-None-fails, position-at}
-use Rattle.tinystr_words.proofs.Texts.{IsPaddedText-made, IsPaddedText-drop, IsPaddedText-places, IsPaddedText-take, get_or-text_of, length-pad, length-text_of-le, text_of-drop, text_of-made, text_of-take}
+use Rattle.tinystr_words.proofs.Texts.{IsPaddedText-made, IsPaddedText-drop, IsPaddedText-take, get_or-text_of, length-pad, length-text_of-le, text_of-drop, text_of-made, text_of-take}
 
 -- ---- a byte of a padded text
 
@@ -68,30 +67,6 @@ position-marks lanes byte long =
     let is : marks lanes byte ≡ mask_l (map p lanes) = bitmask_splat w8 eqb lanes 16 byte long (omega arith) in
     rw is ((λ none. let end = leading_from_mask_l p lanes none in grind (arith, nat_tests)), (λ some. let inside = position_or_len-lt p lanes some in let at = trailing_mask_l p 64 lanes (omega arith) some in grind (arith, nat_tests)))
 
--- ---- lanes up to a place
-
--- so many lanes of another vector, and then NULs
-abbrev pub up_to : ℕ → List ℕ → List ℕ
-up_to count lanes = sel_l (map (top 7) (zip2 (λ a b. cond (ltb a b) 255 0) (range_with_len 0 16) (replicate 16 count))) lanes (replicate 16 0)
-
-pub IsPadded-up_to : (count : ℕ) (lanes : List ℕ) → length lanes ≡ 16 → IsPadded lanes → IsPadded (up_to count lanes) × (text_of (up_to count lanes) ≡ take count (text_of lanes))
-IsPadded-up_to count lanes long q =
-    let places_of = range_with_len 0 16 in
-    let tests = zip2 ltb places_of (replicate 16 count) in
-    let nuls : List ℕ = replicate 16 0 in
-    let t = text_of lanes in
-    let made = sel_l tests lanes nuls in
-    let tested : length tests ≡ 16 = length-zip2 ltb places_of (replicate 16 count) refl in
-    let size : length made ≡ 16 = length-sel_l tests lanes nuls (tested ∙ sym long) tested ∙ tested in
-    let is : up_to count lanes ≡ made = ap (λ ms. sel_l ms lanes nuls) (tops_compared w8 ltb places_of (replicate 16 count)) in
-    let h = IsPaddedText-places made (take count t) (length made) refl (All-take IsTextByte count t q.text) (λ k below.
-    let inside : k < 16 = omega (arith, size) in
-    let test : get_or tests k false ≡ ltb k count =
-    get_or-zip2 ltb places_of (replicate 16 count) k 0 0 false inside inside ∙ ap₂ ltb (get_or-range_with_len 0 16 k 0 inside ∙ omega arith) (get_or-replicate 16 k count 0 inside) in
-    get_or-sel_l tests lanes nuls k 0 (omega (arith, tested)) (omega (arith, long)) inside
-    ∙ rw (test, get_or-replicate {A = ℕ} 16 k 0 0 inside, get_or-text_of lanes (length lanes) k q) (grind (arith, nat_tests, places))) in
-    rw is (h.0, h.1 ∙ take_all (length made) (take count t) (omega (arith, length-take count t, length-text_of-le lanes)))
-
 -- ---- the first sixteen bytes
 
 -- of as many or more
@@ -107,6 +82,16 @@ IsPadded-fewer l r q few is =
       rw size (IsPaddedText-made r (text_of l) 16 is (record { text = q.text; fits = fits })),
       text_of-made r (text_of l) 16 is q.text ∙ sym (take_all 16 (text_of l) fits),
     )
+
+-- where a byte is found in them, the lanes before it are the front of the text up to it
+pub IsPadded-before_found : (p : ℕ → Bool) (l sixteen lanes : List ℕ) (i : ℕ) → length sixteen ≡ 16 → IsPadded sixteen → text_of sixteen ≡ take 16 (text_of l)
+    → Some i ≡ position p (text_of sixteen) → lanes ≡ pad (take i sixteen) 16 → (i < length (text_of l)) × (IsPadded lanes) × (text_of lanes ≡ take i (text_of l))
+IsPadded-before_found p l sixteen lanes i long q is found made =
+    let at : position p (take 16 (text_of l)) ≡ Some i = rw is at (sym found) in
+    let inside = position-Some p (take 16 (text_of l)) i 0 at in
+    let few : i ≤ 16 = omega (arith, inside.0, length-take 16 (text_of l)) in
+    let front = IsPadded-first_lanes sixteen lanes 16 i (rw long at q) few made in
+    (omega (arith, inside.0, length-take 16 (text_of l)), front.0, front.1 ∙ ap (take i) is ∙ take-take i 16 (text_of l) few)
 
 -- ---- what stands behind a place
 

@@ -1,53 +1,19 @@
 -- Bytes in a vector, with a replacement for those that aren't characters.
-use Rattle.std.proofs.Common.{ap₂, false, lit<, subst, true, Bool, List, [], ap, arith, bit_and, cond, drop, get_or, length, ltb, map, nat_eq, nat_lt, refl, replicate, rules, sym, take, w8, zero, suc, ℕ, ◌++◌, ◌+◌, ◌-◌, ◌%◌, ◌<◌, ◌∙◌, ◌∷◌, ◌≡◌, ◌≤◌}
-use Rattle.std.proofs.lemmas.List.{get_or-drop, get_or-take, length-drop, length-map, length-replicate, length-take, places, same_lists}
-use Rattle.std.proofs.lemmas.Grind.{same_number_lists}
+use Rattle.std.proofs.Common.{ap₂, lit<, subst, Bool, List, [], ap, arith, cond, length, ltb, map, refl, replicate, rules, sym, take, w8, zero, suc, ℕ, ◌++◌, ◌+◌, ◌-◌, ◌%◌, ◌<◌, ◌∙◌, ◌∷◌, ◌≡◌, ◌≤◌}
+use Rattle.std.proofs.lemmas.List.{length-map, length-replicate, places, same_lists}
 use Rattle.std.proofs.lemmas.Bool.Decides.{nat_tests}
-use Rattle.std.proofs.lemmas.Simd.{Each1-replicate, get_or-replicate, get_or-zip2, length-zip2, tops_compared}
-use Rattle.std.specs.Simd.Lanes.{chunk, sel_l, top, zip2}
+use Rattle.std.proofs.lemmas.Simd.{Each1-replicate, tops_compared}
+use Rattle.std.specs.Simd.Lanes.{sel_l, top, zip2}
 use Rattle.tinystr_words.specs.Text.{is_text_byte, pad}
 use Rattle.tinystr_words.specs.Words.{lanes_of, word}
 use Rattle.tinystr_words.specs.Reading.{lossy_byte}
-use Rattle.tinystr_words.specs.declared.padded.replacing.TheConstants.{KEPT_LANES}
-use Rattle.tinystr_words.proofs.Lanes.{IsBytes, below_at}
-use Rattle.tinystr_words.proofs.Texts.{NULS, get_or-pad, length-pad}
+use Rattle.tinystr_words.proofs.Lanes.{IsBytes}
+use Rattle.tinystr_words.proofs.Texts.{NULS, length-pad}
 use Rattle.tinystr_words.proofs.WordAsNumber.{lanes_of-word, word-nuls}
 
--- ---- lanes up to a place
-
-KEPT_LANES-at : (k : ℕ) → k < 32 → get_or KEPT_LANES k 0 ≡ cond (nat_lt k 16) 255 0
-KEPT_LANES-at k inside = let e = below_at (λ k. nat_eq (get_or KEPT_LANES k 0) (cond (nat_lt k 16) 255 0)) 32 refl k inside in grind (arith, nat_tests)
-
--- sixteen lanes of the table, as they are loaded
-abbrev pub kept_lanes : ℕ → List ℕ
-kept_lanes start = chunk 0 16 (take (32 - start) (drop start KEPT_LANES))
-
-length-kept_lanes : (start : ℕ) → start ≤ 16 → length (kept_lanes start) ≡ 16
-length-kept_lanes start inside = omega (arith, length-take {A = ℕ}, length-drop {A = ℕ})
-
-get_or-kept_lanes : (start i : ℕ) → start ≤ 16 → i < 16 → get_or (kept_lanes start) i 0 ≡ cond (nat_lt (start + i) 16) 255 0
-get_or-kept_lanes start i inside small =
-    get_or-take 16 (take (32 - start) (drop start KEPT_LANES)) i 0 small ∙ get_or-take (32 - start) (drop start KEPT_LANES) i 0 (omega arith) ∙ get_or-drop start KEPT_LANES i 0
-    ∙ KEPT_LANES-at (start + i) (omega arith)
-
--- a byte with all bits kept, and with none
-byte_kept : (r : ℕ) → r < 256 → (kept : Bool) → bit_and r (cond kept 255 0) ≡ cond kept r 0
-byte_kept r small true = let e = below_at (λ r. nat_eq (bit_and r 255) r) 256 refl r small in grind (arith, nat_tests)
-byte_kept r small false = let e = below_at (λ r. nat_eq (bit_and r 0) 0) 256 refl r small in grind (arith, nat_tests)
-
-kept_at : (r count i : ℕ) → count ≤ 16 → cond (nat_lt (16 - count + i) 16) r 0 ≡ get_or (pad (replicate count r) 16) i 0
-kept_at r count i few = rw get_or-pad (grind (arith, nat_tests, places))
-
-pub zip2-kept_lanes : (r count : ℕ) → r < 256 → count ≤ 16 → zip2 bit_and (replicate 16 r) (kept_lanes (16 - count)) ≡ pad (replicate count r) 16
-zip2-kept_lanes r count small few =
-    let many = length-kept_lanes (16 - count) (omega arith) in
-    let long : length (zip2 bit_and (replicate 16 r) (kept_lanes (16 - count))) ≡ 16 = length-zip2 bit_and (replicate 16 r) (kept_lanes (16 - count)) (sym many) in
-    same_number_lists _ _ (long ∙ search (rules, places)) (λ i inside.
-    let near : i < 16 = omega (arith, long) in
-    let lane : get_or (zip2 bit_and (replicate 16 r) (kept_lanes (16 - count))) i 0 ≡ bit_and r (cond (nat_lt (16 - count + i) 16) 255 0) =
-    get_or-zip2 bit_and (replicate 16 r) (kept_lanes (16 - count)) i 0 0 0 near (omega (arith, many))
-    ∙ ap₂ bit_and (get_or-replicate 16 i r 0 near) (get_or-kept_lanes (16 - count) i (omega arith) near) in
-    lane ∙ byte_kept r small (nat_lt (16 - count + i) 16) ∙ kept_at r count i few)
+-- the first of one byte again and again
+pub pad-take_replicate : (r count : ℕ) → count ≤ 16 → pad (take count (replicate 16 r)) 16 ≡ pad (replicate count r) 16
+pad-take_replicate r count few = same_lists _ _ (search (rules, places)) (λ k d h. grind (arith, places))
 
 -- ---- characters among bytes
 

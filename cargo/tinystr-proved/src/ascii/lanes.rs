@@ -1,28 +1,9 @@
-//! Eight bytes at once, and sixteen.
+//! Sixteen bytes at once.
 
 use crate::ascii::TinyAsciiStr;
 use crate::simd::*;
 use crate::words::int_ops::Aligned16;
 use crate::words::padded::resize;
-
-// Eight of these from 8 - n on keep n lanes, and clear the others.
-static KEPT_LANES: [u8; 16] = [
-    255, 255, 255, 255, 255, 255, 255, 255, //
-    0, 0, 0, 0, 0, 0, 0, 0, //
-];
-
-/// The first lanes, as many as `len` says, and then NULs.
-///
-/// # Contract
-///
-/// ```text
-/// requires { len ≤ 8 }
-/// ensures { result ≡ pad (take len lanes) 8 }
-/// ```
-#[inline(always)]
-pub(crate) fn first_lanes(lanes: u8x8, len: usize) -> u8x8 {
-    lanes & u8x8::from_slice(&KEPT_LANES[8 - len..])
-}
 
 /// The first sixteen bytes of the text, and then NULs.
 ///
@@ -40,25 +21,6 @@ pub(crate) fn first_sixteen(bytes: &[u8]) -> u8x16 {
         Some(sixteen) => u8x16::from_array(*sixteen),
         None => Aligned16::from_padded(bytes).to_lanes(),
     }
-}
-
-/// So many of the first bytes of a text, and then NULs. The lanes are compared with their places; `first_lanes` has a
-/// table.
-///
-/// # Contract
-///
-/// ```text
-/// requires len { length lanes ≡ 16 }
-/// requires padded { IsPadded lanes }
-/// requires count { count ≤ 16 }
-/// ensures padded { IsPadded result }
-/// ensures text { text_of result ≡ take count (text_of lanes) }
-/// ```
-#[inline(always)]
-pub(crate) fn kept(lanes: u8x16, count: usize) -> u8x16 {
-    let places = u8x16::from_array([0, 1, 2, 3, 4, 5, 6, 7, 8, 9, 10, 11, 12, 13, 14, 15]);
-    let is_kept = places.simd_lt(u8x16::splat(count as u8));
-    is_kept.select(lanes, u8x16::splat(0))
 }
 
 /// The text in the lanes, which has to fit.

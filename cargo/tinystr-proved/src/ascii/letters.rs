@@ -1,8 +1,8 @@
 //! The letters that bytes begin with.
 
 use crate::ascii::TinyAsciiStr;
-use crate::ascii::lanes::first_lanes;
 use crate::simd::*;
+use crate::words::padded::first_lanes_of_eight;
 use crate::words::word::Word;
 
 impl TinyAsciiStr<8> {
@@ -29,7 +29,7 @@ impl TinyAsciiStr<8> {
         // the bit that an uppercase letter lacks makes a letter of no other byte
         let lowered = front_lanes(code_units) | u8x8::splat(0x20);
         let len = lowercase_lanes(lowered);
-        let letters = first_lanes(lowered, len).to_array();
+        let letters = first_lanes_of_eight(lowered, len).to_array();
         (TinyAsciiStr::from_padded(letters), len)
     }
 }

@@ -1,10 +1,10 @@
 //! A byte found in a text, and texts split at it.
 
 use crate::ascii::TinyAsciiStr;
-use crate::ascii::lanes::{first_sixteen, kept, text_of_lanes};
+use crate::ascii::lanes::{first_sixteen, text_of_lanes};
 use crate::simd::*;
 use crate::words::int_ops::Aligned8;
-use crate::words::padded::resize_at_once;
+use crate::words::padded::{first_lanes_of_sixteen, resize_at_once};
 use crate::words::word::Word;
 
 /// An iterator over the parts of a text, in order. A contract sees it as the list of those that are left.
@@ -198,7 +198,10 @@ fn split_around(text: TinyAsciiStr<8>, at: usize) -> (TinyAsciiStr<8>, TinyAscii
 fn split_first<const N: usize>(bytes: &[u8], separator: u8) -> (TinyAsciiStr<N>, Option<&[u8]>) {
     let lanes = first_sixteen(bytes);
     match find_in_sixteen(lanes, separator) {
-        Some(at) => (text_of_lanes(kept(lanes, at)), Some(&bytes[at + 1..])),
+        Some(at) => (
+            text_of_lanes(first_lanes_of_sixteen(lanes, at)),
+            Some(&bytes[at + 1..]),
+        ),
         None if bytes.len() <= 16 || bytes[16] == 0 => (text_of_lanes(lanes), None),
         None => split_first_by_copy(bytes, separator),
     }
@@ -240,7 +243,8 @@ fn find_past_sixteen(bytes: &[u8], byte: u8) -> Option<usize> {
     None
 }
 
-// Where the byte first stands in a text of at most sixteen bytes, all asked at once. A NUL stands behind it alone.
+// Where the byte first stands in a text of at most sixteen bytes, all asked at once. NULs stand only behind the text, so
+// a NUL isn't found.
 // Proved:
 //     requires len { length lanes ≡ 16 }
 //     requires padded { IsPadded lanes }

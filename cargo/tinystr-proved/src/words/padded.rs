@@ -6,6 +6,7 @@ mod code_units;
 mod concatenation;
 mod copying;
 mod equality;
+mod first_lanes;
 mod order;
 mod padding;
 mod replacing;
@@ -17,6 +18,7 @@ use crate::words::{Case, Question};
 pub use code_units::{lossy, low_bytes, read_all};
 use concatenation::{concat_in_memory, concat_in_vectors, concat_in_word, fit_vectors};
 pub use copying::{resize, resize_at_once};
+pub use first_lanes::{first_lanes_of_eight, first_lanes_of_sixteen};
 pub use order::{compare, number};
 
 /// The words that take padded bytes: the narrowest that holds them all, since it takes the fewest steps to load and to

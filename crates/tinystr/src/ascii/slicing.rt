@@ -3,10 +3,10 @@
 ghost use Rattle.std.specs.Prelude.{◌≡◌, ◌≤◌, ◌-◌, take, drop};
 
 use crate::ascii::TinyAsciiStr;
-use crate::ascii::lanes::{first_lanes, first_sixteen, kept, text_of_lanes};
+use crate::ascii::lanes::{first_sixteen, text_of_lanes};
 use std::ops::Range;
 use std::simd::prelude::*;
-use tinystr_words::padded::{resize, resize_at_once};
+use tinystr_words::padded::{first_lanes_of_eight, first_lanes_of_sixteen, resize, resize_at_once};
 
 impl<const N: usize> TinyAsciiStr<N> {
     /// The bytes of the text at a range of indices, as a text of capacity `M`: those that exist, and at most the first
@@ -68,11 +68,11 @@ impl<const N: usize> TinyAsciiStr<N> {
         }
         let bytes = &self.bytes[..];
         if N <= 8 {
-            let lanes = first_lanes(u8x8::from_array(resize(bytes)), len);
+            let lanes = first_lanes_of_eight(u8x8::from_array(resize(bytes)), len);
             return TinyAsciiStr::from_padded(resize(&lanes.to_array()[..]));
         }
         if len <= 16 {
-            return text_of_lanes(kept(first_sixteen(bytes), len));
+            return text_of_lanes(first_lanes_of_sixteen(first_sixteen(bytes), len));
         }
         TinyAsciiStr::from_padded(resize_at_once(&bytes[..len]))
     }

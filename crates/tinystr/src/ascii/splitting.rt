@@ -8,12 +8,12 @@ ghost use Rattle.tinystr_words.specs.Text.{IsPadded, text_of};
 ghost use Rattle.tinystr.specs.Private.Splitting.{parts_left};
 
 use crate::ascii::TinyAsciiStr;
-use crate::ascii::lanes::{first_sixteen, kept, text_of_lanes};
+use crate::ascii::lanes::{first_sixteen, text_of_lanes};
 use crate::laws;
 use std::marker::Model;
 use std::simd::prelude::*;
 use tinystr_words::int_ops::Aligned8;
-use tinystr_words::padded::resize_at_once;
+use tinystr_words::padded::{first_lanes_of_sixteen, resize_at_once};
 use tinystr_words::word::Word;
 
 /// An iterator over the parts of a text, in order. A contract sees it as the list of those that are left.
@@ -206,7 +206,10 @@ fn split_first<const N: usize>(bytes: &[u8], separator: u8) -> (TinyAsciiStr<N>,
 {
     let lanes = first_sixteen(bytes);
     match find_in_sixteen(lanes, separator) {
-        Some(at) => (text_of_lanes(kept(lanes, at)), Some(&bytes[at + 1..])),
+        Some(at) => (
+            text_of_lanes(first_lanes_of_sixteen(lanes, at)),
+            Some(&bytes[at + 1..]),
+        ),
         None if bytes.len() <= 16 || bytes[16] == 0 => (text_of_lanes(lanes), None),
         None => split_first_by_copy(bytes, separator),
     }
@@ -249,7 +252,8 @@ fn find_past_sixteen(bytes: &[u8], byte: u8) -> Option<usize>
     None
 }
 
-// Where the byte first stands in a text of at most sixteen bytes, all asked at once. A NUL stands behind it alone.
+// Where the byte first stands in a text of at most sixteen bytes, all asked at once. NULs stand only behind the text, so
+// a NUL isn't found.
 #[inline(always)]
 fn find_in_sixteen(lanes: u8x16, byte: u8) -> Option<usize>
     requires len { length lanes ≡ 16 }

@@ -6,15 +6,10 @@ ghost use Rattle.tinystr_words.specs.Text.{pad};
 ghost use Rattle.tinystr_words.specs.Reading.{lossy_byte};
 
 use super::copying::resize;
+use super::first_lanes::first_lanes_of_sixteen;
 use crate::code_unit::CHARACTERS;
 use crate::word::{Word, lanes};
 use std::simd::prelude::*;
-
-// Of sixteen lanes from a place on, those that are kept, and those that are cleared.
-static KEPT_LANES: [u8; 32] = [
-    255, 255, 255, 255, 255, 255, 255, 255, 255, 255, 255, 255, 255, 255, 255, 255, //
-    0, 0, 0, 0, 0, 0, 0, 0, 0, 0, 0, 0, 0, 0, 0, 0, //
-];
 
 /// At most sixteen bytes, with the replacement for each that isn't a character, and then NULs.
 #[inline(always)]
@@ -43,5 +38,5 @@ fn replacements(replacement: u8, count: usize) -> u8x16
     requires { count ≤ 16 }
     ensures { result ≡ pad (replicate count replacement) 16 }
 {
-    u8x16::splat(replacement) & u8x16::from_slice(&KEPT_LANES[16 - count..])
+    first_lanes_of_sixteen(u8x16::splat(replacement), count)
 }

@@ -2,15 +2,10 @@
 //! registers: a load of bytes that were stored in pieces would wait for them.
 
 use super::copying::resize;
+use super::first_lanes::first_lanes_of_sixteen;
 use crate::words::code_unit::CHARACTERS;
 use crate::words::word::{Word, lanes};
 use crate::simd::*;
-
-// Of sixteen lanes from a place on, those that are kept, and those that are cleared.
-static KEPT_LANES: [u8; 32] = [
-    255, 255, 255, 255, 255, 255, 255, 255, 255, 255, 255, 255, 255, 255, 255, 255, //
-    0, 0, 0, 0, 0, 0, 0, 0, 0, 0, 0, 0, 0, 0, 0, 0, //
-];
 
 /// At most sixteen bytes, with the replacement for each that isn't a character, and then NULs.
 ///
@@ -43,5 +38,5 @@ fn lossy_lanes(bytes: &[u8], replacement: u8) -> u8x16 {
 //     ensures { result ≡ pad (replicate count replacement) 16 }
 #[inline(always)]
 fn replacements(replacement: u8, count: usize) -> u8x16 {
-    u8x16::splat(replacement) & u8x16::from_slice(&KEPT_LANES[16 - count..])
+    first_lanes_of_sixteen(u8x16::splat(replacement), count)
 }

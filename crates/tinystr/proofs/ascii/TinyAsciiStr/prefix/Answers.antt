@@ -1,21 +1,22 @@
 use Rattle.std.proofs.Common.{◌∙◌, take, ap, arith, rules}
 use Rattle.std.proofs.lemmas.List.{length-take, take-take, take_all}
 use Rattle.tinystr_words.specs.Text.{text_of}
+use Rattle.tinystr_words.proofs.KeptLanes.{IsPadded-first_lanes}
 use Rattle.tinystr_words.proofs.Texts.{IsPaddedText-take, text_of-take}
-use Rattle.tinystr.proofs.EightLanes.{IsPadded-first_lanes, IsPadded-whole}
+use Rattle.tinystr.proofs.EightLanes.{IsPadded-whole}
 use Rattle.tinystr.proofs.ascii.TinyAsciiStr.prefix.Goals as goal
 
 pub from_padded-requires : goal.from_padded-requires
 from_padded-requires g c =
     let eight = c.resize.ensures.padded (IsPadded-whole c.self.inside.bytes g.row.N c.self.invariant) in
-    let made = IsPadded-first_lanes c.resize.result c.first_lanes-lanes.result c.args.len eight (omega arith) c.first_lanes-lanes.ensures in
+    let made = IsPadded-first_lanes c.resize.result c.first_lanes_of_eight-lanes.result 8 c.args.len eight (omega arith) c.first_lanes_of_eight-lanes.ensures in
     (search rules, (search rules, c.resize-then-this-le8.ensures.padded made.0))
 
 pub returns-then-this-le8 : goal.returns-then-this-le8
 returns-then-this-le8 g c =
     let t = text_of c.self.inside.bytes in
     let whole = IsPadded-whole c.self.inside.bytes g.row.N c.self.invariant in
-    let made = IsPadded-first_lanes c.resize.result c.first_lanes-lanes.result c.args.len (c.resize.ensures.padded whole) (omega arith) c.first_lanes-lanes.ensures in
+    let made = IsPadded-first_lanes c.resize.result c.first_lanes_of_eight-lanes.result 8 c.args.len (c.resize.ensures.padded whole) (omega arith) c.first_lanes_of_eight-lanes.ensures in
     let fits = c.self.invariant.fits in
     c.from_padded.ensures ∙ c.resize-then-this-le8.ensures.text made.0
     ∙ ap (take g.row.N) (made.1 ∙ ap (take c.args.len) (c.resize.ensures.text whole ∙ take_all 8 t (omega arith)))
@@ -25,13 +26,17 @@ returns-then-this-le8 g c =
 pub text_of_lanes-requires : goal.text_of_lanes-requires
 text_of_lanes-requires g c =
     let t = text_of c.self.inside.bytes in
-    let kept = c.kept.ensures.text ∙ ap (take c.args.len) c.first_sixteen.ensures.text in
-    (search rules, (c.kept.ensures.padded, rw kept (omega (arith, length-take c.args.len (take 16 t), length-take 16 t, c.self.invariant.fits))))
+    let sixteen = rw c.first_sixteen.ensures.len at c.first_sixteen.ensures.padded in
+    let made = IsPadded-first_lanes c.first_sixteen.result c.first_lanes_of_sixteen.result 16 c.args.len sixteen (omega arith) c.first_lanes_of_sixteen.ensures in
+    let front = made.1 ∙ ap (take c.args.len) c.first_sixteen.ensures.text in
+    (search rules, (made.0, rw front (omega (arith, length-take c.args.len (take 16 t), length-take 16 t, c.self.invariant.fits))))
 
 pub returns-then-len-le16 : goal.returns-then-len-le16
 returns-then-len-le16 g c =
     let t = text_of c.self.inside.bytes in
-    c.text_of_lanes.ensures ∙ c.kept.ensures.text ∙ ap (take c.args.len) c.first_sixteen.ensures.text ∙ take-take c.args.len 16 t (omega arith)
+    let sixteen = rw c.first_sixteen.ensures.len at c.first_sixteen.ensures.padded in
+    let made = IsPadded-first_lanes c.first_sixteen.result c.first_lanes_of_sixteen.result 16 c.args.len sixteen (omega arith) c.first_lanes_of_sixteen.ensures in
+    c.text_of_lanes.ensures ∙ made.1 ∙ ap (take c.args.len) c.first_sixteen.ensures.text ∙ take-take c.args.len 16 t (omega arith)
     ∙ ap (take c.args.len) c.self.view_is
 
 pub resize_at_once-requires : goal.resize_at_once-requires

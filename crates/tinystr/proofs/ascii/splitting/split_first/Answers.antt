@@ -1,29 +1,43 @@
-use Rattle.std.proofs.Common.{ℕ, ◌==◌, ◌≡◌, ◌≤◌, ◌+◌, ◌∙◌, Some, ap, arith, length, position, sym, take, take_all, rules}
+use Rattle.std.proofs.Common.{ℕ, ◌==◌, ◌≡◌, ◌≤◌, ◌+◌, ◌∙◌, Some, arith, length, position, sym, take, take_all, rules}
 use Rattle.std.proofs.lemmas.Bool.Decides.{nat_tests}
-use Rattle.std.proofs.lemmas.List.{length-drop, length-take, take_rest, take-take}
-use Rattle.std.proofs.lemmas.List.Quantifiers.{position-Some}
+use Rattle.std.proofs.lemmas.List.{length-drop, length-take, take_rest}
 use Rattle.tinystr_words.specs.Text.{text_of}
 use Rattle.tinystr_words.proofs.Positions.{position-front}
 use Rattle.tinystr_words.proofs.Texts.{length-text_of-le}
-use Rattle.tinystr.proofs.Splits.{IsPadded-rest, length-text_of-nul, slice_split-padded, slice_split-whole}
+use Rattle.tinystr.proofs.Splits.{IsPadded-before_found, IsPadded-rest, length-text_of-nul, slice_split-padded, slice_split-whole}
 use Rattle.tinystr.proofs.ascii.splitting.split_first.Goals as goal
 use Rattle.tinystr.proofs.ascii.splitting.split_first.Goals.{then-bytes-le16, else-bytes-le16}
 
 pub text_of_lanes-requires : goal.text_of_lanes-requires
 text_of_lanes-requires g c =
-    let t = text_of c.args.bytes.now in
-    let kept = c.kept.ensures.text ∙ ap (take c.in-Some.at) c.first_sixteen-lanes.ensures.text in
-    (search rules, (c.kept.ensures.padded, rw kept (omega (arith, length-take c.in-Some.at (take 16 t), length-take 16 t, length-text_of-le c.args.bytes.now))))
+    let bytes = c.args.bytes.now in
+    let lanes = c.first_sixteen-lanes.ensures in
+    let found = IsPadded-before_found (λ b. b == c.args.separator) bytes c.first_sixteen-lanes.result c.first_lanes_of_sixteen.result c.in-Some.at lanes.len lanes.padded lanes.text c.in-Some.ensures c.first_lanes_of_sixteen.ensures in
+    (search rules, (found.1, rw found.2 (omega (arith, length-take c.in-Some.at (text_of bytes), length-text_of-le bytes))))
+
+pub slice_bounds-result-count : goal.slice_bounds-result-count
+slice_bounds-result-count g c =
+    let bytes = c.args.bytes.now in
+    let lanes = c.first_sixteen-lanes.ensures in
+    let found = IsPadded-before_found (λ b. b == c.args.separator) bytes c.first_sixteen-lanes.result c.first_lanes_of_sixteen.result c.in-Some.at lanes.len lanes.padded lanes.text c.in-Some.ensures c.first_lanes_of_sixteen.ensures in
+    omega (arith, found.0, length-text_of-le bytes)
+
+pub slice_bounds-result-start : goal.slice_bounds-result-start
+slice_bounds-result-start g c =
+    let bytes = c.args.bytes.now in
+    let lanes = c.first_sixteen-lanes.ensures in
+    let found = IsPadded-before_found (λ b. b == c.args.separator) bytes c.first_sixteen-lanes.result c.first_lanes_of_sixteen.result c.in-Some.at lanes.len lanes.padded lanes.text c.in-Some.ensures c.first_lanes_of_sixteen.ensures in
+    omega (arith, found.0, length-text_of-le bytes)
 
 pub returns-in-Some-clause-parts : goal.returns-in-Some-clause-parts
 returns-in-Some-clause-parts g c =
     let bytes = c.args.bytes.now in
     let p = λ (b : ℕ). b == c.args.separator in
     let t = text_of bytes in
-    let at : position p (take 16 t) ≡ Some c.in-Some.at = rw c.first_sixteen-lanes.ensures.text at (sym c.in-Some.ensures) in
-    let inside = position-Some p (take 16 t) c.in-Some.at 0 at in
-    slice_split-padded p bytes c.text_of_lanes.result c.in-Some.at c.requires.padded (position-front p t 16 c.in-Some.at at)
-    (c.text_of_lanes.ensures ∙ c.kept.ensures.text ∙ ap (take c.in-Some.at) c.first_sixteen-lanes.ensures.text ∙ take-take c.in-Some.at 16 t (omega (arith, inside.0, length-take 16 t)))
+    let lanes = c.first_sixteen-lanes.ensures in
+    let at : position p (take 16 t) ≡ Some c.in-Some.at = rw lanes.text at (sym c.in-Some.ensures) in
+    let found = IsPadded-before_found p bytes c.first_sixteen-lanes.result c.first_lanes_of_sixteen.result c.in-Some.at lanes.len lanes.padded lanes.text c.in-Some.ensures c.first_lanes_of_sixteen.ensures in
+    slice_split-padded p bytes c.text_of_lanes.result c.in-Some.at c.requires.padded (position-front p t 16 c.in-Some.at at) (c.text_of_lanes.ensures ∙ found.2)
 
 pub returns-in-Some-clause-rest : goal.returns-in-Some-clause-rest
 returns-in-Some-clause-rest g c =

@@ -1,6 +1,6 @@
-use Rattle.std.proofs.Common.{arith}
-use Rattle.tinystr_words.proofs.Replacing.{zip2-kept_lanes}
+use Rattle.std.proofs.Common.{◌∙◌}
+use Rattle.tinystr_words.proofs.Replacing.{pad-take_replicate}
 use Rattle.tinystr_words.proofs.padded.replacing.replacements.Goals as goal
 
 pub returns : goal.returns
-returns c = zip2-kept_lanes c.args.replacement c.args.count (omega arith) c.requires
+returns c = c.first_lanes_of_sixteen.ensures ∙ pad-take_replicate c.args.replacement c.args.count c.requires

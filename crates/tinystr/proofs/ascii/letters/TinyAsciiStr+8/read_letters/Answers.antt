@@ -7,7 +7,7 @@ use Rattle.tinystr.proofs.ascii.letters.TinyAsciiStr+8.read_letters.Goals as goa
 pub from_padded-requires : goal.from_padded-requires
 from_padded-requires c =
     let read = letters-read c.args.code_units.now c.front_lanes.result c.lowercase_lanes-len.result c.type_inv.code_units c.front_lanes.ensures c.lowercase_lanes-len.ensures.len in
-    (lit< tt, (lit< tt, IsPaddedText-made _ _ 8 (c.first_lanes-letters.ensures ∙ ap (λ t. pad t 8) read.1) read.2))
+    (lit< tt, (lit< tt, IsPaddedText-made _ _ 8 (c.first_lanes_of_eight-letters.ensures ∙ ap (λ t. pad t 8) read.1) read.2))
 
 pub returns-clause-len : goal.returns-clause-len
 returns-clause-len c = (letters-read c.args.code_units.now c.front_lanes.result c.lowercase_lanes-len.result c.type_inv.code_units c.front_lanes.ensures c.lowercase_lanes-len.ensures.len).0
@@ -15,4 +15,4 @@ returns-clause-len c = (letters-read c.args.code_units.now c.front_lanes.result 
 pub returns-clause-text : goal.returns-clause-text
 returns-clause-text c =
     let read = letters-read c.args.code_units.now c.front_lanes.result c.lowercase_lanes-len.result c.type_inv.code_units c.front_lanes.ensures c.lowercase_lanes-len.ensures.len in
-    c.from_padded.ensures ∙ text_of-made _ _ 8 (c.first_lanes-letters.ensures ∙ ap (λ t. pad t 8) read.1) read.2.text
+    c.from_padded.ensures ∙ text_of-made _ _ 8 (c.first_lanes_of_eight-letters.ensures ∙ ap (λ t. pad t 8) read.1) read.2.text
