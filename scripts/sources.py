@@ -5,6 +5,7 @@ from dataclasses import dataclass
 from pathlib import Path
 
 TOP = Path(__file__).resolve().parent.parent
+LAWS = "src/laws.rt"
 FUNCTION = re.compile(r'( *)(?:pub(?:\([a-z]+\))? )?(?:const )?(?:extern "C" )?fn (\w+)')
 CONSTANT = re.compile(r"( *)(?:pub(?:\([a-z]+\))? )?(?:const|static) ([A-Z]\w*)\b")
 BLOCK = re.compile(r"(?:pub )?(?:impl|trait)\b")
@@ -13,8 +14,8 @@ ARM = re.compile(r" +(?:\| )?(?:Width|Question|Case|Command|TextCall|Self)::\w+.
 
 @dataclass(frozen=True)
 class Item:
-    """A function with a body, a law or a constant: its file, the head of its impl or trait, its name, and where its body
-    stands or, of a law that computes nothing, its statement."""
+    """A function with a body, a law or a constant: its file, the head of its impl or trait, its name, where its body (or,
+    of a law, its head, clauses and body) begins and ends, and where its code begins, which is the end of one without."""
 
     file: str
     block: str
@@ -22,6 +23,7 @@ class Item:
     is_constant: bool
     start: int
     end: int
+    code: int
 
     def key(self):
         return self.file, self.block, self.name
@@ -45,22 +47,30 @@ class Item:
 
 
 def items(file, text):
-    """The functions with a body, the laws that have none, and the constants, of a source."""
+    """The functions with a body, the laws, and the constants, of a source."""
     found, block, at = [], "", 0
     lines, starts = text.split("\n"), []
     for line in lines:
         starts.append(at)
         at += len(line) + 1
+
+    def end_of(number):
+        return starts[number] + len(lines[number])
+
     for number, line in enumerate(lines):
         if re.match(r"\S", line) and not line.startswith(("//", "#", ")", "{")):
             block = line if BLOCK.match(line) else ""
         function, constant = FUNCTION.match(line), CONSTANT.match(line)
-        if function and (body := body_of(lines, number, function[1]) or statement_of(file, lines, number)):
+        if function and (body := body_of(lines, number, function[1])):
             first, last = body
-            found.append(Item(file, block, function[2], False, starts[first], starts[last] + len(lines[last])))
+            start = number if file == LAWS else first
+            found.append(Item(file, block, function[2], False, starts[start], end_of(last), starts[first]))
+        elif function and file == LAWS:
+            end = end_of(lines.index("{}", number))
+            found.append(Item(file, block, function[2], False, starts[number], end, end))
         elif constant:
             last = next(it for it in range(number, len(lines)) if lines[it].endswith(";"))
-            found.append(Item(file, block, constant[2], True, starts[number], starts[last] + len(lines[last])))
+            found.append(Item(file, block, constant[2], True, starts[number], end_of(last), starts[number]))
     return found
 
 
@@ -75,11 +85,6 @@ def body_of(lines, number, indent):
         if line == indent + "{}" or line == "}" or at > number and FUNCTION.match(line):
             return None
     return None
-
-
-def statement_of(file, lines, number):
-    """The lines of a law that computes nothing, from its head to its empty body."""
-    return (number, lines.index("{}", number)) if file == "src/laws.rt" else None
 
 
 def texts_of(crate):

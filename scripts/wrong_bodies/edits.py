@@ -46,6 +46,11 @@ class Edit:
         named = [it for it in inside if it.is_named_by(self.function)]
         return named[0] if named else inside[0] if len(inside) == 1 else None
 
+    def turns_contract(self, item, texts):
+        """Whether it turns what a law with a body says, which its callers see."""
+        head = texts[self.file][item.start : item.code]
+        return item.code < item.end and any(old in head for old, _ in self.pairs)
+
     def place(self, texts):
         """Where it stands among its source's edits: by what it turns, and then by its name."""
         target = self.target(texts)

@@ -1,8 +1,8 @@
 """Groups of a crate's edits, each of which one check tries: no two edits of a group turn one function.
 
 A function is checked against contracts alone, so wrong bodies of different functions don't see one another. An edit of
-a constant, or of what is no function's body, is alone. Each group has controls: neutral and disturbed edits, and the
-first wrong body of the crate, which is tried again in each later group.
+a constant, of what a law with a body says, or of what is no function's body, is alone. Each group has controls: neutral
+and disturbed edits, and the first wrong body of the crate, which is tried again in each later group.
 """
 
 from dataclasses import dataclass
@@ -30,8 +30,8 @@ class Group:
     def texts(self, texts):
         """The texts of the crate, by file, with the edits applied."""
         changed = dict(texts)
-        for edit, item in zip(self.edits, self.turned):
-            edit.apply(changed, item)
+        for edit in self.edits:
+            edit.apply(changed, edit.target(texts))
         return changed
 
     def of(self, bodies):
@@ -61,7 +61,7 @@ def groups_of(edits, texts, only=()):
 def grouped(edits, controls, texts):
     """The groups of a crate's wrong bodies and controls: two of one function are in two groups."""
     turned = {it.name: target_of(it, texts) for it in [*edits, *controls]}
-    alone = [it for it in edits if not turned[it.name] or turned[it.name].is_constant]
+    alone = [it for it in edits if is_seen_by_others(it, turned[it.name], texts)]
     left, groups = [it for it in edits if it not in alone], []
     known = left[:1]
     while left:
@@ -77,6 +77,11 @@ def grouped(edits, controls, texts):
         groups.append(Group(tuple(group), tuple(turned[it.name] for it in group)))
         left = [it for it in left if it not in group]
     return groups + [Group((it,), (None,)) for it in alone]
+
+
+def is_seen_by_others(edit, item, texts):
+    """Whether it turns what the proofs of other functions see: a constant, what a law says, or what is no function."""
+    return not item or item.is_constant or edit.turns_contract(item, texts)
 
 
 def target_of(edit, texts):
