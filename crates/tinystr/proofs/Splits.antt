@@ -7,7 +7,7 @@ use Rattle.std.proofs.lemmas.Bool.{cases_lt}
 use Rattle.std.proofs.lemmas.Bool.Decides.{nat_tests}
 use Rattle.std.proofs.lemmas.List.{length-take, take-take, get_or_default, places, take_rest}
 use Rattle.std.proofs.lemmas.List.Quantifiers.{position-Some}
-use Rattle.std.proofs.lemmas.Simd.{bitmask_splat, leading_from_mask_l, trailing_mask_l}
+use Rattle.std.proofs.lemmas.Simd.{bitmask_splat, first_set_mask_l}
 use Rattle.std.proofs.lemmas.List.Sums.{fails_before_first, passes_at_first, position_or_len_is}
 use Rattle.tinystr_words.specs.Text.{IsPadded, IsPaddedText, IsText, pad, text_of}
 use Rattle.tinystr_words.proofs.KeptLanes.{IsPadded-first_lanes}
@@ -65,7 +65,8 @@ pub position-marks : (lanes : List ℕ) (byte : ℕ) → length lanes ≡ 16
 position-marks lanes byte long =
     let p : ℕ → Bool = λ b. eqb b byte in
     let is : marks lanes byte ≡ mask_l (map p lanes) = bitmask_splat w8 eqb lanes 16 byte long (omega arith) in
-    rw is ((λ none. let end = leading_from_mask_l p lanes none in grind (arith, nat_tests)), (λ some. let inside = position_or_len-lt p lanes some in let at = trailing_mask_l p 64 lanes (omega arith) some in grind (arith, nat_tests)))
+    let first = first_set_mask_l p lanes 16 long (omega arith) in
+    rw is ((λ none. grind (arith, nat_tests, first, none)), (λ some. let inside = position_or_len-lt p lanes some in grind (arith, nat_tests, first)))
 
 -- ---- the first sixteen bytes
 
