@@ -1,13 +1,17 @@
 -- The letters in front of an input, and its first subtag.
-use Rattle.std.proofs.Common.{◌≡◌, ◌<◌, ◌≤◌, ℕ, true, false, not, List, ◌∷◌, Option, length, take, get_or, take_all, refl, ap, sym, ◌∙◌, arith}
+use Rattle.std.proofs.Common.{◌≡◌, ◌<◌, ◌≤◌, ℕ, Bool, true, false, not, ◌==◌, List, ◌∷◌, Option, length, take, get_or, take_all, refl, ap, sym, ◌∙◌, arith}
 use Rattle.std.specs.Prelude.{IsTrue}
+use Rattle.std.specs.Bool.{then_some}
+use Rattle.std.specs.Option.{SomeIff}
 use Rattle.std.specs.List.{list_all, position_or_len, prefix_len}
 use Rattle.std.proofs.lemmas.Bool.{false_from_ne_true, false≢true}
 use Rattle.std.proofs.lemmas.Bool.Decides.{nat_tests}
 use Rattle.std.proofs.lemmas.List.{length-take, get_or-take}
 use Rattle.std.proofs.lemmas.List.Sums.{prefix_len_is, prefix_len_passes, prefix_len-le-length, position_or_len_is, passes_at_first, AllPass-from_list_all, list_all-from_AllPass}
-use Rattle.tinystr_words.specs.Classes.{is_alphabetic}
+use Rattle.tinystr_words.specs.Classes.{is_alphabetic, is_alphanumeric}
+use Rattle.tinystr_words.specs.Case.{lowercase}
 use Rattle.subtags.specs.Grammar.{is_separator, is_language, is_language_length, fold_text, subtags_of}
+use Rattle.subtags.proofs.FoldLemmas.{All-from_list_all, alphanumeric-from_subtag}
 use Rattle.subtags.proofs.SplitLemmas.{subtags_at_first_separator}
 use Rattle.subtags.specs.FromFront.{behind, ends_at, first_subtag, subtags_behind}
 
@@ -29,27 +33,19 @@ first_subtag-letters u h =
     (λ k below. rw (get_or-take 8 u k 0 (omega arith), sym (get_or-take i u k 0 below)) (all k 0 (omega arith)))
     (λ more. let hit = passes_at_first is_separator u 0 (omega arith) in rw (get_or-take 8 u i 0 (omega arith)) (grind (arith, nat_tests))))
 
--- and so is an input that is one
-language-all_letters : (u : List ℕ) → is_language u ≡ true → letters_in_front u ≡ length u
-language-all_letters u h =
-    let few : length u ≤ 8 = grind (arith, nat_tests) in
-    let letters : list_all is_alphabetic u ≡ true = grind arith in
-    rw (take_all 8 u few) (prefix_len_is is_alphabetic u (length u) 0 (omega arith) (λ k below. AllPass-from_list_all is_alphabetic u letters k 0 below) (λ more. absurd (omega arith)))
+-- an input that is a language is its own first subtag
+pub first_subtag-language : (u : List ℕ) → is_language u ≡ true → first_subtag u ≡ u
+first_subtag-language u h =
+    let others = All-from_list_all is_alphanumeric (λ b. is_separator b ≡ false) (λ b a. grind (arith, nat_tests)) u (alphanumeric-from_subtag u (grind arith)) in
+    let end : position_or_len is_separator u ≡ length u = position_or_len_is is_separator u (length u) 0 (omega arith) (λ k below. others k 0 below) (λ more. absurd (omega arith)) in
+    rw end (take_all (length u) u (omega arith))
 
--- letters in front that are all of an input are a language where they are as many as one has
-pub all_letters-language : (u : List ℕ) (n : ℕ) → n ≡ letters_in_front u → n ≡ length u → is_language_length n ≡ true → is_language u ≡ true
-all_letters-language u n is whole form =
-    let few : length u ≤ 8 = omega (arith, is, whole, prefix_len-le-length is_alphabetic (take 8 u), length-take 8 u) in
-    let all : prefix_len is_alphabetic u ≡ length u = rw (take_all 8 u few, whole) at (sym is) in
-    let letters : list_all is_alphabetic u ≡ true = list_all-from_AllPass is_alphabetic u (λ k d below. prefix_len_passes is_alphabetic u k d (omega (arith, all))) in
-    rw (letters, ← whole) form
-
--- and no others are
-pub not_all_letters-no_language : (u : List ℕ) (n : ℕ) → n ≡ letters_in_front u → (n ≡ length u → is_language_length n ≡ false) → ¬ IsTrue (is_language u)
-not_all_letters-no_language u n is wrong h =
-    let whole : n ≡ length u = is ∙ language-all_letters u h in
-    let form : is_language_length n ≡ true = rw whole (grind arith) in
-    false≢true (sym (wrong whole) ∙ form)
+-- an input whose first subtag is a language is one exactly if it is as long
+pub whole_language : (u t : List ℕ) → is_language (first_subtag u) ≡ true → t ≡ lowercase (first_subtag u) → (whole : Bool) → (length (first_subtag u) == length u) ≡ whole → SomeIff (then_some whole t) (IsTrue (is_language u)) (lowercase u)
+whole_language u t language is true same =
+    let all : first_subtag u ≡ u = take_all (position_or_len is_separator u) u (grind (arith, nat_tests, length-take (position_or_len is_separator u) u)) in
+    (rw all at language, is ∙ ap lowercase all)
+whole_language u t language is false other = λ h. false≢true (sym other ∙ rw (first_subtag-language u h) (grind (arith, nat_tests)))
 
 -- letters in front that end where all do, or before a separator, are the first subtag
 letters-first_subtag : (u : List ℕ) → ends_at (letters_in_front u) u ≡ true

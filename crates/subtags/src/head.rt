@@ -4,6 +4,7 @@ ghost use Rattle.std.specs.Prelude.{◌≡◌, ◌≤◌, IfSome, is_some, lengt
 ghost use Rattle.std.specs.Option.{option_copied};
 ghost use Rattle.tinystr_words.specs.Case.{lowercase};
 ghost use Rattle.subtags.specs.Grammar.{is_separator, is_language};
+ghost use Rattle.subtags.specs.Subtags.{IsCanonicalSubtag};
 ghost use Rattle.subtags.specs.FromFront.{behind, ends_at, first_subtag};
 
 use crate::language::{Language, is_language_length};
@@ -33,12 +34,13 @@ pub(crate) fn behind(units: &[u8], place: usize) -> Option<&[u8]>
     units.get(place + 1..)
 }
 
-/// Takes off the first subtag if it is a language, and gives it with the rest behind its separator.
+/// Reads the first subtag if it is a language, and gives it in lowercase with its length.
 #[inline]
-pub(crate) fn take_language(units: &[u8]) -> Option<(Language, Option<&[u8]>)>
+pub(crate) fn read_language(units: &[u8]) -> Option<(TinyStr8, usize)>
     ensures accepted { is_some result ≡ is_language (first_subtag units.now) }
-    ensures language { IfSome result (λ parts. parts.0 ≡ lowercase (first_subtag units.now)) }
-    ensures rest { IfSome result (λ parts. option_copied parts.1 ≡ behind (length (first_subtag units.now)) units.now) }
+    ensures text { IfSome result (λ read. read.0 ≡ lowercase (first_subtag units.now)) }
+    ensures canonical { IfSome result (λ read. IsCanonicalSubtag is_language lowercase read.0) }
+    ensures len { IfSome result (λ read. read.1 ≡ length (first_subtag units.now)) }
 {
     let (text, len) = TinyStr8::read_letters(units);
     if !is_language_length(len) {
@@ -47,5 +49,16 @@ pub(crate) fn take_language(units: &[u8]) -> Option<(Language, Option<&[u8]>)>
     if !ends_at(units, len) {
         return None;
     }
+    Some((text, len))
+}
+
+/// Takes off the first subtag if it is a language, and gives it with the rest behind its separator.
+#[inline]
+pub(crate) fn take_language(units: &[u8]) -> Option<(Language, Option<&[u8]>)>
+    ensures accepted { is_some result ≡ is_language (first_subtag units.now) }
+    ensures language { IfSome result (λ parts. parts.0 ≡ lowercase (first_subtag units.now)) }
+    ensures rest { IfSome result (λ parts. option_copied parts.1 ≡ behind (length (first_subtag units.now)) units.now) }
+{
+    let (text, len) = read_language(units)?;
     Some((Language::from_canonical(text), behind(units, len)))
 }

@@ -6,6 +6,7 @@ ghost use Rattle.subtags.specs.Grammar.{is_language, is_language_length};
 ghost use Rattle.subtags.specs.declared.error.LangIdError.TheVariants.{InvalidLanguage};
 
 use crate::error::LangIdError;
+use crate::head::read_language;
 use crate::subtag::{Subtag, SubtagKind};
 use tinystr::TinyAsciiStr;
 
@@ -34,12 +35,8 @@ impl SubtagKind<8> for LanguageKind {
 
     #[inline]
     fn read(code_units: &[u8]) -> Option<TinyAsciiStr<8>> {
-        let (text, len) = TinyAsciiStr::read_letters(code_units);
-        if len == code_units.len() && is_language_length(len) {
-            Some(text)
-        } else {
-            None
-        }
+        let (text, len) = read_language(code_units)?;
+        (len == code_units.len()).then_some(text)
     }
 
     fn refusal() -> LangIdError {

@@ -35,6 +35,28 @@ pub(crate) fn behind(units: &[u8], place: usize) -> Option<&[u8]> {
     units.get(place + 1..)
 }
 
+/// Reads the first subtag if it is a language, and gives it in lowercase with its length.
+///
+/// # Contract
+///
+/// ```text
+/// ensures accepted { is_some result ≡ is_language (first_subtag units.now) }
+/// ensures text { IfSome result (λ read. read.0 ≡ lowercase (first_subtag units.now)) }
+/// ensures canonical { IfSome result (λ read. IsCanonicalSubtag is_language lowercase read.0) }
+/// ensures len { IfSome result (λ read. read.1 ≡ length (first_subtag units.now)) }
+/// ```
+#[inline]
+pub(crate) fn read_language(units: &[u8]) -> Option<(TinyStr8, usize)> {
+    let (text, len) = TinyStr8::read_letters(units);
+    if !is_language_length(len) {
+        return None;
+    }
+    if !ends_at(units, len) {
+        return None;
+    }
+    Some((text, len))
+}
+
 /// Takes off the first subtag if it is a language, and gives it with the rest behind its separator.
 ///
 /// # Contract
@@ -46,12 +68,6 @@ pub(crate) fn behind(units: &[u8], place: usize) -> Option<&[u8]> {
 /// ```
 #[inline]
 pub(crate) fn take_language(units: &[u8]) -> Option<(Language, Option<&[u8]>)> {
-    let (text, len) = TinyStr8::read_letters(units);
-    if !is_language_length(len) {
-        return None;
-    }
-    if !ends_at(units, len) {
-        return None;
-    }
+    let (text, len) = read_language(units)?;
     Some((Language::from_canonical(text), behind(units, len)))
 }

@@ -1,6 +1,7 @@
 //! Languages.
 
 use crate::subtags::error::LangIdError;
+use crate::subtags::head::read_language;
 use crate::subtags::subtag::{Subtag, SubtagKind};
 use crate::TinyAsciiStr;
 
@@ -30,12 +31,8 @@ pub struct LanguageKind;
 impl SubtagKind<8> for LanguageKind {
     #[inline]
     fn read(code_units: &[u8]) -> Option<TinyAsciiStr<8>> {
-        let (text, len) = TinyAsciiStr::read_letters(code_units);
-        if len == code_units.len() && is_language_length(len) {
-            Some(text)
-        } else {
-            None
-        }
+        let (text, len) = read_language(code_units)?;
+        (len == code_units.len()).then_some(text)
     }
 
     fn refusal() -> LangIdError {

@@ -1,21 +1,13 @@
-use Rattle.std.proofs.Common.{◌≡◌, ◌∙◌, length, sym, take_all, arith}
-use Rattle.tinystr_words.specs.Case.{lowercase}
-use Rattle.subtags.proofs.FoldLemmas.{IsCanonicalSubtag-lowercase}
-use Rattle.subtags.proofs.HeadLemmas.{all_letters-language, not_all_letters-no_language}
+use Rattle.std.proofs.Common.{◌∙◌, ap, sym, refl}
+use Rattle.std.proofs.lemmas.Bool.{false≢true}
+use Rattle.subtags.specs.Grammar.{is_language}
+use Rattle.subtags.proofs.HeadLemmas.{first_subtag-language, whole_language}
 use Rattle.subtags.proofs.language.LanguageKindSubtagKind8.read.Goals as goal
-use Rattle.subtags.proofs.language.LanguageKindSubtagKind8.read.Goals.{else-len-code_units-via-then-len-code_units+else-is_language_length, else-len-code_units-via-else-len-code_units}
 
-pub returns-then-is_language_length : goal.returns-then-is_language_length
-returns-then-is_language_length c =
-    let u = c.args.code_units.now in
-    let whole : c.read_letters-text.result.1 ≡ length u = c.if-len-code_units.true in
-    let language = all_letters-language u c.read_letters-text.result.1 c.read_letters-text.ensures.len whole (sym c.is_language_length.ensures ∙ c.if-is_language_length.true) in
-    let text : c.read_letters-text.result.0 ≡ lowercase u = rw (whole, take_all (length u) u (omega arith)) at c.read_letters-text.ensures.text in
-    record { text = (language, text); canonical = rw text (IsCanonicalSubtag-lowercase u language) }
+pub returns-in_err-text-clause-text : goal.returns-in_err-text-clause-text
+returns-in_err-text-clause-text c = rw (c.from_residual.ensures) (λ h. false≢true (c.in_err-text.ensures.accepted ∙ ap is_language (first_subtag-language c.args.code_units.now h) ∙ h))
 
-pub returns-else-len-code_units-clause-text : goal.returns-else-len-code_units-clause-text
-returns-else-len-code_units-clause-text c =
-    not_all_letters-no_language c.args.code_units.now c.read_letters-text.result.1 c.read_letters-text.ensures.len (λ same. elim c.else-len-code_units.branch [
-      | else-len-code_units-via-then-len-code_units+else-is_language_length w ↦ sym w.is_language_length.ensures ∙ w.if-is_language_length.false
-      | else-len-code_units-via-else-len-code_units w ↦ absurd (w.if-len-code_units.false same)
-    ])
+pub returns-clause-text : goal.returns-clause-text
+returns-clause-text c =
+    let read = c.in_ok-text.ensures in
+    rw (c.then_some.ensures, read.len) (whole_language c.args.code_units.now c.in_ok-text.text (sym read.accepted) read.text _ refl)
