@@ -9,7 +9,7 @@ use Rattle.tinystr_words.specs.Classes.{is_alphanumeric}
 use Rattle.subtags.specs.declared.error.LangIdError.TheVariants.{InvalidSubtag}
 use Rattle.subtags.specs.Grammar.{dash, fold_text, subtags_of, is_script, is_region, is_tail, is_lang_id, IsLangId, canonical_subtag, canonical_subtags, canonical_text, IsCanonical}
 use Rattle.subtags.specs.Subtags.{join_subtags}
-use Rattle.subtags.specs.FromFront.{leading_script, behind_script, last_region}
+use Rattle.subtags.specs.ReadingSteps.{leading_script, subtags_after_script, last_region}
 use Rattle.subtags.proofs.FoldLemmas.{map-map_absorbed, fold_text-fold_text, fold_text-canonical_subtag, same_test_from_fold_text, is_script-fold_text, is_region-fold_text, alphanumeric-fold_text, alphanumeric-from_subtag}
 use Rattle.subtags.proofs.SplitLemmas.{subtags_of-fold_text, subtags_of-alphanumeric, subtags_of-append_dash}
 
@@ -70,11 +70,11 @@ pub leading_script-tail : (ps : List (List ℕ)) → is_tail ps ≡ true → lea
 leading_script-tail ps h = grind (arith, is_script-canonical_subtag)
 
 -- the region that is read behind the script is the one in the canonical text
-pub last_region-tail : (ps : List (List ℕ)) → is_tail ps ≡ true → last_region (behind_script ps) ≡ Ok (find is_region (map canonical_subtag ps))
+pub last_region-tail : (ps : List (List ℕ)) → is_tail ps ≡ true → last_region (subtags_after_script ps) ≡ Ok (find is_region (map canonical_subtag ps))
 last_region-tail ps h = grind (arith, is_region-canonical_subtag, no_script-from_region)
 
 -- what stands behind the language and isn't a tail is refused
-pub last_region-no_tail : (ps : List (List ℕ)) → is_tail ps ≡ false → last_region (behind_script ps) ≡ Err InvalidSubtag
+pub last_region-no_tail : (ps : List (List ℕ)) → is_tail ps ≡ false → last_region (subtags_after_script ps) ≡ Err InvalidSubtag
 last_region-no_tail ps h = grind arith
 
 -- the canonical subtags of a tail are a tail

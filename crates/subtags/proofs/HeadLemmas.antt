@@ -13,7 +13,7 @@ use Rattle.tinystr_words.specs.Case.{lowercase}
 use Rattle.subtags.specs.Grammar.{is_separator, is_language, is_language_length, fold_text, subtags_of}
 use Rattle.subtags.proofs.FoldLemmas.{All-from_list_all, alphanumeric-from_subtag}
 use Rattle.subtags.proofs.SplitLemmas.{subtags_at_first_separator}
-use Rattle.subtags.specs.FromFront.{behind, ends_at, first_subtag, subtags_behind}
+use Rattle.subtags.specs.ReadingSteps.{rest_after, ends_at, first_subtag, subtags_of_rest}
 
 -- how many letters an input begins with, among its first 8 bytes
 abbrev pub letters_in_front : List ℕ → ℕ
@@ -87,7 +87,7 @@ language-letters u n is form ends =
     (ap (λ m. take m u) (found.0 ∙ sym is), rw (letters, len, form) refl, len)
 
 -- the subtags are the first, and those behind it
-pub subtags_behind-first_subtag : (u : List ℕ) (rest : Option (List ℕ)) → rest ≡ behind (length (first_subtag u)) u → subtags_of (fold_text u) ≡ fold_text (first_subtag u) ∷ subtags_behind rest
-subtags_behind-first_subtag u rest is =
+pub subtags_of_rest-first_subtag : (u : List ℕ) (rest : Option (List ℕ)) → rest ≡ rest_after (length (first_subtag u)) u → subtags_of (fold_text u) ≡ fold_text (first_subtag u) ∷ subtags_of_rest rest
+subtags_of_rest-first_subtag u rest is =
     let len : length (first_subtag u) ≡ position_or_len is_separator u = omega (arith, length-take (position_or_len is_separator u) u, prefix_len-le-length (λ b. not (is_separator b)) u) in
     rw (is, len) (subtags_at_first_separator u)

@@ -7,7 +7,7 @@ use Rattle.tinystr_words.specs.Classes.{is_alphanumeric}
 use Rattle.tinystr_words.specs.Case.{lowercase, titlecase, uppercase}
 use Rattle.subtags.specs.Grammar.{fold_text, subtags_of, is_language, is_script, is_region, IsCanonical}
 use Rattle.subtags.specs.Subtags.{IsCanonicalSubtag, language_of, script_of, region_of, after_dash, join_subtags}
-use Rattle.subtags.specs.FromFront.{subtags_behind, leading_script, behind_script, last_region}
+use Rattle.subtags.specs.ReadingSteps.{subtags_of_rest, leading_script, subtags_after_script, last_region}
 use Rattle.subtags.proofs.FoldLemmas.{alphanumeric-fold_text, is_script-fold_text, alphanumeric-from_subtag, titlecase-fold_text}
 use Rattle.subtags.proofs.SplitLemmas.{subtags_of-alphanumeric, subtags_of-append_dash, last_region_of_region}
 use Rattle.subtags.proofs.CanonLemmas.{no_script-from_region}
@@ -23,17 +23,17 @@ tail_text None r = r
 tail_text (Some s) r = Some (s ++ after_dash r)
 
 -- letters and digits before a subtag, or before nothing, are split off, and folded
-subtags_of-append_after_dash : (p : List ℕ) (r : Option (List ℕ)) → list_all is_alphanumeric p ≡ true → subtags_of (fold_text (p ++ after_dash r)) ≡ fold_text p ∷ subtags_behind r
+subtags_of-append_after_dash : (p : List ℕ) (r : Option (List ℕ)) → list_all is_alphanumeric p ≡ true → subtags_of (fold_text (p ++ after_dash r)) ≡ fold_text p ∷ subtags_of_rest r
 subtags_of-append_after_dash p None h = rw append-nil (subtags_of-alphanumeric (fold_text p) (alphanumeric-fold_text p ∙ h))
 subtags_of-append_after_dash p (Some r) h = rw map-append (subtags_of-append_dash (fold_text p) (fold_text r) (alphanumeric-fold_text p ∙ h))
 
 -- joined subtags are split again
-subtags_of-join_subtags : (l : List ℕ) (s r : Option (List ℕ)) → is_language l ≡ true → subtags_of (fold_text (join_subtags l s r)) ≡ fold_text l ∷ subtags_behind (tail_text s r)
+subtags_of-join_subtags : (l : List ℕ) (s r : Option (List ℕ)) → is_language l ≡ true → subtags_of (fold_text (join_subtags l s r)) ≡ fold_text l ∷ subtags_of_rest (tail_text s r)
 subtags_of-join_subtags l None r h = subtags_of-append_after_dash l r (alphanumeric-from_subtag l (grind arith))
 subtags_of-join_subtags l (Some s) r h = subtags_of-append_after_dash l (Some (s ++ after_dash r)) (alphanumeric-from_subtag l (grind arith))
 
 -- a canonical region alone isn't a script, and is read as it is
-read-region_alone : (r : Option (List ℕ)) → IfSome r (IsCanonicalSubtag is_region uppercase) → (leading_script (subtags_behind r) ≡ None) × (last_region (behind_script (subtags_behind r)) ≡ Ok r) × (last_region (subtags_behind r) ≡ Ok r)
+read-region_alone : (r : Option (List ℕ)) → IfSome r (IsCanonicalSubtag is_region uppercase) → (leading_script (subtags_of_rest r) ≡ None) × (last_region (subtags_after_script (subtags_of_rest r)) ≡ Ok r) × (last_region (subtags_of_rest r) ≡ Ok r)
 read-region_alone None region = (refl, refl, refl)
 read-region_alone (Some r) region =
     let split = subtags_of-alphanumeric (fold_text r) (alphanumeric-fold_text r ∙ alphanumeric-from_subtag r (grind arith)) in
@@ -42,7 +42,7 @@ read-region_alone (Some r) region =
     (rw (split, none) refl, rw (split, none) (rw split at read), read)
 
 -- behind the language, a canonical script is read as it is, and then the region
-read-tail_text : (s r : Option (List ℕ)) → IfSome s (IsCanonicalSubtag is_script titlecase) → IfSome r (IsCanonicalSubtag is_region uppercase) → (leading_script (subtags_behind (tail_text s r)) ≡ s) × (last_region (behind_script (subtags_behind (tail_text s r))) ≡ Ok r)
+read-tail_text : (s r : Option (List ℕ)) → IfSome s (IsCanonicalSubtag is_script titlecase) → IfSome r (IsCanonicalSubtag is_region uppercase) → (leading_script (subtags_of_rest (tail_text s r)) ≡ s) × (last_region (subtags_after_script (subtags_of_rest (tail_text s r))) ≡ Ok r)
 read-tail_text None r script region = ((read-region_alone r region).0, (read-region_alone r region).1)
 read-tail_text (Some s) r script region =
     let title = titlecase-fold_text s script.well_formed ∙ script.canonical in

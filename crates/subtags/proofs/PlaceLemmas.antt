@@ -10,7 +10,8 @@ use Rattle.std.specs.Option.{IfSome, unwrap_or}
 use Rattle.tinystr_words.specs.Case.{lowercase, titlecase, uppercase}
 use Rattle.subtags.specs.Grammar.{dash, fold_text, subtags_of, is_language, is_script, is_region, IsCanonical}
 use Rattle.subtags.specs.Subtags.{IsCanonicalSubtag, language_of, script_of, region_of, after_dash, join_subtags}
-use Rattle.subtags.specs.FromFront.{leading_script, behind_script, last_region, language_end, region_start}
+use Rattle.subtags.specs.ReadingSteps.{leading_script, subtags_after_script, last_region}
+use Rattle.subtags.specs.SubtagPlaces.{language_end, region_start}
 use Rattle.subtags.proofs.FoldLemmas.{alphanumeric-from_subtag, IsCanonicalSubtag-lowercase, IsCanonicalSubtag-titlecase, IsCanonicalSubtag-uppercase}
 use Rattle.subtags.proofs.SplitLemmas.{no_dash, subtags_at_first_separator}
 use Rattle.subtags.proofs.ReadLemmas.{read-IsCanonical, join_subtags-IsCanonical}
@@ -132,7 +133,7 @@ InPlace-split t p ps h split =
     let read = read-IsCanonical t p ps h split in
     let language = rw read.1 at (IsCanonicalSubtag-lowercase p read.0) in
     let script = rw read.2 at (IsCanonicalSubtag-leading_script ps) in
-    let region = IsCanonicalSubtag-last_region (behind_script ps) (region_of t) read.3 in
+    let region = IsCanonicalSubtag-last_region (subtags_after_script ps) (region_of t) read.3 in
     let joined = InPlace-join_subtags (language_of t) (script_of t) (region_of t) language.well_formed script region in
     (rw (← join_subtags-IsCanonical t h) at joined, language, script, region)
 

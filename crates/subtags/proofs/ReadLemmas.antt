@@ -7,7 +7,7 @@ use Rattle.subtags.specs.declared.error.LangIdError.TheVariants.{InvalidLanguage
 use Rattle.subtags.specs.Grammar.{fold_text, subtags_of, is_language, is_region, is_tail, is_lang_id, IsLangId, canonical_subtag, canonical_text, IsCanonical}
 use Rattle.subtags.specs.Subtags.{language_of, script_of, region_of, join_subtags}
 use Rattle.subtags.specs.Answers.{refusal_of}
-use Rattle.subtags.specs.FromFront.{leading_script, behind_script, last_region}
+use Rattle.subtags.specs.ReadingSteps.{leading_script, subtags_after_script, last_region}
 use Rattle.subtags.proofs.FoldLemmas.{is_language-fold_text, fold_text-alphanumeric, alphanumeric-from_subtag}
 use Rattle.subtags.proofs.SplitLemmas.{subtags_at_first_separator}
 use Rattle.subtags.proofs.CanonLemmas.{leading_script-tail, last_region-tail, last_region-no_tail, is_tail-canonical, join_with_byte-tail, subtags_of-canonical_text}
@@ -17,7 +17,7 @@ pub refused_without_language : (u l : List ℕ) (ps : List (List ℕ)) → subta
 refused_without_language u l ps split h = rw (split, is_language-fold_text l, h) (refl, refl)
 
 -- where l is a language and the rest is refused, the input isn't an identifier, for the same reason
-pub refused_without_tail : (u l : List ℕ) (ps : List (List ℕ)) (e : LangIdError) → subtags_of (fold_text u) ≡ fold_text l ∷ ps → is_language l ≡ true → last_region (behind_script ps) ≡ Err e → (is_lang_id (subtags_of (fold_text u)) ≡ false) × (refusal_of u ≡ e)
+pub refused_without_tail : (u l : List ℕ) (ps : List (List ℕ)) (e : LangIdError) → subtags_of (fold_text u) ≡ fold_text l ∷ ps → is_language l ≡ true → last_region (subtags_after_script ps) ≡ Err e → (is_lang_id (subtags_of (fold_text u)) ≡ false) × (refusal_of u ≡ e)
 refused_without_tail u l ps e split h refused =
     let read = last_region-tail ps in
     let not_read = last_region-no_tail ps in
@@ -25,7 +25,7 @@ refused_without_tail u l ps e split h refused =
 
 -- where l is a language and the rest is read, the input is an identifier, and what was read, joined, is its canonical
 -- text
-pub accepted_from_read : (u l : List ℕ) (ps : List (List ℕ)) (r : Option (List ℕ)) → subtags_of (fold_text u) ≡ fold_text l ∷ ps → is_language l ≡ true → last_region (behind_script ps) ≡ Ok r → IsLangId u × (join_subtags (lowercase l) (leading_script ps) r ≡ canonical_text u)
+pub accepted_from_read : (u l : List ℕ) (ps : List (List ℕ)) (r : Option (List ℕ)) → subtags_of (fold_text u) ≡ fold_text l ∷ ps → is_language l ≡ true → last_region (subtags_after_script ps) ≡ Ok r → IsLangId u × (join_subtags (lowercase l) (leading_script ps) r ≡ canonical_text u)
 accepted_from_read u l ps r split h region =
     let not_read = last_region-no_tail ps in
     let tail : is_tail ps ≡ true = grind arith in
@@ -34,7 +34,7 @@ accepted_from_read u l ps r split h region =
     rw (split, is_language-fold_text l, h, tail, leading_script-tail ps tail, ← same, join_with_byte-tail (fold_text l) (map canonical_subtag ps) (is_tail-canonical ps tail), fold_text-alphanumeric l (alphanumeric-from_subtag l (grind arith))) (refl, refl)
 
 -- what is read of a canonical text is its language, its script and its region
-pub read-IsCanonical : (t l : List ℕ) (ps : List (List ℕ)) → IsCanonical t → subtags_of (fold_text t) ≡ fold_text l ∷ ps → (is_language l ≡ true) × (lowercase l ≡ language_of t) × (leading_script ps ≡ script_of t) × (last_region (behind_script ps) ≡ Ok (region_of t))
+pub read-IsCanonical : (t l : List ℕ) (ps : List (List ℕ)) → IsCanonical t → subtags_of (fold_text t) ≡ fold_text l ∷ ps → (is_language l ≡ true) × (lowercase l ≡ language_of t) × (leading_script ps ≡ script_of t) × (last_region (subtags_after_script ps) ≡ Ok (region_of t))
 read-IsCanonical t l ps h split =
     let all : (is_language l && is_tail ps) ≡ true = rw (split, is_language-fold_text l) at h.accepted in
     let found : subtags_of t ≡ fold_text l ∷ map canonical_subtag ps = rw (h.canonical, split) at (subtags_of-canonical_text t h.accepted) in

@@ -10,7 +10,7 @@ use Rattle.tinystr_words.specs.Classes.{is_alphanumeric}
 use Rattle.tinystr_words.specs.Case.{titlecase, uppercase}
 use Rattle.subtags.specs.declared.error.LangIdError.TheVariants.{InvalidSubtag}
 use Rattle.subtags.specs.Grammar.{dash, is_separator, fold_byte, fold_text, subtags_of, is_script, is_region}
-use Rattle.subtags.specs.FromFront.{behind, subtags_behind, ends_at, leading_script, behind_script, last_region}
+use Rattle.subtags.specs.ReadingSteps.{rest_after, subtags_of_rest, ends_at, leading_script, subtags_after_script, last_region}
 use Rattle.subtags.proofs.FoldLemmas.{All-from_list_all, is_script-fold_text, is_region-fold_text, alphanumeric-fold_text, alphanumeric-from_subtag, titlecase-fold_text, uppercase-fold_text}
 
 -- to change the bytes and then split is to split and then change the subtags
@@ -26,7 +26,7 @@ pub subtags_of-fold_text : (u : List ℕ) → subtags_of (fold_text u) ≡ map f
 subtags_of-fold_text u = slice_split-map fold_byte (λ b. b == dash) is_separator (λ b. grind (arith, nat_tests)) u
 
 -- the first subtag is what stands before the first separator, and the others are those behind it
-pub subtags_at_first_separator : (u : List ℕ) → subtags_of (fold_text u) ≡ fold_text (take (position_or_len is_separator u) u) ∷ subtags_behind (behind (position_or_len is_separator u) u)
+pub subtags_at_first_separator : (u : List ℕ) → subtags_of (fold_text u) ≡ fold_text (take (position_or_len is_separator u) u) ∷ subtags_of_rest (rest_after (position_or_len is_separator u) u)
 subtags_at_first_separator u = elim (cases_lt (position_or_len is_separator u) (length u)) [
   | inl inside ↦
       let others = subtags_of-fold_text (drop (position_or_len is_separator u + 1) u) in
@@ -59,7 +59,7 @@ position_or_len-script u ends h =
 
 -- a script in front that can be a subtag is read in titlecase, and what stands behind it is left
 pub script_in_front : (u : List ℕ) → ends_at 4 u ≡ true → is_script (take 4 u) ≡ true
-    → (leading_script (subtags_of (fold_text u)) ≡ Some (titlecase (take 4 u))) × (behind_script (subtags_of (fold_text u)) ≡ subtags_behind (behind 4 u))
+    → (leading_script (subtags_of (fold_text u)) ≡ Some (titlecase (take 4 u))) × (subtags_after_script (subtags_of (fold_text u)) ≡ subtags_of_rest (rest_after 4 u))
 script_in_front u ends h =
     let len = length-take 4 u in
     let title = titlecase-fold_text (take 4 u) h in
@@ -74,7 +74,7 @@ ends_at_4-from_separator : (u : List ℕ) → 4 ≤ length u → (4 < length u �
 ends_at_4-from_separator u long hit = grind (arith, nat_tests)
 
 -- where no script stands in front that can be a subtag, the first subtag isn't a script
-pub no_script_in_front : (u : List ℕ) → (ends_at 4 u ≡ true → is_script (take 4 u) ≡ false) → (leading_script (subtags_of (fold_text u)) ≡ None) × (behind_script (subtags_of (fold_text u)) ≡ subtags_of (fold_text u))
+pub no_script_in_front : (u : List ℕ) → (ends_at 4 u ≡ true → is_script (take 4 u) ≡ false) → (leading_script (subtags_of (fold_text u)) ≡ None) × (subtags_after_script (subtags_of (fold_text u)) ≡ subtags_of (fold_text u))
 no_script_in_front u h =
     let i = position_or_len is_separator u in
     let len = length-take i u in

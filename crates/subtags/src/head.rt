@@ -5,7 +5,7 @@ ghost use Rattle.std.specs.Option.{option_copied};
 ghost use Rattle.tinystr_words.specs.Case.{lowercase};
 ghost use Rattle.subtags.specs.Grammar.{is_separator, is_language};
 ghost use Rattle.subtags.specs.Subtags.{IsCanonicalSubtag};
-ghost use Rattle.subtags.specs.FromFront.{behind, ends_at, first_subtag};
+ghost use Rattle.subtags.specs.ReadingSteps.{rest_after, ends_at, first_subtag};
 
 use crate::language::{Language, is_language_length};
 use tinystr::TinyStr8;
@@ -27,9 +27,9 @@ pub(crate) fn ends_at(units: &[u8], place: usize) -> bool
 
 /// The rest of the input behind a subtag that ends at a place and behind its separator, if there is any.
 #[inline]
-pub(crate) fn behind(units: &[u8], place: usize) -> Option<&[u8]>
+pub(crate) fn rest_after(units: &[u8], place: usize) -> Option<&[u8]>
     requires { place ≤ length units.now }
-    ensures { option_copied result ≡ behind place units.now }
+    ensures { option_copied result ≡ rest_after place units.now }
 {
     units.get(place + 1..)
 }
@@ -57,8 +57,8 @@ pub(crate) fn read_language(units: &[u8]) -> Option<(TinyStr8, usize)>
 pub(crate) fn take_language(units: &[u8]) -> Option<(Language, Option<&[u8]>)>
     ensures accepted { is_some result ≡ is_language (first_subtag units.now) }
     ensures language { IfSome result (λ parts. parts.0 ≡ lowercase (first_subtag units.now)) }
-    ensures rest { IfSome result (λ parts. option_copied parts.1 ≡ behind (length (first_subtag units.now)) units.now) }
+    ensures rest { IfSome result (λ parts. option_copied parts.1 ≡ rest_after (length (first_subtag units.now)) units.now) }
 {
     let (text, len) = read_language(units)?;
-    Some((Language::from_canonical(text), behind(units, len)))
+    Some((Language::from_canonical(text), rest_after(units, len)))
 }

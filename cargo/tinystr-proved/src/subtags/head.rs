@@ -28,10 +28,10 @@ pub(crate) fn ends_at(units: &[u8], place: usize) -> bool {
 ///
 /// ```text
 /// requires { place ≤ length units.now }
-/// ensures { option_copied result ≡ behind place units.now }
+/// ensures { option_copied result ≡ rest_after place units.now }
 /// ```
 #[inline]
-pub(crate) fn behind(units: &[u8], place: usize) -> Option<&[u8]> {
+pub(crate) fn rest_after(units: &[u8], place: usize) -> Option<&[u8]> {
     units.get(place + 1..)
 }
 
@@ -64,10 +64,10 @@ pub(crate) fn read_language(units: &[u8]) -> Option<(TinyStr8, usize)> {
 /// ```text
 /// ensures accepted { is_some result ≡ is_language (first_subtag units.now) }
 /// ensures language { IfSome result (λ parts. parts.0 ≡ lowercase (first_subtag units.now)) }
-/// ensures rest { IfSome result (λ parts. option_copied parts.1 ≡ behind (length (first_subtag units.now)) units.now) }
+/// ensures rest { IfSome result (λ parts. option_copied parts.1 ≡ rest_after (length (first_subtag units.now)) units.now) }
 /// ```
 #[inline]
 pub(crate) fn take_language(units: &[u8]) -> Option<(Language, Option<&[u8]>)> {
     let (text, len) = read_language(units)?;
-    Some((Language::from_canonical(text), behind(units, len)))
+    Some((Language::from_canonical(text), rest_after(units, len)))
 }

@@ -1,7 +1,7 @@
 //! The rest of an input behind its language, read from the front: a script, a region, both or nothing.
 
 use crate::subtags::error::LangIdError;
-use crate::subtags::head::{behind, ends_at};
+use crate::subtags::head::{ends_at, rest_after};
 use crate::subtags::region::Region;
 use crate::subtags::script::Script;
 
@@ -10,8 +10,8 @@ use crate::subtags::script::Script;
 /// # Contract
 ///
 /// ```text
-/// ensures script { result.0 ≡ leading_script (subtags_behind (option_copied rest.entry)) }
-/// ensures rest { subtags_behind (option_copied result.1) ≡ behind_script (subtags_behind (option_copied rest.entry)) }
+/// ensures script { result.0 ≡ leading_script (subtags_of_rest (option_copied rest.entry)) }
+/// ensures rest { subtags_of_rest (option_copied result.1) ≡ subtags_after_script (subtags_of_rest (option_copied rest.entry)) }
 /// ```
 #[inline]
 pub(crate) fn take_script(rest: Option<&[u8]>) -> (Option<Script>, Option<&[u8]>) {
@@ -22,7 +22,7 @@ pub(crate) fn take_script(rest: Option<&[u8]>) -> (Option<Script>, Option<&[u8]>
         return (None, rest);
     }
     match Script::try_from_utf8(&units[..4]) {
-        Some(script) => (Some(script), behind(units, 4)),
+        Some(script) => (Some(script), rest_after(units, 4)),
         None => (None, rest),
     }
 }
@@ -32,7 +32,7 @@ pub(crate) fn take_script(rest: Option<&[u8]>) -> (Option<Script>, Option<&[u8]>
 /// # Contract
 ///
 /// ```text
-/// ensures { result ≡ last_region (subtags_behind (option_copied rest.entry)) }
+/// ensures { result ≡ last_region (subtags_of_rest (option_copied rest.entry)) }
 /// ```
 #[inline]
 pub(crate) fn last_region(rest: Option<&[u8]>) -> Result<Option<Region>, LangIdError> {

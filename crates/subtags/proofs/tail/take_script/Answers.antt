@@ -11,7 +11,7 @@ returns-then-not-ends_at c =
 pub returns-in-Some-try_from_utf8 : goal.returns-in-Some-try_from_utf8
 returns-in-Some-try_from_utf8 c =
     let taken = script_in_front c.in-Some.units.now (sym c.if-not-ends_at.ensures) c.in-Some-try_from_utf8.ensures.0 in
-    rw (c.behind.ensures, c.in-Some.is, c.in-Some-try_from_utf8.ensures.1) record { script = sym taken.0; rest = sym taken.1 }
+    rw (c.rest_after.ensures, c.in-Some.is, c.in-Some-try_from_utf8.ensures.1) record { script = sym taken.0; rest = sym taken.1 }
 
 pub returns-in-None : goal.returns-in-None
 returns-in-None c =
