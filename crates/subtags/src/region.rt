@@ -42,11 +42,10 @@ impl SubtagKind<3> for RegionKind {
             3 => text.is_ascii_numeric(),
             _ => false,
         };
-        if is_well_formed {
-            Some(text.to_ascii_uppercase())
-        } else {
-            None
+        if !is_well_formed {
+            return None;
         }
+        Some(text.to_ascii_uppercase())
     }
 
     fn refusal() -> LangIdError {

@@ -37,8 +37,6 @@ pub(crate) fn last_region(rest: Option<&[u8]>) -> Result<Option<Region>, LangIdE
     let Some(units) = rest else {
         return Ok(None);
     };
-    match Region::try_from_utf8(units) {
-        Some(region) => Ok(Some(region)),
-        None => Err(LangIdError::InvalidSubtag),
-    }
+    let region = Region::try_from_utf8(units).ok_or(LangIdError::InvalidSubtag)?;
+    Ok(Some(region))
 }

@@ -35,11 +35,8 @@ impl SubtagKind<4> for ScriptKind {
         let Ok(text) = TinyAsciiStr::try_from_utf8(code_units) else {
             return None;
         };
-        if text.is_ascii_alphabetic() {
-            Some(text.to_ascii_titlecase())
-        } else {
-            None
-        }
+        text.is_ascii_alphabetic()
+            .then_some(text.to_ascii_titlecase())
     }
 
     fn refusal() -> LangIdError {
