@@ -6,7 +6,7 @@ ghost use Rattle.std.specs.Vec.{vec_len};
 ghost use Rattle.std.specs.Io.KnownBytes.{Keeps, Appends, Consumes, IsAtEnd};
 ghost use Rattle.tinystr_lines.specs.Output.{AppendsBeginning, is_line_feed, reply_line, output_of};
 
-use crate::reply::push_reply;
+use crate::reply::push_line_reply;
 use crate::split::{place_in_lanes, split_at_first};
 use std::alloc::{AllocError, Global};
 use std::io::{Read, Write};
@@ -46,23 +46,23 @@ const PIECE: usize = 65536;
 
 // Appends the reply to a line with which `ahead` begins, and a line feed.
 #[tactic(auto, unfolding(crate::specs::Output::reply_line))]
-fn push_reply_line(out: &mut Vec<u8>, line: &[u8], ahead: &[u8]) -> Result<(), AllocError>
+fn push_reply_and_line_feed(out: &mut Vec<u8>, line: &[u8], ahead: &[u8]) -> Result<(), AllocError>
     requires { line.now ≡ take (length line.now) ahead.now }
     ensures { OnOk result (out.new.items ≡ out.old.items ++ reply_line line.now) }
 {
-    push_reply(out, line, ahead)?;
+    push_line_reply(out, line, ahead)?;
     out.push(b'\n')?;
     Ok(())
 }
 
 // Appends the output of an input.
-fn push_output(out: &mut Vec<u8>, input: &[u8]) -> Result<(), AllocError>
+fn push_output_of_input(out: &mut Vec<u8>, input: &[u8]) -> Result<(), AllocError>
     ensures { OnOk result (out.new.items ≡ out.old.items ++ output_of input.now) }
 {
     let mut rest = input;
     while !rest.is_empty() {
         let (line, more) = split_at_first(rest, rest, b'\n');
-        push_reply_line(out, line, rest)?;
+        push_reply_and_line_feed(out, line, rest)?;
         rest = more;
     }
     Ok(())
@@ -103,7 +103,7 @@ fn keep(begun: &mut Vec<u8>, bytes: &[u8]) -> Result<(), Refused>
 
 // Appends the output of what was begun and goes on with a piece, up to the piece's last line feed. What follows that is
 // begun then.
-fn push_piece(out: &mut Vec<u8>, begun: &mut Vec<u8>, piece: &[u8]) -> Result<(), Refused>
+fn push_output_of_piece(out: &mut Vec<u8>, begun: &mut Vec<u8>, piece: &[u8]) -> Result<(), Refused>
     ensures answered { OnOk result ((more : List ℕ)
         → out.old.items ++ output_of ((begun.old.items ++ piece.now) ++ more)
         ≡ out.new.items ++ output_of (begun.new.items ++ more)) }
@@ -119,7 +119,7 @@ fn push_piece(out: &mut Vec<u8>, begun: &mut Vec<u8>, piece: &[u8]) -> Result<()
         return keep(begun, piece);
     };
     keep(begun, lines)?;
-    push_output(out, begun).or(Err(Refused::Reply))?;
+    push_output_of_input(out, begun).or(Err(Refused::Reply))?;
     begun.clear();
     keep(begun, rest)?;
     Ok(())
@@ -159,10 +159,10 @@ fn read_output<R: Read>(alloc: Global, reader: &mut R) -> Result<Vec<u8>, RunErr
     loop {
         match reader.read(&mut piece) {
             Ok(0) => {
-                push_output(&mut out, &begun)?;
+                push_output_of_input(&mut out, &begun)?;
                 return Ok(out);
             }
-            Ok(count) => match push_piece(&mut out, &mut begun, &piece[..count]) {
+            Ok(count) => match push_output_of_piece(&mut out, &mut begun, &piece[..count]) {
                 Ok(()) => continue,
                 Err(Refused::Input) => return Err(RunError::Memory),
                 Err(Refused::Reply) => {

@@ -111,7 +111,7 @@ fn push_answer<const N: usize>(
 
 // Appends what a call gives of the text that the code units are, or their fault.
 #[tactic(auto, unfolding(crate::specs::Reply::call_reply))]
-fn push_call_reply<const N: usize>(
+fn push_call_reply_at_const<const N: usize>(
     out: &mut Vec<u8>,
     call: TextCall,
     units: &[u8],
@@ -128,7 +128,7 @@ fn push_call_reply<const N: usize>(
 
 // Does the same at a capacity that no type tells. A text that isn't too long gets the same at each capacity that holds it,
 // so two stand for all: that is faster than a choice among all.
-fn push_call_reply_at(
+fn push_call_reply_at_run_time(
     out: &mut Vec<u8>,
     capacity: usize,
     call: TextCall,
@@ -142,9 +142,9 @@ fn push_call_reply_at(
         return push_too_long(out, capacity, len);
     }
     if len <= 8 {
-        return push_call_reply::<8>(out, call, units);
+        return push_call_reply_at_const::<8>(out, call, units);
     }
-    push_call_reply::<32>(out, call, units)
+    push_call_reply_at_const::<32>(out, call, units)
 }
 
 // Appends the text that the lossy reader makes at a capacity.
@@ -189,7 +189,10 @@ fn push_bad_record(out: &mut Vec<u8>, index: usize, fault: ParseError) -> Result
 
 // Appends whether the bytes are packed records of `N` bytes.
 #[tactic(auto, unfolding(crate::specs::Reply::records_reply))]
-fn push_records_reply<const N: usize>(out: &mut Vec<u8>, bytes: &[u8]) -> Result<(), AllocError>
+fn push_records_reply_at_const<const N: usize>(
+    out: &mut Vec<u8>,
+    bytes: &[u8],
+) -> Result<(), AllocError>
     requires { N < 2 ^ 63 }
     ensures { OnOk result (out.new.items ≡ out.old.items ++ records_reply N bytes.now) }
 {
@@ -216,23 +219,27 @@ fn push_locale_reply(out: &mut Vec<u8>, units: &[u8]) -> Result<(), AllocError>
 
 // Appends whether the bytes are packed records of as many bytes as a capacity that a field spells.
 #[tactic(auto, unfolding(crate::specs::Fields::capacity_of))]
-fn push_records_reply_at(out: &mut Vec<u8>, capacity: &[u8], bytes: &[u8]) -> Result<(), AllocError>
+fn push_records_reply_at_run_time(
+    out: &mut Vec<u8>,
+    capacity: &[u8],
+    bytes: &[u8],
+) -> Result<(), AllocError>
     requires { is_some (capacity_of capacity.now) ≡ true }
     ensures { OnOk result (out.new.items ≡ out.old.items
         ++ option_map_or (λ n. records_reply n bytes.now) (capacity_of capacity.now) []) }
 {
     match capacity {
-        b"1" => push_records_reply::<1>(out, bytes),
-        b"2" => push_records_reply::<2>(out, bytes),
-        b"3" => push_records_reply::<3>(out, bytes),
-        b"4" => push_records_reply::<4>(out, bytes),
-        b"5" => push_records_reply::<5>(out, bytes),
-        b"8" => push_records_reply::<8>(out, bytes),
-        b"9" => push_records_reply::<9>(out, bytes),
-        b"16" => push_records_reply::<16>(out, bytes),
-        b"17" => push_records_reply::<17>(out, bytes),
-        b"32" => push_records_reply::<32>(out, bytes),
-        _ => push_records_reply::<0>(out, bytes),
+        b"1" => push_records_reply_at_const::<1>(out, bytes),
+        b"2" => push_records_reply_at_const::<2>(out, bytes),
+        b"3" => push_records_reply_at_const::<3>(out, bytes),
+        b"4" => push_records_reply_at_const::<4>(out, bytes),
+        b"5" => push_records_reply_at_const::<5>(out, bytes),
+        b"8" => push_records_reply_at_const::<8>(out, bytes),
+        b"9" => push_records_reply_at_const::<9>(out, bytes),
+        b"16" => push_records_reply_at_const::<16>(out, bytes),
+        b"17" => push_records_reply_at_const::<17>(out, bytes),
+        b"32" => push_records_reply_at_const::<32>(out, bytes),
+        _ => push_records_reply_at_const::<0>(out, bytes),
     }
 }
 
@@ -273,9 +280,9 @@ fn push_fields_reply(
         return out.extend_from_slice(b"bad capacity");
     };
     match Command::parse(field) {
-        Some(Command::OnText(call)) => push_call_reply_at(out, capacity, call, units),
+        Some(Command::OnText(call)) => push_call_reply_at_run_time(out, capacity, call, units),
         Some(Command::Lossy) => push_lossy_reply(out, capacity, units),
-        Some(Command::Records) => push_records_reply_at(out, capacity_field, units),
+        Some(Command::Records) => push_records_reply_at_run_time(out, capacity_field, units),
         Some(Command::Locale) => push_locale_reply(out, units),
         None => out.extend_from_slice(b"bad command"),
     }
@@ -283,7 +290,7 @@ fn push_fields_reply(
 
 /// Appends the reply to a line with which `ahead` begins, given and answered without its line feed.
 #[tactic(auto, unfolding(crate::specs::Reply::reply))]
-pub fn push_reply(out: &mut Vec<u8>, line: &[u8], ahead: &[u8]) -> Result<(), AllocError>
+pub fn push_line_reply(out: &mut Vec<u8>, line: &[u8], ahead: &[u8]) -> Result<(), AllocError>
     requires { line.now ≡ take (length line.now) ahead.now }
     ensures { OnOk result (out.new.items ≡ out.old.items ++ reply line.now) }
 {

@@ -15,7 +15,7 @@ pub loop-out-preserved : goal.loop-out-preserved
 loop-out-preserved g c =
     let inv = c.loop-out.invariant in
     let bytes = c.in-Ok.ensures.bytes in
-    let answered = c.in-Ok-push_piece.ensures.answered in
+    let answered = c.in-Ok-push_output_of_piece.ensures.answered in
     let read = take c.in-Ok.count c.read.new.buf in (
       inv.0 ++ read,
       Consumes-trans _ _ _ _ _ inv.1 bytes.0,

@@ -1,7 +1,7 @@
 use Rattle.std.proofs.Common.{◌++◌, List, ℕ, [], ◌∷◌, length, arith, ap, ◌∙◌, append_assoc, length-append}
 use Rattle.std.proofs.lemmas.Grind.{common_steps}
 use Rattle.tinystr_lines.proofs.Lines.{output_of-piece, length-output_of}
-use Rattle.tinystr_lines.proofs.engine.push_piece.Goals as goal
+use Rattle.tinystr_lines.proofs.engine.push_output_of_piece.Goals as goal
 
 pub returns-clause-answered : goal.returns-clause-answered
 returns-clause-answered c =

@@ -1,6 +1,6 @@
 use Rattle.std.proofs.Common.{refl, arith}
 use Rattle.tinystr_lines.proofs.Records.{records_reply-packed, records_reply-length, records_reply-bad}
-use Rattle.tinystr_lines.proofs.reply.push_records_reply.Goals as goal
+use Rattle.tinystr_lines.proofs.reply.push_records_reply_at_const.Goals as goal
 
 pub returns-in-Ok : goal.returns-in-Ok
 returns-in-Ok g c =

@@ -1,6 +1,6 @@
 use Rattle.std.proofs.Common.{arith, rules}
 use Rattle.tinystr_lines.proofs.Capacities.{call_reply-fits, call_reply-too_long}
-use Rattle.tinystr_lines.proofs.reply.push_call_reply_at.Goals as goal
+use Rattle.tinystr_lines.proofs.reply.push_call_reply_at_run_time.Goals as goal
 
 pub returns-then-capacity-len : goal.returns-then-capacity-len
 returns-then-capacity-len c = rw (call_reply-too_long c.args.capacity c.args.call c.args.units.now c.if-capacity-len.true) (search rules)
