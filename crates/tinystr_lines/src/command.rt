@@ -79,9 +79,7 @@ fn named<const N: usize>(mut table: &[([u8; N], Command)], field: &[u8]) -> Opti
     requires { length field.now ≡ N }
     ensures { result ≡ named table.entry.now field.now }
 {
-    let Some(field) = field.first_chunk::<N>() else {
-        return None;
-    };
+    let field = field.first_chunk::<N>()?;
     while let [row, rest @ ..] = table {
         if *field == row.0 {
             return Some(row.1);

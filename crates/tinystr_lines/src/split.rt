@@ -41,10 +41,8 @@ fn find(text: &[u8], byte: u8) -> Option<usize>
         start += 32;
         rest = after;
     }
-    match find_by_one(rest, byte) {
-        Some(at) => Some(start + at),
-        None => None,
-    }
+    let at = find_by_one(rest, byte)?;
+    Some(start + at)
 }
 
 // Where the byte first stands in a text with which `ahead` begins. What follows the text there lets thirty-two bytes be
@@ -83,10 +81,8 @@ pub fn split_once<'a>(
     ensures beginning { IfSome result
         (λ parts. parts.1.now ≡ take (length parts.1.now) parts.2.now) }
 {
-    match find_ahead(text, ahead, byte) {
-        Some(end) => Some((&text[..end], &text[end + 1..], &ahead[end + 1..])),
-        None => None,
-    }
+    let end = find_ahead(text, ahead, byte)?;
+    Some((&text[..end], &text[end + 1..], &ahead[end + 1..]))
 }
 
 /// The parts before and behind the first such byte, of a text that `ahead` begins with. If there is no such byte, they
