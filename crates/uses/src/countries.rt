@@ -31,9 +31,8 @@ pub fn countries(file: &[u8]) -> Option<SortedTable<'_, 2>>
     ensures exact { IsSome result ↔ AreCountryCodes file.now }
 {
     texts_once();
-    let table = match Table::new(file) {
-        Ok(table) => table,
-        Err(_) => return None,
+    let Ok(table) = Table::new(file) else {
+        return None;
     };
     if !are_country_codes(&table) {
         return None;

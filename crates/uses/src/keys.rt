@@ -31,18 +31,12 @@ pub fn add_key(keys: &mut Keys, text: &str) -> Result<bool, KeyError>
     ensures fault { IfErr result (λ e. RefusesKey e text.now) }
 {
     let key = TinyAsciiStr::try_from_str(text).map_err(KeyError::Text)?;
-    match keys.insert(key) {
-        Ok(added) => Ok(added),
-        Err(_) => Err(KeyError::Memory(AllocError)),
-    }
+    keys.insert(key).or(Err(KeyError::Memory(AllocError)))
 }
 
 /// Whether a text is a key of the set.
 pub fn has_key(keys: &Keys, text: &str) -> bool
     ensures { IsTrue result ↔ (IsStrictText text.now 8 × IsTrue (contains bytes_eq keys.now text.now)) }
 {
-    match TinyAsciiStr::try_from_str(text) {
-        Ok(key) => keys.contains(&key),
-        Err(_) => false,
-    }
+    TinyAsciiStr::try_from_str(text).is_ok_and(|key| keys.contains(&key))
 }

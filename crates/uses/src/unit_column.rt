@@ -42,11 +42,7 @@ pub fn join_units(
         }
         kinds.push(kind.copied())?;
     }
-    let first_missing = if known < kinds.len() {
-        Some(known)
-    } else {
-        None
-    };
+    let first_missing = (known < kinds.len()).then_some(known);
     Ok(UnitColumn {
         kinds,
         missing,
