@@ -18,8 +18,7 @@ pub fn right_cell<const N: usize>(
 {
     print_width();
     fits(text);
-    let cell = format!(in alloc; "{text:>width$}")?;
-    Ok(cell)
+    format!(in alloc; "{text:>width$}")
 }
 
 /// A text at the left of a column of twelve, with dots up to the next.

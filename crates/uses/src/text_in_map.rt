@@ -1,4 +1,4 @@
-//! Texts looked up by texts, in a map that is read in place.
+//! Texts looked up by texts, in a map and in a sorted table.
 
 ghost use Rattle.std.specs.Prelude.{◌≡◌, ◌↔◌, Contains, IfSome, IsSome, Some, slice_get};
 ghost use Rattle.tinystr_packed.specs.Map.{get};
