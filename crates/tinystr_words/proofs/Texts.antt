@@ -1,15 +1,16 @@
 -- Texts in padded arrays.
-use Rattle.std.proofs.Common.{◌≡◌, ◌≢◌, ℕ, ◌+◌, ◌-◌, ◌<◌, ◌≤◌, Bool, List, ◌++◌, length, get_or, take, drop, replicate, sym, ap, ◌∙◌, refl, arith, eqb, not, rules}
+use Rattle.std.proofs.Common.{◌≡◌, ◌≢◌, ◌==◌, ℕ, ◌+◌, ◌-◌, ◌<◌, ◌≤◌, Bool, List, ◌∷◌, ◌++◌, All, length, get_or, take, drop, replicate, sym, ap, ◌∙◌, refl, arith, eqb, not, rules, subst}
 use Rattle.std.proofs.lemmas.Bool.Decides.{nat_tests}
-use Rattle.std.proofs.lemmas.List.{get_or_past, get_or-take, length-append, length-drop, length-replicate, length-take, take_at, take_all, append-nil, places, same_lists}
+use Rattle.std.proofs.lemmas.List.{get_or_append_left, get_or_past, get_or-map, get_or-take, length-append, length-drop, length-map, length-replicate, length-take, take_at, take_all, append-nil, places, same_lists}
 use Rattle.std.proofs.lemmas.Grind.{same_number_lists}
-use Rattle.std.proofs.lemmas.List.Sums.{prefix_len_is, prefix_len-le-length}
+use Rattle.std.proofs.lemmas.List.Sums.{position_or_len_is, prefix_len_is, prefix_len-le-length}
 use Rattle.std.proofs.lemmas.List.Folds.{length-prefix_len}
 use Rattle.std.proofs.lemmas.List.Elements.{All-weaker, All-take, All-drop}
 use Rattle.std.proofs.lemmas.Str.{IsUtf8-from_ascii}
 use Rattle.std.proofs.lemmas.Str.Ascii.{IsAscii-from_all}
-use Rattle.std.specs.List.{prefix_len}
+use Rattle.std.specs.List.{after_first, before_first, position_or_len, prefix_len}
 use Rattle.std.specs.Str.{IsAscii, IsUtf8}
+use Rattle.tinystr_words.specs.Case.{lower, lowercase, raise, uppercase}
 use Rattle.tinystr_words.specs.Text.{IsTextByte, IsText, IsStrictText, pad, text_of, IsPaddedText, IsPadded}
 
 -- the test that `text_of` makes of each byte
@@ -155,3 +156,33 @@ IsPaddedText-drop l n q p = (padded-drop l n q p).0
 -- the text of a back is a back of the text
 pub text_of-drop : (l : List ℕ) (n q : ℕ) → IsPaddedText l n → text_of (drop q l) ≡ drop q (text_of l)
 text_of-drop l n q p = (padded-drop l n q p).1
+
+-- ---- texts in another case, and two texts around a byte
+
+-- what fits in lowercase or in uppercase is a text that fits
+pub IsStrictText-lowercase : (t : List ℕ) (n : ℕ) → IsStrictText (lowercase t) n → IsStrictText t n
+IsStrictText-lowercase t n h = record {
+  text = λ k d inside. let low : IsTextByte (lower (get_or t k d)) = subst (λ b. IsTextByte b) (get_or-map lower t k d (lower d) inside) (h.text k (lower d) (omega (arith, length-map t lower))) in grind (arith, nat_tests);
+  fits = omega (arith, length-map t lower, h.fits);
+}
+
+pub IsStrictText-uppercase : (t : List ℕ) (n : ℕ) → IsStrictText (uppercase t) n → IsStrictText t n
+IsStrictText-uppercase t n h = record {
+  text = λ k d inside. let up : IsTextByte (raise (get_or t k d)) = subst (λ b. IsTextByte b) (get_or-map raise t k d (raise d) inside) (h.text k (raise d) (omega (arith, length-map t raise))) in grind (arith, nat_tests);
+  fits = omega (arith, length-map t raise, h.fits);
+}
+
+-- the first byte of a kind stands behind a text that has none
+position-joined : (c : ℕ) (t s : List ℕ) → All (λ b. b ≢ c) t → position_or_len (λ b. b == c) (t ++ c ∷ s) ≡ length t
+position-joined c t s h =
+    position_or_len_is (λ b. b == c) (t ++ c ∷ s) (length t) 0
+    (omega (arith, length-append t (c ∷ s)))
+    (λ k below. rw (get_or_append_left t (c ∷ s) 0 k below) (let p = h k 0 below in grind (arith, nat_tests)))
+    (λ inside. grind (arith, nat_tests, places))
+
+-- so these are the texts before and behind it
+pub before_first-joined : (c : ℕ) (t s : List ℕ) → All (λ b. b ≢ c) t → before_first (λ b. b == c) (t ++ c ∷ s) ≡ t
+before_first-joined c t s h = rw (position-joined c t s h) (take_at t (c ∷ s) (length t) refl)
+
+pub after_first-joined : (c : ℕ) (t s : List ℕ) → All (λ b. b ≢ c) t → after_first (λ b. b == c) (t ++ c ∷ s) ≡ s
+after_first-joined c t s h = rw (position-joined c t s h) (same_lists _ _ (search (rules, places)) (λ k d h. grind (arith, places)))
