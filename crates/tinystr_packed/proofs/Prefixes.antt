@@ -8,7 +8,6 @@ use Rattle.std.proofs.lemmas.Slice.Eq.{bytes_eq-Decides}
 use Rattle.std.specs.declared.cmp.Ordering.TheVariants.{Less, Equal, Greater}
 use Rattle.std.proofs.lemmas.Bool.{and_parts, cases_lt, false_from_ne_true, false≢true}
 use Rattle.std.proofs.lemmas.Bool.Decides.{nat_tests}
-use Rattle.std.proofs.lemmas.Cmp.{nat_list_cmp_total, tied_itself}
 use Rattle.std.proofs.lemmas.List.{get_or-drop, get_or-map, get_or-take, get_or_default, append-nil, length-drop, length-map, length-take, length-take-le, take-append-drop}
 use Rattle.std.proofs.lemmas.List.Elements.{filter-append, All-head, All-tail}
 use Rattle.std.proofs.lemmas.Map.Entries.{length-keys_of}
@@ -17,7 +16,7 @@ use Rattle.tinystr_words.proofs.Order.{cmp-IsPaddedText}
 use Rattle.tinystr_words.proofs.Texts.{NULS, length-pad, text_of-pad, IsPaddedText-pad}
 use Rattle.tinystr_packed.specs.Numbers.{AreRisingRecords, BeginAlike}
 use Rattle.tinystr_packed.specs.Rising.{order, text_at, IsRising, IsFirstNotBelow, IsPrefixRange}
-use Rattle.tinystr_packed.proofs.RisingTexts.{IsRecordOf-at, IsRecord-padded, raised, order-rising, below_from_rising}
+use Rattle.tinystr_packed.proofs.RisingTexts.{IsRecordOf-at, IsRecord-padded, raised, below_from_rising, not_above}
 
 abbrev pub begins : List ℕ → List ℕ → Bool
 begins p t = starts_with nat_eq t p
@@ -77,12 +76,6 @@ begins-text : (records ts : List (List ℕ)) (p d : List ℕ) (n k : ℕ) → Al
 begins-text records ts p d n k h view text inside =
     let here = IsRecordOf-at records ts (get_or records k d) n k h view inside (get_or_default records k d [] inside) in
     begins-padded p (get_or records k d) n text here.padded ∙ ap (λ (l : List ℕ). begins p l) here.text
-
--- no text is above a later one
-not_above : (ts : List (List ℕ)) (i j : ℕ) → IsRising ts → i ≤ j → j < length ts → order (text_at ts i) (text_at ts j) ≢ Greater
-not_above ts i j up le inside above =
-    let no_more = rw (above, tied_itself nat_list_cmp_total (text_at ts j)) at (order-rising ts (text_at ts j) i j up le inside) in
-    absurd (omega arith)
 
 -- from the first text that isn't below p on, those that begin with p stand in front
 pub IsPartitionedBy-begins : (records rest ts : List (List ℕ)) (p : List ℕ) (n i : ℕ) → All (λ r. IsPaddedText r n) records → map text_of records ≡ ts → IsText p → IsRising ts → IsFirstNotBelow p ts i → rest ≡ drop i records → IsPartitionedBy (begins p) rest

@@ -98,6 +98,12 @@ IsSortedBy-rising ts up k d from inside =
 pub order-rising : (ts : List (List ℕ)) (key : List ℕ) (i j : ℕ) → IsRising ts → i ≤ j → j < length ts → ordering_index (order (text_at ts i) key) ≤ ordering_index (order (text_at ts j) key)
 order-rising ts key i j up le inside = searchable_from_sorted nat_list_cmp_total (λ (t : List ℕ). t) ts key (IsSortedBy-rising ts up) i j [] le inside
 
+-- no text is above a later one
+pub not_above : (ts : List (List ℕ)) (i j : ℕ) → IsRising ts → i ≤ j → j < length ts → order (text_at ts i) (text_at ts j) ≢ Greater
+not_above ts i j up le inside above =
+    let no_more = rw (above, tied_itself nat_list_cmp_total (text_at ts j)) at (order-rising ts (text_at ts j) i j up le inside) in
+    absurd (omega arith)
+
 -- where one text is below the key, so are those before it
 pub below_from_rising : (ts : List (List ℕ)) (key : List ℕ) (i j : ℕ) → IsRising ts → i ≤ j → j < length ts → order (text_at ts j) key ≡ Less → order (text_at ts i) key ≡ Less
 below_from_rising ts key i j up le inside less =
@@ -143,18 +149,20 @@ AreRisingRecords-texts records ts n h view up = record {
       order-records (text_at records k) (text_at records (k + 1)) ts n k (k + 1) here next ∙ up k next.inside;
 }
 
+-- a record beside the bytes of a key is as its text beside the key
+pub order-key : (records ts : List (List ℕ)) (key bytes : List ℕ) (n k : ℕ) → All (λ r. IsPaddedText r n) records → map text_of records ≡ ts → IsPaddedText bytes n → text_of bytes ≡ key → k < length records → order (text_at records k) bytes ≡ order (text_at ts k) key
+order-key records ts key bytes n k h view padded text inside =
+    let here = IsRecordOf-at records ts (text_at records k) n k h view inside refl in
+    rw (← here.text, ← text) (cmp-IsPaddedText (text_at records k) bytes n here.padded padded (length-padded (text_at records k) n here.padded) (length-padded bytes n padded))
+
 -- a place among the records is that among their texts
 pub IsFirstNotBelow-texts : (records ts : List (List ℕ)) (key bytes : List ℕ) (n i : ℕ) → All (λ r. IsPaddedText r n) records → map text_of records ≡ ts → IsPaddedText bytes n → text_of bytes ≡ key → IsFirstNotBelow bytes records i → IsFirstNotBelow key ts i
 IsFirstNotBelow-texts records ts key bytes n i h view padded text place =
     let long : length ts ≡ length records = rw (← view) (length-map records text_of) in
-    let same : (k : ℕ) → k < length records → order (text_at records k) bytes ≡ order (text_at ts k) key =
-    λ k inside.
-    let here = IsRecordOf-at records ts (text_at records k) n k h view inside refl in
-    rw (← here.text, ← text) (cmp-IsPaddedText (text_at records k) bytes n here.padded padded (length-padded (text_at records k) n here.padded) (length-padded bytes n padded)) in
     record {
       inside = omega (arith, place.inside);
-      below = λ k before. sym (same k (omega (arith, place.inside))) ∙ place.below k before;
-      not_below = λ k behind inside less. place.not_below k behind (omega arith) (same k (omega arith) ∙ less);
+      below = λ k before. sym (order-key records ts key bytes n k h view padded text (omega (arith, place.inside))) ∙ place.below k before;
+      not_below = λ k behind inside less. place.not_below k behind (omega arith) (order-key records ts key bytes n k h view padded text (omega arith) ∙ less);
     }
 
 -- records that rise are cut in two by that test

@@ -25,9 +25,9 @@ number_at-fits raw n s h =
     from_be_bytes-fits (pad eight 8) (length-pad eight 8 (omega (arith, length-take 8 (drop s raw)))) (λ i. rw (get_or-pad eight 8 i) (let byte = ascii-padded raw n (s + i) h in grind (arith, places, byte)))
 
 -- a range halves where the number of its middle is below w, or isn't
-pub IsPlaceWithin-halved : (n s : ℕ) (records : List (List ℕ)) (w base size taken : ℕ) → IsPlaceWithin n s records w base (base + size) → 1 < size → taken ≤ size / 2
-    → (AreNumbered n s records → taken ≡ cond (nat_lt (pair_at s (text_at records (base + size / 2))) w) (size / 2) 0) → IsPlaceWithin n s records w (base + taken) (base + taken + (size - size / 2))
-IsPlaceWithin-halved n s records w base size taken h many le chosen = record {
+pub IsPlaceWithin-halved : (n s : ℕ) (records : List (List ℕ)) (w base size taken : ℕ) → IsPlaceWithin n s records w base (base + size) → 0 < size → taken ≤ size - size / 2
+    → (AreNumbered n s records → taken ≡ cond (nat_lt (pair_at s (text_at records (base + size / 2))) w) (size - size / 2) 0) → IsPlaceWithin n s records w (base + taken) (base + taken + size / 2)
+IsPlaceWithin-halved n s records w base size taken h some le chosen = record {
   ordered = omega arith;
   inside = omega (arith, h.inside);
   below = λ p k before. elim (cases_lt (pair_at s (text_at records (base + size / 2))) w) [
@@ -35,24 +35,8 @@ IsPlaceWithin-halved n s records w base size taken h many le chosen = record {
     | inr rest ↦ (let none : taken ≡ 0 = grind (arith, nat_tests, chosen p) in h.below p k (omega arith))
   ];
   not_below = λ p k from inside. elim (cases_lt (pair_at s (text_at records (base + size / 2))) w) [
-    | inl less ↦ (let half : taken ≡ size / 2 = grind (arith, nat_tests, chosen p) in h.not_below p k (omega arith) inside)
+    | inl less ↦ (let half : taken ≡ size - size / 2 = grind (arith, nat_tests, chosen p) in h.not_below p k (omega arith) inside)
     | inr rest ↦ omega (arith, p.rising.each (base + size / 2) k (omega arith) inside, rest)
-  ];
-}
-
--- and the last record is below w, or isn't
-pub IsPlaceWithin-last : (n s : ℕ) (records : List (List ℕ)) (w base taken : ℕ) → IsPlaceWithin n s records w base (base + 1) → taken ≤ 1
-    → (AreNumbered n s records → taken ≡ cond (nat_lt (pair_at s (text_at records base)) w) 1 0) → IsPlaceWithin n s records w (base + taken) (base + taken)
-IsPlaceWithin-last n s records w base taken h le chosen = record {
-  ordered = omega arith;
-  inside = omega (arith, h.inside);
-  below = λ p k before. elim (cases_lt (pair_at s (text_at records base)) w) [
-    | inl less ↦ omega (arith, p.rising.each k base (omega arith) (omega (arith, h.inside)), less)
-    | inr rest ↦ (let none : taken ≡ 0 = grind (arith, nat_tests, chosen p) in h.below p k (omega arith))
-  ];
-  not_below = λ p k from inside. elim (cases_lt (pair_at s (text_at records base)) w) [
-    | inl less ↦ (let one : taken ≡ 1 = grind (arith, nat_tests, chosen p) in h.not_below p k (omega arith) inside)
-    | inr rest ↦ omega (arith, p.rising.each base k (omega arith) inside, rest)
   ];
 }
 

@@ -57,6 +57,10 @@ pub record ArePlacesWithin (n start : ℕ) (records : List (List ℕ)) (w : ℕ 
 abbrev pub AreAnswers : List (List ℕ) → List (List ℕ) → List (Result ℕ ℕ) → ℕ → Type 0
 AreAnswers texts keys answers n = (i : ℕ) → i < n → slice_index_or answers i (Ok 0) ≡ search texts (text_at keys i)
 
+-- an answer is that for the key before m, if there is one
+abbrev pub IsLast : List (List ℕ) → List (List ℕ) → Result ℕ ℕ → ℕ → Type 0
+IsLast texts keys answer m = 0 < m → answer ≡ search texts (text_at keys (m - 1))
+
 -- the last n of eight answers are those for the keys from m on
 abbrev pub AreReady : List (List ℕ) → List (List ℕ) → List (Result ℕ ℕ) → ℕ → ℕ → Type 0
 AreReady texts keys answers m n = (i : ℕ) → i < n → slice_index_or answers (8 - n + i) (Ok 0) ≡ search texts (text_at keys (m + i))

@@ -1,6 +1,6 @@
 //! The search among records that rise.
 
-ghost use Rattle.std.specs.Prelude.{◌≡◌, ◌≢◌, ◌<◌, ◌≤◌, ◌↔◌, ◌+◌, ◌-◌, ℕ, IsTrue, true, false, length, nat_eq};
+ghost use Rattle.std.specs.Prelude.{◌≡◌, ◌≢◌, ◌<◌, ◌≤◌, ◌↔◌, ◌+◌, ◌-◌, ℕ, IfSome, IsTrue, true, false, length, nat_eq};
 ghost use Rattle.std.specs.Cmp.Lexicographic.{slice_cmp};
 ghost use Rattle.std.specs.List.{starts_with};
 ghost use Rattle.std.specs.List.Sorted.{IsPartitionPoint};
@@ -19,6 +19,9 @@ use tinystr::TinyAsciiStr;
 
 /// Below this number, records of more than sixteen bytes are compared whole: to narrow their range first takes longer.
 const FEW: usize = 32;
+
+// A key behind another is looked for among so many records, and at most a sixteenth of all: a key by chance is seldom there.
+const NEXT: usize = 15;
 
 /// The index of the first record that isn't below a key, or the number of records.
 // One number is all of a record of at most sixteen bytes. A longer one is told from most others by eight bytes behind those
@@ -105,6 +108,30 @@ fn first_not_below_near_start<const N: usize>(records: &[[u8; N]], key: &[u8; N]
     }
     let end = len.min(start.saturating_mul(8));
     start + first_not_below(&records[start..end], key)
+}
+
+/// The place of a key that is above all records before an index, if it is the index or a little behind it. The records are asked
+/// one after another: a processor guesses how far keys in order are apart, and loads records in a row ahead.
+#[inline(always)]
+pub(crate) fn first_not_below_next<const N: usize>(
+    records: &[[u8; N]],
+    key: &[u8; N],
+    start: usize,
+) -> Option<usize>
+    requires rising { IsRising records.now }
+    requires inside { start ≤ length records.now }
+    requires below { (k : ℕ) → k < start → order (text_at records.now k) key.now ≡ Less }
+    ensures { IfSome result (λ place. IsFirstNotBelow key.now records.now place) }
+{
+    let next = NEXT.min(records.len() / 16);
+    if is_below_at(records, start.saturating_add(next), key) {
+        return None;
+    }
+    let mut place = start;
+    while is_below_at(records, place, key) {
+        place += 1;
+    }
+    Some(place)
 }
 
 // Whether there is a record at an index, and it is below a key.

@@ -13,10 +13,8 @@ use crate::search::{first_not_below, shared_len};
 use std::ops::Range;
 use tinystr::TinyAsciiStr;
 
-// Keys in order are looked for first among so many records behind the last place, and then among so many.
+// Keys in order are looked for first among so many records behind the last place, and then among eight times as many.
 const FEW: usize = 15;
-
-const SOME: usize = 127;
 
 // Two halves of a number: eight bytes of a record, and the next eight. Padded texts have numbers without the highest bit;
 // of any other bytes the functions below still give places among the records.
@@ -103,7 +101,8 @@ fn number_if(number: usize, bit: u64) -> usize
     number & (bit as usize).wrapping_neg()
 }
 
-// One step of a search: the middle of a range is below a number, or it isn't.
+// One step of a search: the middle of a range is below a number, or it isn't. Half of the range is left, rounded down; of an
+// even number of records the middle may stay, though it is below.
 #[inline(always)]
 fn halved<const N: usize>(
     records: &[[u8; N]],
@@ -114,23 +113,15 @@ fn halved<const N: usize>(
 ) -> usize
     requires start { start ≤ N - 8 }
     requires halves { AreHalves N number.first number.next }
-    requires many { 1 < size }
+    requires some { 0 < size }
     requires within { IsPlaceWithin N start records.now (paired number.first number.next) base (base + size) }
-    ensures { IsPlaceWithin N start records.now (paired number.first number.next) result (result + (size - size / 2)) }
+    ensures { IsPlaceWithin N start records.now (paired number.first number.next) result (result + size / 2) }
 {
     let half = size / 2;
-    base + number_if(half, bit_below_at(records, start, base + half, number))
-}
-
-// The last step: the one record that is left is below a number, or it isn't.
-#[inline(always)]
-fn last<const N: usize>(records: &[[u8; N]], start: usize, number: Halves, base: usize) -> usize
-    requires start { start ≤ N - 8 }
-    requires halves { AreHalves N number.first number.next }
-    requires within { IsPlaceWithin N start records.now (paired number.first number.next) base (base + 1) }
-    ensures { IsPlaceWithin N start records.now (paired number.first number.next) result result }
-{
-    base + bit_below_at(records, start, base, number) as usize
+    base + number_if(
+        size - half,
+        bit_below_at(records, start, base + half, number),
+    )
 }
 
 // The numbers of eight keys.
@@ -184,9 +175,9 @@ fn halved_each<const N: usize>(
 )
     requires start { start ≤ N - 8 }
     requires halves { AreAllHalves N numbers.now.first numbers.now.next }
-    requires many { 1 < size }
+    requires some { 0 < size }
     requires within { ArePlacesWithin N start records.now (wanted numbers.now.first numbers.now.next) places.old size }
-    ensures { ArePlacesWithin N start records.now (wanted numbers.now.first numbers.now.next) places.new (size - size / 2) }
+    ensures { ArePlacesWithin N start records.now (wanted numbers.now.first numbers.now.next) places.new (size / 2) }
 {
     for lane in 0..8usize {
         let number = Halves {
@@ -194,28 +185,6 @@ fn halved_each<const N: usize>(
             next: numbers.next[lane],
         };
         places[lane] = halved(records, start, number, places[lane], size);
-    }
-}
-
-// The last step of each.
-#[inline(always)]
-fn last_each<const N: usize>(
-    records: &[[u8; N]],
-    start: usize,
-    numbers: &Numbers,
-    places: &mut [usize; 8],
-)
-    requires start { start ≤ N - 8 }
-    requires halves { AreAllHalves N numbers.now.first numbers.now.next }
-    requires within { ArePlacesWithin N start records.now (wanted numbers.now.first numbers.now.next) places.old 1 }
-    ensures { ArePlacesWithin N start records.now (wanted numbers.now.first numbers.now.next) places.new 0 }
-{
-    for lane in 0..8usize {
-        let number = Halves {
-            first: numbers.first[lane],
-            next: numbers.next[lane],
-        };
-        places[lane] = last(records, start, number, places[lane]);
     }
 }
 
@@ -234,14 +203,10 @@ fn places_within<const N: usize>(
 {
     let mut places = [range.start; 8];
     let mut size = range.end - range.start;
-    if size == 0 {
-        return places;
-    }
-    while size > 1 {
+    while size > 0 {
         halved_each(records, start, numbers, &mut places, size);
-        size -= size / 2;
+        size /= 2;
     }
-    last_each(records, start, numbers, &mut places);
     places
 }
 
@@ -289,27 +254,8 @@ fn are_at_least<const N: usize>(
     index == 0 || bit_below_at(records, start, index - 1, first) == 1
 }
 
-// Whether a range holds eight places, where the numbers rise.
-#[inline(always)]
-fn holds_each<const N: usize>(
-    records: &[[u8; N]],
-    start: usize,
-    numbers: &Numbers,
-    range: &Range<usize>,
-) -> bool
-    requires start { start ≤ N - 8 }
-    requires halves { AreAllHalves N numbers.now.first numbers.now.next }
-    requires in_turn { DoNotFallInTurn (wanted numbers.now.first numbers.now.next) }
-    requires ordered { range.now.start ≤ range.now.end }
-    requires inside { range.now.end ≤ length records.now }
-    ensures { IsTrue result → AreWithin N start records.now (wanted numbers.now.first numbers.now.next) range.now.start range.now.end }
-{
-    are_at_most(records, start, numbers, range.end)
-        && are_at_least(records, start, numbers, range.start)
-}
-
-// A range of records that holds eight places: few or some behind an index, where the numbers rise and these hold them, or else
-// all. Fewer records than a quarter of all save steps, and no others are tried.
+// A range of records that holds eight places: where the numbers rise, few behind an index, or eight times as many, and so on,
+// and else all. Fewer records than a quarter of all save steps, and no others are tried.
 #[inline(always)]
 fn range_near<const N: usize>(
     records: &[[u8; N]],
@@ -326,13 +272,16 @@ fn range_near<const N: usize>(
         return 0..len;
     }
     let near = near.min(len);
-    let few = near..near.saturating_add(FEW).min(len);
-    if FEW < len / 4 && holds_each(records, start, numbers, &few) {
-        return few;
+    if !are_at_least(records, start, numbers, near) {
+        return 0..len;
     }
-    let some = near..near.saturating_add(SOME).min(len);
-    if SOME < len / 4 && holds_each(records, start, numbers, &some) {
-        return some;
+    let mut size = FEW;
+    while size < len / 4 {
+        let end = near.saturating_add(size).min(len);
+        if are_at_most(records, start, numbers, end) {
+            return near..end;
+        }
+        size = size.saturating_mul(8);
     }
     0..len
 }

@@ -10,9 +10,10 @@ ghost use Rattle.tinystr_packed.specs.Search.{search};
 ghost use Rattle.tinystr_packed.specs.Sorting.{RefusesSorted};
 
 use crate::each::BinarySearchEach;
-use crate::search::{count_with_prefix, first_not_below};
+use crate::search::{count_with_prefix, first_not_below, first_not_below_next};
 use crate::side_by_side::first_not_below_each;
 use crate::table::Table;
+use std::cmp::Ordering;
 use std::marker::Model;
 use std::ops::Range;
 use tinystr::TinyAsciiStr;
@@ -238,6 +239,33 @@ impl<'a, const N: usize> SortedTable<'a, N> {
             Ok(place)
         } else {
             Err(place)
+        }
+    }
+
+    // The answer for a key, of that for the key before it: the same for the same key, and for one above it a place a little
+    // behind, if it is there.
+    #[inline(always)]
+    pub(crate) fn answer_behind(
+        &self,
+        before: &TinyAsciiStr<N>,
+        answer: Result<usize, usize>,
+        key: &TinyAsciiStr<N>,
+    ) -> Option<Result<usize, usize>>
+        requires { answer ≡ search self.now before.now }
+        ensures { IfSome result (λ answer. answer ≡ search self.now key.now) }
+    {
+        let records = self.table.records();
+        match before.cmp(key) {
+            Ordering::Less => {
+                let start = match answer {
+                    Ok(index) => index + 1,
+                    Err(place) => place,
+                };
+                let place = first_not_below_next(records, key.all_bytes(), start)?;
+                Some(self.answer_at(place, key))
+            }
+            Ordering::Equal => Some(answer),
+            Ordering::Greater => None,
         }
     }
 

@@ -6,5 +6,5 @@ use Rattle.tinystr_packed.proofs.side_by_side.halved.Goals as goal
 
 pub returns : goal.returns
 returns g c =
-    IsPlaceWithin-halved g.row.N c.args.start c.args.records.now (paired c.args.number.first c.args.number.next) c.args.base c.args.size c.number_if.result c.requires.within c.requires.many (grind (arith, nat_tests, c.number_if.ensures))
+    IsPlaceWithin-halved g.row.N c.args.start c.args.records.now (paired c.args.number.first c.args.number.next) c.args.base c.args.size c.number_if.result c.requires.within c.requires.some (grind (arith, nat_tests, c.number_if.ensures))
     (λ numbered. let bit = c.bit_below_at.ensures.bit numbered in grind (arith, nat_tests, c.number_if.ensures, bit))

@@ -3,12 +3,6 @@ use Rattle.tinystr_packed.proofs.SideBySide.{ArePlacesWithin-start}
 use Rattle.tinystr_packed.specs.SideBySide.{wanted}
 use Rattle.tinystr_packed.proofs.side_by_side.places_within.Goals as goal
 
-pub returns-then-size-eq0 : goal.returns-then-size-eq0
-returns-then-size-eq0 g c =
-    ArePlacesWithin-start g.row.N c.args.start c.args.records.now (wanted c.args.numbers.now.first c.args.numbers.now.next) c.args.range.start c.args.range.end 0 (omega (arith, (c.requires.within.each 0 (omega arith)).ordered)) c.requires.within
-
 pub loop-size-init : goal.loop-size-init
-loop-size-init g c = record {
-  some = omega arith;
-  within = ArePlacesWithin-start g.row.N c.args.start c.args.records.now (wanted c.args.numbers.now.first c.args.numbers.now.next) c.args.range.start c.args.range.end (c.args.range.end - c.args.range.start) (omega arith) c.requires.within;
-}
+loop-size-init g c =
+    ArePlacesWithin-start g.row.N c.args.start c.args.records.now (wanted c.args.numbers.now.first c.args.numbers.now.next) c.args.range.start c.args.range.end (c.args.range.end - c.args.range.start) (omega (arith, (c.requires.within.each 0 (omega arith)).ordered)) c.requires.within
