@@ -242,8 +242,8 @@ impl<'a, const N: usize> SortedTable<'a, N> {
         }
     }
 
-    // The answer for a key, of that for the key before it: the same for the same key, and for one above it a place a little
-    // behind, if it is there.
+    // The answer for a key, if that for the key before it tells it: the same for the same key, and for one above it the place
+    // behind, or a little behind that.
     #[inline(always)]
     pub(crate) fn answer_behind(
         &self,
