@@ -63,6 +63,7 @@ fn number(order: &str, turn: u64, state: u64, run: u64, count: u64) -> u64 {
         "by chance, there" => (state >> 20) % count * 2,
         "by chance, not there" => (state >> 20) % count * 2 + 1,
         "all in order" => rising,
+        "in order, by chance" => rising + (state >> 20) % (2 * count / KEYS).max(1),
         "each record in order" => turn % count * 2,
         "falling" => 2 * count - 1 - rising,
         "in runs of 1,000" => (run >> 20) % (2 * count),

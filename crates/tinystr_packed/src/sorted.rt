@@ -135,9 +135,9 @@ impl<'a, const N: usize> SortedTable<'a, N> {
 
     /// What `binary_search` gives for each of many keys, in their order.
     ///
-    /// Eight keys at a time are searched for, so that each search waits for memory while the others do. Eight keys in order
-    /// are looked for a little behind the last one first. Eight that are one key, or two by turns, take a search for each of
-    /// these, and fewer than eight are searched for one by one.
+    /// A key that repeats, or that belongs right behind the last one, needs no search. Else eight keys at a time are searched
+    /// for, so that each search waits for memory while the others do. Eight keys that rise are looked for a little behind the
+    /// last one first. Two keys by turns take a search for each of these, and fewer than eight are searched for one by one.
     ///
     /// ```rust
     /// let codes = SortedTable::new(Table::<3>::new(b"CHFEURJPYUSD").unwrap()).unwrap();

@@ -1,6 +1,6 @@
 //! Searches for many keys.
 
-use crate::packed::eight::{Eight, search_first_eight};
+use crate::packed::eight::search_first_eight;
 use crate::packed::sorted::SortedTable;
 use crate::TinyAsciiStr;
 
@@ -24,7 +24,8 @@ pub struct BinarySearchEach<'a, 'k, const N: usize> {
     // the answers for eight keys, of which the last `ready` are those for the next ones
     answers: [Result<usize, usize>; 8],
     ready: usize,
-    near: usize,
+    // the answer for the last of all these keys
+    last: Result<usize, usize>,
     alone: u8,
 }
 
@@ -39,10 +40,35 @@ impl<'a, 'k, const N: usize> BinarySearchEach<'a, 'k, N> {
             given: 0,
             answers: [Err(0); 8],
             ready: 0,
-            near: 0,
+            last: Err(0),
             alone: 0,
         }
     }
+}
+
+// The answer for the key at an index, if that for the key before it tells it, or if fewer than eight keys are left.
+// Proved:
+//     requires inside { index < length keys.now }
+//     requires last { 0 < index → last ≡ search sorted.now (text_at keys.now (index - 1)) }
+//     ensures answer { IfSome result (λ answer. answer ≡ search sorted.now (text_at keys.now index)) }
+//     ensures many { IfNone result (index + 8 ≤ length keys.now) }
+#[inline(always)]
+fn answer_alone<const N: usize>(
+    sorted: &SortedTable<'_, N>,
+    keys: &[TinyAsciiStr<N>],
+    index: usize,
+    last: Result<usize, usize>,
+) -> Option<Result<usize, usize>> {
+    let key = &keys[index];
+    if index > 0
+        && let Some(answer) = sorted.answer_behind(&keys[index - 1], last, key)
+    {
+        return Some(answer);
+    }
+    if keys.len() - index < 8 {
+        return Some(sorted.binary_search(key));
+    }
+    None
 }
 
 impl<'a, 'k, const N: usize> Iterator for BinarySearchEach<'a, 'k, N> {
@@ -50,31 +76,27 @@ impl<'a, 'k, const N: usize> Iterator for BinarySearchEach<'a, 'k, N> {
 
     #[inline]
     fn next(&mut self) -> Option<Result<usize, usize>> {
-        let key = self.keys.get(self.given)?;
+        if self.given == self.keys.len() {
+            return None;
+        }
         if self.ready > 0 {
             let answer = self.answers[8 - self.ready];
             self.given += 1;
             self.ready -= 1;
             return Some(answer);
         }
-        let keys = &self.keys[self.given..];
-        if keys.len() < 8 {
-            let answer = self.sorted.binary_search(key);
+        if let Some(answer) = answer_alone(&self.sorted, self.keys, self.given, self.last) {
             self.given += 1;
+            self.last = answer;
             return Some(answer);
         }
-        let Eight {
-            answers,
-            near,
-            alone,
-        } = search_first_eight(&self.sorted, keys, self.near, self.alone);
-        let answer = answers[0];
+        let keys = &self.keys[self.given..];
+        let (Ok(near) | Err(near)) = self.last;
+        self.alone = search_first_eight(&self.sorted, keys, near, self.alone, &mut self.answers);
         self.given += 1;
-        self.answers = answers;
         self.ready = 7;
-        self.near = near;
-        self.alone = alone;
-        Some(answer)
+        self.last = self.answers[7];
+        Some(self.answers[0])
     }
 
     fn size_hint(&self) -> (usize, Option<usize>) {

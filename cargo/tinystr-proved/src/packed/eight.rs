@@ -6,23 +6,15 @@ use crate::TinyAsciiStr;
 // After eight keys of which one was searched for by itself, so many times eight keys are searched for one by one.
 const ALONE: u8 = 15;
 
-/// The answers for eight keys.
-#[derive(Clone, Copy)]
-pub(crate) struct Eight {
-    pub answers: [Result<usize, usize>; 8],
-    /// The index near which the next ones are looked for first.
-    pub near: usize,
-    /// How many of the next eights are to be searched for one key after another.
-    pub alone: u8,
-}
-
-/// The answers for the first eight of many keys. It isn't inlined, so that a caller's loop stays short.
+/// Puts the answers for the first eight of many keys into an array, and gives how many of the next eights are to be searched for
+/// one key after another. Keys in order are looked for first behind the index `near`. It isn't inlined, so that a caller's loop
+/// stays short.
 ///
 /// # Contract
 ///
 /// ```text
 /// requires { 8 ≤ length keys.now }
-/// ensures { AreAnswers sorted.now keys.now result.answers 8 }
+/// ensures { AreAnswers sorted.now keys.now answers.new 8 }
 /// ```
 #[inline(never)]
 pub(crate) fn search_first_eight<const N: usize>(
@@ -30,30 +22,19 @@ pub(crate) fn search_first_eight<const N: usize>(
     keys: &[TinyAsciiStr<N>],
     near: usize,
     alone: u8,
-) -> Eight {
+    answers: &mut [Result<usize, usize>; 8],
+) -> u8 {
     if are_two_by_turns(keys) {
-        let answers = answers_of_two(sorted, keys);
-        let (Ok(near) | Err(near)) = answers[7];
-        return Eight {
-            answers,
-            near,
-            alone,
-        };
+        *answers = answers_of_two(sorted, keys);
+        return alone;
     }
     if N > 16 && alone > 0 {
-        let answers = answers_one_by_one(sorted, keys);
-        return Eight {
-            answers,
-            near,
-            alone: alone - 1,
-        };
+        *answers = answers_one_by_one(sorted, keys);
+        return alone - 1;
     }
     let (places, was_alone) = sorted.first_not_below_each(keys, near);
-    Eight {
-        answers: answers_at(sorted, keys, &places),
-        near: places[7],
-        alone: if was_alone { ALONE } else { 0 },
-    }
+    *answers = answers_at(sorted, keys, &places);
+    if was_alone { ALONE } else { 0 }
 }
 
 // The answers of searches that end at these places.

@@ -10,6 +10,13 @@ use crate::TinyAsciiStr;
 /// Below this number, records of more than sixteen bytes are compared whole: to narrow their range first takes longer.
 const FEW: usize = 32;
 
+// So many records behind the last key's place are asked for the next key, and at most a sixteenth of all: a key by chance is
+// seldom there.
+const NEXT: usize = 15;
+
+// Among fewer records of at most sixteen bytes, which a cache holds, eight searches side by side find a key sooner.
+const MANY: usize = 65_536;
+
 /// The index of the first record that isn't below a key, or the number of records.
 // One number is all of a record of at most sixteen bytes. A longer one is told from most others by eight bytes behind those
 // that all records share, from most of the rest by sixteen, and from the last few by all.
@@ -107,6 +114,38 @@ fn first_not_below_near_start<const N: usize>(records: &[[u8; N]], key: &[u8; N]
     }
     let end = len.min(start.saturating_mul(8));
     start + first_not_below(&records[start..end], key)
+}
+
+/// The place of a key that is above all records before an index, if it is that index or, among long records or many of more than
+/// eight bytes, a little behind it. These are asked one after another, since a processor loads records in a row ahead.
+///
+/// # Contract
+///
+/// ```text
+/// requires rising { IsRising records.now }
+/// requires inside { start ≤ length records.now }
+/// requires below { (k : ℕ) → k < start → order (text_at records.now k) key.now ≡ Less }
+/// ensures { IfSome result (λ place. IsFirstNotBelow key.now records.now place) }
+/// ```
+#[inline(always)]
+pub(crate) fn first_not_below_next<const N: usize>(
+    records: &[[u8; N]],
+    key: &[u8; N],
+    start: usize,
+) -> Option<usize> {
+    let next = if N > 16 || N > 8 && records.len() >= MANY {
+        NEXT.min(records.len() / 16)
+    } else {
+        0
+    };
+    if is_below_at(records, start.saturating_add(next), key) {
+        return None;
+    }
+    let mut place = start;
+    while is_below_at(records, place, key) {
+        place += 1;
+    }
+    Some(place)
 }
 
 // Whether there is a record at an index, and it is below a key.

@@ -6,10 +6,8 @@ use crate::packed::search::{first_not_below, shared_len};
 use core::ops::Range;
 use crate::TinyAsciiStr;
 
-// Keys in order are looked for first among so many records behind the last place, and then among so many.
+// Keys in order are looked for first among so many records behind the last place, and then among eight times as many.
 const FEW: usize = 15;
-
-const SOME: usize = 127;
 
 // Two halves of a number: eight bytes of a record, and the next eight. Padded texts have numbers without the highest bit;
 // of any other bytes the functions below still give places among the records.
@@ -94,13 +92,14 @@ fn number_if(number: usize, bit: u64) -> usize {
     number & (bit as usize).wrapping_neg()
 }
 
-// One step of a search: the middle of a range is below a number, or it isn't.
+// One step of a search: the middle of a range is below a number, or it isn't. Half of the range is left, rounded down; of an
+// even number of records the middle may stay, though it is below.
 // Proved:
 //     requires start { start ≤ N - 8 }
 //     requires halves { AreHalves N number.first number.next }
-//     requires many { 1 < size }
+//     requires some { 0 < size }
 //     requires within { IsPlaceWithin N start records.now (paired number.first number.next) base (base + size) }
-//     ensures { IsPlaceWithin N start records.now (paired number.first number.next) result (result + (size - size / 2)) }
+//     ensures { IsPlaceWithin N start records.now (paired number.first number.next) result (result + size / 2) }
 #[inline(always)]
 fn halved<const N: usize>(
     records: &[[u8; N]],
@@ -110,18 +109,10 @@ fn halved<const N: usize>(
     size: usize,
 ) -> usize {
     let half = size / 2;
-    base + number_if(half, bit_below_at(records, start, base + half, number))
-}
-
-// The last step: the one record that is left is below a number, or it isn't.
-// Proved:
-//     requires start { start ≤ N - 8 }
-//     requires halves { AreHalves N number.first number.next }
-//     requires within { IsPlaceWithin N start records.now (paired number.first number.next) base (base + 1) }
-//     ensures { IsPlaceWithin N start records.now (paired number.first number.next) result result }
-#[inline(always)]
-fn last<const N: usize>(records: &[[u8; N]], start: usize, number: Halves, base: usize) -> usize {
-    base + bit_below_at(records, start, base, number) as usize
+    base + number_if(
+        size - half,
+        bit_below_at(records, start, base + half, number),
+    )
 }
 
 // The numbers of eight keys.
@@ -168,9 +159,9 @@ fn are_rising<const N: usize>(numbers: &Numbers) -> bool {
 // Proved:
 //     requires start { start ≤ N - 8 }
 //     requires halves { AreAllHalves N numbers.now.first numbers.now.next }
-//     requires many { 1 < size }
+//     requires some { 0 < size }
 //     requires within { ArePlacesWithin N start records.now (wanted numbers.now.first numbers.now.next) places.old size }
-//     ensures { ArePlacesWithin N start records.now (wanted numbers.now.first numbers.now.next) places.new (size - size / 2) }
+//     ensures { ArePlacesWithin N start records.now (wanted numbers.now.first numbers.now.next) places.new (size / 2) }
 #[inline(always)]
 fn halved_each<const N: usize>(
     records: &[[u8; N]],
@@ -185,28 +176,6 @@ fn halved_each<const N: usize>(
             next: numbers.next[lane],
         };
         places[lane] = halved(records, start, number, places[lane], size);
-    }
-}
-
-// The last step of each.
-// Proved:
-//     requires start { start ≤ N - 8 }
-//     requires halves { AreAllHalves N numbers.now.first numbers.now.next }
-//     requires within { ArePlacesWithin N start records.now (wanted numbers.now.first numbers.now.next) places.old 1 }
-//     ensures { ArePlacesWithin N start records.now (wanted numbers.now.first numbers.now.next) places.new 0 }
-#[inline(always)]
-fn last_each<const N: usize>(
-    records: &[[u8; N]],
-    start: usize,
-    numbers: &Numbers,
-    places: &mut [usize; 8],
-) {
-    for lane in 0..8usize {
-        let number = Halves {
-            first: numbers.first[lane],
-            next: numbers.next[lane],
-        };
-        places[lane] = last(records, start, number, places[lane]);
     }
 }
 
@@ -225,14 +194,10 @@ fn places_within<const N: usize>(
 ) -> [usize; 8] {
     let mut places = [range.start; 8];
     let mut size = range.end - range.start;
-    if size == 0 {
-        return places;
-    }
-    while size > 1 {
+    while size > 0 {
         halved_each(records, start, numbers, &mut places, size);
-        size -= size / 2;
+        size /= 2;
     }
-    last_each(records, start, numbers, &mut places);
     places
 }
 
@@ -278,27 +243,8 @@ fn are_at_least<const N: usize>(
     index == 0 || bit_below_at(records, start, index - 1, first) == 1
 }
 
-// Whether a range holds eight places, where the numbers rise.
-// Proved:
-//     requires start { start ≤ N - 8 }
-//     requires halves { AreAllHalves N numbers.now.first numbers.now.next }
-//     requires in_turn { DoNotFallInTurn (wanted numbers.now.first numbers.now.next) }
-//     requires ordered { range.now.start ≤ range.now.end }
-//     requires inside { range.now.end ≤ length records.now }
-//     ensures { IsTrue result → AreWithin N start records.now (wanted numbers.now.first numbers.now.next) range.now.start range.now.end }
-#[inline(always)]
-fn holds_each<const N: usize>(
-    records: &[[u8; N]],
-    start: usize,
-    numbers: &Numbers,
-    range: &Range<usize>,
-) -> bool {
-    are_at_most(records, start, numbers, range.end)
-        && are_at_least(records, start, numbers, range.start)
-}
-
-// A range of records that holds eight places: few or some behind an index, where the numbers rise and these hold them, or else
-// all. Fewer records than a quarter of all save steps, and no others are tried.
+// A range of records that holds eight places: where the numbers rise, few behind an index, or eight times as many, and so on,
+// and else all. Fewer records than a quarter of all save steps, and no others are tried.
 // Proved:
 //     requires start { start ≤ N - 8 }
 //     requires halves { AreAllHalves N numbers.now.first numbers.now.next }
@@ -315,13 +261,16 @@ fn range_near<const N: usize>(
         return 0..len;
     }
     let near = near.min(len);
-    let few = near..near.saturating_add(FEW).min(len);
-    if FEW < len / 4 && holds_each(records, start, numbers, &few) {
-        return few;
+    if !are_at_least(records, start, numbers, near) {
+        return 0..len;
     }
-    let some = near..near.saturating_add(SOME).min(len);
-    if SOME < len / 4 && holds_each(records, start, numbers, &some) {
-        return some;
+    let mut size = FEW;
+    while size < len / 4 {
+        let end = near.saturating_add(size).min(len);
+        if are_at_most(records, start, numbers, end) {
+            return near..end;
+        }
+        size = size.saturating_mul(8);
     }
     0..len
 }

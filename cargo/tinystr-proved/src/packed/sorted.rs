@@ -1,9 +1,10 @@
 //! Tables whose texts rise, and the search in them.
 
 use crate::packed::each::BinarySearchEach;
-use crate::packed::search::{count_with_prefix, first_not_below};
+use crate::packed::search::{count_with_prefix, first_not_below, first_not_below_next};
 use crate::packed::side_by_side::first_not_below_each;
 use crate::packed::table::Table;
+use core::cmp::Ordering;
 use core::ops::Range;
 use crate::TinyAsciiStr;
 use crate::ule::UleError;
@@ -147,9 +148,9 @@ impl<'a, const N: usize> SortedTable<'a, N> {
 
     /// What `binary_search` gives for each of many keys, in their order.
     ///
-    /// Eight keys at a time are searched for, so that each search waits for memory while the others do. Eight keys in order
-    /// are looked for a little behind the last one first. Eight that are one key, or two by turns, take a search for each of
-    /// these, and fewer than eight are searched for one by one.
+    /// A key that repeats, or that belongs right behind the last one, needs no search. Else eight keys at a time are searched
+    /// for, so that each search waits for memory while the others do. Eight keys that rise are looked for a little behind the
+    /// last one first. Two keys by turns take a search for each of these, and fewer than eight are searched for one by one.
     ///
     /// ```
     /// use tinystr::tinystr;
@@ -286,6 +287,33 @@ impl<'a, const N: usize> SortedTable<'a, N> {
             Ok(place)
         } else {
             Err(place)
+        }
+    }
+
+    // The answer for a key, if that for the key before it tells it: the same for the same key, and for one above it the place
+    // behind, or a little behind that.
+    // Proved:
+    //     requires { answer ≡ search self.now before.now }
+    //     ensures { IfSome result (λ answer. answer ≡ search self.now key.now) }
+    #[inline(always)]
+    pub(crate) fn answer_behind(
+        &self,
+        before: &TinyAsciiStr<N>,
+        answer: Result<usize, usize>,
+        key: &TinyAsciiStr<N>,
+    ) -> Option<Result<usize, usize>> {
+        let records = self.table.records();
+        match before.cmp(key) {
+            Ordering::Less => {
+                let start = match answer {
+                    Ok(index) => index + 1,
+                    Err(place) => place,
+                };
+                let place = first_not_below_next(records, key.all_bytes(), start)?;
+                Some(self.answer_at(place, key))
+            }
+            Ordering::Equal => Some(answer),
+            Ordering::Greater => None,
         }
     }
 
