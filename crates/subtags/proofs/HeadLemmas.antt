@@ -13,7 +13,7 @@ use Rattle.tinystr_words.specs.Case.{lowercase}
 use Rattle.subtags.specs.Grammar.{is_separator, is_language, is_language_length, fold_text, subtags_of}
 use Rattle.subtags.proofs.FoldLemmas.{All-from_list_all, alphanumeric-from_subtag}
 use Rattle.subtags.proofs.SplitLemmas.{subtags_at_first_separator}
-use Rattle.subtags.specs.ReadingSteps.{rest_after, ends_at, first_subtag, subtags_of_rest}
+use Rattle.subtags.specs.Private.ReadingSteps.{rest_after, ends_at, first_subtag, subtags_of_rest}
 
 -- how many letters an input begins with, among its first 8 bytes
 abbrev pub letters_in_front : List ℕ → ℕ

@@ -10,7 +10,7 @@ use Rattle.tinystr_words.specs.Classes.{is_alphanumeric}
 use Rattle.tinystr_words.specs.Case.{titlecase, uppercase}
 use Rattle.subtags.specs.declared.error.LangIdError.TheVariants.{InvalidSubtag}
 use Rattle.subtags.specs.Grammar.{dash, is_separator, fold_byte, fold_text, subtags_of, is_script, is_region}
-use Rattle.subtags.specs.ReadingSteps.{rest_after, subtags_of_rest, ends_at, leading_script, subtags_after_script, last_region}
+use Rattle.subtags.specs.Private.ReadingSteps.{rest_after, subtags_of_rest, ends_at, leading_script, subtags_after_script, last_region}
 use Rattle.subtags.proofs.FoldLemmas.{All-from_list_all, is_script-fold_text, is_region-fold_text, alphanumeric-fold_text, alphanumeric-from_subtag, titlecase-fold_text, uppercase-fold_text}
 
 -- to change the bytes and then split is to split and then change the subtags

@@ -1,5 +1,4 @@
 pub mod Grammar
 pub mod Subtags
 pub mod Answers
-pub mod ReadingSteps
-pub mod SubtagPlaces
+pub mod Private

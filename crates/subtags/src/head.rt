@@ -5,7 +5,7 @@ ghost use Rattle.std.specs.Option.{option_copied};
 ghost use Rattle.tinystr_words.specs.Case.{lowercase};
 ghost use Rattle.subtags.specs.Grammar.{is_separator, is_language};
 ghost use Rattle.subtags.specs.Subtags.{IsCanonicalSubtag};
-ghost use Rattle.subtags.specs.ReadingSteps.{rest_after, ends_at, first_subtag};
+ghost use Rattle.subtags.specs.Private.ReadingSteps.{rest_after, ends_at, first_subtag};
 
 use crate::language::{Language, is_language_length};
 use tinystr::TinyStr8;

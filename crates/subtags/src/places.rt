@@ -1,7 +1,7 @@
 //! Where the subtags of a canonical text stand.
 
 ghost use Rattle.std.specs.Prelude.{◌≡◌, ◌≤◌, nat_lt, length};
-ghost use Rattle.subtags.specs.SubtagPlaces.{language_end, region_start};
+ghost use Rattle.subtags.specs.Private.SubtagPlaces.{language_end, region_start};
 
 use tinystr::TinyAsciiStr;
 

@@ -2,7 +2,7 @@
 
 ghost use Rattle.std.specs.Prelude.{◌≡◌};
 ghost use Rattle.std.specs.Option.{option_copied};
-ghost use Rattle.subtags.specs.ReadingSteps.{subtags_of_rest, leading_script, subtags_after_script, last_region};
+ghost use Rattle.subtags.specs.Private.ReadingSteps.{subtags_of_rest, leading_script, subtags_after_script, last_region};
 
 use crate::error::LangIdError;
 use crate::head::{ends_at, rest_after};

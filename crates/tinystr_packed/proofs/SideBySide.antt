@@ -8,10 +8,10 @@ use Rattle.std.proofs.lemmas.Bool.Decides.{nat_tests}
 use Rattle.std.proofs.lemmas.List.{at_drop_more, get_or-drop, get_or-replicate, get_or-set_other, get_or-set_same, length-drop, length-take, places, take_all}
 use Rattle.tinystr_words.specs.Text.{IsPaddedText, IsStrictText, pad}
 use Rattle.tinystr_words.proofs.Texts.{get_or-pad, length-pad}
-use Rattle.tinystr_packed.specs.Numbers.{number_at, pair_at}
+use Rattle.tinystr_packed.specs.Private.Numbers.{number_at, pair_at}
 use Rattle.tinystr_packed.specs.Rising.{text_at}
 use Rattle.tinystr_packed.specs.Search.{search}
-use Rattle.tinystr_packed.specs.SideBySide.{paired, AreAnswers, AreHalves, AreNumbered, AreReady, AreWithin, DoNotFallInTurn, IsPlaceWithin, ArePlacesWithin}
+use Rattle.tinystr_packed.specs.Private.SideBySide.{paired, AreAnswers, AreHalves, AreNumbered, AreReady, AreWithin, DoNotFallInTurn, IsPlaceWithin, ArePlacesWithin}
 use Rattle.tinystr_packed.proofs.RisingTexts.{ascii-padded}
 
 -- eight bytes of a text spell a number without its highest bit

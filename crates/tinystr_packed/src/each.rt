@@ -37,7 +37,7 @@ impl<'a, 'k, const N: usize> Model for BinarySearchEach<'a, 'k, N> {
     ghost use Rattle.std.specs.Prelude.{◌^◌, ◌+◌, ◌<◌, ◌≤◌, List, ℕ, drop, length, map};
     ghost use Rattle.std.specs.declared.result.Result.{Result};
     ghost use Rattle.tinystr_packed.specs.Search.{search};
-    ghost use Rattle.tinystr_packed.specs.SideBySide.{AreReady, IsLast};
+    ghost use Rattle.tinystr_packed.specs.Private.SideBySide.{AreReady, IsLast};
 
     ghost Value = { List (Result ℕ ℕ) };
 

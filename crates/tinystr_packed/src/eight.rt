@@ -2,7 +2,7 @@
 
 ghost use Rattle.std.specs.Prelude.{◌≡◌, ◌<◌, ◌≤◌, ◌+◌, ℕ, IsTrue, length, slice_index};
 ghost use Rattle.tinystr_packed.specs.Rising.{text_at, IsFirstNotBelow};
-ghost use Rattle.tinystr_packed.specs.SideBySide.{AreAnswers};
+ghost use Rattle.tinystr_packed.specs.Private.SideBySide.{AreAnswers};
 
 use crate::sorted::SortedTable;
 use tinystr::TinyAsciiStr;

@@ -1,7 +1,7 @@
 //! The numbers that a search compares.
 
 ghost use Rattle.std.specs.Prelude.{◌≡◌, ◌≤◌, ◌-◌, ℕ, List, nat_eq, nat_lt};
-ghost use Rattle.tinystr_packed.specs.Numbers.{number_at, pair_at};
+ghost use Rattle.tinystr_packed.specs.Private.Numbers.{number_at, pair_at};
 
 use crate::record::number_at;
 

@@ -5,7 +5,7 @@ ghost use Rattle.std.specs.Cmp.Lexicographic.{slice_cmp};
 ghost use Rattle.std.specs.Ordering.{nat_cmp, is_lt};
 ghost use Rattle.tinystr_words.specs.Text.{IsPaddedText, text_of};
 ghost use Rattle.std.specs.Str.{bytes_eq};
-ghost use Rattle.tinystr_packed.specs.Numbers.{number_at};
+ghost use Rattle.tinystr_packed.specs.Private.Numbers.{number_at};
 
 use std::cmp::Ordering;
 use tinystr_words::padded;

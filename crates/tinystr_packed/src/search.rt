@@ -7,7 +7,7 @@ ghost use Rattle.std.specs.List.Sorted.{IsPartitionPoint};
 ghost use Rattle.std.specs.Ordering.{nat_cmp, is_lt};
 ghost use Rattle.std.specs.declared.cmp.Ordering.TheVariants.{Less};
 ghost use Rattle.tinystr_words.specs.Text.{pad};
-ghost use Rattle.tinystr_packed.specs.Numbers.{IsRecord, AreRisingRecords, AreToldApart, BeginAlike};
+ghost use Rattle.tinystr_packed.specs.Private.Numbers.{IsRecord, AreRisingRecords, AreToldApart, BeginAlike};
 ghost use Rattle.tinystr_packed.specs.Rising.{order, text_at, IsRising, IsFirstNotBelow, IsFirstNotBelowWithin};
 
 use crate::number::Number;

@@ -3,10 +3,10 @@
 
 ghost use Rattle.std.specs.Prelude.{◌≡◌, ◌<◌, ◌≤◌, ◌^◌, ◌+◌, ◌-◌, ◌/◌, ℕ, IsTrue, cond, length, nat_lt, nat_eq, min, All, slice_index, slice_index_or};
 ghost use Rattle.tinystr_words.specs.Text.{IsPaddedText, IsStrictText, pad};
-ghost use Rattle.tinystr_packed.specs.Numbers.{number_at, pair_at, AreRisingRecords, BeginAlike};
+ghost use Rattle.tinystr_packed.specs.Private.Numbers.{number_at, pair_at, AreRisingRecords, BeginAlike};
 ghost use Rattle.std.specs.declared.cmp.Ordering.TheVariants.{Less};
 ghost use Rattle.tinystr_packed.specs.Rising.{order, text_at, IsFirstNotBelow};
-ghost use Rattle.tinystr_packed.specs.SideBySide.{paired, wanted, AreHalves, AreAllHalves, AreNumbered, DoNotFallInTurn, AreWithin, IsPlaceWithin, ArePlacesWithin};
+ghost use Rattle.tinystr_packed.specs.Private.SideBySide.{paired, wanted, AreHalves, AreAllHalves, AreNumbered, DoNotFallInTurn, AreWithin, IsPlaceWithin, ArePlacesWithin};
 
 use crate::record::{is_below, number_at};
 use crate::search::{first_not_below, shared_len};

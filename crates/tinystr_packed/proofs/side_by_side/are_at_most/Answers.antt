@@ -1,7 +1,7 @@
 use Rattle.std.proofs.Common.{◌≤◌, arith}
 use Rattle.std.proofs.lemmas.Bool.Decides.{nat_tests}
-use Rattle.tinystr_packed.specs.Numbers.{pair_at}
-use Rattle.tinystr_packed.specs.SideBySide.{wanted}
+use Rattle.tinystr_packed.specs.Private.Numbers.{pair_at}
+use Rattle.tinystr_packed.specs.Private.SideBySide.{wanted}
 use Rattle.tinystr_packed.specs.Rising.{text_at}
 use Rattle.tinystr_packed.proofs.SideBySide.{DoNotFallInTurn-later}
 use Rattle.tinystr_packed.proofs.side_by_side.are_at_most.Goals as goal

@@ -1,5 +1,5 @@
 use Rattle.std.proofs.Common.{◌≡◌, ℕ, ◌<◌, ◌≤◌, ◌+◌}
-use Rattle.tinystr_packed.specs.SideBySide.{wanted}
+use Rattle.tinystr_packed.specs.Private.SideBySide.{wanted}
 use Rattle.tinystr_packed.proofs.side_by_side.are_rising.Given as goal
 
 abbrev pub invariant-loop-lane : goal.invariant-loop-lane

@@ -4,9 +4,9 @@ use borrow.Author.Count.{below_more}
 use Rattle.std.specs.List.{slice_index}
 use Rattle.std.proofs.lemmas.List.{get_or_default, length-set}
 use Rattle.tinystr_words.specs.Text.{IsPaddedText, pad}
-use Rattle.tinystr_packed.specs.Numbers.{pair_at}
+use Rattle.tinystr_packed.specs.Private.Numbers.{pair_at}
 use Rattle.tinystr_packed.specs.Rising.{order, text_at, IsFirstNotBelow}
-use Rattle.tinystr_packed.specs.SideBySide.{IsPlaceWithin}
+use Rattle.tinystr_packed.specs.Private.SideBySide.{IsPlaceWithin}
 use Rattle.tinystr_packed.proofs.NumberPlaces.{AreNumbered-rising, IsFirstNotBelow-tested}
 use Rattle.tinystr_packed.proofs.RisingTexts.{IsRecord-padded}
 use Rattle.tinystr_packed.proofs.SideBySide.{so_far-set, still-set}

@@ -1,9 +1,9 @@
 use Rattle.std.proofs.Common.{◌≡◌, ℕ, ◌<◌, ◌≤◌, length}
 use Rattle.std.specs.List.{slice_index}
 use Rattle.tinystr_words.specs.Text.{pad}
-use Rattle.tinystr_packed.specs.Numbers.{pair_at}
+use Rattle.tinystr_packed.specs.Private.Numbers.{pair_at}
 use Rattle.tinystr_packed.specs.Rising.{text_at, IsFirstNotBelow}
-use Rattle.tinystr_packed.specs.SideBySide.{IsPlaceWithin}
+use Rattle.tinystr_packed.specs.Private.SideBySide.{IsPlaceWithin}
 use Rattle.tinystr_packed.proofs.side_by_side.first_not_below_each_long.Given as goal
 
 abbrev pub invariant-loop-lane : goal.invariant-loop-lane

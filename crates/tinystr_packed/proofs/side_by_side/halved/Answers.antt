@@ -1,6 +1,6 @@
 use Rattle.std.proofs.Common.{arith}
 use Rattle.std.proofs.lemmas.Bool.Decides.{nat_tests}
-use Rattle.tinystr_packed.specs.SideBySide.{paired}
+use Rattle.tinystr_packed.specs.Private.SideBySide.{paired}
 use Rattle.tinystr_packed.proofs.SideBySide.{IsPlaceWithin-halved}
 use Rattle.tinystr_packed.proofs.side_by_side.halved.Goals as goal
 

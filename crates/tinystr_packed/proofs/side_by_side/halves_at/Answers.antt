@@ -1,5 +1,5 @@
 use Rattle.std.proofs.Common.{◌≡◌, ◌-◌, ◌+◌, length, min, arith}
-use Rattle.tinystr_packed.specs.Numbers.{pair_at}
+use Rattle.tinystr_packed.specs.Private.Numbers.{pair_at}
 use Rattle.tinystr_packed.proofs.SideBySide.{number_at-fits}
 use Rattle.tinystr_packed.proofs.side_by_side.halves_at.Goals as goal
 

@@ -1,7 +1,7 @@
 use Rattle.std.proofs.Common.{◌∙◌, ap, arith, [], ℕ, List}
 use Rattle.std.proofs.lemmas.List.{get_or_default, length-set}
 use Rattle.tinystr_packed.specs.Rising.{text_at}
-use Rattle.tinystr_packed.specs.Numbers.{pair_at}
+use Rattle.tinystr_packed.specs.Private.Numbers.{pair_at}
 use Rattle.tinystr_words.specs.Text.{pad}
 use Rattle.tinystr_packed.proofs.SideBySide.{IsNumberOf, so_far-set_both}
 use Rattle.tinystr_packed.proofs.side_by_side.numbers_of.Goals as goal

@@ -1,4 +1,4 @@
-use Rattle.tinystr_packed.specs.SideBySide.{wanted, ArePlacesWithin}
+use Rattle.tinystr_packed.specs.Private.SideBySide.{wanted, ArePlacesWithin}
 use Rattle.tinystr_packed.proofs.side_by_side.places_within.Given as goal
 
 abbrev pub invariant-loop-size : goal.invariant-loop-size

@@ -1,6 +1,6 @@
 use Rattle.std.proofs.Common.{◌+◌, ◌<◌, ◌≤◌, ◌∙◌, length, sym, lit<, arith}
 use Rattle.std.proofs.lemmas.Bool.Decides.{nat_tests}
-use Rattle.subtags.specs.SubtagPlaces.{language_end}
+use Rattle.subtags.specs.Private.SubtagPlaces.{language_end}
 use Rattle.subtags.proofs.PlaceLemmas.{InPlace-canonical, slice-from}
 use Rattle.subtags.proofs.lang_id.LangId.script.Goals as goal
 

@@ -2,7 +2,7 @@ use Rattle.std.proofs.Common.{◌≡◌, ◌∙◌, ap, sym, refl, rules, arith}
 use Rattle.std.proofs.lemmas.Grind.{common_steps}
 use Rattle.subtags.specs.Grammar.{canonical_text, fold_text}
 use Rattle.std.specs.Option.{option_copied}
-use Rattle.subtags.specs.ReadingSteps.{first_subtag}
+use Rattle.subtags.specs.Private.ReadingSteps.{first_subtag}
 use Rattle.subtags.proofs.CanonLemmas.{fold_text-canonical_text}
 use Rattle.subtags.proofs.SplitLemmas.{subtags_at_first_separator}
 use Rattle.subtags.proofs.HeadLemmas.{subtags_of_rest-first_subtag}

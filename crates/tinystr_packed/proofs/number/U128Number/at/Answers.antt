@@ -1,5 +1,5 @@
 use Rattle.std.proofs.Common.{◌≡◌, ◌-◌, ◌+◌, length, min, arith}
-use Rattle.tinystr_packed.specs.Numbers.{pair_at}
+use Rattle.tinystr_packed.specs.Private.Numbers.{pair_at}
 use Rattle.tinystr_packed.proofs.number.U128Number.at.Goals as goal
 
 pub returns : goal.returns

@@ -3,7 +3,7 @@ use Rattle.std.specs.Prelude.{◌≡◌, ℕ, ◌+◌, ◌-◌, ◌*◌, ◌^◌
 use Rattle.std.specs.declared.result.Result.{Result}
 use Rattle.std.specs.declared.result.Result.TheVariants.{Ok}
 use Rattle.tinystr_words.specs.Text.{IsPaddedText}
-use Rattle.tinystr_packed.specs.Numbers.{pair_at}
+use Rattle.tinystr_packed.specs.Private.Numbers.{pair_at}
 use Rattle.tinystr_packed.specs.Rising.{text_at}
 use Rattle.tinystr_packed.specs.Search.{search}
 
