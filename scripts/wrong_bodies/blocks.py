@@ -1,7 +1,7 @@
 """Reads the wrong bodies of a crate, and writes a goal into one.
 
-Those of src/PATH.rt stand in wrong-bodies/PATH.edits, a block each, with an empty line between two. Those of must-fail,
-which `rt ci` tries, stand in a file each. What is written otherwise is Unreadable, by its name and its line.
+Those of src/PATH.rt stand in wrong-bodies/PATH.edits, a block each, with an empty line between two. What is written
+otherwise is Unreadable, by its name and its line.
 """
 
 import re
@@ -16,7 +16,6 @@ BLOCK = re.compile(
     rf"(?:(?P<kind>{'|'.join(KINDS)}): (?P<function>\S+)(?: (?P<goal>\S+))?\n)?"
     rf"(?:elsewhere: (?P<elsewhere>.+)\n)?{PAIRS}"
 )
-MUST_FAIL = re.compile(rf"file: (?P<file>\S+)\n{PAIRS}")
 PAIR = re.compile(r"old: (.+)\nnew: ?(.*)\n")
 WRITING = threading.Lock()
 
@@ -44,7 +43,7 @@ def edits_of(path, file):
 
 
 def has_wrong_bodies(crate):
-    """Whether a crate has wrong bodies beside those of must-fail."""
+    """Whether a crate has wrong bodies."""
     return (TOP / "crates" / crate / "wrong-bodies").is_dir()
 
 
@@ -65,18 +64,6 @@ def read_blocks(crate):
             raise Unreadable(f"{path.relative_to(TOP)}: there is no {file}")
         found += edits_of(path, file)
     return named_once(found)
-
-
-def read_must_fail(crate):
-    """The edits of a crate that `rt ci` tries, each from a file of its own."""
-    folder = TOP / "crates" / crate
-    found = []
-    for path in sorted((folder / "must-fail").glob("*.edit")):
-        text = path.read_text(encoding="utf-8")
-        if not (read := MUST_FAIL.fullmatch(text)) or not (folder / read["file"]).is_file():
-            raise Unreadable(f"{path.relative_to(TOP)}: no edit, or of no source")
-        found.append(Edit(path.stem, path, read["file"], text, pairs=PAIR.findall(read["pairs"])))
-    return found
 
 
 def named_once(edits):

@@ -1,21 +1,23 @@
-"""Groups of a crate's edits, each of which one check tries: no two edits of a group turn one function.
+"""Groups of a crate's edits, each of which one check tries: no two edits of a group reach one function or file of lemmas.
 
-A function is checked against contracts alone, so wrong bodies of different functions don't see one another. An edit of
-a constant, of what a law with a body says, or of what is no function's body, is alone. Each group has controls: neutral
-and disturbed edits, and the first wrong body of the crate, which is tried again in each later group.
+A function is checked against contracts alone, so the edit of a body reaches that function; that of a constant or of what
+a law with a body says reaches what names these too. One that reaches contracts, or turns what is no function's body, is
+alone. Each group has controls: neutral and disturbed edits, and the first wrong body of the crate, which is tried again
+in each later group.
 """
 
 from dataclasses import dataclass
 
 from wrong_bodies.edits import Unreadable
+from wrong_bodies.reach import reach_of
 
 
 @dataclass(frozen=True)
 class Group:
-    """Edits that one check tries, controls among them, each with the function that it turns (none: it is alone)."""
+    """Edits that one check tries, controls among them, each with what it reaches (none: it is alone)."""
 
     edits: tuple
-    turned: tuple
+    reached: tuple
 
     @property
     def bodies(self):
@@ -36,7 +38,7 @@ class Group:
 
     def of(self, bodies):
         """The group of some of its wrong bodies, and its controls."""
-        kept = [(it, item) for it, item in zip(self.edits, self.turned) if it in bodies or it.is_control]
+        kept = [(it, reach) for it, reach in zip(self.edits, self.reached) if it in bodies or it.is_control]
         return Group(*zip(*kept))
 
     def parts(self, disturbed):
@@ -50,38 +52,34 @@ class Group:
 
 
 def groups_of(edits, texts, only=()):
-    """The groups of a crate's edits or, where some are named, each of these alone."""
+    """The groups of a crate's edits or, where some are named, of these without controls."""
     if not only:
         return grouped([it for it in edits if not it.is_control], [it for it in edits if it.is_control], texts)
     if unknown := set(only) - {it.name for it in edits}:
         raise Unreadable(f"no wrong body {', '.join(sorted(unknown))}")
-    return [group for it in edits if it.name in only for group in grouped([it], [], texts)]
+    return grouped([it for it in edits if it.name in only], [], texts)
 
 
 def grouped(edits, controls, texts):
-    """The groups of a crate's wrong bodies and controls: two of one function are in two groups."""
-    turned = {it.name: target_of(it, texts) for it in [*edits, *controls]}
-    alone = [it for it in edits if is_seen_by_others(it, turned[it.name], texts)]
+    """The groups of a crate's wrong bodies and controls: two that reach one function are in two groups."""
+    reached = {it.name: reach_of(it, target_of(it, texts), texts) for it in [*edits, *controls]}
+    alone = [it for it in edits if reached[it.name] is None]
     left, groups = [it for it in edits if it not in alone], []
     known = left[:1]
     while left:
         # a control stands in the way of the edits of its function, so two halves of them take turns
         group = [it for number, it in enumerate(controls) if number % 2 == len(groups) % 2]
-        taken = {turned[it.name] for it in group}
         for edit in [*left, *known]:
-            if turned[edit.name] not in taken:
-                taken.add(turned[edit.name])
+            if not any(reached[edit.name].meets(reached[it.name]) for it in group):
                 group.append(edit)
         if not any(it in left for it in group):
             raise Unreadable("the functions that are left to turn are those of controls")
-        groups.append(Group(tuple(group), tuple(turned[it.name] for it in group)))
+        new = [it for it in group if it in left]
         left = [it for it in left if it not in group]
+        # one alone can't be disturbed
+        group = group if len(new) > 1 else new
+        groups.append(Group(tuple(group), tuple(reached[it.name] for it in group)))
     return groups + [Group((it,), (None,)) for it in alone]
-
-
-def is_seen_by_others(edit, item, texts):
-    """Whether it turns what the proofs of other functions see: a constant, what a law says, or what is no function."""
-    return not item or item.is_constant or edit.turns_contract(item, texts)
 
 
 def target_of(edit, texts):

@@ -1,7 +1,7 @@
 """Judges what `rt check` said of a group: of each edit whether it is refused at the goal that it names.
 
 A goal is merely disturbed where its proof names what the edit took away, or where the body makes a value before it that
-its type forbids: that is no refusal. A group fails as a whole where a function that no edit of it turns is refused, or
+its type forbids: that is no refusal. A group fails as a whole where a function that no edit of it reaches is refused, or
 where it doesn't compile.
 """
 
@@ -9,6 +9,7 @@ import re
 from dataclasses import dataclass
 
 from wrong_bodies.edits import Edit
+from wrong_bodies.reach import own_of
 from wrong_bodies.refusals import refusals
 
 UNCOMPILED = re.compile(r"(?:\./)?src/\S+: error\[.*")
@@ -50,9 +51,9 @@ def judge(group, output):
         said = [it for it in output.splitlines() if UNCOMPILED.match(it)] or output.splitlines()[-3:]
         return [Verdict(it, False, "no verdict") for it in group.edits], [f"{place}: {' '.join(said)[:600]}"]
     verdicts, own_of_all = [], []
-    for edit, item in zip(group.edits, group.turned):
-        own = [it for it in found if not item or item.is_named_by(it.function)]
+    for edit, reach in zip(group.edits, group.reached):
+        own = own_of(reach, found)
         own_of_all += own
         verdicts.append(judged(edit, own))
     others = [it for it in found if it not in own_of_all]
-    return verdicts, [f"{place}: refused, and not turned: {it.function} {it.goal}" for it in others]
+    return verdicts, [f"{place}: refused, and not reached: {it.function} {it.goal}" for it in others]

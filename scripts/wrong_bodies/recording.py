@@ -2,6 +2,7 @@
 
 from wrong_bodies.blocks import write_goal
 from wrong_bodies.edits import is_clause
+from wrong_bodies.reach import own_of
 from wrong_bodies.refusals import refusals
 
 
@@ -9,8 +10,8 @@ def record(group, output):
     """Writes the goal that refuses each wrong body of a checked group, a clause before any other. A clause that stands
     there is left, and so is another goal with a line 'elsewhere'."""
     open_goals = [it for it in refusals(output) if not it.names_what_is_gone]
-    for edit, item in zip(group.edits, group.turned):
-        own = [it for it in open_goals if not item or item.is_named_by(it.function)]
+    for edit, reach in zip(group.edits, group.reached):
+        own = own_of(reach, open_goals)
         if own and not edit.is_control and not is_clause(edit.goal) and not edit.elsewhere:
             first = next((it for it in own if is_clause(it.goal)), own[0])
             write_goal(edit, first.function, first.goal)

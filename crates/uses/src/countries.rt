@@ -2,8 +2,8 @@
 
 ghost use Rattle.std.specs.Prelude.{◌≡◌, ◌↔◌, All, Contains, IfSome, IsSome, IsTrue, Some, length, slice_get};
 ghost use Rattle.std.specs.List.{flat_map};
-ghost use Rattle.tinystr_words.specs.Classes.{ask, is_upper};
-ghost use Rattle.tinystr_words.specs.Text.{IsStrictText, pad};
+ghost use Rattle.tinystr.specs.Classes.{ask, is_upper};
+ghost use Rattle.tinystr.specs.Text.{IsStrictText, pad};
 ghost use Rattle.uses.specs.Countries.{AreCountryCodes, IsCountryCode};
 
 use tinystr::TinyAsciiStr;

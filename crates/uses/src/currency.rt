@@ -4,7 +4,7 @@ ghost use Rattle.std.specs.Prelude.{◌≡◌, None, Some, OnOk, OnErr};
 ghost use Rattle.std.specs.BTreeMap.{IsUnchanged, Updates, get};
 ghost use Rattle.std.specs.Cmp.Lexicographic.{slice_cmp};
 ghost use Rattle.std.specs.Ordering.{nat_cmp};
-ghost use Rattle.tinystr_words.specs.Text.{IsStrictText};
+ghost use Rattle.tinystr.specs.Text.{IsStrictText};
 
 use std::alloc::AllocError;
 use std::collections::BTreeMap;

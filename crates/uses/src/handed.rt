@@ -2,8 +2,8 @@
 
 ghost use Rattle.std.specs.Prelude.{◌≡◌, ◌<◌, ◌≤◌, ◌↔◌, ◌-◌, ◌^◌, ℕ, Contains, IfOk, IfSome, IsSome, Some, SomeIff, drop, length, slice_get, take};
 ghost use Rattle.std.specs.List.{flat_map};
-ghost use Rattle.tinystr_words.specs.Packed.{record_at};
-ghost use Rattle.tinystr_words.specs.Text.{pad, text_of};
+ghost use Rattle.tinystr.specs.Packed.{record_at};
+ghost use Rattle.tinystr.specs.Text.{pad, text_of};
 
 use std::alloc::{AllocError, Global};
 use std::collections::BTreeMap;

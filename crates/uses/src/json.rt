@@ -3,7 +3,7 @@
 ghost use Rattle.std.specs.Prelude.{◌≡◌, ◌↔◌, None, Some, Ok, codes, option_and_then, IsOk, IfOk, IsErrOf, IsSomeAnd};
 ghost use Rattle.serde_json.specs.Find.{as_str, get};
 ghost use Rattle.serde_json.specs.View.{view};
-ghost use Rattle.tinystr_words.specs.Text.{IsStrictText};
+ghost use Rattle.tinystr.specs.Text.{IsStrictText};
 
 use serde_json::Value;
 use std::alloc::{AllocError, Global};

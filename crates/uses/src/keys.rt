@@ -3,7 +3,7 @@
 ghost use Rattle.std.specs.Prelude.{◌≡◌, ◌↔◌, true, not, IsTrue, IfOk, IfErr, OnOk, OnErr};
 ghost use Rattle.std.specs.HashSet.{IsUnchanged, Updates, contains};
 ghost use Rattle.std.specs.Str.{bytes_eq};
-ghost use Rattle.tinystr_words.specs.Text.{IsStrictText};
+ghost use Rattle.tinystr.specs.Text.{IsStrictText};
 ghost use Rattle.uses.specs.Keys.{RefusesKey};
 
 use std::alloc::AllocError;

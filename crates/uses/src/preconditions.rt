@@ -1,9 +1,9 @@
 //! What calls require, met: by a literal, or by a test in front of the call.
 
 ghost use Rattle.std.specs.Prelude.{◌≡◌, ◌↔◌, ◌<◌, codes, IsSome, IfSome, IsTrue};
-ghost use Rattle.tinystr_words.specs.Packed.{IsPacked};
+ghost use Rattle.tinystr.specs.Packed.{IsPacked};
 ghost use Rattle.tinystr_words.specs.Reading.{lossy};
-ghost use Rattle.tinystr_words.specs.Text.{IsTextByte};
+ghost use Rattle.tinystr.specs.Text.{IsTextByte};
 
 use tinystr::{TinyAsciiStr, tinystr};
 

@@ -3,8 +3,8 @@
 ghost use Rattle.std.specs.Prelude.{◌≡◌, ◌↔◌, IfOk, IsTrue, string_bytes};
 ghost use Rattle.std.specs.Char.{is_ascii_uppercase};
 ghost use Rattle.std.specs.List.{list_all};
-ghost use Rattle.tinystr_words.specs.Case.{lowercase, uppercase};
-ghost use Rattle.tinystr_words.specs.Classes.{ask, is_upper};
+ghost use Rattle.tinystr.specs.Case.{lowercase, uppercase};
+ghost use Rattle.tinystr.specs.Classes.{ask, is_upper};
 
 use std::alloc::{AllocError, Global};
 use tinystr::TinyAsciiStr;
