@@ -2,8 +2,7 @@
 
 A function is checked against contracts alone, so the edit of a body reaches that function; that of a constant or of what
 a law with a body says reaches what names these too. One that reaches contracts, or turns what is no function's body, is
-alone. Each group has controls: neutral and disturbed edits, and the first wrong body of the crate, which is tried again
-in each later group.
+alone. Groups of several have neutral and disturbed edits as controls.
 """
 
 from dataclasses import dataclass
@@ -65,21 +64,24 @@ def grouped(edits, controls, texts):
     reached = {it.name: reach_of(it, target_of(it, texts), texts) for it in [*edits, *controls]}
     alone = [it for it in edits if reached[it.name] is None]
     left, groups = [it for it in edits if it not in alone], []
-    known = left[:1]
     while left:
-        # a control stands in the way of the edits of its function, so two halves of them take turns
-        group = [it for number, it in enumerate(controls) if number % 2 == len(groups) % 2]
-        for edit in [*left, *known]:
-            if not any(reached[edit.name].meets(reached[it.name]) for it in group):
-                group.append(edit)
-        if not any(it in left for it in group):
-            raise Unreadable("the functions that are left to turn are those of controls")
-        new = [it for it in group if it in left]
-        left = [it for it in left if it not in group]
+        taken, new = controls_of(len(groups), controls), []
+        for edit in left:
+            if not any(reached[edit.name].meets(reached[it.name]) for it in [*taken, *new]):
+                new.append(edit)
         # one alone can't be disturbed
-        group = group if len(new) > 1 else new
+        group = [*taken, *new] if len(new) > 1 else new or left[:1]
+        left = [it for it in left if it not in group]
         groups.append(Group(tuple(group), tuple(reached[it.name] for it in group)))
     return groups + [Group((it,), (None,)) for it in alone]
+
+
+def controls_of(number, controls):
+    """The controls of a group: a half of all for each of the first two, and then one, by turns, since each stands in the
+    way of the edits of its function."""
+    if number < 2 or not controls:
+        return controls[number::2]
+    return [controls[number % len(controls)]]
 
 
 def target_of(edit, texts):

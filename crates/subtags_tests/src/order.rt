@@ -35,11 +35,9 @@ fn are_in_order<T: FromStr<Err = LangIdError> + Ord + Drop>(words: &str) -> bool
 }
 
 fn compare_as<T: Ord>(a: &T, b: &T, order: Ordering) -> bool {
-    a.cmp(b) == order
-        && a.partial_cmp(b) == Some(order)
-        && (a < b) == (order == Ordering::Less)
-        && (a > b) == (order == Ordering::Greater)
-        && (a == b) == (order == Ordering::Equal)
+    let are_ordered = (a.cmp(b), a.partial_cmp(b)) == (order, Some(order));
+    let told = [a < b, a > b, a == b];
+    are_ordered && told == [order.is_lt(), order.is_gt(), order.is_eq()]
 }
 
 #[test]

@@ -49,6 +49,10 @@ fn filled(
     Ok(line)
 }
 
+fn are_alike(printed: &String, filled: &Vec<u8>) -> bool {
+    printed.as_bytes() == filled.as_slice()
+}
+
 // Whether the value is printed as the text, filled up to ten characters on each side, and cut to a precision before.
 fn is_filled_up<const N: usize>(
     alloc: Global,
@@ -59,19 +63,28 @@ fn is_filled_up<const N: usize>(
     let half = short / 2;
     let three = &text[..text.len().min(3)];
     let short_of_three = 10usize.saturating_sub(three.len());
-    let unnamed = format!(in alloc; "{value:10}")?;
-    let left = format!(in alloc; "{value:.<10}")?;
-    let center = format!(in alloc; "{value:*^10}")?;
-    let right = format!(in alloc; "{value:>10}")?;
-    let cut = format!(in alloc; "{value:>10.3}")?;
-    Ok(
-        unnamed.as_bytes() == filled(alloc, b' ', 0, text, short)?.as_slice()
-            && left.as_bytes() == filled(alloc, b'.', 0, text, short)?.as_slice()
-            && center.as_bytes()
-                == filled(alloc, b'*', half, text, short.saturating_sub(half))?.as_slice()
-            && right.as_bytes() == filled(alloc, b' ', short, text, 0)?.as_slice()
-            && cut.as_bytes() == filled(alloc, b' ', short_of_three, three, 0)?.as_slice(),
-    )
+    let other_half = short.saturating_sub(half);
+    let unnamed = are_alike(
+        &format!(in alloc; "{value:10}")?,
+        &filled(alloc, b' ', 0, text, short)?,
+    );
+    let left = are_alike(
+        &format!(in alloc; "{value:.<10}")?,
+        &filled(alloc, b'.', 0, text, short)?,
+    );
+    let center = are_alike(
+        &format!(in alloc; "{value:*^10}")?,
+        &filled(alloc, b'*', half, text, other_half)?,
+    );
+    let right = are_alike(
+        &format!(in alloc; "{value:>10}")?,
+        &filled(alloc, b' ', short, text, 0)?,
+    );
+    let cut = are_alike(
+        &format!(in alloc; "{value:>10.3}")?,
+        &filled(alloc, b' ', short_of_three, three, 0)?,
+    );
+    Ok(unnamed && left && center && right && cut)
 }
 
 #[test]
@@ -81,10 +94,12 @@ fn texts_are_filled_up_to_a_width(rt: HostRuntime) -> Result<(), Fail> {
     for text in texts {
         let value = Text::try_from_utf8(&text)?;
         let four = &text[..text.len().min(4)];
-        let is_right = is_filled_up(rt.alloc(), value, &text)?
-            && is_filled_up(rt.alloc(), value.resize::<4>(), four)?
-            && is_filled_up(rt.alloc(), value.resize::<33>(), &text)?;
-        assert!(rt; is_right, "{value:?}");
+        let are_right = [
+            is_filled_up(rt.alloc(), value, &text)?,
+            is_filled_up(rt.alloc(), value.resize::<4>(), four)?,
+            is_filled_up(rt.alloc(), value.resize::<33>(), &text)?,
+        ];
+        assert!(rt; are_right == [true; 3], "{value:?}");
     }
     Ok(())
 }

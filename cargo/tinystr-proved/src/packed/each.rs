@@ -24,7 +24,7 @@ pub struct BinarySearchEach<'a, 'k, const N: usize> {
     // the answers for eight keys, of which the last `ready` are those for the next ones
     answers: [Result<usize, usize>; 8],
     ready: usize,
-    // the answer for the last of all these keys
+    // the answer for the last key that has one, given or ready
     last: Result<usize, usize>,
     alone: u8,
 }

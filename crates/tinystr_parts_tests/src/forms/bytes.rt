@@ -90,16 +90,13 @@ fn byte_forms_are_padded_texts(rt: HostRuntime) -> Result<(), Fail> {
 }
 
 // Whether the text, written in front of bytes of `#`, gives these, and is read back from them with the others left.
-fn is_written<const N: usize>(text: TinyAsciiStr<N>, written: &[u8]) -> bool
-    requires { length written.now ≤ 40 }
+fn is_written<const N: usize, const M: usize>(text: TinyAsciiStr<N>, written: &[u8; M]) -> bool
+    requires { N ≤ M }
 {
-    let mut room = [b'#'; 40];
-    let out = &mut room[..written.len()];
-    if out.len() < N {
-        return false;
-    }
-    text.write_bytes(out);
-    *out == *written && is_read_in_front(written, text, &written[N..])
+    let mut room = [b'#'; M];
+    text.write_bytes(&mut room);
+    let bytes = written.as_slice();
+    room == *written && is_read_in_front(bytes, text, &bytes[N..])
 }
 
 #[test]

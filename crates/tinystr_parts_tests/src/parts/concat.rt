@@ -169,11 +169,13 @@ fn join_alike(a: Text, b: Text, c: Text) -> bool {
     let four: TinyAsciiStr<4> = a.concat::<18, 4>(b).concat(c);
     let nine: TinyAsciiStr<9> = a.concat::<18, 16>(b).concat(c);
     let all: TinyAsciiStr<54> = a.concat::<18, 36>(b).concat(c);
-    none == a.concat(b.concat::<18, 0>(c))
-        && four == a.concat(b.concat::<18, 8>(c))
-        && nine == a.concat(b.concat::<18, 9>(c))
-        && all == a.concat(b.concat::<18, 54>(c))
-        && all.len() == a.len() + b.len() + c.len()
+    let are_same = [
+        none == a.concat(b.concat::<18, 0>(c)),
+        four == a.concat(b.concat::<18, 8>(c)),
+        nine == a.concat(b.concat::<18, 9>(c)),
+        all == a.concat(b.concat::<18, 54>(c)),
+    ];
+    are_same == [true; 4] && all.len() == a.len() + b.len() + c.len()
 }
 
 // Whether the text joins alike between each text of the table and the one as far from its end.

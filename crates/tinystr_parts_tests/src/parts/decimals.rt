@@ -55,21 +55,14 @@ const DECIMALS: [(u32, [Result<&str, &str>; 4]); 14] = [
 #[test]
 fn decimal_texts_of_a_word_of_eight_are_whole_or_cut(rt: HostRuntime) {
     for (number, [five, six, seven, eight]) in DECIMALS {
+        let at_five = is_decimal(number, five, Decimal::<5>::default());
+        let at_six = is_decimal(number, six, Decimal::<6>::default());
+        let at_seven = is_decimal(number, seven, Decimal::<7>::default());
+        let at_eight = is_decimal(number, eight, Decimal::<8>::default());
+        let are_right = (at_five, at_six, at_seven, at_eight);
         assert!(rt;
-            is_decimal(number, five, Decimal::<5>::default()),
-            "{number} at 5"
-        );
-        assert!(rt;
-            is_decimal(number, six, Decimal::<6>::default()),
-            "{number} at 6"
-        );
-        assert!(rt;
-            is_decimal(number, seven, Decimal::<7>::default()),
-            "{number} at 7"
-        );
-        assert!(rt;
-            is_decimal(number, eight, Decimal::<8>::default()),
-            "{number} at 8"
+            are_right == (true, true, true, true),
+            "{number} at 5 to 8: {are_right:?}"
         );
     }
 }

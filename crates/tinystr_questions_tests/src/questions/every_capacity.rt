@@ -7,12 +7,12 @@ use texts_of_tests::table::{Row, edge_rows, table_rows};
 use tinystr::{ParseError, TinyAsciiStr};
 
 fn has_forms<const N: usize>(text: TinyAsciiStr<N>, row: &Row) -> bool {
-    text.as_str() == row.text
-        && text.len() == row.text.len()
-        && are_spelled(answers_of(&text), row.answers)
-        && text.to_ascii_lowercase().as_str() == row.lower
-        && text.to_ascii_titlecase().as_str() == row.title
-        && text.to_ascii_uppercase().as_str() == row.upper
+    let is_shown = text.as_str() == row.text && text.len() == row.text.len();
+    let is_lowered = text.to_ascii_lowercase().as_str() == row.lower;
+    let is_titled = text.to_ascii_titlecase().as_str() == row.title;
+    let is_raised = text.to_ascii_uppercase().as_str() == row.upper;
+    let is_answered = are_spelled(answers_of(&text), row.answers);
+    is_shown && is_lowered && is_titled && is_raised && is_answered
 }
 
 // The text, read again from code units of 16 bits.

@@ -20,13 +20,19 @@ fn stays_plain<const N: usize>(value: TinyAsciiStr<N>, text: &[u8]) -> bool {
         value.to_ascii_uppercase(),
     ];
     let len = text.len().min(32);
-    is_plain(value, text)
-        && is_plain(lower_value, &lower[..len])
-        && is_plain(title_value, &title[..len])
-        && is_plain(upper_value, &upper[..len])
-        && (lower_value == value) == (&lower[..len] == text)
-        && (title_value == value) == (&title[..len] == text)
-        && (upper_value == value) == (&upper[..len] == text)
+    let (lower, title, upper) = (&lower[..len], &title[..len], &upper[..len]);
+    let are_plain = [
+        is_plain(value, text),
+        is_plain(lower_value, lower),
+        is_plain(title_value, title),
+        is_plain(upper_value, upper),
+    ];
+    let are_same = [
+        lower_value == value,
+        title_value == value,
+        upper_value == value,
+    ];
+    are_plain == [true; 4] && are_same == [lower == text, title == text, upper == text]
 }
 
 // Whether the front, which is the value cut at M, stays plain, and the value's changes, cut there, are the fronts of the

@@ -233,11 +233,13 @@ fn is_found_wide(unit: u16, at: usize, len: usize) -> bool {
         return false;
     }
     units[at] = unit;
-    TinyAsciiStr::<40>::try_from_utf16(&units[..len]) == Err(NonAscii)
-        && TinyAsciiStr::<40>::from_utf16_lossy(&units[..len], 127).as_utf8()
-            == &letters_but(127, at)[..len]
-        && (len > 16 || TinyStr16::try_from_utf16(&units[..len]) == Err(NonAscii))
-        && (len > 8 || TinyStr8::try_from_utf16(&units[..len]) == Err(NonAscii))
+    let units = &units[..len];
+    let shown = &letters_but(127, at)[..len];
+    let is_refused = TinyAsciiStr::<40>::try_from_utf16(units) == Err(NonAscii);
+    let is_refused_at_16 = TinyStr16::try_from_utf16(units) == Err(NonAscii);
+    let is_refused_at_8 = TinyStr8::try_from_utf16(units) == Err(NonAscii);
+    let is_replaced = TinyAsciiStr::<40>::from_utf16_lossy(units, 127).as_utf8() == shown;
+    is_refused && is_replaced && (len > 16 || is_refused_at_16) && (len > 8 || is_refused_at_8)
 }
 
 #[test]
@@ -407,9 +409,13 @@ fn is_filled<const N: usize>(_like: TinyAsciiStr<N>) -> bool {
     let text = &letters[..N];
     let units = letters.map(u16::from);
     let units = &units[..N];
-    matches!(TinyAsciiStr::<N>::try_from_utf8(text), Ok(read) if read.as_utf8() == text)
-        && matches!(TinyAsciiStr::<N>::try_from_utf16(units), Ok(read) if read.as_utf8() == text)
-        && TinyAsciiStr::<N>::from_utf16_lossy(units, b'?').as_utf8() == text
+    let is_read = is_read_whole(TinyAsciiStr::<N>::try_from_utf8(text), text);
+    let is_read_wide = is_read_whole(TinyAsciiStr::<N>::try_from_utf16(units), text);
+    is_read && is_read_wide && TinyAsciiStr::<N>::from_utf16_lossy(units, b'?').as_utf8() == text
+}
+
+fn is_read_whole<const N: usize>(read: Result<TinyAsciiStr<N>, ParseError>, text: &[u8]) -> bool {
+    matches!(read, Ok(read) if read.as_utf8() == text)
 }
 
 /// Whether each of the capacities is filled.
