@@ -22,9 +22,9 @@ class Room:
         self.base.mkdir()
         copy_all(self.base)
 
-    def check(self, crate, top):
-        """Checks a crate below a folder, and returns what is said."""
-        words = ["rt", "check", "--jobs", "1"]
+    def check(self, crate, top, *first):
+        """Checks a crate below a folder, by a command with some first words, and returns what is said."""
+        words = [*first, "rt", "check", "--jobs", "1"]
         how = {"cwd": top / "crates" / crate, "stdin": subprocess.DEVNULL, "stderr": subprocess.STDOUT}
         with open(top / "said", "w+", encoding="utf-8", errors="replace") as said:
             ran = subprocess.Popen(words, stdout=said, **how)
@@ -43,7 +43,8 @@ class Room:
         linked(self.base / "crates" / crate / "out/incremental", self.folder / "seeds" / crate)
 
     def try_group(self, crate, number, texts):
-        """Checks a copy of the crate with these texts."""
+        """Checks a copy of the crate with these texts, on what other programs leave free of the processors: only the
+        crates as they stand are waited for."""
         top = self.folder / f"{crate}-{number}"
         top.mkdir()
         shutil.copy(self.base / "HANDLES", top)
@@ -61,7 +62,7 @@ class Room:
             path.parent.mkdir(parents=True, exist_ok=True)
             path.write_text(text, encoding="utf-8")
         linked(self.folder / "seeds" / crate, top / "crates" / crate / "out/incremental")
-        output = self.check(crate, top)
+        output = self.check(crate, top, "nice")
         shutil.rmtree(top)
         with self.lock:
             self.tried[crate] = self.tried.get(crate, 0) + 1

@@ -1,6 +1,6 @@
 //! The tests that `scripts/checks/refused-memory` runs with each allocation refused in turn. Each prints what it met,
 //! and calls again where it was refused: no second allocation is, so a call that always fails is seen without any
-//! refusal. They stand apart, since every such run compiles their crate anew.
+//! refusal.
 #![tactic(auto)]
 
 #[cfg(test)]
