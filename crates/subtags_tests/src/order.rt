@@ -1,7 +1,9 @@
 //! Values, compared and cloned.
 
+use std::alloc::Global;
 use std::cmp::Ordering::{self, Equal, Greater, Less};
 use std::collections::HashSet;
+use std::hash::Hash;
 use std::str::FromStr;
 use std::test::Fail;
 use subtags::laws::{identifier_order, read_back, subtag_order};
@@ -62,17 +64,33 @@ fn spellings_of_one_identifier_are_equal(rt: HostRuntime) {
 
 #[test]
 fn a_hash_set_holds_each_value_once(rt: HostRuntime) -> Result<(), Fail> {
-    let mut ids = HashSet::new(rt.alloc());
-    for spelling in ["EN_latn-us", "en-Latn_US", "en"] {
-        ids.insert(spelling.parse::<LangId>()?)?;
-    }
-    assert!(rt; ids.len() == 2 && ids.contains(&"en-Latn-US".parse()?));
-    let mut regions = HashSet::new(rt.alloc());
-    for spelling in ["tw", "TW", "419"] {
-        regions.insert(spelling.parse::<Region>()?)?;
-    }
-    assert!(rt; regions.len() == 2 && regions.contains(&"TW".parse()?));
+    let spellings = ["EN_latn-us", "en-Latn_US", "en"];
+    assert!(rt; are_of_two_values::<LangId>(rt.alloc(), &spellings, "en-Latn-US")?);
+    assert!(rt; are_of_two_values::<Region>(rt.alloc(), &["tw", "TW", "419"], "TW")?);
     Ok(())
+}
+
+/// Whether a set of the spellings holds two values, and among them the one that is asked for.
+fn are_of_two_values<T: FromStr<Err = LangIdError> + Eq + Hash + Copy>(
+    alloc: Global,
+    spellings: &[&str],
+    asked: &str,
+) -> Result<bool, Fail> {
+    let asked = asked.parse::<T>()?;
+    let values = set_of(alloc, spellings)?;
+    Ok(values.len() == 2 && values.contains(&asked))
+}
+
+fn set_of<T: FromStr<Err = LangIdError> + Eq + Hash + Copy>(
+    alloc: Global,
+    spellings: &[&str],
+) -> Result<HashSet<T>, Fail> {
+    let mut values = HashSet::new(alloc);
+    for spelling in spellings {
+        let value = spelling.parse::<T>()?;
+        values.insert(value)?;
+    }
+    Ok(values)
 }
 
 #[test]

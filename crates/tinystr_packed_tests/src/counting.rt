@@ -5,15 +5,18 @@ use std::collections::BTreeMap;
 use tinystr::TinyAsciiStr;
 use tinystr_packed::count_texts;
 
+// Words, each with their counts.
+const COUNTED: &[(&str, &str)] = &[
+    ("EUR", "EUR=1"),
+    ("EUR CHF EUR", "CHF=1 EUR=2"),
+    ("a a a a", "a=4"),
+    ("b a ab b A ab b", "A=1 a=1 ab=2 b=3"),
+    ("abcdefghi abcdefgh abcdefghi", "abcdefgh=1 abcdefghi=2"),
+];
+
 #[test]
 fn each_text_is_counted(rt: HostRuntime) {
-    for (words, counts) in [
-        ("EUR", "EUR=1"),
-        ("EUR CHF EUR", "CHF=1 EUR=2"),
-        ("a a a a", "a=4"),
-        ("b a ab b A ab b", "A=1 a=1 ab=2 b=3"),
-        ("abcdefghi abcdefgh abcdefghi", "abcdefgh=1 abcdefghi=2"),
-    ] {
+    for (words, counts) in COUNTED {
         assert!(rt; are_counts(rt.alloc(), words, counts), "{words}");
     }
 }

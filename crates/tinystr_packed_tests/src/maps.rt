@@ -4,8 +4,10 @@ ghost use Rattle.std.specs.Prelude.{◌<◌, ◌^◌};
 
 use std::alloc::Global;
 use std::collections::BTreeMap;
-use tinystr::ule::UleError;
-use tinystr::{ParseError, TinyAsciiStr};
+use tinystr::ParseError::{ContainsNull, NonAscii};
+use tinystr::TinyAsciiStr;
+use tinystr::ule::UleError::{Length, Parse};
+use tinystr_packed::MapError::{Keys, Order, Values};
 use tinystr_packed::{MapError, NotRising, PackedMap, pack_map};
 
 const KEYS: &[u8] = b"CHFEURJPYUSDXXX";
@@ -116,57 +118,77 @@ fn has_entries(keys: &[u8], values: &[u8], len: usize) -> bool {
     entries.size_hint() == (0, Some(0)) && entries.next().is_none()
 }
 
+// Keys and values, each with the fault for which they are refused.
+const REFUSED: &[(&[u8], &[u8], MapError)] = &[
+    // keys that aren't packed
+    (b"CHFE", b"\x01\x02", Keys(Length { len: 4 })),
+    (b"CH", b"", Keys(Length { len: 2 })),
+    (
+        b"CHFE\0R",
+        b"\x01\x02\x03\x04",
+        Keys(Parse {
+            index: 1,
+            fault: ContainsNull,
+        }),
+    ),
+    (
+        b"\xffHFEUR",
+        b"\x01\x02\x03\x04",
+        Keys(Parse {
+            index: 0,
+            fault: NonAscii,
+        }),
+    ),
+    // that, though they don't rise either and the values are too few
+    (
+        b"EURCHF\0US",
+        b"\x01",
+        Keys(Parse {
+            index: 2,
+            fault: ContainsNull,
+        }),
+    ),
+    // keys that don't rise
+    (
+        b"EURCHF",
+        b"\x01\x02\x03\x04",
+        Order(NotRising { index: 1 }),
+    ),
+    (
+        b"EUREUR",
+        b"\x01\x02\x03\x04",
+        Order(NotRising { index: 1 }),
+    ),
+    (
+        b"CHFEURUSDJPY",
+        b"\x01\x02\x03\x04\x05\x06\x07\x08",
+        Order(NotRising { index: 3 }),
+    ),
+    // that, though the values are too few, or none
+    (b"EUREUR", b"\x01", Order(NotRising { index: 1 })),
+    (b"EUREUR", b"", Order(NotRising { index: 1 })),
+    // values that aren't two bytes for each key
+    (b"CHFEUR", b"\x01\x02\x03", Values { keys: 2, len: 3 }),
+    (
+        b"CHFEUR",
+        b"\x01\x02\x03\x04\x05",
+        Values { keys: 2, len: 5 },
+    ),
+    (b"CHFEUR", b"\x01\x02", Values { keys: 2, len: 2 }),
+    (
+        b"CHFEUR",
+        b"\x01\x02\x03\x04\x05\x06",
+        Values { keys: 2, len: 6 },
+    ),
+    (b"CHF", b"", Values { keys: 1, len: 0 }),
+    (b"", b"\x01", Values { keys: 0, len: 1 }),
+    (b"", b"\x01\x02", Values { keys: 0, len: 2 }),
+];
+
 #[test]
 fn keys_are_refused_first_then_their_order_then_the_values(rt: HostRuntime) {
-    let length = |len| MapError::Keys(UleError::Length { len });
-    let bad = |index, fault| MapError::Keys(UleError::Parse { index, fault });
-    let falls = |index| MapError::Order(NotRising { index });
-    let values = |keys, len| MapError::Values { keys, len };
-    for (keys, bytes, fault) in [
-        // keys that aren't packed
-        (&b"CHFE"[..], &b"\x01\x02"[..], length(4)),
-        (&b"CH"[..], &b""[..], length(2)),
-        (
-            &b"CHFE\0R"[..],
-            &b"\x01\x02\x03\x04"[..],
-            bad(1, ParseError::ContainsNull),
-        ),
-        (
-            &b"\xffHFEUR"[..],
-            &b"\x01\x02\x03\x04"[..],
-            bad(0, ParseError::NonAscii),
-        ),
-        // that, though they don't rise either and the values are too few
-        (
-            &b"EURCHF\0US"[..],
-            &b"\x01"[..],
-            bad(2, ParseError::ContainsNull),
-        ),
-        // keys that don't rise
-        (&b"EURCHF"[..], &b"\x01\x02\x03\x04"[..], falls(1)),
-        (&b"EUREUR"[..], &b"\x01\x02\x03\x04"[..], falls(1)),
-        (
-            &b"CHFEURUSDJPY"[..],
-            &b"\x01\x02\x03\x04\x05\x06\x07\x08"[..],
-            falls(3),
-        ),
-        // that, though the values are too few, or none
-        (&b"EUREUR"[..], &b"\x01"[..], falls(1)),
-        (&b"EUREUR"[..], &b""[..], falls(1)),
-        // values that aren't two bytes for each key
-        (&b"CHFEUR"[..], &b"\x01\x02\x03"[..], values(2, 3)),
-        (&b"CHFEUR"[..], &b"\x01\x02\x03\x04\x05"[..], values(2, 5)),
-        (&b"CHFEUR"[..], &b"\x01\x02"[..], values(2, 2)),
-        (
-            &b"CHFEUR"[..],
-            &b"\x01\x02\x03\x04\x05\x06"[..],
-            values(2, 6),
-        ),
-        (&b"CHF"[..], &b""[..], values(1, 0)),
-        (&b""[..], &b"\x01"[..], values(0, 1)),
-        (&b""[..], &b"\x01\x02"[..], values(0, 2)),
-    ] {
-        assert!(rt; is_refused(keys, bytes, fault), "{fault:?}");
+    for (keys, bytes, fault) in REFUSED {
+        assert!(rt; is_refused(keys, bytes, *fault), "{fault:?}");
     }
 }
 

@@ -45,18 +45,21 @@ fn is_packed(alloc: Global, words: &str, file: &[u8]) -> bool {
     }
 }
 
+// Words, each with the file of them in order.
+const SORTED: &[(&str, &[u8])] = &[
+    ("", b"\0\0\0\0"),
+    ("b", b"b\0\0\0"),
+    ("b|a", b"a\0\0\0b\0\0\0"),
+    ("a|a", b"a\0\0\0"),
+    ("a|a|a", b"a\0\0\0"),
+    ("b|a|b|", b"\0\0\0\0a\0\0\0b\0\0\0"),
+    ("abc|ab|abcd|b|Z", b"Z\0\0\0ab\0\0abc\0abcdb\0\0\0"),
+    ("a|A", b"A\0\0\0a\0\0\0"),
+];
+
 #[test]
 fn texts_in_any_order_are_packed_in_order_and_each_once(rt: HostRuntime) {
-    for (words, file) in [
-        ("", &b"\0\0\0\0"[..]),
-        ("b", &b"b\0\0\0"[..]),
-        ("b|a", &b"a\0\0\0b\0\0\0"[..]),
-        ("a|a", &b"a\0\0\0"[..]),
-        ("a|a|a", &b"a\0\0\0"[..]),
-        ("b|a|b|", &b"\0\0\0\0a\0\0\0b\0\0\0"[..]),
-        ("abc|ab|abcd|b|Z", &b"Z\0\0\0ab\0\0abc\0abcdb\0\0\0"[..]),
-        ("a|A", &b"A\0\0\0a\0\0\0"[..]),
-    ] {
+    for (words, file) in SORTED {
         assert!(rt; is_sorted_to(rt.alloc(), words, file), "{words}");
     }
     assert!(rt; matches!(pack_sorted::<4>(rt.alloc(), &[]), Ok(made) if made.is_empty()));

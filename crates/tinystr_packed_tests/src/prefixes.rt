@@ -116,20 +116,23 @@ fn a_prefix_has_as_many_bytes_as_a_text(rt: HostRuntime) {
     }
 }
 
+// Prefixes, each with the count of the texts that begin with it.
+const COUNTS: &[(&str, usize)] = &[
+    ("", 7),
+    ("ab", 4),
+    ("abc", 2),
+    ("abcd", 1),
+    ("b", 2),
+    ("c", 1),
+    ("abca", 0),
+    ("B", 0),
+    ("d", 0),
+];
+
 #[test]
 fn texts_with_a_prefix_are_counted(rt: HostRuntime) {
-    for (prefix, count) in [
-        ("", 7),
-        ("ab", 4),
-        ("abc", 2),
-        ("abcd", 1),
-        ("b", 2),
-        ("c", 1),
-        ("abca", 0),
-        ("B", 0),
-        ("d", 0),
-    ] {
-        assert!(rt; counts(prefix, count), "{prefix}");
+    for (prefix, count) in COUNTS {
+        assert!(rt; counts(prefix, *count), "{prefix}");
     }
 }
 

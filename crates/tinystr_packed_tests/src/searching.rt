@@ -59,62 +59,74 @@ fn is_at_its_place(file: &[u8], turn: usize, letter: char) -> bool {
     finds::<1>(file, letter.encode_utf8(&mut text), answer)
 }
 
+// Texts, each with its answer in the table of texts that begin others.
+const BEGINNINGS: &[(&str, Result<usize, usize>)] = &[
+    ("", Ok(0)),
+    ("a", Ok(1)),
+    ("aa", Ok(2)),
+    ("aaa", Ok(3)),
+    ("ab", Ok(4)),
+    ("b", Ok(5)),
+    ("A", Err(1)),
+    ("aA", Err(2)),
+    ("aaA", Err(3)),
+    ("aab", Err(4)),
+    ("ac", Err(5)),
+    ("az", Err(5)),
+    ("ba", Err(6)),
+    ("~~~", Err(6)),
+];
+
 #[test]
 fn texts_that_begin_others_come_first(rt: HostRuntime) {
     let file = b"\0\0\0a\0\0aa\0aaaab\0b\0\0";
-    for (index, text) in "|a|aa|aaa|ab|b".split('|').enumerate() {
-        assert!(rt; finds::<3>(file, text, Ok(index)), "{text}");
-    }
-    for (text, place) in [
-        ("A", 1),
-        ("aA", 2),
-        ("aaA", 3),
-        ("aab", 4),
-        ("ac", 5),
-        ("az", 5),
-        ("ba", 6),
-        ("~~~", 6),
-    ] {
-        assert!(rt; finds::<3>(file, text, Err(place)), "{text}");
+    for (text, answer) in BEGINNINGS {
+        assert!(rt; finds::<3>(file, text, *answer), "{text}");
     }
 }
+
+// Texts, each with its answer in the table of texts of a full word.
+const FULL_WORDS: &[(&str, Result<usize, usize>)] = &[
+    ("a", Err(0)),
+    ("aaaaaaa", Err(0)),
+    ("aaaaaaaa", Ok(0)),
+    ("aaaaaaab", Err(1)),
+    ("aaaaaaac", Ok(1)),
+    ("aaaaaaad", Err(2)),
+    ("aaaaaaca", Ok(2)),
+    ("baaaaaac", Err(3)),
+    ("caaaaaaa", Ok(3)),
+    ("caaaaaab", Err(4)),
+    ("d", Err(4)),
+];
 
 #[test]
 fn each_byte_tells_texts_of_a_full_word_apart(rt: HostRuntime) {
     let file = b"aaaaaaaaaaaaaaacaaaaaacacaaaaaaa";
-    for (text, answer) in [
-        ("a", Err(0)),
-        ("aaaaaaa", Err(0)),
-        ("aaaaaaaa", Ok(0)),
-        ("aaaaaaab", Err(1)),
-        ("aaaaaaac", Ok(1)),
-        ("aaaaaaad", Err(2)),
-        ("aaaaaaca", Ok(2)),
-        ("baaaaaac", Err(3)),
-        ("caaaaaaa", Ok(3)),
-        ("caaaaaab", Err(4)),
-        ("d", Err(4)),
-    ] {
-        assert!(rt; finds::<8>(file, text, answer), "{text}");
+    for (text, answer) in FULL_WORDS {
+        assert!(rt; finds::<8>(file, text, *answer), "{text}");
     }
 }
+
+// Texts, each with its answer in the table of longer ones.
+const LONGER: &[(&str, Result<usize, usize>)] = &[
+    ("aaaaaaaa", Err(0)),
+    ("aaaaaaaaa", Ok(0)),
+    ("aaaaaaaab", Err(1)),
+    ("aaaaaaaac", Ok(1)),
+    ("aaaaaaab", Err(2)),
+    ("aaaaaaaca", Ok(2)),
+    ("aaaaaaacb", Err(3)),
+    ("baaaaaaaa", Err(3)),
+    ("caaaaaaaa", Ok(3)),
+    ("caaaaaaab", Err(4)),
+];
 
 #[test]
 fn each_byte_tells_longer_texts_apart(rt: HostRuntime) {
     let file = b"aaaaaaaaaaaaaaaaacaaaaaaacacaaaaaaaa";
-    for (text, answer) in [
-        ("aaaaaaaa", Err(0)),
-        ("aaaaaaaaa", Ok(0)),
-        ("aaaaaaaab", Err(1)),
-        ("aaaaaaaac", Ok(1)),
-        ("aaaaaaab", Err(2)),
-        ("aaaaaaaca", Ok(2)),
-        ("aaaaaaacb", Err(3)),
-        ("baaaaaaaa", Err(3)),
-        ("caaaaaaaa", Ok(3)),
-        ("caaaaaaab", Err(4)),
-    ] {
-        assert!(rt; finds::<9>(file, text, answer), "{text}");
+    for (text, answer) in LONGER {
+        assert!(rt; finds::<9>(file, text, *answer), "{text}");
     }
 }
 

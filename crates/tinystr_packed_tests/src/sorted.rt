@@ -2,8 +2,10 @@
 
 ghost use Rattle.std.specs.Prelude.{◌<◌, ◌^◌};
 
-use tinystr::ule::UleError;
-use tinystr::{ParseError, TinyAsciiStr};
+use tinystr::ParseError::{ContainsNull, NonAscii};
+use tinystr::TinyAsciiStr;
+use tinystr::ule::UleError::{Length, Parse};
+use tinystr_packed::SortedError::{Order, Records};
 use tinystr_packed::{NotRising, SortedError, SortedTable};
 
 #[test]
@@ -34,24 +36,42 @@ fn is_table_of(file: &[u8], words: &str) -> bool {
     texts.next().is_none()
 }
 
+// Bytes, each with the fault for which they are refused.
+const REFUSED: &[(&[u8], SortedError)] = &[
+    (b"CHFE", Records(Length { len: 4 })),
+    (b"CH", Records(Length { len: 2 })),
+    (b"EURCHFE", Records(Length { len: 7 })),
+    (
+        b"CHFE\0R",
+        Records(Parse {
+            index: 1,
+            fault: ContainsNull,
+        }),
+    ),
+    (
+        b"\xffHFEUR",
+        Records(Parse {
+            index: 0,
+            fault: NonAscii,
+        }),
+    ),
+    (
+        b"EURCHF\0US",
+        Records(Parse {
+            index: 2,
+            fault: ContainsNull,
+        }),
+    ),
+    (b"EURCHF", Order(NotRising { index: 1 })),
+    (b"EUREUR", Order(NotRising { index: 1 })),
+    (b"A\0\0\0\0\0", Order(NotRising { index: 1 })),
+    (b"CHFEURUSDJPYAAA", Order(NotRising { index: 3 })),
+];
+
 #[test]
 fn records_are_refused_first_and_then_their_order(rt: HostRuntime) {
-    let length = |len| SortedError::Records(UleError::Length { len });
-    let bad = |index, fault| SortedError::Records(UleError::Parse { index, fault });
-    let falls = |index| SortedError::Order(NotRising { index });
-    for (file, fault) in [
-        (&b"CHFE"[..], length(4)),
-        (&b"CH"[..], length(2)),
-        (&b"EURCHFE"[..], length(7)),
-        (&b"CHFE\0R"[..], bad(1, ParseError::ContainsNull)),
-        (&b"\xffHFEUR"[..], bad(0, ParseError::NonAscii)),
-        (&b"EURCHF\0US"[..], bad(2, ParseError::ContainsNull)),
-        (&b"EURCHF"[..], falls(1)),
-        (&b"EUREUR"[..], falls(1)),
-        (&b"A\0\0\0\0\0"[..], falls(1)),
-        (&b"CHFEURUSDJPYAAA"[..], falls(3)),
-    ] {
-        assert!(rt; is_refused(file, fault), "{fault:?}");
+    for (file, fault) in REFUSED {
+        assert!(rt; is_refused(file, *fault), "{fault:?}");
     }
 }
 

@@ -85,22 +85,31 @@ fn is_unpacked_and_packed(alloc: Global, file: &[u8], lines: &str) -> bool {
     }
 }
 
+// Texts, each with its answer in the sorted table.
+const ANSWERS: &[(&str, Result<usize, usize>)] = &[
+    ("", Ok(0)),
+    ("Cyrl", Ok(1)),
+    ("ab", Ok(2)),
+    ("abc", Ok(3)),
+    ("b", Ok(4)),
+    ("A", Err(1)),
+    ("D", Err(2)),
+    ("a", Err(2)),
+    ("abb", Err(3)),
+    ("abca", Err(4)),
+    ("bb", Err(5)),
+];
+
 #[test]
 fn sorted_tables_are_searched(rt: HostRuntime) {
     let file = b"\0\0\0\0Cyrlab\0\0abc\0b\0\0\0";
-    for (index, text) in "|Cyrl|ab|abc|b".split('|').enumerate() {
-        assert!(rt; is_searched(file, text, Ok(index)), "{text}");
-    }
-    for (text, place) in [
-        ("A", 1),
-        ("D", 2),
-        ("a", 2),
-        ("abb", 3),
-        ("abca", 4),
-        ("bb", 5),
-    ] {
-        assert!(rt; is_searched(file, text, Err(place)), "{text}");
-        assert!(rt; is_searched(b"", text, Err(0)), "{text}");
+    for (text, answer) in ANSWERS {
+        let is_right = is_searched(file, text, *answer);
+        let is_right_of_empty = is_searched(b"", text, Err(0));
+        assert!(rt;
+            is_right && is_right_of_empty,
+            "{text}: {is_right} {is_right_of_empty}"
+        );
     }
 }
 

@@ -4,9 +4,12 @@ ghost use Rattle.std.specs.Prelude.{◌<◌, ◌^◌};
 
 use std::alloc::Global;
 use std::collections::BTreeMap;
-use tinystr::ule::UleError;
-use tinystr::{ParseError, TinyAsciiStr};
-use tinystr_packed::{NotRising, SortedError, TextMap, TextMapError, pack_text_map};
+use tinystr::ParseError::{ContainsNull, NonAscii};
+use tinystr::TinyAsciiStr;
+use tinystr::ule::UleError::{Length, Parse};
+use tinystr_packed::SortedError::{Order, Records};
+use tinystr_packed::TextMapError::{Count, Keys, Values};
+use tinystr_packed::{NotRising, TextMap, TextMapError, pack_text_map};
 
 const KEYS: &[u8] = b"CHEUJPUSXX";
 
@@ -105,56 +108,73 @@ fn has_entries<'a>(keys: &'a [u8], values: &'a [u8], len: usize) -> bool {
     entries.size_hint() == (0, Some(0)) && entries.next().is_none()
 }
 
+// Keys and values, each with the fault for which they are refused.
+const REFUSED: &[(&[u8], &[u8], TextMapError)] = &[
+    (b"CHE", b"CHF", Keys(Records(Length { len: 3 }))),
+    (
+        b"CH\0E",
+        b"CHFEUR",
+        Keys(Records(Parse {
+            index: 1,
+            fault: ContainsNull,
+        })),
+    ),
+    (
+        b"\xffHEU",
+        b"CHFEUR",
+        Keys(Records(Parse {
+            index: 0,
+            fault: NonAscii,
+        })),
+    ),
+    // that, though they don't rise either and the values are too few and bad
+    (
+        b"EUCH\0U",
+        b"\xff",
+        Keys(Records(Parse {
+            index: 2,
+            fault: ContainsNull,
+        })),
+    ),
+    (b"EUCH", b"EURCHF", Keys(Order(NotRising { index: 1 }))),
+    (b"EUEU", b"EUREUR", Keys(Order(NotRising { index: 1 }))),
+    (
+        b"CHEUUSJP",
+        b"CHFEURUSDJPY",
+        Keys(Order(NotRising { index: 3 })),
+    ),
+    // that, though the values are bad, too few, or none
+    (b"EUEU", b"\xff", Keys(Order(NotRising { index: 1 }))),
+    (b"EUEU", b"", Keys(Order(NotRising { index: 1 }))),
+    // values that aren't packed, though their number differs too
+    (b"CHEU", b"CHFEU", Values(Length { len: 5 })),
+    (
+        b"CHEU",
+        b"CHF\0UR",
+        Values(Parse {
+            index: 1,
+            fault: ContainsNull,
+        }),
+    ),
+    (
+        b"CHEU",
+        b"\xffHF",
+        Values(Parse {
+            index: 0,
+            fault: NonAscii,
+        }),
+    ),
+    // as many as there aren't keys
+    (b"CHEU", b"CHF", Count { keys: 2, values: 1 }),
+    (b"CHEU", b"CHFEURJPY", Count { keys: 2, values: 3 }),
+    (b"CH", b"", Count { keys: 1, values: 0 }),
+    (b"", b"CHF", Count { keys: 0, values: 1 }),
+];
+
 #[test]
 fn keys_are_refused_first_then_the_values_then_their_number(rt: HostRuntime) {
-    let length = |len| TextMapError::Keys(SortedError::Records(UleError::Length { len }));
-    let bad = |index, fault| TextMapError::Keys(SortedError::Records(UleError::Parse {
-        index,
-        fault,
-    }));
-    let falls = |index| TextMapError::Keys(SortedError::Order(NotRising { index }));
-    let value = |index, fault| TextMapError::Values(UleError::Parse { index, fault });
-    let values = |len| TextMapError::Values(UleError::Length { len });
-    let count = |keys, values| TextMapError::Count { keys, values };
-    for (keys, bytes, fault) in [
-        (&b"CHE"[..], &b"CHF"[..], length(3)),
-        (
-            &b"CH\0E"[..],
-            &b"CHFEUR"[..],
-            bad(1, ParseError::ContainsNull),
-        ),
-        (
-            &b"\xffHEU"[..],
-            &b"CHFEUR"[..],
-            bad(0, ParseError::NonAscii),
-        ),
-        // that, though they don't rise either and the values are too few and bad
-        (
-            &b"EUCH\0U"[..],
-            &b"\xff"[..],
-            bad(2, ParseError::ContainsNull),
-        ),
-        (&b"EUCH"[..], &b"EURCHF"[..], falls(1)),
-        (&b"EUEU"[..], &b"EUREUR"[..], falls(1)),
-        (&b"CHEUUSJP"[..], &b"CHFEURUSDJPY"[..], falls(3)),
-        // that, though the values are bad, too few, or none
-        (&b"EUEU"[..], &b"\xff"[..], falls(1)),
-        (&b"EUEU"[..], &b""[..], falls(1)),
-        // values that aren't packed, though their number differs too
-        (&b"CHEU"[..], &b"CHFEU"[..], values(5)),
-        (
-            &b"CHEU"[..],
-            &b"CHF\0UR"[..],
-            value(1, ParseError::ContainsNull),
-        ),
-        (&b"CHEU"[..], &b"\xffHF"[..], value(0, ParseError::NonAscii)),
-        // as many as there aren't keys
-        (&b"CHEU"[..], &b"CHF"[..], count(2, 1)),
-        (&b"CHEU"[..], &b"CHFEURJPY"[..], count(2, 3)),
-        (&b"CH"[..], &b""[..], count(1, 0)),
-        (&b""[..], &b"CHF"[..], count(0, 1)),
-    ] {
-        assert!(rt; is_refused(keys, bytes, fault), "{fault:?}");
+    for (keys, bytes, fault) in REFUSED {
+        assert!(rt; is_refused(keys, bytes, *fault), "{fault:?}");
     }
 }
 

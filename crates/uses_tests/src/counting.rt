@@ -4,21 +4,25 @@ use std::alloc::Global;
 use tinystr::TinyAsciiStr;
 use uses::counting::{codes_counted, codes_of, is_counted, times};
 
+const TEXTS: &[&str] = &["EUR", "EURO", "CHF", "", "caf\u{e9}", "EUR", "EU"];
+
+/// How often each of these codes is one of the texts.
+const COUNTS: &[(&str, Option<usize>)] = &[
+    ("EUR", Some(2)),
+    ("CHF", Some(1)),
+    ("", Some(1)),
+    ("EU", Some(1)),
+    ("E", None),
+    ("eur", None),
+    ("USD", None),
+];
+
 #[test]
 fn codes_are_read_and_counted(rt: HostRuntime) {
     let alloc = rt.alloc();
-    let texts = ["EUR", "EURO", "CHF", "", "caf\u{e9}", "EUR", "EU"];
-    assert!(rt; are_codes(alloc, &texts, "EUR|CHF||EUR|EU"));
-    for (code, count) in [
-        ("EUR", Some(2)),
-        ("CHF", Some(1)),
-        ("", Some(1)),
-        ("EU", Some(1)),
-        ("E", None),
-        ("eur", None),
-        ("USD", None),
-    ] {
-        assert!(rt; has_count(alloc, &texts, code, count), "{code}");
+    assert!(rt; are_codes(alloc, TEXTS, "EUR|CHF||EUR|EU"));
+    for &(code, count) in COUNTS {
+        assert!(rt; has_count(alloc, TEXTS, code, count), "{code}");
     }
     assert!(rt; matches!(codes_of(alloc, &["EURO"]), Ok(none) if none.is_empty()));
     assert!(rt; matches!(codes_counted(alloc, &[]), Ok(none) if none.is_empty()));
@@ -40,12 +44,12 @@ fn are_codes(alloc: Global, texts: &[&str], codes: &str) -> bool {
 }
 
 fn has_count(alloc: Global, texts: &[&str], code: &str, count: Option<usize>) -> bool {
-    match (
-        codes_counted(alloc, texts),
-        TinyAsciiStr::try_from_str(code),
-    ) {
-        (Ok(counts), Ok(code)) => counts.get(&code).copied() == count,
-        _ => false,
+    let Ok(code) = TinyAsciiStr::try_from_str(code) else {
+        return false;
+    };
+    match codes_counted(alloc, texts) {
+        Ok(counts) => counts.get(&code).copied() == count,
+        Err(_) => false,
     }
 }
 

@@ -3,22 +3,24 @@
 use tinystr::TinyAsciiStr;
 use uses::cutting::{name_of, value_of};
 
+const SETTINGS: &[(&str, &str, Option<&str>)] = &[
+    ("lang=en", "lang", Some("en")),
+    ("lang=", "lang", Some("")),
+    ("=en", "", Some("en")),
+    ("=", "", Some("")),
+    ("a=b=c", "a", Some("b=c")),
+    ("name=abcdefgh", "name", Some("abcdefgh")),
+    ("name=abcdefghi", "name", Some("abcdefgh")),
+    ("fifteen_letters=", "fifteen_letters", Some("")),
+    ("=fifteen_letters", "", Some("fifteen_")),
+    ("lang", "lang", None),
+    ("sixteen__letters", "sixteen__letters", None),
+    ("", "", None),
+];
+
 #[test]
 fn a_setting_is_cut_at_its_first_sign(rt: HostRuntime) {
-    for (setting, name, value) in [
-        ("lang=en", "lang", Some("en")),
-        ("lang=", "lang", Some("")),
-        ("=en", "", Some("en")),
-        ("=", "", Some("")),
-        ("a=b=c", "a", Some("b=c")),
-        ("name=abcdefgh", "name", Some("abcdefgh")),
-        ("name=abcdefghi", "name", Some("abcdefgh")),
-        ("fifteen_letters=", "fifteen_letters", Some("")),
-        ("=fifteen_letters", "", Some("fifteen_")),
-        ("lang", "lang", None),
-        ("sixteen__letters", "sixteen__letters", None),
-        ("", "", None),
-    ] {
+    for &(setting, name, value) in SETTINGS {
         assert!(rt; is_cut(setting, name, value), "{setting}");
     }
 }

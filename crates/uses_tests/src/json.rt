@@ -14,19 +14,22 @@ fn keys_are_found_in_json(rt: HostRuntime) {
     assert!(rt; has_id(rt.alloc(), r#"{"key": "de", "id": ""}"#, Ok("")));
 }
 
+const FAULTS: &[(&str, JsonReadError)] = &[
+    (r#"{"id": 7}"#, JsonReadError::NotText),
+    (r#"{"id": null}"#, JsonReadError::NotText),
+    (r#"{"id": ["en-US"]}"#, JsonReadError::NotText),
+    ("{}", JsonReadError::NotText),
+    (r#""en-US""#, JsonReadError::NotText),
+    (r#"["id"]"#, JsonReadError::NotText),
+    (r#"{"id": "ninechars"}"#, JsonReadError::InvalidText),
+    (r#"{"id": "en\u0000US"}"#, JsonReadError::InvalidText),
+    (r#"{"id": "caf\u00e9"}"#, JsonReadError::InvalidText),
+];
+
 #[test]
 fn what_is_no_key_in_json_is_refused_for_its_kind(rt: HostRuntime) {
-    for json in r#"{"id": 7}|{"id": null}|{"id": ["en-US"]}|{}|"en-US"|["id"]"#.split('|') {
-        assert!(rt;
-            has_id(rt.alloc(), json, Err(JsonReadError::NotText)),
-            "{json}"
-        );
-    }
-    for json in r#"{"id": "ninechars"}|{"id": "en\u0000US"}|{"id": "caf\u00e9"}"#.split('|') {
-        assert!(rt;
-            has_id(rt.alloc(), json, Err(JsonReadError::InvalidText)),
-            "{json}"
-        );
+    for &(json, fault) in FAULTS {
+        assert!(rt; has_id(rt.alloc(), json, Err(fault)), "{json}");
     }
 }
 

@@ -4,21 +4,23 @@ use tinystr::TinyAsciiStr;
 use tinystr_packed::{SortedTable, TextMap};
 use uses::text_in_map::{currency_of, index_of_key};
 
+const CURRENCIES: &[(&str, Option<&str>)] = &[
+    ("CH", Some("CHF")),
+    ("DE", Some("EUR")),
+    ("JP", Some("JPY")),
+    ("AA", None),
+    ("US", None),
+    ("ch", None),
+    ("C", None),
+    ("", None),
+    ("CHE", None),
+    ("C\0", None),
+    ("\u{e9}", None),
+];
+
 #[test]
 fn a_country_has_its_currency(rt: HostRuntime) {
-    for (country, currency) in [
-        ("CH", Some("CHF")),
-        ("DE", Some("EUR")),
-        ("JP", Some("JPY")),
-        ("AA", None),
-        ("US", None),
-        ("ch", None),
-        ("C", None),
-        ("", None),
-        ("CHE", None),
-        ("C\0", None),
-        ("\u{e9}", None),
-    ] {
+    for &(country, currency) in CURRENCIES {
         assert!(rt; has_currency(country, currency), "{country:?}");
     }
 }
@@ -34,17 +36,19 @@ fn has_currency(country: &str, currency: Option<&str>) -> bool {
     }
 }
 
+const INDICES: &[(&str, Option<usize>)] = &[
+    ("CHF", Some(0)),
+    ("EUR", Some(1)),
+    ("JPY", Some(2)),
+    ("EURO", None),
+    ("EU", None),
+    ("", None),
+    ("zzzzzzzz", None),
+];
+
 #[test]
 fn a_key_of_more_room_is_found(rt: HostRuntime) {
-    for (key, index) in [
-        ("CHF", Some(0)),
-        ("EUR", Some(1)),
-        ("JPY", Some(2)),
-        ("EURO", None),
-        ("EU", None),
-        ("", None),
-        ("zzzzzzzz", None),
-    ] {
+    for &(key, index) in INDICES {
         assert!(rt; has_index(key, index), "{key}");
     }
 }

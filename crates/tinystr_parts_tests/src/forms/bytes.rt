@@ -1,10 +1,9 @@
 //! The byte form of both types, there and back and refused.
 
-ghost use Rattle.std.specs.Prelude.{◌≤◌, length};
+ghost use Rattle.std.specs.Prelude.{◌<◌, ◌≤◌, ◌^◌, length};
 
-use std::test::Fail;
 use tinystr::forms::{BytesReadError, FormWriteError};
-use tinystr::{TinyAsciiStr, UnvalidatedTinyAsciiStr, tinystr};
+use tinystr::{TinyAsciiStr, UnvalidatedTinyAsciiStr};
 
 // Whether the text is read in front of the input, and this is left.
 fn is_read_in_front<const N: usize>(input: &[u8], text: TinyAsciiStr<N>, left: &[u8]) -> bool {
@@ -14,17 +13,26 @@ fn is_read_in_front<const N: usize>(input: &[u8], text: TinyAsciiStr<N>, left: &
     }
 }
 
+// The same of a text at N.
+fn is_text_in_front<const N: usize>(input: &[u8], text: &str, left: &[u8]) -> bool
+    requires { N < 2 ^ 63 }
+{
+    match TinyAsciiStr::<N>::try_from_str(text) {
+        Ok(text) => is_read_in_front(input, text, left),
+        Err(_) => false,
+    }
+}
+
 #[test]
-fn bytes_in_front_are_read_and_the_rest_is_handed_back(rt: HostRuntime) -> Result<(), Fail> {
-    assert!(rt; is_read_in_front(b"abcd", tinystr!(4, "abcd")?, b""));
-    assert!(rt; is_read_in_front(b"a\0\0\0", tinystr!(4, "a")?, b""));
-    assert!(rt; is_read_in_front(b"\0\0\0\0", tinystr!(4, "")?, b""));
-    assert!(rt; is_read_in_front(b"abcde", tinystr!(4, "abcd")?, b"e"));
-    assert!(rt; is_read_in_front(b"enXY", tinystr!(2, "en")?, b"XY"));
-    assert!(rt; is_read_in_front(b"ab", tinystr!(0, "")?, b"ab"));
+fn bytes_in_front_are_read_and_the_rest_is_handed_back(rt: HostRuntime) {
+    assert!(rt; is_text_in_front::<4>(b"abcd", "abcd", b""));
+    assert!(rt; is_text_in_front::<4>(b"a\0\0\0", "a", b""));
+    assert!(rt; is_text_in_front::<4>(b"\0\0\0\0", "", b""));
+    assert!(rt; is_text_in_front::<4>(b"abcde", "abcd", b"e"));
+    assert!(rt; is_text_in_front::<2>(b"enXY", "en", b"XY"));
+    assert!(rt; is_text_in_front::<0>(b"ab", "", b"ab"));
     let behind = b"cdefghijklmnopqrstuvwxyz";
-    assert!(rt; is_read_in_front(b"abcdefghijklmnopqrstuvwxyz", tinystr!(2, "ab")?, behind));
-    Ok(())
+    assert!(rt; is_text_in_front::<2>(b"abcdefghijklmnopqrstuvwxyz", "ab", behind));
 }
 
 fn is_refused(input: &[u8], refusal: BytesReadError) -> bool {
@@ -79,14 +87,20 @@ fn is_byte_form<const N: usize>(text: TinyAsciiStr<N>, form: [u8; N]) -> bool {
     text.to_bytes() == form && is_read_in_front(&form, text, b"")
 }
 
+// The same of a text at N.
+fn has_byte_form<const N: usize>(text: &str, form: [u8; N]) -> bool {
+    match TinyAsciiStr::try_from_str(text) {
+        Ok(text) => is_byte_form(text, form),
+        Err(_) => false,
+    }
+}
+
 #[test]
-fn byte_forms_are_padded_texts(rt: HostRuntime) -> Result<(), Fail> {
-    assert!(rt; is_byte_form(tinystr!(16, "verylongstring")?, *b"verylongstring\0\0"));
-    assert!(rt; is_byte_form(tinystr!(11, "shortstring")?, *b"shortstring"));
-    let long = tinystr!(24, "veryveryverylongstring")?;
-    assert!(rt; is_byte_form(long, *b"veryveryverylongstring\0\0"));
-    assert!(rt; is_byte_form(tinystr!(0, "")?, []));
-    Ok(())
+fn byte_forms_are_padded_texts(rt: HostRuntime) {
+    assert!(rt; has_byte_form("verylongstring", *b"verylongstring\0\0"));
+    assert!(rt; has_byte_form("shortstring", *b"shortstring"));
+    assert!(rt; has_byte_form("veryveryverylongstring", *b"veryveryverylongstring\0\0"));
+    assert!(rt; has_byte_form("", []));
 }
 
 // Whether the text, written in front of bytes of `#`, gives these, and is read back from them with the others left.
@@ -99,21 +113,30 @@ fn is_written<const N: usize, const M: usize>(text: TinyAsciiStr<N>, written: &[
     room == *written && is_read_in_front(bytes, text, &bytes[N..])
 }
 
+// The same of a text at N.
+fn is_text_written<const N: usize, const M: usize>(text: &str, written: &[u8; M]) -> bool
+    requires { N ≤ M }
+{
+    match TinyAsciiStr::<N>::try_from_str(text) {
+        Ok(text) => is_written(text, written),
+        Err(_) => false,
+    }
+}
+
 #[test]
-fn bytes_are_written_in_front_and_the_rest_stays(rt: HostRuntime) -> Result<(), Fail> {
-    assert!(rt; is_written(tinystr!(0, "")?, b""));
-    assert!(rt; is_written(tinystr!(0, "")?, b"##"));
-    assert!(rt; is_written(tinystr!(1, "")?, b"\0"));
-    assert!(rt; is_written(tinystr!(1, "a")?, b"a#"));
-    assert!(rt; is_written(tinystr!(3, "GB")?, b"GB\0#"));
-    assert!(rt; is_written(tinystr!(4, "Latn")?, b"Latn"));
-    assert!(rt; is_written(tinystr!(8, "New York")?, b"New York###"));
-    assert!(rt; is_written(tinystr!(9, "New York")?, b"New York\0#"));
-    assert!(rt; is_written(tinystr!(16, "MacintoshOSX2019")?, b"MacintoshOSX2019#"));
-    assert!(rt; is_written(tinystr!(17, "")?, b"\0\0\0\0\0\0\0\0\0\0\0\0\0\0\0\0\0##"));
-    let long = tinystr!(33, "abcdefghijklmnopqrstuvwxyz012345")?;
-    assert!(rt; is_written(long, b"abcdefghijklmnopqrstuvwxyz012345\0######"));
-    Ok(())
+fn bytes_are_written_in_front_and_the_rest_stays(rt: HostRuntime) {
+    assert!(rt; is_text_written::<0, 0>("", b""));
+    assert!(rt; is_text_written::<0, 2>("", b"##"));
+    assert!(rt; is_text_written::<1, 1>("", b"\0"));
+    assert!(rt; is_text_written::<1, 2>("a", b"a#"));
+    assert!(rt; is_text_written::<3, 4>("GB", b"GB\0#"));
+    assert!(rt; is_text_written::<4, 4>("Latn", b"Latn"));
+    assert!(rt; is_text_written::<8, 11>("New York", b"New York###"));
+    assert!(rt; is_text_written::<9, 10>("New York", b"New York\0#"));
+    assert!(rt; is_text_written::<16, 17>("MacintoshOSX2019", b"MacintoshOSX2019#"));
+    assert!(rt; is_text_written::<17, 19>("", b"\0\0\0\0\0\0\0\0\0\0\0\0\0\0\0\0\0##"));
+    let long = "abcdefghijklmnopqrstuvwxyz012345";
+    assert!(rt; is_text_written::<33, 39>(long, b"abcdefghijklmnopqrstuvwxyz012345\0######"));
 }
 
 // Whether any bytes are read in front of the input, and this is left.

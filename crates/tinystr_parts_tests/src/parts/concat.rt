@@ -7,36 +7,46 @@ use std::test::Fail;
 use texts_of_tests::neighbours::{COUNT, Text, table_texts, texts};
 use tinystr::{TinyAsciiStr, TinyStr8, TinyStr16};
 
-#[test]
-fn two_texts_are_joined_and_cut(rt: HostRuntime) -> Result<(), Fail> {
-    let front = TinyAsciiStr::<6>::try_from_str("abc")?;
-    let back = TinyAsciiStr::<6>::try_from_str("defg")?;
-    assert!(rt; is_text(front.concat::<6, 16>(back), "abcdefg"));
-    assert!(rt; is_text(front.concat::<6, 12>(back), "abcdefg"));
-    assert!(rt; is_text(front.concat::<6, 8>(back), "abcdefg"));
-    assert!(rt; is_text(front.concat::<6, 7>(back), "abcdefg"));
-    assert!(rt; is_text(front.concat::<6, 6>(back), "abcdef"));
-    assert!(rt; is_text(front.concat::<6, 2>(back), "ab"));
-    assert!(rt; is_text(front.resize::<8>().concat::<6, 17>(back), "abcdefg"));
-    let long = TinyAsciiStr::<12>::try_from_str("abcdefghij")?;
-    assert!(rt; is_text(long.concat::<12, 24>(long), "abcdefghijabcdefghij"));
-    assert!(rt; is_text(long.concat::<12, 18>(long), "abcdefghijabcdefgh"));
-    Ok(())
+// Whether the two texts, held at N and M, are joined at Q to this one.
+fn are_joined_to<const N: usize, const M: usize, const Q: usize>(
+    front: &str,
+    back: &str,
+    joined: &str,
+) -> bool
+    requires front { N < 2 ^ 63 }
+    requires back { M < 2 ^ 63 }
+    requires joined { Q < 2 ^ 63 }
+{
+    let front = TinyAsciiStr::<N>::try_from_str(front);
+    let back = TinyAsciiStr::<M>::try_from_str(back);
+    match (front, back) {
+        (Ok(front), Ok(back)) => is_text(front.concat::<M, Q>(back), joined),
+        _ => false,
+    }
 }
 
 #[test]
-fn a_full_text_is_joined_and_cut(rt: HostRuntime) -> Result<(), Fail> {
-    let full = TinyStr16::try_from_str("MacintoshOSX2019")?;
-    let one = TinyAsciiStr::<1>::try_from_str("x")?;
-    assert!(rt; is_text(full.concat::<1, 17>(one), "MacintoshOSX2019x"));
-    assert!(rt; is_text(full.concat::<1, 16>(one), "MacintoshOSX2019"));
-    assert!(rt; is_text(full.concat::<1, 0>(one), ""));
-    let none = TinyAsciiStr::<0>::default();
-    let two = TinyAsciiStr::<2>::try_from_str("ab")?;
-    assert!(rt; is_text(none.concat::<2, 4>(two), "ab"));
-    let long = TinyAsciiStr::<25>::try_from_str("abcdefghijklmnopqrstuvwxy")?;
-    assert!(rt; is_text(long.concat::<2, 17>(two), "abcdefghijklmnopq"));
-    Ok(())
+fn two_texts_are_joined_and_cut(rt: HostRuntime) {
+    let (front, back, both) = ("abc", "defg", "abcdefg");
+    assert!(rt; are_joined_to::<6, 6, 16>(front, back, both));
+    assert!(rt; are_joined_to::<6, 6, 12>(front, back, both));
+    assert!(rt; are_joined_to::<6, 6, 8>(front, back, both));
+    assert!(rt; are_joined_to::<6, 6, 7>(front, back, both));
+    assert!(rt; are_joined_to::<6, 6, 6>(front, back, "abcdef"));
+    assert!(rt; are_joined_to::<6, 6, 2>(front, back, "ab"));
+    let long = "abcdefghij";
+    assert!(rt; are_joined_to::<12, 12, 24>(long, long, "abcdefghijabcdefghij"));
+    assert!(rt; are_joined_to::<12, 12, 18>(long, long, "abcdefghijabcdefgh"));
+}
+
+#[test]
+fn a_full_text_is_joined_and_cut(rt: HostRuntime) {
+    let full = "MacintoshOSX2019";
+    assert!(rt; are_joined_to::<16, 1, 17>(full, "x", "MacintoshOSX2019x"));
+    assert!(rt; are_joined_to::<16, 1, 16>(full, "x", full));
+    assert!(rt; are_joined_to::<16, 1, 0>(full, "x", ""));
+    assert!(rt; are_joined_to::<0, 2, 4>("", "ab", "ab"));
+    assert!(rt; are_joined_to::<25, 2, 17>("abcdefghijklmnopqrstuvwxy", "ab", "abcdefghijklmnopq"));
 }
 
 // Whether a value is the one text and then the other.
@@ -44,30 +54,70 @@ fn is_joined<const N: usize>(value: TinyAsciiStr<N>, front: &str, back: &str) ->
     value.as_str().strip_prefix(front) == Some(back)
 }
 
+// Whether the two texts, held at N and M, are joined at Q to the first of them and then this.
+fn are_joined_with<const N: usize, const M: usize, const Q: usize>(
+    front: &str,
+    back: &str,
+    behind: &str,
+) -> bool
+    requires front { N < 2 ^ 63 }
+    requires back { M < 2 ^ 63 }
+    requires joined { Q < 2 ^ 63 }
+{
+    let value = TinyAsciiStr::<N>::try_from_str(front);
+    let back = TinyAsciiStr::<M>::try_from_str(back);
+    match (value, back) {
+        (Ok(value), Ok(back)) => is_joined(value.concat::<M, Q>(back), front, behind),
+        _ => false,
+    }
+}
+
 #[test]
-fn long_texts_are_joined_and_cut(rt: HostRuntime) -> Result<(), Fail> {
-    let full = TinyAsciiStr::<32>::try_from_str(FULL)?;
-    let less = TinyAsciiStr::<32>::try_from_str(LESS)?;
-    let forty = TinyAsciiStr::<40>::try_from_str(FORTY)?;
-    assert!(rt; is_joined(full.concat::<32, 64>(full), FULL, FULL));
-    assert!(rt; is_joined(full.concat::<32, 64>(less), FULL, LESS));
-    assert!(rt; is_joined(full.concat::<32, 80>(less), FULL, LESS));
-    assert!(rt; is_joined(full.concat::<32, 33>(less), FULL, "A"));
-    assert!(rt; is_joined(full.concat::<32, 32>(less), FULL, ""));
-    assert!(rt; is_joined(less.concat::<32, 64>(full), LESS, FULL));
-    assert!(rt; is_joined(less.concat::<32, 80>(full), LESS, FULL));
-    assert!(rt; is_joined(less.concat::<32, 33>(full), LESS, "ab"));
-    assert!(rt; is_joined(less.concat::<32, 32>(full), LESS, "a"));
-    assert!(rt; is_joined(full.resize::<40>().concat::<32, 64>(less), FULL, LESS));
-    assert!(rt; is_joined(forty.concat::<32, 72>(full), FORTY, FULL));
-    assert!(rt; is_joined(forty.concat::<32, 40>(less), FORTY, ""));
-    assert!(rt; is_joined(forty.concat::<32, 71>(less), FORTY, LESS));
-    assert!(rt; is_joined(full.resize::<40>().concat::<32, 40>(less), FULL, "ABCDEFGH"));
-    let most = forty.resize::<39>().resize::<40>();
-    assert!(rt; is_joined(most.concat::<32, 72>(less), most.as_str(), LESS));
-    assert!(rt; is_joined(most.concat::<32, 40>(less), most.as_str(), "A"));
-    assert!(rt; is_joined(less.concat::<40, 71>(forty), LESS, FORTY));
-    assert!(rt; is_joined(less.concat::<40, 63>(forty), LESS, FULL));
+fn long_texts_are_joined_and_cut(rt: HostRuntime) {
+    let (full, less, forty) = (FULL, LESS, FORTY);
+    assert!(rt; are_joined_with::<32, 32, 64>(full, full, full));
+    assert!(rt; are_joined_with::<32, 32, 64>(full, less, less));
+    assert!(rt; are_joined_with::<32, 32, 80>(full, less, less));
+    assert!(rt; are_joined_with::<32, 32, 33>(full, less, "A"));
+    assert!(rt; are_joined_with::<32, 32, 32>(full, less, ""));
+    assert!(rt; are_joined_with::<32, 32, 64>(less, full, full));
+    assert!(rt; are_joined_with::<32, 32, 80>(less, full, full));
+    assert!(rt; are_joined_with::<32, 32, 33>(less, full, "ab"));
+    assert!(rt; are_joined_with::<32, 32, 32>(less, full, "a"));
+    assert!(rt; are_joined_with::<40, 32, 72>(forty, full, full));
+    assert!(rt; are_joined_with::<40, 32, 40>(forty, less, ""));
+    assert!(rt; are_joined_with::<40, 32, 71>(forty, less, less));
+    assert!(rt; are_joined_with::<32, 40, 71>(less, forty, forty));
+    assert!(rt; are_joined_with::<32, 40, 63>(less, forty, full));
+}
+
+// Whether the value, joined at Q with the text, held at M, is followed by this.
+fn is_joined_with<const N: usize, const M: usize, const Q: usize>(
+    front: TinyAsciiStr<N>,
+    back: &str,
+    behind: &str,
+) -> bool
+    requires back { M < 2 ^ 63 }
+    requires joined { Q < 2 ^ 63 }
+{
+    match TinyAsciiStr::<M>::try_from_str(back) {
+        Ok(back) => is_joined(front.concat::<M, Q>(back), front.as_str(), behind),
+        Err(_) => false,
+    }
+}
+
+#[test]
+fn resized_texts_are_joined_and_cut(rt: HostRuntime) -> Result<(), Fail> {
+    let short = TinyAsciiStr::<6>::try_from_str("abc")?.resize::<8>();
+    assert!(rt; is_text(short, "abc") && is_joined_with::<8, 6, 17>(short, "defg", "defg"));
+    let (less, full) = (LESS, TinyAsciiStr::<32>::try_from_str(FULL)?.resize::<40>());
+    assert!(rt; is_text(full, FULL) && is_joined_with::<40, 32, 64>(full, less, less));
+    assert!(rt; is_joined_with::<40, 32, 40>(full, less, "ABCDEFGH"));
+    let most = TinyAsciiStr::<40>::try_from_str(FORTY)?
+        .resize::<39>()
+        .resize::<40>();
+    assert!(rt; is_joined_with::<40, 32, 72>(most, less, less));
+    assert!(rt; is_joined_with::<40, 32, 40>(most, less, "A"));
     Ok(())
 }
 

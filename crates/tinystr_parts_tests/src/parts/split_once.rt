@@ -18,6 +18,22 @@ fn is_split<const N: usize>(text: &str, separator: u8, before: &str, behind: &st
     }
 }
 
+// Whether the text, held at N, is split into what stands before this place and what stands behind it.
+fn is_split_at<const N: usize>(text: &[u8], separator: u8, at: usize) -> bool
+    requires held { N < 2 ^ 63 }
+    requires inside { at < length text.now }
+{
+    match TinyAsciiStr::<N>::try_from_utf8(text) {
+        Ok(value) => match value.split_once(separator) {
+            Some((before, behind)) => {
+                before.as_utf8() == &text[..at] && behind.as_utf8() == &text[at + 1..]
+            }
+            None => false,
+        },
+        Err(_) => false,
+    }
+}
+
 // Whether the text, held at N, has no such byte.
 fn is_whole<const N: usize>(text: &str, separator: u8) -> bool
     requires { N < 2 ^ 63 }
@@ -36,11 +52,10 @@ fn a_text_is_split_at_the_first_separator(rt: HostRuntime) {
     assert!(rt; is_split::<16>("MacintoshOSX2019", b'0', "MacintoshOSX2", "19"));
     assert!(rt; is_split::<17>("MacintoshOSX-2019", b'-', "MacintoshOSX", "2019"));
     assert!(rt; is_split::<17>("MacintoshOSX2019-", b'-', "MacintoshOSX2019", ""));
-    assert!(rt; is_split::<40>(FORTY, b'0', &FORTY[..26], &FORTY[27..]));
-    assert!(rt; is_split::<100>(FORTY, b'p', &FORTY[..15], &FORTY[16..]));
-    assert!(rt; is_split::<100>(FORTY, b'q', &FORTY[..16], &FORTY[17..]));
-    let len = HUNDRED.len();
-    assert!(rt; is_split::<100>(HUNDRED, b'~', &HUNDRED[..len - 9], &HUNDRED[len - 8..]));
+    assert!(rt; is_split_at::<40>(FORTY.as_bytes(), b'0', 26));
+    assert!(rt; is_split_at::<100>(FORTY.as_bytes(), b'p', 15));
+    assert!(rt; is_split_at::<100>(FORTY.as_bytes(), b'q', 16));
+    assert!(rt; is_split_at::<100>(HUNDRED.as_bytes(), b'~', 91));
 }
 
 #[test]
@@ -49,8 +64,8 @@ fn either_part_may_be_empty(rt: HostRuntime) {
     assert!(rt; is_split::<8>("-New Yor", b'-', "", "New Yor"));
     assert!(rt; is_split::<8>("New Yor-", b'-', "New Yor", ""));
     assert!(rt; is_split::<9>("-", b'-', "", "") && is_split::<40>("-a", b'-', "", "a"));
-    assert!(rt; is_split::<40>(FORTY, b'a', "", &FORTY[1..]));
-    assert!(rt; is_split::<40>(FORTY, b'-', &FORTY[..39], ""));
+    assert!(rt; is_split_at::<40>(FORTY.as_bytes(), b'a', 0));
+    assert!(rt; is_split_at::<40>(FORTY.as_bytes(), b'-', 39));
 }
 
 #[test]
@@ -66,22 +81,6 @@ fn a_text_without_the_separator_is_not_split(rt: HostRuntime) {
     assert!(rt; is_split::<2>("\u{1}\u{7f}", 127, "\u{1}", ""));
 }
 
-// Whether letters with a separator among them, held at N, are split at its place.
-fn is_split_at<const N: usize>(text: &[u8], at: usize) -> bool
-    requires held { N < 2 ^ 63 }
-    requires inside { at < length text.now }
-{
-    match TinyAsciiStr::<N>::try_from_utf8(text) {
-        Ok(value) => match value.split_once(b'-') {
-            Some((before, behind)) => {
-                before.as_utf8() == &text[..at] && behind.as_utf8() == &text[at + 1..]
-            }
-            None => false,
-        },
-        Err(_) => false,
-    }
-}
-
 // Whether texts of each length up to N are split wherever the separator stands.
 fn is_split_anywhere<const N: usize>() -> bool
     requires { N < 2 ^ 63 }
@@ -91,7 +90,7 @@ fn is_split_anywhere<const N: usize>() -> bool
         text[at] = b'-';
         let text = &text[..];
         for len in at + 1..=N {
-            if !is_split_at::<N>(&text[..len], at) {
+            if !is_split_at::<N>(&text[..len], b'-', at) {
                 return false;
             }
         }

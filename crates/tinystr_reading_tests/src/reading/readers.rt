@@ -285,6 +285,12 @@ fn is_no_byte_form<const N: usize>(bytes: [u8; N], refusal: BytesReadError) -> b
     }
 }
 
+// Whether the raw reader and that of the byte form refuse the bytes so.
+fn are_refused<const N: usize>(bytes: [u8; N], raw: ParseError, form: BytesReadError) -> bool {
+    let is_refused = TinyAsciiStr::try_from_raw(bytes) == Err(raw);
+    is_refused && is_no_byte_form(bytes, form)
+}
+
 // Whether the raw reader and that of the byte form refuse a byte above 127 at each position, and a letter after NULs,
 // with and without a letter in front of these.
 fn are_refused_at_each_position<const N: usize>(_like: TinyAsciiStr<N>) -> bool {
@@ -295,13 +301,10 @@ fn are_refused_at_each_position<const N: usize>(_like: TinyAsciiStr<N>) -> bool 
         late[at] = b'a';
         let mut apart = late;
         apart[0] = b'b';
-        if TinyAsciiStr::try_from_raw(high) != Err(NonAscii)
-            || TinyAsciiStr::try_from_raw(late) != Err(ContainsNull)
-            || !is_no_byte_form(high, BytesReadError::NonAscii)
-            || !is_no_byte_form(late, BytesReadError::Null)
-            || at > 1 && TinyAsciiStr::try_from_raw(apart) != Err(ContainsNull)
-            || at > 1 && !is_no_byte_form(apart, BytesReadError::Null)
-        {
+        let are_right = are_refused(high, NonAscii, BytesReadError::NonAscii)
+            && are_refused(late, ContainsNull, BytesReadError::Null)
+            && (at == 1 || are_refused(apart, ContainsNull, BytesReadError::Null));
+        if !are_right {
             return false;
         }
     }
