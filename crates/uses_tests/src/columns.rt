@@ -2,40 +2,35 @@
 
 ghost use Rattle.std.specs.Prelude.{◌<◌, ◌^◌};
 
-use std::alloc::{AllocError, Global};
+use std::alloc::Global;
 use std::test::Fail;
 use tinystr::TinyAsciiStr;
 use uses::columns::{left_cell, line, right_cell};
 
 // Whether a text of capacity N stands at the right of a column of that width as it is written here.
-fn is_right<const N: usize>(
-    alloc: Global,
-    text: &str,
-    width: usize,
-    expected: &str,
-) -> Result<bool, AllocError>
+fn is_right<const N: usize>(alloc: Global, text: &str, width: usize, expected: &str) -> bool
     requires { N < 2 ^ 63 }
 {
-    match TinyAsciiStr::<N>::try_from_str(text) {
-        Ok(text) => Ok(right_cell(&text, width, alloc)?.as_str() == expected),
-        Err(_) => Ok(false),
-    }
+    let Ok(text) = TinyAsciiStr::<N>::try_from_str(text) else {
+        return false;
+    };
+    let cell = right_cell(&text, width, alloc);
+    matches!(cell, Ok(cell) if cell.as_str() == expected)
 }
 
 #[test]
-fn a_text_stands_at_the_right(rt: HostRuntime) -> Result<(), Fail> {
-    assert!(rt; is_right::<0>(rt.alloc(), "", 8, "        ")?);
-    assert!(rt; is_right::<0>(rt.alloc(), "", 0, "")?);
-    assert!(rt; is_right::<8>(rt.alloc(), "", 8, "        ")?);
-    assert!(rt; is_right::<8>(rt.alloc(), "en", 8, "      en")?);
-    assert!(rt; is_right::<8>(rt.alloc(), "Georgia", 8, " Georgia")?);
-    assert!(rt; is_right::<8>(rt.alloc(), "New York", 8, "New York")?);
-    assert!(rt; is_right::<8>(rt.alloc(), "New York", 0, "New York")?);
-    assert!(rt; is_right::<8>(rt.alloc(), "New York", 7, "New York")?);
-    assert!(rt; is_right::<8>(rt.alloc(), "New York", 9, " New York")?);
-    assert!(rt; is_right::<16>(rt.alloc(), "en\x01\x7f", 8, "    en\x01\x7f")?);
-    assert!(rt; is_right::<33>(rt.alloc(), "MacintoshOSX2019x", 20, "   MacintoshOSX2019x")?);
-    Ok(())
+fn a_text_stands_at_the_right(rt: HostRuntime) {
+    assert!(rt; is_right::<0>(rt.alloc(), "", 8, "        "));
+    assert!(rt; is_right::<0>(rt.alloc(), "", 0, ""));
+    assert!(rt; is_right::<8>(rt.alloc(), "", 8, "        "));
+    assert!(rt; is_right::<8>(rt.alloc(), "en", 8, "      en"));
+    assert!(rt; is_right::<8>(rt.alloc(), "Georgia", 8, " Georgia"));
+    assert!(rt; is_right::<8>(rt.alloc(), "New York", 8, "New York"));
+    assert!(rt; is_right::<8>(rt.alloc(), "New York", 0, "New York"));
+    assert!(rt; is_right::<8>(rt.alloc(), "New York", 7, "New York"));
+    assert!(rt; is_right::<8>(rt.alloc(), "New York", 9, " New York"));
+    assert!(rt; is_right::<16>(rt.alloc(), "en\x01\x7f", 8, "    en\x01\x7f"));
+    assert!(rt; is_right::<33>(rt.alloc(), "MacintoshOSX2019x", 20, "   MacintoshOSX2019x"));
 }
 
 #[test]
