@@ -68,17 +68,27 @@ class Edit:
         sources = [(file, text) for file, text in texts.items() if file.startswith("src/")]
         return any(it.is_named_by(self.function) for file, text in sources for it in items(file, text))
 
-    def apply(self, texts, target):
-        """Changes texts, by file: each old text stands once in its target's body or, where it has none, in the file."""
+    def changes(self, texts, target):
+        """What it changes in its source: where each old text begins and ends, and the new one. Each old text stands once
+        in its target's body or, where it has none, in the file."""
+        text, found = texts[self.file], []
+        start, end = (target.start, target.end) if target else (0, len(text))
         for old, new in self.pairs:
-            text = texts[self.file]
-            start, end = 0, len(text)
-            if target:
-                # (other edits may have moved it)
-                item = next(it for it in items(self.file, text) if it.key() == target.key())
-                start, end = item.start, item.end
-            found = text[start:end].count(old)
-            if found != 1:
+            if (count := text.count(old, start, end)) != 1:
                 where = target.name if target else self.file
-                raise Unreadable(f"{self.name}: an old text stands {found} times in {where}: {old}")
-            texts[self.file] = text[:start] + text[start:end].replace(old, new) + text[end:]
+                raise Unreadable(f"{self.name}: an old text stands {count} times in {where}: {old}")
+            at = text.index(old, start, end)
+            found.append((at, at + len(old), new))
+        return found
+
+
+def applied(edits, texts):
+    """The texts of the crate, by file, with some edits, of which no two change the same place."""
+    changed, changes = dict(texts), {}
+    for edit in edits:
+        changes.setdefault(edit.file, []).extend(edit.changes(texts, edit.target(texts)))
+    for file, found in changes.items():
+        # from the end, so that the places in front stay
+        for start, end, new in sorted(found, reverse=True):
+            changed[file] = changed[file][:start] + new + changed[file][end:]
+    return changed

@@ -1,13 +1,13 @@
-"""Groups of a crate's edits, each of which one check tries: no two edits of a group reach one function or file of lemmas.
+"""Groups of a crate's edits, each of which one check tries: no two edits of a group reach one goal or file of lemmas.
 
-A function is checked against contracts alone, so the edit of a body reaches that function; that of a constant or of what
-a law with a body says reaches what names these too. One that reaches contracts, or turns what is no function's body, is
-alone. Groups of several have neutral and disturbed edits as controls.
+A function is checked against contracts alone, so the edit of a body reaches that function, or one arm of it; that of a
+constant or of what a law with a body says reaches what names these too. One that reaches contracts, or turns what is no
+function's body, is alone. Groups of several have neutral and disturbed edits as controls.
 """
 
 from dataclasses import dataclass
 
-from wrong_bodies.edits import Unreadable
+from wrong_bodies.edits import Unreadable, applied
 from wrong_bodies.reach import reach_of
 
 
@@ -30,10 +30,14 @@ class Group:
 
     def texts(self, texts):
         """The texts of the crate, by file, with the edits applied."""
-        changed = dict(texts)
-        for edit in self.edits:
-            edit.apply(changed, edit.target(texts))
-        return changed
+        return applied(self.edits, texts)
+
+    def names(self, search):
+        """Whether a search is of a goal that a wrong body of it names, or of a function with a neutral body in it."""
+        return any(
+            it.function == search.function and (it.goal == search.goal and not it.is_control or it.kind == "neutral")
+            for it in self.edits
+        )
 
     def of(self, bodies):
         """The group of some of its wrong bodies, and its controls."""
@@ -60,7 +64,7 @@ def groups_of(edits, texts, only=()):
 
 
 def grouped(edits, controls, texts):
-    """The groups of a crate's wrong bodies and controls: two that reach one function are in two groups."""
+    """The groups of a crate's wrong bodies and controls: two that reach one goal are in two groups."""
     reached = {it.name: reach_of(it, target_of(it, texts), texts) for it in [*edits, *controls]}
     alone = [it for it in edits if reached[it.name] is None]
     left, groups = [it for it in edits if it not in alone], []
@@ -78,8 +82,8 @@ def grouped(edits, controls, texts):
 
 def controls_of(number, controls):
     """The controls of a group: a half of all for each of the first two, and then one, by turns, since each stands in the
-    way of the edits of its function."""
-    if number < 2 or not controls:
+    way of the edits of its function; of a single one each group has that."""
+    if number < 2 < len(controls) or not controls:
         return controls[number::2]
     return [controls[number % len(controls)]]
 
@@ -87,7 +91,7 @@ def controls_of(number, controls):
 def target_of(edit, texts):
     """What an edit turns, where it can be applied and names that."""
     item = edit.target(texts)
-    edit.apply(dict(texts), item)
+    edit.changes(texts, item)
     if not edit.names_what_it_turns(item, texts):
         raise Unreadable(f"{edit.name} names {edit.function}, and turns {item.name} of {item.file}")
     return item

@@ -1,36 +1,54 @@
-"""What an edit reaches: the functions and files of lemmas whose goals may be open because of it. It reads the texts of a
-crate, and prints nothing."""
+"""What an edit reaches: the functions, or arms of them, and the files of lemmas whose goals may be open because of it. It
+reads the texts of a crate, and prints nothing."""
 
 import re
 from dataclasses import dataclass
+from os.path import commonprefix
 
-from sources import items
+from sources import Item, items
 
 COMMENT_OR_IMPORT = re.compile(r"^ *(?://.*$|(?:pub )?use [^;]*;)", re.M)
 PROOF = re.compile(r"proofs/(.+?)(?:/(?:Answers|Invariants|Proof))?\.antt")
 
 
 @dataclass(frozen=True)
-class Reach:
-    """Functions with a body and laws, and the names that the prover has for files of proofs."""
+class Part:
+    """A function with a body, or a law, and its goals; or one arm of the match in which a body ends, and its goals."""
 
-    functions: frozenset
-    files: frozenset = frozenset()
+    function: Item
+    arm: str = ""
 
-    def holds(self, path):
-        """Whether a function or a file of lemmas, as the prover names it, is reached."""
-        return path in self.files or any(it.is_named_by(path) for it in self.functions)
+    def holds(self, path, goal):
+        """Whether a goal of a function, as the prover names them, is one of its own."""
+        is_own = not self.arm or re.search(rf"-in-{self.arm}(?!\w)", goal)
+        return bool(is_own) and self.function.is_named_by(path)
 
     def meets(self, other):
-        """Whether two edits reach one function or file."""
-        if not self.functions.isdisjoint(other.functions):
+        """Whether the two share a goal."""
+        return self.function == other.function and (not self.arm or not other.arm or self.arm == other.arm)
+
+
+@dataclass(frozen=True)
+class Reach:
+    """Parts of functions and laws, and the names that the prover has for files of proofs."""
+
+    parts: frozenset
+    files: frozenset = frozenset()
+
+    def holds(self, path, goal=""):
+        """Whether a goal of a function, or a file of lemmas, as the prover names it, is reached."""
+        return path in self.files or any(it.holds(path, goal) for it in self.parts)
+
+    def meets(self, other):
+        """Whether two edits reach one goal or file."""
+        if any(one.meets(another) for one in self.parts for another in other.parts):
             return True
         return any(map(other.holds, self.files)) or any(map(self.holds, other.files))
 
 
 def own_of(reach, refusals):
     """The refusals that an edit may have caused: those of what it reaches, or all where that isn't known."""
-    return [it for it in refusals if reach is None or reach.holds(it.function)]
+    return [it for it in refusals if reach is None or reach.holds(it.function, it.goal)]
 
 
 def reach_of(edit, item, texts):
@@ -43,14 +61,48 @@ def reach_of(edit, item, texts):
     elif edit.turns_contract(item, texts):
         name, cited = re.compile(rf"\blaws::{item.name}\b"), re.compile(rf"\blaws\.{item.name}\b")
     else:
-        return Reach(frozenset([item]))
+        text = texts[item.file]
+        places = [text.find(old, item.start) + len(commonprefix((old, new))) for old, new in edit.pairs]
+        return Reach(widened(parts_at(item, text, places), edit))
     sources = [(file, text) for file, text in texts.items() if file.startswith("src/")]
     naming = {it for file, text in sources for it in items_that_name(name, file, text)} - {item}
     is_cited = any(cited.search(text) for file, text in texts.items() if file.startswith("specs/"))
     if is_cited or any(it is None or it.is_constant for it in naming):
         return None
-    functions = naming if item.is_constant else {item, *naming}
-    return Reach(frozenset(functions), frozenset(files_that_cite(cited, texts)))
+    parts = frozenset() if item.is_constant else frozenset([Part(item)])
+    for it in naming:
+        places = [found.start() for found in name.finditer(texts[it.file], it.start, it.end)]
+        parts |= parts_at(it, texts[it.file], places)
+    return Reach(widened(parts, edit), frozenset(files_that_cite(cited, texts)))
+
+
+def widened(parts, edit):
+    """The parts, or the whole functions where the goal that the edit names is in none."""
+    is_inside = any(it.holds(edit.function, edit.goal) for it in parts)
+    return parts if is_inside else frozenset(Part(it.function) for it in parts)
+
+
+def parts_at(function, text, places):
+    """The parts of a function in which some places of its source stand: the whole where one is in no arm."""
+    arms = list(last_arms(function, text))
+    found = {next((name for name, start, end in arms if start <= it < end), "") for it in places}
+    return frozenset(Part(function, it) for it in ([""] if "" in found else found))
+
+
+def last_arms(function, text):
+    """The arms of the match in which a function's body ends: the name of each, as the prover has it, and where what stands
+    behind its pattern begins and ends."""
+    lines = text[function.code : function.end].split("\n")
+    indent = re.match(" *", lines[-1])[0] + 4 * " "
+    begins = [at for at, line in enumerate(lines) if line.startswith(f"{indent}match ") and line.endswith("{")]
+    if not begins or lines[-2] != indent + "}" or indent + "}" in lines[begins[-1] : -2]:
+        return
+    head = re.compile(rf"{indent}    (?:\w+::)*(\w+).* => ?")
+    starts = [function.code + len("\n".join(lines[:at])) + 1 for at in range(len(lines))]
+    found = [(at, head.match(lines[at])) for at in range(begins[-1] + 1, len(lines) - 2)]
+    found = [(at, arm) for at, arm in found if arm]
+    for (at, arm), end in zip(found, [*(it for it, _ in found[1:]), len(lines) - 2]):
+        yield arm[1], starts[at] + arm.end(), starts[end]
 
 
 def items_that_name(name, file, text):

@@ -7,6 +7,8 @@ ERROR = re.compile(r"(?:\./)?proofs/(\S+)\.antt:\d+:\d+: error: `([^`]+)`: (.*)"
 OPEN = re.compile(r"note: src/\S+: (?:it is not proved that .*|`search` found no proof) ?\(`([^`]+)`\)(?:; )?(.*)")
 UNPROVED = re.compile(r"fn \w+::(\S+): (?:not proved|no proof)(.*)")
 STATED = re.compile(r"note: `([^`]+)` of proofs/(\S+)/Answers\.antt must prove: (.*)")
+# A search that was written as an answer, and the goal that it doesn't prove.
+SEARCHED = re.compile(r"`search`: no proof of `([^`]+)`.*")
 # What says nothing of the contract: a proof that names what the edit took away.
 GONE = re.compile(r"has no field|\(nearest: |is not in scope|has no `|was not admitted|declarations? that depends? on")
 
@@ -34,7 +36,8 @@ def refusals(output):
     for line in re.sub(r"\n  +", " ", output).splitlines():
         if error := ERROR.match(line):
             function = re.sub(r"/(?:Answers|Invariants|Proof)$", "", error[1]).replace("/", "::")
-            found.append(Refusal(function, error[2], error[3], bool(GONE.search(error[3]))))
+            said = SEARCHED.sub(r"\1", error[3])
+            found.append(Refusal(function, error[2], said, bool(GONE.search(error[3]))))
         elif note := OPEN.match(line):
             waiting.append((note[1], note[2]))
         elif line.startswith("fn "):

@@ -10,6 +10,8 @@ import threading
 
 from copies import READ_BY_RT, copy_all
 from sources import below
+from wrong_bodies.refusals import refusals
+from wrong_bodies.searches import with_searches
 
 
 class Room:
@@ -42,9 +44,19 @@ class Room:
             sys.exit(f"{crate} isn't proved as it stands:\n" + "\n".join(output.splitlines()[-20:]))
         linked(self.base / "crates" / crate / "out/incremental", self.folder / "seeds" / crate)
 
-    def try_group(self, crate, number, texts):
-        """Checks a copy of the crate with these texts, on what other programs leave free of the processors: only the
-        crates as they stand are waited for."""
+    def proved(self, crate, searches, texts):
+        """Those of some searches that prove their goals in the crate as it stands."""
+        output = self.try_group(crate, "searches", with_searches(crate, searches, texts), is_waited_for=True)
+        if not re.search(r"^logic=(proved |not-proved)", output, re.M):
+            return set()
+        is_open = {(it.function, it.goal) for it in refusals(output)}
+        # (an error that names no goal may keep a file from being read)
+        unread = re.findall(r"^(?:\./)?(proofs/\S+/Answers\.antt):\d+:\d+: error: (?!`)", output, re.M)
+        return {it for it in searches if (it.function, it.goal) not in is_open and it.file not in unread}
+
+    def try_group(self, crate, number, texts, is_waited_for=False):
+        """Checks a copy of the crate with these texts, on what other programs leave free of the processors where nothing
+        waits for it."""
         top = self.folder / f"{crate}-{number}"
         top.mkdir()
         shutil.copy(self.base / "HANDLES", top)
@@ -62,7 +74,7 @@ class Room:
             path.parent.mkdir(parents=True, exist_ok=True)
             path.write_text(text, encoding="utf-8")
         linked(self.folder / "seeds" / crate, top / "crates" / crate / "out/incremental")
-        output = self.check(crate, top, "nice")
+        output = self.check(crate, top, *([] if is_waited_for else ["nice"]))
         shutil.rmtree(top)
         with self.lock:
             self.tried[crate] = self.tried.get(crate, 0) + 1

@@ -19,6 +19,10 @@ from wrong_bodies.judging import judge
 from wrong_bodies.keeping import Kept
 from wrong_bodies.recording import record
 from wrong_bodies.rooms import Room
+from wrong_bodies.searches import searches_of, with_searches
+
+# With fewer groups to try, it takes longer to find which short searches prove their goals than they save.
+FEW = 3
 
 
 class Threads:
@@ -70,31 +74,34 @@ class Run:
 
     def trials(self, crate, only):
         """Begins the trials of a crate, or of those of its edits that are named."""
-        texts = texts_of(crate)
-        groups = groups_of(read_blocks(crate), texts, only)
-        kept, is_begun = Kept(crate, self.version), False
+        texts, edits = texts_of(crate), read_blocks(crate)
+        groups, kept = groups_of(edits, texts, only), Kept(crate, self.version)
+        lines = [None if self.given.anew else kept.lines(it) for it in groups]
+        searches = set()
+        if None in lines:
+            self.room = self.room or Room(self.folder)
+            self.room.begin(crate)
+            if lines.count(None) > FEW and not self.given.record:
+                searches = self.room.proved(crate, searches_of(edits, texts), texts)
         for number, group in enumerate(groups):
-            lines = None if self.given.anew else kept.lines(group)
-            if lines is not None:
-                yield Trial(crate, kept=lines)
+            if lines[number] is not None:
+                yield Trial(crate, kept=lines[number])
                 continue
-            if not is_begun:
-                self.room = self.room or Room(self.folder)
-                self.room.begin(crate)
-                is_begun = True
-            call = functools.partial(self.check, crate, number, group, texts, kept)
+            call = functools.partial(self.check, crate, number, group, texts, kept, searches)
             yield Trial(crate, check=self.threads.submit(length_of(group, texts), call))
 
-    def check(self, crate, number, group, texts, kept):
-        """Checks a group, and its parts where it is disturbed. What passes is kept."""
-        output = self.room.try_group(crate, number, group.texts(texts))
+    def check(self, crate, number, group, texts, kept, searches):
+        """Checks a group, with short searches for the goals that it names, and its parts where it is disturbed. What
+        passes is kept."""
+        named = filter(group.names, searches)
+        output = self.room.try_group(crate, number, with_searches(crate, named, group.texts(texts)))
         if self.given.output:
             Path(self.given.output, f"{crate}-{number}.txt").write_text(output, encoding="utf-8")
         verdicts, wrong = judge(group, output)
         disturbed = group.edits if wrong else [it.edit for it in verdicts if it.is_disturbed]
         parts = group.parts(disturbed) if disturbed else []
         if parts:
-            tried = [self.check(crate, f"{number}-{at}", part, texts, kept) for at, part in enumerate(parts)]
+            tried = [self.check(crate, f"{number}-{at}", part, texts, kept, searches) for at, part in enumerate(parts)]
             verdicts, wrong = together(verdicts, tried)
         elif self.given.record:
             record(group, output)

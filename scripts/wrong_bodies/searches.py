@@ -1,0 +1,81 @@
+"""Short searches for the goals that wrong bodies break. Where no file of proofs answers a goal, the prover tries four ways
+to prove it, each longer than the one before, and then tells how an answer would begin. In the copies of a crate such a
+goal gets an answer that tries the first two ways. It prints nothing."""
+
+import re
+from dataclasses import dataclass
+
+from sources import items
+
+# Imports for each search, and those with which a goal is told by its operators.
+WORDS = ["use Rattle.std.proofs.Common as common", "use Rattle.std.proofs.lemmas.Grind as grinding"]
+OPERATORS = "use Rattle.std.proofs.Common.{◌≡◌, ◌+◌, ◌-◌, ◌*◌, ◌/◌, ◌%◌, ◌<◌, ◌≤◌, ◌++◌, length, take, drop, IsTrue}"
+# The lines of comments and attributes above a function, and the lemmas that one names for its goals.
+ABOVE = re.compile(r"(?: *(?://|#\[).*\n)*\Z")
+USING = re.compile(r"#\[tactic\(auto, using\(([^)]*)\)")
+# The parameters of a function or an impl, of which one is no lifetime; a trait has `Self`.
+GENERIC = re.compile(r"(?:pub )?trait\b|(?:impl|fn \w+)<(?:'\w+, )*[^'>]")
+
+
+@dataclass(frozen=True)
+class Search:
+    """A goal of a function; whether that, or the impl or trait in which it stands, has parameters of types or constants;
+    and the lemmas that it names for its goals."""
+
+    function: str
+    goal: str
+    is_generic: bool
+    lemmas: tuple
+
+    @property
+    def file(self):
+        """The file with the answers of the function's goals."""
+        return f"proofs/{self.function.replace('::', '/')}/Answers.antt"
+
+    def added(self, crate, answers):
+        """What is in its file, if that is there, with the search as one more answer."""
+        modules = dict.fromkeys(module_of(it, crate) for it in self.lemmas)
+        names = {it: f"lemmas_{at}" for at, it in enumerate(modules)}
+        uses = [*WORDS, *(f"use {it} as {name}" for it, name in names.items())]
+        uses += [f"use Rattle.{crate}.proofs.{self.function.replace('::', '.')}.Goals as goal"]
+        uses += [] if answers else [OPERATORS]
+        head = "".join(f"{it}\n" for it in uses if f"{it}\n" not in answers)
+        lemmas = "".join(f", {names[module_of(it, crate)]}.{it.rpartition('::')[2]}" for it in self.lemmas)
+        tried = f"search (common.rules{lemmas}), grind (common.arith, grinding.common_steps{lemmas}) steps 2000000"
+        given = "g c" if self.is_generic else "c"
+        return f"{head}{answers}\npub {self.goal} : goal.{self.goal}\n{self.goal} {given} = first_of ({tried})\n"
+
+
+def module_of(lemma, crate):
+    """The module of a lemma, as its path in an attribute names it."""
+    library, *inside, _ = lemma.split("::")
+    return ".".join(["Rattle", crate if library == "crate" else library, *inside])
+
+
+def searches_of(edits, texts):
+    """A search for each goal that wrong bodies name and no file of proofs answers; none for those of files of lemmas."""
+    sources = [(items(file, text), text) for file, text in texts.items() if file.startswith("src/")]
+    found = set()
+    for edit in edits:
+        named = [(it, text) for inside, text in sources for it in inside if it.is_named_by(edit.function)]
+        if named and not edit.is_control:
+            search = search_of(edit, *named[0])
+            if not re.search(rf"^pub {re.escape(edit.goal)} :", texts.get(search.file, ""), re.M):
+                found.add(search)
+    return found
+
+
+def search_of(edit, function, text):
+    """The search for the goal that an edit names, of a function of a source with this text."""
+    at = text.rfind(f"fn {function.name}", 0, function.code)
+    using = USING.search(ABOVE.search(text[: text.rfind("\n", 0, at) + 1])[0])
+    is_generic = any(map(GENERIC.match, (function.block, text[at:])))
+    return Search(edit.function, edit.goal, is_generic, tuple(using[1].split(", ")) if using else ())
+
+
+def with_searches(crate, searches, texts):
+    """The texts of a crate, by file, with some searches."""
+    changed = dict(texts)
+    for search in sorted(searches, key=lambda it: (it.function, it.goal)):
+        changed[search.file] = search.added(crate, changed.get(search.file, ""))
+    return changed
