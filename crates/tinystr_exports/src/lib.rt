@@ -5,6 +5,7 @@
 #![tactic(auto)]
 
 mod batch;
+mod batches;
 mod calls;
 mod capacities;
 mod cuts;
@@ -15,11 +16,12 @@ mod printing;
 mod readers;
 mod records;
 
-use calls::{ask_batch, change_batch, compare_batch};
+use batches::Batches;
+use capacities::At;
 use cuts::{concat_batch, resize_batch};
 use lang_ids::lang_id_batch;
-use printing::{display_batch, print_batch};
-use readers::{decimal_batch, front_batch, read8_batch, read16_batch};
+use printing::display_batch;
+use readers::front_batch;
 use records::records_found;
 
 /// A question, the length or the last byte of each text, as a number.
@@ -31,7 +33,8 @@ pub extern "C" fn tinystr_exports_ask(
     texts: &[u8],
     answers: &mut [u8],
 ) -> bool {
-    crate::at_capacity!(capacity, ask_batch, question, rounds, texts, answers)
+    let batches: &dyn Batches = crate::at_capacity!(capacity, else return false);
+    batches.ask(question, rounds, texts, answers)
 }
 
 /// Each text in another case, or a copy of it.
@@ -43,7 +46,8 @@ pub extern "C" fn tinystr_exports_change(
     texts: &[u8],
     changed: &mut [u8],
 ) -> bool {
-    crate::at_capacity!(capacity, change_batch, case, rounds, texts, changed)
+    let batches: &dyn Batches = crate::at_capacity!(capacity, else return false);
+    batches.change(case, rounds, texts, changed)
 }
 
 /// The order or the equality of each pair of texts, or the equality of their hashes, as a number.
@@ -56,15 +60,8 @@ pub extern "C" fn tinystr_exports_compare(
     right: &[u8],
     answers: &mut [u8],
 ) -> bool {
-    crate::at_capacity!(
-        capacity,
-        compare_batch,
-        relation,
-        rounds,
-        left,
-        right,
-        answers
-    )
+    let batches: &dyn Batches = crate::at_capacity!(capacity, else return false);
+    batches.compare(relation, rounds, left, right, answers)
 }
 
 /// Each list of bytes as a reader reads it: list i stands from `starts[i]` to `starts[i + 1]`. A fault is told by a
@@ -79,16 +76,8 @@ pub extern "C" fn tinystr_exports_read8(
     texts: &mut [u8],
     faults: &mut [u32],
 ) -> bool {
-    crate::at_capacity!(
-        capacity,
-        read8_batch,
-        reader,
-        rounds,
-        units,
-        starts,
-        texts,
-        faults
-    )
+    let batches: &dyn Batches = crate::at_capacity!(capacity, else return false);
+    batches.read8(reader, rounds, units, starts, texts, faults)
 }
 
 /// The same of code units of 16 bits.
@@ -102,16 +91,8 @@ pub extern "C" fn tinystr_exports_read16(
     texts: &mut [u8],
     faults: &mut [u32],
 ) -> bool {
-    crate::at_capacity!(
-        capacity,
-        read16_batch,
-        reader,
-        rounds,
-        units,
-        starts,
-        texts,
-        faults
-    )
+    let batches: &dyn Batches = crate::at_capacity!(capacity, else return false);
+    batches.read16(reader, rounds, units, starts, texts, faults)
 }
 
 /// Each text read in front of the bytes that are left, up to the first fault.
@@ -134,7 +115,8 @@ pub extern "C" fn tinystr_exports_decimal(
     texts: &mut [u8],
     cuts: &mut [u8],
 ) -> bool {
-    crate::at_capacity!(capacity, decimal_batch, rounds, numbers, texts, cuts)
+    let batches: &dyn Batches = crate::at_capacity!(capacity, else return false);
+    batches.decimal(rounds, numbers, texts, cuts)
 }
 
 /// Each text at another capacity.
@@ -172,7 +154,8 @@ pub extern "C" fn tinystr_exports_print(
     printed: &mut [u8],
     ends: &mut [u64],
 ) -> bool {
-    crate::at_capacity!(capacity, print_batch, form, rounds, values, printed, ends)
+    let batches: &dyn Batches = crate::at_capacity!(capacity, else return false);
+    batches.print(form, rounds, values, printed, ends)
 }
 
 /// Each text as it is printed, one after another.
