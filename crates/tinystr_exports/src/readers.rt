@@ -1,6 +1,6 @@
 //! Batches of lists of code units read, and decimal texts.
 
-ghost use Rattle.std.specs.Prelude.{◌≤◌};
+ghost use Rattle.std.specs.Prelude.{◌≤◌, ◌<◌, ◌+◌, length};
 
 use crate::batch::{COUNT, write_numbers, write_texts};
 use crate::numbers::{LOSSY, RAW, READ};
@@ -17,8 +17,7 @@ macro_rules! read_each {
         let count = $starts.len().saturating_sub(1).min(COUNT);
         for _ in 0..$rounds {
             for i in 0..count {
-                let range = $starts[i] as usize..$starts[i + 1] as usize;
-                let Some($list) = $units.get(range) else {
+                let Some($list) = list_at($units, $starts, i) else {
                     break;
                 };
                 let Some($input) = $found else {
@@ -45,8 +44,7 @@ macro_rules! replace_each {
         let count = $starts.len().saturating_sub(1).min(COUNT);
         for _ in 0..$rounds {
             for i in 0..count {
-                let range = $starts[i] as usize..$starts[i + 1] as usize;
-                let Some($list) = $units.get(range) else {
+                let Some($list) = list_at($units, $starts, i) else {
                     break;
                 };
                 made[i] = $read;
@@ -54,6 +52,14 @@ macro_rules! replace_each {
         }
         write_texts(&made, $texts);
     };
+}
+
+// The list that begins at start number `i`, and ends at the next; none where the units end before.
+#[inline(always)]
+fn list_at<'a, U>(units: &'a [U], starts: &[u32], i: usize) -> Option<&'a [U]>
+    requires { i + 1 < length starts.now }
+{
+    units.get(starts[i] as usize..starts[i + 1] as usize)
 }
 
 /// Reads each list of bytes by reader number `reader`; false where there is no such reader.
