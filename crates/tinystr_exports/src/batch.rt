@@ -1,6 +1,6 @@
-//! Batches of texts, as they cross.
+//! Batches of texts and of lists, as they cross.
 
-ghost use Rattle.std.specs.Prelude.{◌≤◌};
+ghost use Rattle.std.specs.Prelude.{◌≤◌, ◌<◌, ◌+◌, length};
 
 use tinystr::TinyAsciiStr;
 
@@ -23,6 +23,14 @@ pub fn read_texts<const N: usize>(bytes: &[u8]) -> [TinyAsciiStr<N>; COUNT]
         rest = more;
     }
     texts
+}
+
+/// The list that begins at start number `i`, and ends at the next; none where the units end before.
+#[inline(always)]
+pub fn list_at<'a, U>(units: &'a [U], starts: &[u32], i: usize) -> Option<&'a [U]>
+    requires { i + 1 < length starts.now }
+{
+    units.get(starts[i] as usize..starts[i + 1] as usize)
 }
 
 /// Writes the texts that there is room for.

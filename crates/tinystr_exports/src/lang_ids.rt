@@ -1,6 +1,6 @@
 //! Batches of language identifiers read.
 
-use crate::batch::{COUNT, write_numbers, write_texts};
+use crate::batch::{COUNT, list_at, write_numbers, write_texts};
 use subtags::{LangId, LangIdError};
 use tinystr::TinyAsciiStr;
 
@@ -17,8 +17,7 @@ pub fn lang_id_batch(
     let count = starts.len().saturating_sub(1).min(COUNT);
     for _ in 0..rounds {
         for i in 0..count {
-            let range = starts[i] as usize..starts[i + 1] as usize;
-            let Some(list) = units.get(range) else {
+            let Some(list) = list_at(units, starts, i) else {
                 break;
             };
             match LangId::try_from_utf8(list) {

@@ -1,8 +1,8 @@
 //! Batches of lists of code units read, and decimal texts.
 
-ghost use Rattle.std.specs.Prelude.{◌≤◌, ◌<◌, ◌+◌, length};
+ghost use Rattle.std.specs.Prelude.{◌≤◌};
 
-use crate::batch::{COUNT, write_numbers, write_texts};
+use crate::batch::{COUNT, list_at, write_numbers, write_texts};
 use crate::numbers::{LOSSY, RAW, READ};
 use tinystr::{ParseError, TinyAsciiStr};
 
@@ -52,14 +52,6 @@ macro_rules! replace_each {
         }
         write_texts(&made, $texts);
     };
-}
-
-// The list that begins at start number `i`, and ends at the next; none where the units end before.
-#[inline(always)]
-fn list_at<'a, U>(units: &'a [U], starts: &[u32], i: usize) -> Option<&'a [U]>
-    requires { i + 1 < length starts.now }
-{
-    units.get(starts[i] as usize..starts[i + 1] as usize)
 }
 
 /// Reads each list of bytes by reader number `reader`; false where there is no such reader.
