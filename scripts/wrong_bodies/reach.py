@@ -13,18 +13,22 @@ PROOF = re.compile(r"proofs/(.+?)(?:/(?:Answers|Invariants|Proof))?\.antt")
 
 @dataclass(frozen=True)
 class Part:
-    """A function with a body, or a law, and its goals; or one arm of the match in which a body ends, and its goals."""
+    """A function with a body, or a law; or one arm of the match in which a body ends."""
 
     function: Item
     arm: str = ""
 
-    def holds(self, path, goal):
-        """Whether a goal of a function, as the prover names them, is one of its own."""
+    def has(self, path, goal):
+        """Whether a goal of a function, as the prover names them, is one of its own: of an arm, that names it."""
         is_own = not self.arm or re.search(rf"-in-{self.arm}(?!\w)", goal)
         return bool(is_own) and self.function.is_named_by(path)
 
+    def may_open(self, path, goal):
+        """Whether an edit of it may open a goal: one of its own or, since not all of an arm name it, one of no return."""
+        return self.has(path, goal) or not goal.startswith("returns") and self.function.is_named_by(path)
+
     def meets(self, other):
-        """Whether the two share a goal."""
+        """Whether the two share a goal of their own."""
         return self.function == other.function and (not self.arm or not other.arm or self.arm == other.arm)
 
 
@@ -37,7 +41,7 @@ class Reach:
 
     def holds(self, path, goal=""):
         """Whether a goal of a function, or a file of lemmas, as the prover names it, is reached."""
-        return path in self.files or any(it.holds(path, goal) for it in self.parts)
+        return path in self.files or any(it.may_open(path, goal) for it in self.parts)
 
     def meets(self, other):
         """Whether two edits reach one goal or file."""
@@ -78,7 +82,7 @@ def reach_of(edit, item, texts):
 
 def widened(parts, edit):
     """The parts, or the whole functions where the goal that the edit names is in none."""
-    is_inside = any(it.holds(edit.function, edit.goal) for it in parts)
+    is_inside = any(it.has(edit.function, edit.goal) for it in parts)
     return parts if is_inside else frozenset(Part(it.function) for it in parts)
 
 
