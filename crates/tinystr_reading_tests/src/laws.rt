@@ -9,7 +9,8 @@ type Text = TinyAsciiStr<18>;
 
 #[test]
 fn laws_answer_as_their_calls(rt: HostRuntime) -> Result<(), Fail> {
-    let [less, more] = [Text::try_from_str("Ab")?, Text::try_from_str("b")?];
+    let less = Text::try_from_str("Ab")?;
+    let more = Text::try_from_str("b")?;
     assert!(rt; text_order(&less, &more) == (false, Ordering::Less));
     assert!(rt; text_order(&more, &less) == (false, Ordering::Greater));
     assert!(rt; text_order(&more, &more) == (true, Ordering::Equal));
@@ -21,12 +22,11 @@ fn laws_answer_as_their_calls(rt: HostRuntime) -> Result<(), Fail> {
 
 #[test]
 fn the_last_bytes_of_longer_texts_decide_their_order(rt: HostRuntime) -> Result<(), Fail> {
-    let [less, more] = [tinystr!(9, "aaaaaaaaa")?, tinystr!(9, "aaaaaaaab")?];
+    let less = tinystr!(9, "aaaaaaaaa")?;
+    let more = tinystr!(9, "aaaaaaaab")?;
     assert!(rt; text_order(&less, &more) == (false, Ordering::Less));
-    let [less, more] = [
-        tinystr!(17, "aaaaaaaaaaaaaaaaa")?,
-        tinystr!(17, "aaaaaaaaaaaaaaaab")?,
-    ];
+    let less = tinystr!(17, "aaaaaaaaaaaaaaaaa")?;
+    let more = tinystr!(17, "aaaaaaaaaaaaaaaab")?;
     assert!(rt; text_order(&more, &less) == (false, Ordering::Greater));
     assert!(rt; unvalidated_back(more) == Ok(more));
     Ok(())

@@ -1,5 +1,8 @@
 //! What each reader takes, and the first fault of what it refuses.
 
+ghost use Rattle.std.specs.Prelude.{◌<◌, ◌^◌};
+
+use std::process::Abort;
 use std::test::Fail;
 use tinystr::ParseError::{self, ContainsNull, NonAscii, TooLong};
 use tinystr::forms::BytesReadError;
@@ -19,18 +22,17 @@ fn is_read<const N: usize>(
     }
 }
 
+const FAULTS: &[(&[u8], ParseError)] = &[
+    (&[0, 0x80], NonAscii),
+    (&[0, 0x61, 0x80], ContainsNull),
+    (&[0x61, 0], ContainsNull),
+    (&[0x80; 5], TooLong { max: 4, len: 5 }),
+];
+
 #[test]
 fn the_strict_reader_names_the_first_fault(rt: HostRuntime) {
-    for (bytes, fault) in [
-        (&[0, 0x80][..], NonAscii),
-        (&[0, 0x61, 0x80], ContainsNull),
-        (&[0x61, 0], ContainsNull),
-        (&[0x80; 5], TooLong { max: 4, len: 5 }),
-    ] {
-        assert!(rt;
-            is_read(TinyStr4::try_from_utf8(bytes), Err(fault)),
-            "{bytes:?}"
-        );
+    for &(bytes, fault) in FAULTS {
+        assert!(rt; TinyStr4::try_from_utf8(bytes) == Err(fault), "{bytes:?}");
     }
 }
 
@@ -46,40 +48,43 @@ fn texts_are_read_and_parsed_as_they_are_spelled(rt: HostRuntime) {
     assert!(rt; is_read(accents, Err(TooLong { max: 4, len: 6 })));
 }
 
+// Bytes, and what the strict and the raw reader answer.
+const PADDED: &[([u8; 4], Result<&str, ParseError>, Result<&str, ParseError>)] = &[
+    (*b"abcd", Ok("abcd"), Ok("abcd")),
+    (*b"a\0\0\0", Err(ContainsNull), Ok("a")),
+    (*b"\0\0\0\0", Err(ContainsNull), Ok("")),
+    (*b"\0\x80\0\0", Err(NonAscii), Err(NonAscii)),
+    (*b"\0a\x80\0", Err(ContainsNull), Err(ContainsNull)),
+    (*b"a\x80\0b", Err(NonAscii), Err(NonAscii)),
+    (*b"a\0b\x80", Err(ContainsNull), Err(ContainsNull)),
+    (*b"\x80\0a\0", Err(NonAscii), Err(NonAscii)),
+    (*b"abc\xff", Err(NonAscii), Err(NonAscii)),
+    (*b"ab\0\x80", Err(NonAscii), Err(NonAscii)),
+];
+
 #[test]
 fn the_strict_and_the_raw_reader_differ_at_nulls(rt: HostRuntime) {
-    for (bytes, strict, raw) in [
-        (*b"abcd", Ok("abcd"), Ok("abcd")),
-        (*b"a\0\0\0", Err(ContainsNull), Ok("a")),
-        (*b"\0\0\0\0", Err(ContainsNull), Ok("")),
-        (*b"\0\x80\0\0", Err(NonAscii), Err(NonAscii)),
-        (*b"\0a\x80\0", Err(ContainsNull), Err(ContainsNull)),
-        (*b"a\x80\0b", Err(NonAscii), Err(NonAscii)),
-        (*b"a\0b\x80", Err(ContainsNull), Err(ContainsNull)),
-        (*b"\x80\0a\0", Err(NonAscii), Err(NonAscii)),
-        (*b"abc\xff", Err(NonAscii), Err(NonAscii)),
-        (*b"ab\0\x80", Err(NonAscii), Err(NonAscii)),
-    ] {
-        let is_right = is_read(TinyStr4::try_from_utf8(&bytes), strict)
-            && is_read(TinyStr4::try_from_raw(bytes), raw);
-        assert!(rt; is_right, "{bytes:?}");
+    for &(bytes, strict, raw) in PADDED {
+        let is_strict = is_read(TinyStr4::try_from_utf8(&bytes), strict);
+        let is_raw = is_read(TinyStr4::try_from_raw(bytes), raw);
+        assert!(rt; is_strict && is_raw, "{bytes:?}");
     }
 }
 
+const RAW: &[([u8; 3], Result<&str, ParseError>)] = &[
+    (*b"GB\0", Ok("GB")),
+    (*b"USD", Ok("USD")),
+    (*b"\0A\0", Err(ContainsNull)),
+];
+
 #[test]
 fn the_raw_reader_takes_padded_texts_alone(rt: HostRuntime) {
-    for (raw, expected) in [
-        (*b"GB\0", Ok("GB")),
-        (*b"USD", Ok("USD")),
-        (*b"\0A\0", Err(ContainsNull)),
-    ] {
-        assert!(rt;
-            is_read(TinyAsciiStr::<3>::try_from_raw(raw), expected),
-            "{raw:?}"
-        );
+    for &(raw, expected) in RAW {
+        let is_right = is_read(TinyAsciiStr::<3>::try_from_raw(raw), expected);
+        assert!(rt; is_right, "{raw:?}");
     }
     let unchecked = TinyAsciiStr::<3>::from_utf8_unchecked(*b"GB\0");
-    assert_eq!(rt; unchecked.as_str(), "GB");
+    assert!(rt; unchecked.as_str() == "GB");
 }
 
 #[test]
@@ -93,20 +98,20 @@ fn a_text_that_fills_its_array_is_read_asked_and_changed(rt: HostRuntime) -> Res
     Ok(())
 }
 
+const UNITS: &[(&[u16], Result<&str, ParseError>)] = &[
+    (&[0x65, 0x6e], Ok("en")),
+    (&[0x0161], Err(NonAscii)),
+    (&[0x0100], Err(NonAscii)),
+    (&[0, 0x0161], Err(NonAscii)),
+    (&[0, 0x61, 0x0161], Err(ContainsNull)),
+    (&[0xffff; 5], Err(TooLong { max: 4, len: 5 })),
+];
+
 #[test]
 fn sixteen_bit_units_are_compared_before_they_are_narrowed(rt: HostRuntime) {
-    for (units, expected) in [
-        (&[0x65, 0x6e][..], Ok("en")),
-        (&[0x0161], Err(NonAscii)),
-        (&[0x0100], Err(NonAscii)),
-        (&[0, 0x0161], Err(NonAscii)),
-        (&[0, 0x61, 0x0161], Err(ContainsNull)),
-        (&[0xffff; 5], Err(TooLong { max: 4, len: 5 })),
-    ] {
-        assert!(rt;
-            is_read(TinyStr4::try_from_utf16(units), expected),
-            "{units:?}"
-        );
+    for &(units, expected) in UNITS {
+        let is_right = is_read(TinyStr4::try_from_utf16(units), expected);
+        assert!(rt; is_right, "{units:?}");
     }
 }
 
@@ -160,18 +165,21 @@ fn is_shown<const N: usize>(
     text: &[u8],
     _like: TinyAsciiStr<N>,
 ) -> bool {
-    TinyAsciiStr::<N>::from_utf8_lossy(bytes, 127).as_utf8() == text
-        && TinyAsciiStr::<N>::from_utf16_lossy(units, 127).as_utf8() == text
+    let narrow = TinyAsciiStr::<N>::from_utf8_lossy(bytes, 127);
+    let wide = TinyAsciiStr::<N>::from_utf16_lossy(units, 127);
+    narrow.as_utf8() == text && wide.as_utf8() == text
 }
 
 // Whether each reader refuses the bytes or gives the text, at a long capacity and at a short one that holds them.
 fn are_found(bytes: &[u8], units: &[u16], fault: ParseError, text: &[u8]) -> bool {
     let long = TinyAsciiStr::<40>::default();
     let short = TinyStr8::default();
-    is_refused(bytes, units, fault, long)
-        && is_shown(bytes, units, text, long)
-        && (bytes.len() > 8 || is_refused(bytes, units, fault, short))
-        && (bytes.len() > 8 || is_shown(bytes, units, text, short))
+    let is_long = bytes.len() > 8;
+    let is_refused_long = is_refused(bytes, units, fault, long);
+    let is_shown_long = is_shown(bytes, units, text, long);
+    let is_refused_short = is_long || is_refused(bytes, units, fault, short);
+    let is_shown_short = is_long || is_shown(bytes, units, text, short);
+    is_refused_long && is_shown_long && is_refused_short && is_shown_short
 }
 
 // A hundred letters with another byte at that position.
@@ -203,13 +211,15 @@ fn a_bad_byte_is_found_at_each_position_of_each_length(rt: HostRuntime) {
 
 // Whether a bad byte there, in so many of a hundred letters, is refused and replaced.
 fn is_found_in_a_hundred(at: usize, len: usize) -> bool {
+    if len > 100 {
+        return false;
+    }
+    let bytes = &letters_but(0x80, at)[..len];
+    let text = &letters_but(127, at)[..len];
+    let units = &letters_but(0x80, at).map(u16::from)[..len];
     let hundred = TinyAsciiStr::<100>::default();
-    let bytes = letters_but(0x80, at);
-    let text = letters_but(127, at);
-    let units = bytes.map(u16::from);
-    len <= 100
-        && is_refused(&bytes[..len], &units[..len], NonAscii, hundred)
-        && is_shown(&bytes[..len], &units[..len], &text[..len], hundred)
+    let is_refused = is_refused(bytes, units, NonAscii, hundred);
+    is_refused && is_shown(bytes, units, text, hundred)
 }
 
 #[test]
@@ -293,7 +303,9 @@ fn are_refused<const N: usize>(bytes: [u8; N], raw: ParseError, form: BytesReadE
 
 // Whether the raw reader and that of the byte form refuse a byte above 127 at each position, and a letter after NULs,
 // with and without a letter in front of these.
-fn are_refused_at_each_position<const N: usize>(_like: TinyAsciiStr<N>) -> bool {
+fn are_refused_at_each_position<const N: usize>() -> bool
+    requires { N < 2 ^ 62 }
+{
     for at in 1..N {
         let mut high = [b'a'; N];
         high[at] = 0x80;
@@ -301,10 +313,10 @@ fn are_refused_at_each_position<const N: usize>(_like: TinyAsciiStr<N>) -> bool 
         late[at] = b'a';
         let mut apart = late;
         apart[0] = b'b';
-        let are_right = are_refused(high, NonAscii, BytesReadError::NonAscii)
-            && are_refused(late, ContainsNull, BytesReadError::Null)
-            && (at == 1 || are_refused(apart, ContainsNull, BytesReadError::Null));
-        if !are_right {
+        let is_high = are_refused(high, NonAscii, BytesReadError::NonAscii);
+        let is_late = are_refused(late, ContainsNull, BytesReadError::Null);
+        let is_apart = at == 1 || are_refused(apart, ContainsNull, BytesReadError::Null);
+        if !(is_high && is_late && is_apart) {
             return false;
         }
     }
@@ -313,15 +325,17 @@ fn are_refused_at_each_position<const N: usize>(_like: TinyAsciiStr<N>) -> bool 
 
 #[test]
 fn padded_bytes_are_refused_for_a_bad_byte_at_each_position(rt: HostRuntime) {
-    assert!(rt; are_refused_at_each_position(TinyAsciiStr::<7>::default()));
-    assert!(rt; are_refused_at_each_position(TinyAsciiStr::<12>::default()));
-    assert!(rt; are_refused_at_each_position(TinyAsciiStr::<17>::default()));
-    assert!(rt; are_refused_at_each_position(TinyAsciiStr::<40>::default()));
-    assert!(rt; are_refused_at_each_position(TinyAsciiStr::<100>::default()));
+    assert!(rt; are_refused_at_each_position::<7>());
+    assert!(rt; are_refused_at_each_position::<12>());
+    assert!(rt; are_refused_at_each_position::<17>());
+    assert!(rt; are_refused_at_each_position::<40>());
+    assert!(rt; are_refused_at_each_position::<100>());
 }
 
 // Whether the raw reader takes letters of each number with NULs behind them.
-fn are_read_at_each_length<const N: usize>(_like: TinyAsciiStr<N>) -> bool {
+fn are_read_at_each_length<const N: usize>() -> bool
+    requires { N < 2 ^ 62 }
+{
     let mut raw = [0; N];
     for len in 0..N {
         match TinyAsciiStr::try_from_raw(raw) {
@@ -332,44 +346,52 @@ fn are_read_at_each_length<const N: usize>(_like: TinyAsciiStr<N>) -> bool {
     matches!(TinyAsciiStr::try_from_raw(raw), Ok(text) if text.len() == N)
 }
 
-fn are_read_by_their_padding<const N: usize>(like: TinyAsciiStr<N>) -> bool {
-    are_read_at_each_length(like) && are_refused_at_each_position(like)
+fn check_padding<const N: usize>(rt: &impl Abort)
+    requires { N < 2 ^ 62 }
+{
+    let are_read = are_read_at_each_length::<N>();
+    assert!(rt;
+        are_read && are_refused_at_each_position::<N>(),
+        "capacity {N}"
+    );
 }
 
 #[test]
 fn padding_is_tested_with_each_number_of_bytes_behind_the_last_sixteen(rt: HostRuntime) {
-    assert!(rt; are_read_by_their_padding(TinyAsciiStr::<17>::default()));
-    assert!(rt; are_read_by_their_padding(TinyAsciiStr::<18>::default()));
-    assert!(rt; are_read_by_their_padding(TinyAsciiStr::<19>::default()));
-    assert!(rt; are_read_by_their_padding(TinyAsciiStr::<20>::default()));
-    assert!(rt; are_read_by_their_padding(TinyAsciiStr::<21>::default()));
-    assert!(rt; are_read_by_their_padding(TinyAsciiStr::<22>::default()));
-    assert!(rt; are_read_by_their_padding(TinyAsciiStr::<23>::default()));
-    assert!(rt; are_read_by_their_padding(TinyAsciiStr::<24>::default()));
-    assert!(rt; are_read_by_their_padding(TinyAsciiStr::<25>::default()));
-    assert!(rt; are_read_by_their_padding(TinyAsciiStr::<26>::default()));
-    assert!(rt; are_read_by_their_padding(TinyAsciiStr::<27>::default()));
-    assert!(rt; are_read_by_their_padding(TinyAsciiStr::<28>::default()));
-    assert!(rt; are_read_by_their_padding(TinyAsciiStr::<29>::default()));
-    assert!(rt; are_read_by_their_padding(TinyAsciiStr::<30>::default()));
-    assert!(rt; are_read_by_their_padding(TinyAsciiStr::<31>::default()));
-    assert!(rt; are_read_by_their_padding(TinyAsciiStr::<32>::default()));
-    assert!(rt; are_read_by_their_padding(TinyAsciiStr::<33>::default()));
-    assert!(rt; are_read_by_their_padding(TinyAsciiStr::<47>::default()));
-    assert!(rt; are_read_by_their_padding(TinyAsciiStr::<48>::default()));
-    assert!(rt; are_read_by_their_padding(TinyAsciiStr::<64>::default()));
+    check_padding::<17>(&rt);
+    check_padding::<18>(&rt);
+    check_padding::<19>(&rt);
+    check_padding::<20>(&rt);
+    check_padding::<21>(&rt);
+    check_padding::<22>(&rt);
+    check_padding::<23>(&rt);
+    check_padding::<24>(&rt);
+    check_padding::<25>(&rt);
+    check_padding::<26>(&rt);
+    check_padding::<27>(&rt);
+    check_padding::<28>(&rt);
+    check_padding::<29>(&rt);
+    check_padding::<30>(&rt);
+    check_padding::<31>(&rt);
+    check_padding::<32>(&rt);
+    check_padding::<33>(&rt);
+    check_padding::<47>(&rt);
+    check_padding::<48>(&rt);
+    check_padding::<64>(&rt);
 }
+
+const REPLACED: &[(&[u8], &str)] = &[
+    (b"a\0\xc3\xa9z", "a???"),
+    (b"toolong", "tool"),
+    (b"oh\0o", "oh?o"),
+    (b"\0", "?"),
+    (b"", ""),
+    (b"a\x80\xff1", "a??1"),
+];
 
 #[test]
 fn lossy_readers_replace_each_bad_unit(rt: HostRuntime) {
-    for (bytes, text) in [
-        (&b"a\0\xc3\xa9z"[..], "a???"),
-        (b"toolong", "tool"),
-        (b"oh\0o", "oh?o"),
-        (b"\0", "?"),
-        (b"", ""),
-        (b"a\x80\xff1", "a??1"),
-    ] {
+    for &(bytes, text) in REPLACED {
         let read = TinyStr4::from_utf8_lossy(bytes, b'?');
         assert!(rt; is_read(Ok(read), Ok(text)), "{bytes:?}");
     }
