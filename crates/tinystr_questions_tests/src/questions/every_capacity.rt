@@ -1,7 +1,10 @@
 //! Each text, read at each capacity that holds it, has as a value and in words the same length, answers and case changes.
 
+ghost use Rattle.std.specs.Prelude.{◌<◌, ◌^◌};
+
 use super::{answers_of, are_spelled};
 use crate::words::texts::are_right;
+use std::process::Abort;
 use std::test::Fail;
 use texts_of_tests::table::{Row, edge_rows, table_rows};
 use tinystr::{ParseError, TinyAsciiStr};
@@ -37,8 +40,10 @@ enum Holder {
     Words,
 }
 
-// Whether the row's text, read at the capacity of the value given, has its forms there.
-fn is_right<const N: usize>(row: &Row, holder: Holder, _like: TinyAsciiStr<N>) -> bool {
+// Whether the row's text, read at the capacity, has its forms there.
+fn is_right<const N: usize>(row: &Row, holder: Holder) -> bool
+    requires { N < 2 ^ 62 }
+{
     match (TinyAsciiStr::<N>::try_from_str(row.text), holder) {
         (Ok(text), Holder::Value) => is_right_as_value(text, row),
         (Ok(text), Holder::Words) => are_right(text, row),
@@ -46,42 +51,36 @@ fn is_right<const N: usize>(row: &Row, holder: Holder, _like: TinyAsciiStr<N>) -
     }
 }
 
-// The first text that the capacity of the value given holds and that isn't right there.
-fn first_wrong<const N: usize>(
-    rows: &[Row],
-    holder: Holder,
-    like: TinyAsciiStr<N>,
-) -> Option<&'static str> {
-    let wrong = rows
-        .iter()
-        .find(|row| row.text.len() <= N && !is_right(row, holder, like))?;
-    Some(wrong.text)
+// Checks each text that the capacity holds.
+fn check_rows<const N: usize>(rt: &impl Abort, rows: &[Row], holder: Holder)
+    requires { N < 2 ^ 62 }
+{
+    for row in rows {
+        let is_right = row.text.len() > N || is_right::<N>(row, holder);
+        assert!(rt; is_right, "{:?} at {N}", row.text);
+    }
 }
 
 #[test]
 fn texts_answer_alike_at_every_capacity(rt: HostRuntime) -> Result<(), Fail> {
     let rows = table_rows(rt.alloc())?;
     let rows = rows.as_slice();
-    assert_eq!(rt; rows.len(), 33);
-    for wrong in [
-        first_wrong(rows, Holder::Value, TinyAsciiStr::<0>::default()),
-        first_wrong(rows, Holder::Value, TinyAsciiStr::<2>::default()),
-        first_wrong(rows, Holder::Value, TinyAsciiStr::<3>::default()),
-        first_wrong(rows, Holder::Value, TinyAsciiStr::<4>::default()),
-        first_wrong(rows, Holder::Value, TinyAsciiStr::<5>::default()),
-        first_wrong(rows, Holder::Value, TinyAsciiStr::<7>::default()),
-        first_wrong(rows, Holder::Value, TinyAsciiStr::<8>::default()),
-        first_wrong(rows, Holder::Value, TinyAsciiStr::<9>::default()),
-        first_wrong(rows, Holder::Value, TinyAsciiStr::<12>::default()),
-        first_wrong(rows, Holder::Value, TinyAsciiStr::<15>::default()),
-        first_wrong(rows, Holder::Value, TinyAsciiStr::<16>::default()),
-        first_wrong(rows, Holder::Value, TinyAsciiStr::<17>::default()),
-        first_wrong(rows, Holder::Value, TinyAsciiStr::<24>::default()),
-        first_wrong(rows, Holder::Value, TinyAsciiStr::<32>::default()),
-        first_wrong(rows, Holder::Value, TinyAsciiStr::<33>::default()),
-    ] {
-        assert_eq!(rt; wrong, None);
-    }
+    assert!(rt; rows.len() == 33);
+    check_rows::<0>(&rt, rows, Holder::Value);
+    check_rows::<2>(&rt, rows, Holder::Value);
+    check_rows::<3>(&rt, rows, Holder::Value);
+    check_rows::<4>(&rt, rows, Holder::Value);
+    check_rows::<5>(&rt, rows, Holder::Value);
+    check_rows::<7>(&rt, rows, Holder::Value);
+    check_rows::<8>(&rt, rows, Holder::Value);
+    check_rows::<9>(&rt, rows, Holder::Value);
+    check_rows::<12>(&rt, rows, Holder::Value);
+    check_rows::<15>(&rt, rows, Holder::Value);
+    check_rows::<16>(&rt, rows, Holder::Value);
+    check_rows::<17>(&rt, rows, Holder::Value);
+    check_rows::<24>(&rt, rows, Holder::Value);
+    check_rows::<32>(&rt, rows, Holder::Value);
+    check_rows::<33>(&rt, rows, Holder::Value);
     Ok(())
 }
 
@@ -89,18 +88,14 @@ fn texts_answer_alike_at_every_capacity(rt: HostRuntime) -> Result<(), Fail> {
 fn texts_at_the_edges_of_words_answer_alike(rt: HostRuntime) -> Result<(), Fail> {
     let rows = edge_rows(rt.alloc())?;
     let rows = rows.as_slice();
-    assert_eq!(rt; rows.len(), 10);
-    for wrong in [
-        first_wrong(rows, Holder::Value, TinyAsciiStr::<4>::default()),
-        first_wrong(rows, Holder::Value, TinyAsciiStr::<16>::default()),
-        first_wrong(rows, Holder::Value, TinyAsciiStr::<17>::default()),
-        first_wrong(rows, Holder::Value, TinyAsciiStr::<32>::default()),
-        first_wrong(rows, Holder::Value, TinyAsciiStr::<33>::default()),
-        first_wrong(rows, Holder::Value, TinyAsciiStr::<40>::default()),
-        first_wrong(rows, Holder::Value, TinyAsciiStr::<100>::default()),
-    ] {
-        assert_eq!(rt; wrong, None);
-    }
+    assert!(rt; rows.len() == 10);
+    check_rows::<4>(&rt, rows, Holder::Value);
+    check_rows::<16>(&rt, rows, Holder::Value);
+    check_rows::<17>(&rt, rows, Holder::Value);
+    check_rows::<32>(&rt, rows, Holder::Value);
+    check_rows::<33>(&rt, rows, Holder::Value);
+    check_rows::<40>(&rt, rows, Holder::Value);
+    check_rows::<100>(&rt, rows, Holder::Value);
     Ok(())
 }
 
@@ -109,20 +104,16 @@ fn texts_at_the_edges_of_words_answer_alike(rt: HostRuntime) -> Result<(), Fail>
 fn texts_answer_alike_in_each_word_that_holds_them(rt: HostRuntime) -> Result<(), Fail> {
     let rows = table_rows(rt.alloc())?;
     let rows = rows.as_slice();
-    assert_eq!(rt; rows.len(), 33);
-    for wrong in [
-        first_wrong(rows, Holder::Words, TinyAsciiStr::<0>::default()),
-        first_wrong(rows, Holder::Words, TinyAsciiStr::<2>::default()),
-        first_wrong(rows, Holder::Words, TinyAsciiStr::<3>::default()),
-        first_wrong(rows, Holder::Words, TinyAsciiStr::<4>::default()),
-        first_wrong(rows, Holder::Words, TinyAsciiStr::<5>::default()),
-        first_wrong(rows, Holder::Words, TinyAsciiStr::<7>::default()),
-        first_wrong(rows, Holder::Words, TinyAsciiStr::<8>::default()),
-        first_wrong(rows, Holder::Words, TinyAsciiStr::<10>::default()),
-        first_wrong(rows, Holder::Words, TinyAsciiStr::<12>::default()),
-        first_wrong(rows, Holder::Words, TinyAsciiStr::<16>::default()),
-    ] {
-        assert_eq!(rt; wrong, None);
-    }
+    assert!(rt; rows.len() == 33);
+    check_rows::<0>(&rt, rows, Holder::Words);
+    check_rows::<2>(&rt, rows, Holder::Words);
+    check_rows::<3>(&rt, rows, Holder::Words);
+    check_rows::<4>(&rt, rows, Holder::Words);
+    check_rows::<5>(&rt, rows, Holder::Words);
+    check_rows::<7>(&rt, rows, Holder::Words);
+    check_rows::<8>(&rt, rows, Holder::Words);
+    check_rows::<10>(&rt, rows, Holder::Words);
+    check_rows::<12>(&rt, rows, Holder::Words);
+    check_rows::<16>(&rt, rows, Holder::Words);
     Ok(())
 }

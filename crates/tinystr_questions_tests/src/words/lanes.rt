@@ -85,86 +85,83 @@ fn arrays_at_their_own_length(rt: HostRuntime) {
         en.to_ascii_uppercase(),
         Aligned4::from_ascii_bytes(b"z{").to_ascii_uppercase(),
     ];
-    assert_eq!(rt; raised, [[0x45, 0x4e, 0, 0], [0x5a, 0x7b, 0, 0]]);
+    assert!(rt; raised == [[0x45, 0x4e, 0, 0], [0x5a, 0x7b, 0, 0]]);
     assert!(rt; !Aligned4::from_ascii_bytes(b"3:").is_ascii_numeric());
     let calendar = Aligned8::from_ascii_bytes(b"calendar");
-    assert_eq!(rt; calendar.to_ascii_titlecase(), *b"Calendar");
-    assert_eq!(rt; [en.len(), calendar.len()], [2, 8]);
+    assert!(rt; calendar.to_ascii_titlecase() == *b"Calendar");
+    assert!(rt; [en.len(), calendar.len()] == [2, 8]);
 }
 
 #[test]
 fn lanes_of_a_title(rt: HostRuntime) {
     let word = word_of(b"tEsT");
     let bits = case_bits(word, LOWER, UPPER);
-    assert_eq!(rt; word, 0x54734574);
-    assert_eq!(rt;
-        [
-            with_added(word, LOWER.low, UPPER.low),
-            with_added(word, LOWER.high, UPPER.high),
-            bits.to_le_bytes(),
-            word.or(bits).to_le_bytes(),
-            word.xor(bits).to_le_bytes(),
-        ],
-        [
-            [0x93, 0x84, 0xb2, 0x93],
-            [0x79, 0x6a, 0x98, 0x79],
-            [0x20, 0x20, 0, 0x20],
-            [0x74, 0x65, 0x73, 0x74],
-            *b"Test",
-        ]
-    );
+    assert!(rt; word == 0x54734574);
+    let lanes = [
+        with_added(word, LOWER.low, UPPER.low),
+        with_added(word, LOWER.high, UPPER.high),
+        bits.to_le_bytes(),
+        word.or(bits).to_le_bytes(),
+        word.xor(bits).to_le_bytes(),
+    ];
+    let expected = [
+        [0x93, 0x84, 0xb2, 0x93],
+        [0x79, 0x6a, 0x98, 0x79],
+        [0x20, 0x20, 0, 0x20],
+        [0x74, 0x65, 0x73, 0x74],
+        *b"Test",
+    ];
+    assert!(rt; lanes == expected);
     let title = Aligned4::from_ascii_bytes(b"tEsT").to_ascii_titlecase();
-    assert_eq!(rt; title, *b"Test");
+    assert!(rt; title == *b"Test");
 }
 
 #[test]
 fn lanes_of_a_colon(rt: HostRuntime) {
     let word = word_of(b"3:");
     let marks = outside(word, DIGIT, DIGIT).and(u32::splat(0x80));
-    assert_eq!(rt; word, 0x3a33);
-    assert_eq!(rt;
-        [
-            with_added(word, DIGIT.low, DIGIT.low),
-            with_added(word, DIGIT.high, DIGIT.high),
-            marks.to_le_bytes(),
-            present(word).to_le_bytes(),
-            marks.and(present(word)).to_le_bytes(),
-        ],
-        [
-            [0x83, 0x8a, 0x50, 0x50],
-            [0x79, 0x80, 0x46, 0x46],
-            [0, 0x80, 0x80, 0x80],
-            [0x80, 0x80, 0, 0],
-            [0, 0x80, 0, 0],
-        ]
-    );
+    assert!(rt; word == 0x3a33);
+    let lanes = [
+        with_added(word, DIGIT.low, DIGIT.low),
+        with_added(word, DIGIT.high, DIGIT.high),
+        marks.to_le_bytes(),
+        present(word).to_le_bytes(),
+        marks.and(present(word)).to_le_bytes(),
+    ];
+    let expected = [
+        [0x83, 0x8a, 0x50, 0x50],
+        [0x79, 0x80, 0x46, 0x46],
+        [0, 0x80, 0x80, 0x80],
+        [0x80, 0x80, 0, 0],
+        [0, 0x80, 0, 0],
+    ];
+    assert!(rt; lanes == expected);
 }
 
 #[test]
 fn lanes_of_a_brace(rt: HostRuntime) {
     let word = word_of(b"z{");
     let bits = case_bits(word, LOWER, LOWER);
-    assert_eq!(rt; word, 0x7b7a);
-    assert_eq!(rt;
-        [
-            with_added(word, LOWER.low, LOWER.low),
-            with_added(word, LOWER.high, LOWER.high),
-            bits.to_le_bytes(),
-            word.xor(bits).to_le_bytes(),
-        ],
-        [
-            [0x99, 0x9a, 0x1f, 0x1f],
-            [0x7f, 0x80, 0x05, 0x05],
-            [0x20, 0, 0, 0],
-            [0x5a, 0x7b, 0, 0],
-        ]
-    );
+    assert!(rt; word == 0x7b7a);
+    let lanes = [
+        with_added(word, LOWER.low, LOWER.low),
+        with_added(word, LOWER.high, LOWER.high),
+        bits.to_le_bytes(),
+        word.xor(bits).to_le_bytes(),
+    ];
+    let expected = [
+        [0x99, 0x9a, 0x1f, 0x1f],
+        [0x7f, 0x80, 0x05, 0x05],
+        [0x20, 0, 0, 0],
+        [0x5a, 0x7b, 0, 0],
+    ];
+    assert!(rt; lanes == expected);
 }
 
 #[test]
 fn leading_zeros_of_a_length(rt: HostRuntime) {
     let word = word_of(b"en");
-    assert_eq!(rt; word, 0x00006e65);
-    assert_eq!(rt; word.leading_zeros(), 17);
-    assert_eq!(rt; Aligned4::from_ascii_bytes(b"en").len(), 2);
+    assert!(rt; word == 0x00006e65);
+    assert!(rt; word.leading_zeros() == 17);
+    assert!(rt; Aligned4::from_ascii_bytes(b"en").len() == 2);
 }
