@@ -19,16 +19,21 @@ fn each_kind_reads_its_own(rt: HostRuntime) {
     }
 }
 
+const BESIDE_BLANKS: &[(&str, &str, &str)] = &[
+    (" en=", " Latn=", " US="),
+    ("en =", "Latn =", "US ="),
+    (" en =", " Latn =", " US ="),
+];
+
 #[test]
 fn no_subtag_has_a_blank_beside_it(rt: HostRuntime) {
-    for (language, script, region) in [
-        (" en=", " Latn=", " US="),
-        ("en =", "Latn =", "US ="),
-        (" en =", " Latn =", " US ="),
-    ] {
-        assert!(rt; is_language_or_none(language));
-        assert!(rt; is_script_or_none(script));
-        assert!(rt; is_region_or_none(region));
+    for &(language, script, region) in BESIDE_BLANKS {
+        let are_none = [
+            is_language_or_none(language),
+            is_script_or_none(script),
+            is_region_or_none(region),
+        ];
+        assert!(rt; are_none == [true; 3], "{language:?}");
     }
 }
 

@@ -2,29 +2,34 @@
 
 use std::alloc::{AllocError, Global};
 use std::fmt::{Debug, Display};
+use std::str::FromStr;
 use std::string::String;
-use std::test::Fail;
 use subtags::{LangId, LangIdError, Language, Region, Script};
 
 #[test]
-fn an_identifier_is_printed_as_a_text(rt: HostRuntime) -> Result<(), Fail> {
-    let id: LangId = "ZH_hant-tw".parse()?;
-    let text = "zh-Hant-TW|\"zh-Hant-TW\"|zh-Hant-TW|zh-Hant-TW|z";
-    assert!(rt; forms_of(rt.alloc(), &id)?.as_str() == text);
-    let id: LangId = "en".parse()?;
-    assert!(rt; forms_of(rt.alloc(), &id)?.as_str() == "en|\"en\"|--en---|en   |e");
-    Ok(())
+fn an_identifier_is_printed_as_a_text(rt: HostRuntime) {
+    let forms = "zh-Hant-TW|\"zh-Hant-TW\"|zh-Hant-TW|zh-Hant-TW|z";
+    assert!(rt; has_forms::<LangId>(rt.alloc(), "ZH_hant-tw", forms));
+    assert!(rt; has_forms::<LangId>(rt.alloc(), "en", "en|\"en\"|--en---|en   |e"));
 }
 
 #[test]
-fn a_subtag_is_printed_as_a_text(rt: HostRuntime) -> Result<(), Fail> {
-    let language: Language = "ZH".parse()?;
-    assert!(rt; forms_of(rt.alloc(), &language)?.as_str() == "zh|\"zh\"|--zh---|zh   |z");
-    let script: Script = "hant".parse()?;
-    assert!(rt; forms_of(rt.alloc(), &script)?.as_str() == "Hant|\"Hant\"|-Hant--|Hant |H");
-    let region: Region = "tw".parse()?;
-    assert!(rt; forms_of(rt.alloc(), &region)?.as_str() == "TW|\"TW\"|--TW---|TW   |T");
-    Ok(())
+fn a_subtag_is_printed_as_a_text(rt: HostRuntime) {
+    assert!(rt; has_forms::<Language>(rt.alloc(), "ZH", "zh|\"zh\"|--zh---|zh   |z"));
+    assert!(rt; has_forms::<Script>(rt.alloc(), "hant", "Hant|\"Hant\"|-Hant--|Hant |H"));
+    assert!(rt; has_forms::<Region>(rt.alloc(), "tw", "TW|\"TW\"|--TW---|TW   |T"));
+}
+
+/// Whether the value of the spelling has these forms.
+fn has_forms<T: FromStr<Err = LangIdError> + Display + Debug + Drop>(
+    alloc: Global,
+    spelling: &str,
+    forms: &str,
+) -> bool {
+    match spelling.parse::<T>() {
+        Ok(value) => is_printed(forms_of(alloc, &value), forms),
+        Err(_) => false,
+    }
 }
 
 /// The value as it is printed, in quotes, within a width from both sides and from the left, and cut to one character.
@@ -32,35 +37,39 @@ fn forms_of<T: Display + Debug>(alloc: Global, value: &T) -> Result<String, Allo
     format!(in alloc; "{value}|{value:?}|{value:-^7}|{value:<5}|{value:.1}")
 }
 
+fn is_printed(printed: Result<String, AllocError>, text: &str) -> bool {
+    match printed {
+        Ok(printed) => printed.as_str() == text,
+        Err(_) => false,
+    }
+}
+
 #[test]
-fn errors_say_what_is_wrong(rt: HostRuntime) -> Result<(), Fail> {
+fn errors_say_what_is_wrong(rt: HostRuntime) {
     let shown = format!(in rt.alloc();
         "{}, {}",
         LangIdError::InvalidLanguage,
         LangIdError::InvalidSubtag
-    )?;
-    assert!(rt; shown.as_str() == "invalid language, invalid subtag");
-    Ok(())
+    );
+    assert!(rt; is_printed(shown, "invalid language, invalid subtag"));
 }
 
 #[test]
-fn an_error_takes_no_width_and_no_precision(rt: HostRuntime) -> Result<(), Fail> {
+fn an_error_takes_no_width_and_no_precision(rt: HostRuntime) {
     let shown = format!(in rt.alloc();
         "{:>20}|{:.3}",
         LangIdError::InvalidLanguage,
         LangIdError::InvalidSubtag
-    )?;
-    assert!(rt; shown.as_str() == "invalid language|invalid subtag");
-    Ok(())
+    );
+    assert!(rt; is_printed(shown, "invalid language|invalid subtag"));
 }
 
 #[test]
-fn errors_are_debugged_by_name(rt: HostRuntime) -> Result<(), Fail> {
+fn errors_are_debugged_by_name(rt: HostRuntime) {
     let shown = format!(in rt.alloc();
         "{:?}, {:?}",
         LangIdError::InvalidLanguage,
         LangIdError::InvalidSubtag
-    )?;
-    assert!(rt; shown.as_str() == "InvalidLanguage, InvalidSubtag");
-    Ok(())
+    );
+    assert!(rt; is_printed(shown, "InvalidLanguage, InvalidSubtag"));
 }

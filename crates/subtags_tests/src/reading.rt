@@ -20,11 +20,11 @@ fn is_read_as_its_text(row: &str) -> bool {
     let Some((input, text)) = row.split_once('=') else {
         return false;
     };
-    let read = LangId::try_from_utf8;
-    match (read(input.as_bytes()), read(text.as_bytes())) {
-        (Ok(id), Ok(back)) => id.to_text().as_str() == text && id == back,
-        _ => false,
-    }
+    let Ok(id) = LangId::try_from_utf8(input.as_bytes()) else {
+        return false;
+    };
+    let is_read_back = LangId::try_from_utf8(text.as_bytes()) == Ok(id);
+    is_read_back && id.to_text().as_str() == text
 }
 
 #[test]
