@@ -84,8 +84,7 @@ fn a_line_is_whole_where_reads_cut_it(rt: HostRuntime) -> Result<(), Fail> {
 
 #[test]
 fn a_text_longer_than_a_read_has_its_length_told(rt: HostRuntime) -> Result<(), Fail> {
-    let mut input = b"32 len ".to_vec(rt.alloc())?;
-    input.resize(7 + 100_000, b'a')?;
+    let input = with_letters(rt.alloc(), b"32 len ", 100_000)?;
     assert!(rt; output(rt.alloc(), &input)?.as_slice() == b"too long 100000 > 32\n".as_slice());
     Ok(())
 }
@@ -207,17 +206,9 @@ fn question_row(
     question: &str,
     text: &str,
     letter: u8,
-) -> Result<Vec<u8>, AllocError> {
-    let mut row = b"4 ".to_vec(alloc)?;
-    row.extend_from_slice(question.as_bytes())?;
-    row.extend_from_slice(b" ")?;
-    row.extend_from_slice(text.as_bytes())?;
-    row.extend_from_slice(if letter == b'y' {
-        b"\ttrue\n"
-    } else {
-        b"\tfalse\n"
-    })?;
-    Ok(row)
+) -> Result<String, AllocError> {
+    let answer = if letter == b'y' { "true" } else { "false" };
+    format!(in alloc; "4 {question} {text}\t{answer}\n")
 }
 
 fn check_questions(
@@ -229,21 +220,24 @@ fn check_questions(
     let questions = "alphabetic alphanumeric numeric lowercase titlecase uppercase \
         alphabetic_lowercase alphabetic_titlecase alphabetic_uppercase";
     for (question, letter) in questions.split(' ').zip(answers.as_bytes()) {
-        check(rt, alloc, &question_row(alloc, question, text, *letter)?)?;
+        let row = question_row(alloc, question, text, *letter)?;
+        check(rt, alloc, row.as_bytes())?;
     }
     Ok(())
 }
 
+// No two questions have the same answers.
+const ANSWERS: &[(&str, &str)] = &[
+    ("tEsT", "yynnnnnnn"),
+    ("419", "nyyyyynnn"),
+    ("AR", "yynnnynny"),
+    ("Hans", "yynnynnyn"),
+    ("en", "yynynnynn"),
+];
+
 #[test]
 fn each_question_answers_for_itself(rt: HostRuntime) -> Result<(), Fail> {
-    // No two questions have the same answers.
-    for (text, answers) in [
-        ("tEsT", "yynnnnnnn"),
-        ("419", "nyyyyynnn"),
-        ("AR", "yynnnynny"),
-        ("Hans", "yynnynnyn"),
-        ("en", "yynynnynn"),
-    ] {
+    for &(text, answers) in ANSWERS {
         check_questions(&rt, rt.alloc(), text, answers)?;
     }
     Ok(())
@@ -319,9 +313,9 @@ fn packed_records_are_counted_or_the_first_bad_one_is_named(rt: HostRuntime) -> 
 
 // So many letters behind the beginning of a line.
 fn with_letters(alloc: Global, line: &[u8], count: usize) -> Result<Vec<u8>, AllocError> {
-    let mut line = line.to_vec(alloc)?;
-    line.extend_from_slice(&b"a".repeat(alloc, count)?)?;
-    Ok(line)
+    let mut longer = line.to_vec(alloc)?;
+    longer.resize(line.len().saturating_add(count), b'a')?;
+    Ok(longer)
 }
 
 #[test]
