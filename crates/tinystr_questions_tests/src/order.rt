@@ -71,14 +71,12 @@ fn texts_are_told_apart_at_each_position(rt: HostRuntime) {
 
 #[test]
 fn a_hash_set_holds_each_text_once(rt: HostRuntime) -> Result<(), Fail> {
-    let en = TinyStr4::try_from_str("en")?;
-    let capital = TinyStr4::try_from_str("En")?;
+    let [en, capital] = [TinyStr4::try_from_str("en")?, TinyStr4::try_from_str("En")?];
     let mut set = HashSet::new(rt.alloc());
-    set.insert(en)?;
-    set.insert(capital)?;
-    set.insert(en)?;
-    let has_both = set.contains(&en) && set.contains(&capital);
-    assert!(rt; has_both && set.len() == 2);
+    for text in [en, capital, en] {
+        set.insert(text)?;
+    }
+    assert!(rt; set.len() == 2 && set.contains(&en) && set.contains(&capital));
     Ok(())
 }
 
@@ -154,9 +152,7 @@ fn the_order_is_total_and_that_of_the_padded_bytes(rt: HostRuntime) -> Result<()
 fn is_found_again(set: &HashSet<Text>, text: Text) -> bool {
     let read = Text::from_utf8_lossy(text.as_utf8(), b'?');
     let cut = text.resize::<33>().resize::<18>();
-    let has_read = set.contains(&read);
-    let has_cut = set.contains(&cut);
-    has_read && has_cut
+    set.contains(&read) && set.contains(&cut)
 }
 
 #[test]
@@ -166,9 +162,8 @@ fn equal_texts_hash_alike(rt: HostRuntime) -> Result<(), Fail> {
     let mut set = HashSet::new(rt.alloc());
     for (i, text) in texts.iter().enumerate() {
         let is_new = !texts[..i].contains(text);
-        let is_inserted = set.insert(*text)?;
-        let is_found = is_found_again(&set, *text);
-        assert!(rt; is_inserted == is_new && is_found, "{text:?}");
+        assert!(rt; set.insert(*text)? == is_new, "{text:?}");
+        assert!(rt; is_found_again(&set, *text), "{text:?}");
     }
     Ok(())
 }

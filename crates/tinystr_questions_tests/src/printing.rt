@@ -1,13 +1,12 @@
 //! Printed forms of values.
 
-use std::alloc::Global;
+use std::alloc::{AllocError, Global};
 use std::test::Fail;
 use texts_of_tests::neighbours::{COUNT, Text, written_texts};
 use tinystr::{TinyAsciiStr, TinyStr4, TinyStr8};
 
-// Whether the value, printed and printed in quotes, is the text.
-fn is_printed<const N: usize>(alloc: Global, value: TinyAsciiStr<N>, text: &str) -> bool {
-    match format!(in alloc; "{value} {value:?}") {
+fn is_text(printed: Result<String, AllocError>, text: &str) -> bool {
+    match printed {
         Ok(printed) => printed.as_str() == text,
         Err(_) => false,
     }
@@ -18,32 +17,25 @@ fn values_print_as_their_texts(rt: HostRuntime) -> Result<(), Fail> {
     let quoted = TinyStr8::try_from_str("a\"b")?;
     let controls = TinyStr4::try_from_utf8(b"\x01\x1b\n\x7f")?;
     let empty = TinyAsciiStr::<0>::default();
-    assert!(rt; is_printed(rt.alloc(), quoted, r#"a"b "a\"b""#));
-    let text = "\x01\x1b\n\x7f \"\\u{1}\\u{1b}\\n\\u{7f}\"";
-    assert!(rt; is_printed(rt.alloc(), controls, text));
-    assert!(rt; is_printed(rt.alloc(), empty, " \"\""));
+    let printed = format!(in rt.alloc(); "{quoted} {quoted:?} {controls:?} {empty}{empty:?}");
+    assert!(rt; is_text(printed, r#"a"b "a\"b" "\u{1}\u{1b}\n\u{7f}" """#));
     Ok(())
-}
-
-fn are_padded_and_cut(alloc: Global, short: TinyStr4, long: TinyStr8, text: &str) -> bool {
-    match format!(in alloc; "{short:>5}|{short:<5}|{short:-^7}|{long:.3}|{long:.0}|") {
-        Ok(printed) => printed.as_str() == text,
-        Err(_) => false,
-    }
 }
 
 #[test]
 fn a_width_and_a_precision_are_those_of_texts(rt: HostRuntime) -> Result<(), Fail> {
     let ab = TinyStr4::try_from_str("ab")?;
     let city = TinyStr8::try_from_str("New York")?;
-    assert!(rt; are_padded_and_cut(rt.alloc(), ab, city, "   ab|ab   |--ab---|New||"));
+    let padded = format!(in rt.alloc(); "{ab:>5}|{ab:<5}|{ab:-^7}|{city:.3}|{city:.0}|");
+    assert!(rt; is_text(padded, "   ab|ab   |--ab---|New||"));
     Ok(())
 }
 
 #[test]
 fn a_text_in_quotes_takes_no_width(rt: HostRuntime) -> Result<(), Fail> {
     let ab = TinyStr4::try_from_str("ab")?;
-    assert!(rt; format!(in rt.alloc(); "{ab:>8?}|{ab:.1?}")?.as_str() == r#""ab"|"ab""#);
+    let quoted = format!(in rt.alloc(); "{ab:>8?}|{ab:.1?}");
+    assert!(rt; is_text(quoted, r#""ab"|"ab""#));
     Ok(())
 }
 
@@ -56,9 +48,13 @@ fn is_filled(line: Option<&[u8]>, fill: u8, front: usize, text: &[u8], behind: u
     let Some((middle, fill_behind)) = rest.split_at_checked(text.len()) else {
         return false;
     };
-    let is_front = fill_in_front.iter().all(|byte| *byte == fill);
-    let is_behind = fill_behind.iter().all(|byte| *byte == fill);
+    let is_front = are_all(fill_in_front, fill);
+    let is_behind = are_all(fill_behind, fill);
     middle == text && fill_behind.len() == behind && is_front && is_behind
+}
+
+fn are_all(bytes: &[u8], fill: u8) -> bool {
+    bytes.iter().all(|byte| *byte == fill)
 }
 
 fn is_line_feed(byte: &u8) -> bool {
