@@ -43,10 +43,14 @@ fn bytes_that_are_a_text_become_it(rt: HostRuntime) -> Result<(), Fail> {
     let text = TinyAsciiStr::<3>::try_from_utf8(b"ab")?;
     let bytes = Unvalidated::from_utf8_unchecked(*b"ab\0");
     assert!(rt; bytes.try_into_tinystr() == Ok(text));
-    assert!(rt; text.to_unvalidated() == bytes);
-    assert!(rt; Unvalidated::from(text) == bytes);
-    assert!(rt; Unvalidated::try_from_utf8(b"ab") == Ok(bytes));
-    assert!(rt; bytes.clone()? == bytes);
+    for made in [
+        text.to_unvalidated(),
+        Unvalidated::from(text),
+        Unvalidated::try_from_utf8(b"ab")?,
+        bytes.clone()?,
+    ] {
+        assert!(rt; made == bytes, "{made:?}");
+    }
     assert!(rt; are_printed(rt.alloc(), bytes, "\"ab\""));
     Ok(())
 }

@@ -22,13 +22,11 @@ fn shows<T: AsStr + AsSlice<u8>>(value: &T, text: &str) -> bool {
 fn texts_are_taken_and_shown(rt: HostRuntime) {
     assert!(rt; is_taken::<TinyAsciiStr<0>>(""));
     for text in "|e|en|EN|U.S|abcd|\u{1} \u{7f}| a|a ".split('|') {
-        let are_taken = [
-            is_taken::<TinyAsciiStr<4>>(text),
-            is_taken::<TinyAsciiStr<8>>(text),
-            is_taken::<TinyAsciiStr<12>>(text),
-            is_taken::<TinyAsciiStr<40>>(text),
-        ];
-        assert!(rt; are_taken == [true; 4], "{text:?}");
+        let is_right = is_taken::<TinyAsciiStr<4>>(text)
+            && is_taken::<TinyAsciiStr<8>>(text)
+            && is_taken::<TinyAsciiStr<12>>(text)
+            && is_taken::<TinyAsciiStr<40>>(text);
+        assert!(rt; is_right, "{text:?}");
     }
     assert!(rt; is_taken::<TinyAsciiStr<8>>("New York"));
     assert!(rt; is_taken::<TinyAsciiStr<17>>("abcdefgh-Hant-419"));
@@ -44,19 +42,23 @@ fn are_bytes_taken<'a, T: TryFrom<&'a [u8], Error = ParseError> + AsSlice<u8> + 
     }
 }
 
-const BYTES: &[&[u8]] = &[b"", b"e", b"U.S", b"abcd", b"\x01 \x7f", b" a", b"a "];
-
 #[test]
 fn bytes_are_taken_and_shown(rt: HostRuntime) {
     assert!(rt; are_bytes_taken::<TinyAsciiStr<0>>(b""));
-    for &bytes in BYTES {
-        let are_taken = [
-            are_bytes_taken::<TinyAsciiStr<4>>(bytes),
-            are_bytes_taken::<TinyAsciiStr<8>>(bytes),
-            are_bytes_taken::<TinyAsciiStr<12>>(bytes),
-            are_bytes_taken::<TinyAsciiStr<40>>(bytes),
-        ];
-        assert!(rt; are_taken == [true; 4], "{bytes:?}");
+    for bytes in [
+        &b""[..],
+        &b"e"[..],
+        &b"U.S"[..],
+        &b"abcd"[..],
+        &b"\x01 \x7f"[..],
+        &b" a"[..],
+        &b"a "[..],
+    ] {
+        let is_right = are_bytes_taken::<TinyAsciiStr<4>>(bytes)
+            && are_bytes_taken::<TinyAsciiStr<8>>(bytes)
+            && are_bytes_taken::<TinyAsciiStr<12>>(bytes)
+            && are_bytes_taken::<TinyAsciiStr<40>>(bytes);
+        assert!(rt; is_right, "{bytes:?}");
     }
     assert!(rt; are_bytes_taken::<TinyAsciiStr<8>>(b"New York"));
     assert!(rt; are_bytes_taken::<TinyAsciiStr<16>>(b"MacintoshOSX2019"));
