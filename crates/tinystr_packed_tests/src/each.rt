@@ -3,9 +3,8 @@
 ghost use Rattle.std.specs.Prelude.{◌<◌, ◌^◌};
 
 use std::alloc::{AllocError, Global};
-use std::test::Fail;
 use tinystr::TinyAsciiStr;
-use tinystr_packed::{PackedMap, SortedTable, Table, in_place};
+use tinystr_packed::{PackedMap, SortedTable, in_place};
 
 // Tables of so many texts: none, fewer than eight, about eight, and so many that keys in order are looked for near and far.
 const COUNTS: &[usize] = &[0, 1, 2, 7, 8, 9, 40, 300, 5000];
@@ -168,60 +167,111 @@ fn by_turns<const N: usize>(
     Ok(keys)
 }
 
-/// Whether that is so of a table of so many texts, with keys in each order.
-fn are_same_of<const N: usize>(
-    alloc: Global,
-    count: usize,
-    is_grouped: bool,
-) -> Result<bool, AllocError>
+/// Whether both are so of these keys, where there is memory for them.
+fn are_same_in_both<const N: usize>(
+    file: &[u8],
+    sorted: &SortedTable<'_, N>,
+    keys: Result<Vec<TinyAsciiStr<N>>, AllocError>,
+) -> bool
     requires above { 0 < N }
     requires below { N < 2 ^ 60 }
 {
-    let file = file::<N>(alloc, count, is_grouped)?;
-    let Ok(table) = Table::<N>::new(file.as_slice()) else {
-        return Ok(false);
-    };
-    let Ok(sorted) = SortedTable::new(table) else {
-        return Ok(false);
-    };
+    match keys {
+        Ok(keys) => are_same(sorted, &keys) && are_same_in_place(file, &keys),
+        Err(_) => false,
+    }
+}
+
+/// Whether they are so of keys of each course, by each step.
+fn are_same_by_steps<const N: usize>(
+    alloc: Global,
+    file: &[u8],
+    sorted: &SortedTable<'_, N>,
+    is_grouped: bool,
+) -> bool
+    requires above { 0 < N }
+    requires below { N < 2 ^ 60 }
+{
     for course in COURSES {
         for step in STEPS {
             let mut course = *course;
             course.step = *step;
-            let keys = keys::<N>(alloc, course, 45, count, is_grouped)?;
-            if !are_same(&sorted, &keys) || !are_same_in_place(&file, &keys) {
-                return Ok(false);
+            let keys = keys::<N>(alloc, course, 45, sorted.table().len(), is_grouped);
+            if !are_same_in_both(file, sorted, keys) {
+                return false;
             }
         }
     }
-    let last = count.saturating_mul(2);
+    true
+}
+
+/// Whether they are so of two keys by turns.
+fn are_same_by_turns<const N: usize>(
+    alloc: Global,
+    file: &[u8],
+    sorted: &SortedTable<'_, N>,
+    is_grouped: bool,
+) -> bool
+    requires above { 0 < N }
+    requires below { N < 2 ^ 60 }
+{
+    let last = sorted.table().len().saturating_mul(2);
     for (first, second) in [(2, last), (last, 1), (3, 2), (5, last.saturating_add(1))] {
-        let keys = by_turns::<N>(alloc, first, second, is_grouped)?;
-        if !are_same(&sorted, &keys) || !are_same_in_place(&file, &keys) {
-            return Ok(false);
+        let keys = by_turns::<N>(alloc, first, second, is_grouped);
+        if !are_same_in_both(file, sorted, keys) {
+            return false;
         }
     }
+    true
+}
+
+/// Whether they are so of fewer keys.
+fn are_same_of_few<const N: usize>(
+    alloc: Global,
+    file: &[u8],
+    sorted: &SortedTable<'_, N>,
+    is_grouped: bool,
+) -> bool
+    requires above { 0 < N }
+    requires below { N < 2 ^ 60 }
+{
     for few in 0..10usize {
-        let keys = keys::<N>(alloc, COURSES[0], few, count, is_grouped)?;
-        if !are_same(&sorted, &keys) {
-            return Ok(false);
+        let keys = keys::<N>(alloc, COURSES[0], few, sorted.table().len(), is_grouped);
+        if !are_same_in_both(file, sorted, keys) {
+            return false;
         }
     }
-    Ok(true)
+    true
+}
+
+/// Whether they are so of a table of so many texts, with keys in each order.
+fn are_same_of<const N: usize>(alloc: Global, count: usize, is_grouped: bool) -> bool
+    requires above { 0 < N }
+    requires below { N < 2 ^ 60 }
+{
+    let Ok(file) = file::<N>(alloc, count, is_grouped) else {
+        return false;
+    };
+    match SortedTable::<N>::from_bytes(&file) {
+        Ok(sorted) => sorted.table().len() == count
+            && are_same_by_steps(alloc, &file, &sorted, is_grouped)
+            && are_same_by_turns(alloc, &file, &sorted, is_grouped)
+            && are_same_of_few(alloc, &file, &sorted, is_grouped),
+        Err(_) => false,
+    }
 }
 
 #[test]
-fn each_answer_is_that_of_one_search(rt: HostRuntime) -> Result<(), Fail> {
+fn each_answer_is_that_of_one_search(rt: HostRuntime) {
     for count in COUNTS {
-        assert!(rt; are_same_of::<3>(rt.alloc(), *count, false)?);
-        assert!(rt; are_same_of::<8>(rt.alloc(), *count, true)?);
-        assert!(rt; are_same_of::<9>(rt.alloc(), *count, false)?);
-        assert!(rt; are_same_of::<16>(rt.alloc(), *count, true)?);
-        assert!(rt; are_same_of::<17>(rt.alloc(), *count, false)?);
-        assert!(rt; are_same_of::<40>(rt.alloc(), *count, false)?);
-        assert!(rt; are_same_of::<40>(rt.alloc(), *count, true)?);
+        assert!(rt; are_same_of::<3>(rt.alloc(), *count, false));
+        assert!(rt; are_same_of::<8>(rt.alloc(), *count, true));
+        assert!(rt; are_same_of::<9>(rt.alloc(), *count, false));
+        assert!(rt; are_same_of::<16>(rt.alloc(), *count, true));
+        assert!(rt; are_same_of::<17>(rt.alloc(), *count, false));
+        assert!(rt; are_same_of::<40>(rt.alloc(), *count, false));
+        assert!(rt; are_same_of::<40>(rt.alloc(), *count, true));
     }
-    Ok(())
 }
 
 /// Whether all values are those of each key.
@@ -240,27 +290,38 @@ fn have_values(map: &PackedMap<'_, 3, 1>, keys: &[TinyAsciiStr<3>]) -> bool {
     values.next().is_none()
 }
 
-/// Whether that is so of a map of a hundred texts, with keys in each order.
-fn values_are_same(alloc: Global) -> Result<bool, AllocError> {
-    let file = file::<3>(alloc, 100, false)?;
-    let mut values = Vec::new(alloc);
-    for index in 0..100u8 {
-        values.push(index)?;
-    }
-    let Ok(map) = PackedMap::<3, 1>::new(file.as_slice(), values.as_slice()) else {
-        return Ok(false);
-    };
+/// Whether that is so of keys in each order.
+fn values_are_same(alloc: Global, map: &PackedMap<'_, 3, 1>) -> bool {
     for course in COURSES {
-        let keys = keys::<3>(alloc, *course, 45, 100, false)?;
-        if !have_values(&map, &keys) {
-            return Ok(false);
+        match keys::<3>(alloc, *course, 45, map.len(), false) {
+            Ok(keys) if have_values(map, &keys) => {}
+            _ => return false,
         }
     }
-    Ok(true)
+    true
+}
+
+/// A byte for each of a hundred texts: their indices.
+fn indices() -> [u8; 100] {
+    let mut indices = [0; 100];
+    for (index, byte) in indices.iter_mut().enumerate() {
+        *byte = index as u8;
+    }
+    indices
+}
+
+/// Whether that is so of a map of a hundred texts.
+fn are_same_of_map(alloc: Global) -> bool {
+    let Ok(file) = file::<3>(alloc, 100, false) else {
+        return false;
+    };
+    match PackedMap::<3, 1>::new(&file, &indices()) {
+        Ok(map) => values_are_same(alloc, &map),
+        Err(_) => false,
+    }
 }
 
 #[test]
-fn each_value_is_that_of_its_key(rt: HostRuntime) -> Result<(), Fail> {
-    assert!(rt; values_are_same(rt.alloc())?);
-    Ok(())
+fn each_value_is_that_of_its_key(rt: HostRuntime) {
+    assert!(rt; are_same_of_map(rt.alloc()));
 }

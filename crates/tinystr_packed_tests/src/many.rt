@@ -93,6 +93,9 @@ fn are_found(file: &[u8], texts: &[Text]) -> bool {
     sorted.table().len() == COUNT && sorted.table().last() == texts.last().copied()
 }
 
+// What stands before the texts of each kind.
+const BEGINNINGS: &[&str; 3] = &["", "aaaaaaaa", "bbbbbbbbbbbbbbbb"];
+
 // How many of the texts a file has as they are, behind eight bytes that are the same, and behind sixteen: each way of the
 // search, and either side of its border at 32 records. At 24 and 40 all are different. Below, those behind sixteen bytes are
 // cut to one or two.
@@ -113,51 +116,66 @@ const COUNTS: &[[usize; 3]] = &[
 fn longer_texts_are_found_in_each_way(rt: HostRuntime) -> Result<(), Fail> {
     let texts = texts(rt.alloc())?;
     for counts in COUNTS {
-        assert!(rt; are_longer_found::<10>(rt.alloc(), &texts, counts)?);
-        assert!(rt; are_longer_found::<16>(rt.alloc(), &texts, counts)?);
-        assert!(rt; are_longer_found::<17>(rt.alloc(), &texts, counts)?);
-        assert!(rt; are_longer_found::<24>(rt.alloc(), &texts, counts)?);
-        assert!(rt; are_longer_found::<40>(rt.alloc(), &texts, counts)?);
+        assert!(rt; are_longer_found::<10>(rt.alloc(), &texts, counts));
+        assert!(rt; are_longer_found::<16>(rt.alloc(), &texts, counts));
+        assert!(rt; are_longer_found::<17>(rt.alloc(), &texts, counts));
+        assert!(rt; are_longer_found::<24>(rt.alloc(), &texts, counts));
+        assert!(rt; are_longer_found::<40>(rt.alloc(), &texts, counts));
     }
     Ok(())
 }
 
-/// Whether the texts of a file at N are found, so many of each kind, what has `~` behind one of them has its place, and
-/// those that begin as one of them does are told.
-fn are_longer_found<const N: usize>(
+/// Texts at N, so many of each kind.
+fn longer_texts<const N: usize>(
     alloc: Global,
     texts: &[Text],
     counts: &[usize; 3],
-) -> Result<bool, AllocError>
-    requires some { 0 < N }
-    requires bound { N < 2 ^ 62 }
-{
-    let mut longer: Vec<TinyAsciiStr<N>> = Vec::new(alloc);
-    for (beginning, count) in ["", "aaaaaaaa", "bbbbbbbbbbbbbbbb"].iter().zip(counts) {
+) -> Result<Vec<TinyAsciiStr<N>>, AllocError> {
+    let mut longer = Vec::new(alloc);
+    for (beginning, count) in BEGINNINGS.iter().zip(counts) {
         let beginning = TinyAsciiStr::<16>::from_utf8_lossy(beginning.as_bytes(), b'?');
         for text in texts.iter().take(*count) {
             longer.push(beginning.concat::<2, N>(*text))?;
         }
     }
-    let file = pack_sorted(alloc, &longer)?;
-    let Ok(table) = Table::<N>::new(&file) else {
-        return Ok(false);
+    Ok(longer)
+}
+
+/// Whether those texts of a file are found, what has `~` behind one of them has its place, and those that begin as one of
+/// them does are told.
+fn are_told<const N: usize>(file: &[u8], texts: &[TinyAsciiStr<N>]) -> bool
+    requires some { 0 < N }
+    requires bound { N < 2 ^ 62 }
+{
+    let Ok(sorted) = SortedTable::<N>::from_bytes(file) else {
+        return false;
     };
-    let Ok(sorted) = SortedTable::new(table) else {
-        return Ok(false);
-    };
-    for text in &longer {
+    for text in texts {
         let other = text.concat::<1, N>(TinyAsciiStr::from_utf8_lossy(b"~", b'?'));
         if !is_found(&sorted, text) || !is_placed(&sorted, &other) {
-            return Ok(false);
+            return false;
         }
     }
-    for text in longer.iter().step_by(17) {
+    for text in texts.iter().step_by(17) {
         if !is_told(&sorted, text) {
-            return Ok(false);
+            return false;
         }
     }
-    Ok(true)
+    true
+}
+
+/// Whether that is so of a file of texts at N, so many of each kind.
+fn are_longer_found<const N: usize>(alloc: Global, texts: &[Text], counts: &[usize; 3]) -> bool
+    requires some { 0 < N }
+    requires bound { N < 2 ^ 62 }
+{
+    let Ok(longer) = longer_texts::<N>(alloc, texts, counts) else {
+        return false;
+    };
+    match pack_sorted(alloc, &longer) {
+        Ok(file) => are_told(&file, &longer),
+        Err(_) => false,
+    }
 }
 
 /// Whether as many texts begin with the first bytes of a text as std counts: with none of them, one, two, nine and all.

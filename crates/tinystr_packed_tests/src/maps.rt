@@ -15,7 +15,7 @@ const KEYS: &[u8] = b"CHFEURJPYUSDXXX";
 const VALUES: &[u8] = b"\x01\x02\x03\x04\x05\x06\x07\x08\0\0";
 
 // The keys, each with its value.
-const ENTRIES: [(&str, [u8; 2]); 5] = [
+const ENTRIES: &[(&str, [u8; 2])] = &[
     ("CHF", [1, 2]),
     ("EUR", [3, 4]),
     ("JPY", [5, 6]),
@@ -26,6 +26,16 @@ const ENTRIES: [(&str, [u8; 2]); 5] = [
 fn value_of(keys: &[u8], values: &[u8], key: &str) -> Option<[u8; 2]> {
     let map = PackedMap::<3, 2>::new(keys, values).ok()?;
     map.get(&TinyAsciiStr::try_from_str(key).ok()?).copied()
+}
+
+/// Whether the map has the key with this value.
+fn is_value(keys: &[u8], values: &[u8], key: &str, value: [u8; 2]) -> bool {
+    value_of(keys, values, key) == Some(value) && is_key(keys, values, key)
+}
+
+/// Whether the map has neither the key nor a value of it.
+fn is_no_key(keys: &[u8], values: &[u8], key: &str) -> bool {
+    value_of(keys, values, key).is_none() && !is_key(keys, values, key)
 }
 
 fn is_key(keys: &[u8], values: &[u8], key: &str) -> bool {
@@ -41,18 +51,15 @@ fn is_key(keys: &[u8], values: &[u8], key: &str) -> bool {
 #[test]
 fn each_key_has_its_value(rt: HostRuntime) {
     for (key, value) in ENTRIES {
-        assert!(rt; value_of(KEYS, VALUES, key) == Some(value), "{key}");
-        assert!(rt; is_key(KEYS, VALUES, key), "{key}");
+        assert!(rt; is_value(KEYS, VALUES, key, *value), "{key}");
     }
 }
 
 #[test]
 fn other_texts_have_no_value(rt: HostRuntime) {
     for key in "|A|CHE|CHG|D|EU|EUS|KRW|USC|USE|zzz".split('|') {
-        assert!(rt; value_of(KEYS, VALUES, key).is_none(), "{key}");
-        assert!(rt; !is_key(KEYS, VALUES, key), "{key}");
         assert!(rt;
-            value_of(b"", b"", key).is_none() && !is_key(b"", b"", key),
+            is_no_key(KEYS, VALUES, key) && is_no_key(b"", b"", key),
             "{key}"
         );
     }
@@ -68,7 +75,7 @@ fn a_map_of_one_entry_has_that_alone(rt: HostRuntime) {
 #[test]
 fn the_empty_text_is_a_key(rt: HostRuntime) {
     let (keys, values) = (b"\0\0\0EUR", b"\x07\x08\x02\x03");
-    assert!(rt; value_of(keys, values, "") == Some([7, 8]) && is_key(keys, values, ""));
+    assert!(rt; is_value(keys, values, "", [7, 8]));
 }
 
 #[test]
@@ -105,12 +112,12 @@ fn has_entries(keys: &[u8], values: &[u8], len: usize) -> bool {
     };
     let mut entries = map.iter();
     let mut left = len;
-    for (key, value) in ENTRIES.into_iter().take(len) {
+    for (key, value) in ENTRIES.iter().take(len) {
         if entries.size_hint() != (left, Some(left)) {
             return false;
         }
         match entries.next() {
-            Some((found, at)) if found.as_str() == key && *at == value => {}
+            Some((found, at)) if found.as_str() == *key && at == value => {}
             _ => return false,
         }
         left = left.saturating_sub(1);

@@ -9,14 +9,14 @@ use tinystr::TinyAsciiStr;
 use tinystr::ule::UleError::{Length, Parse};
 use tinystr_packed::SortedError::{Order, Records};
 use tinystr_packed::TextMapError::{Count, Keys, Values};
-use tinystr_packed::{NotRising, TextMap, TextMapError, pack_text_map};
+use tinystr_packed::{NotRising, TextEntries, TextMap, TextMapError, pack_text_map};
 
 const KEYS: &[u8] = b"CHEUJPUSXX";
 
 const VALUES: &[u8] = b"CHFEURJPYUSD\0\0\0";
 
 // The keys, each with its value.
-const ENTRIES: [(&str, &str); 5] = [
+const ENTRIES: &[(&str, &str)] = &[
     ("CH", "CHF"),
     ("EU", "EUR"),
     ("JP", "JPY"),
@@ -27,6 +27,19 @@ const ENTRIES: [(&str, &str); 5] = [
 fn value_of(keys: &[u8], values: &[u8], key: &str) -> Option<TinyAsciiStr<3>> {
     let map = TextMap::<2, 3>::new(keys, values).ok()?;
     map.get(&TinyAsciiStr::try_from_str(key).ok()?)
+}
+
+/// Whether the map has the key with this text.
+fn is_value(keys: &[u8], values: &[u8], key: &str, value: &str) -> bool {
+    match value_of(keys, values, key) {
+        Some(text) => text.as_str() == value && is_key(keys, values, key),
+        None => false,
+    }
+}
+
+/// Whether the map has neither the key nor a text of it.
+fn is_no_key(keys: &[u8], values: &[u8], key: &str) -> bool {
+    value_of(keys, values, key).is_none() && !is_key(keys, values, key)
 }
 
 fn is_key(keys: &[u8], values: &[u8], key: &str) -> bool {
@@ -42,21 +55,15 @@ fn is_key(keys: &[u8], values: &[u8], key: &str) -> bool {
 #[test]
 fn each_key_has_its_text(rt: HostRuntime) {
     for (key, value) in ENTRIES {
-        assert!(rt;
-            matches!(value_of(KEYS, VALUES, key), Some(text) if text.as_str() == value),
-            "{key}"
-        );
-        assert!(rt; is_key(KEYS, VALUES, key), "{key}");
+        assert!(rt; is_value(KEYS, VALUES, key, value), "{key}");
     }
 }
 
 #[test]
 fn other_texts_have_no_text(rt: HostRuntime) {
     for key in "|A|CG|CI|D|E|EV|U|UR|UT|zz".split('|') {
-        assert!(rt; value_of(KEYS, VALUES, key).is_none(), "{key}");
-        assert!(rt; !is_key(KEYS, VALUES, key), "{key}");
         assert!(rt;
-            value_of(b"", b"", key).is_none() && !is_key(b"", b"", key),
+            is_no_key(KEYS, VALUES, key) && is_no_key(b"", b"", key),
             "{key}"
         );
     }
@@ -65,8 +72,8 @@ fn other_texts_have_no_text(rt: HostRuntime) {
 #[test]
 fn the_empty_text_is_a_key_of_a_text(rt: HostRuntime) {
     let (keys, values) = (b"\0\0EU", b"X\0\0EUR");
-    assert!(rt; matches!(value_of(keys, values, ""), Some(text) if text.as_str() == "X"));
-    assert!(rt; is_key(keys, values, "") && !is_key(b"EU", b"EUR", ""));
+    assert!(rt; is_value(keys, values, "", "X"));
+    assert!(rt; !is_key(b"EU", b"EUR", ""));
 }
 
 #[test]
@@ -79,28 +86,46 @@ fn entries_are_the_keys_with_their_texts_in_order(rt: HostRuntime) {
     }
 }
 
-/// Whether the map has the first of the five entries and no more, and tells how many they are and how many are left.
-fn has_entries<'a>(keys: &'a [u8], values: &'a [u8], len: usize) -> bool {
-    let Ok(map) = TextMap::<2, 3>::new(keys, values) else {
-        return false;
-    };
-    if map.len() != len
-        || map.is_empty() != (len == 0)
-        || map.keys().table().len() != len
-        || map.values().len() != len
-    {
+/// Whether the map has the first of the five entries and no more, and tells how many they are.
+fn has_entries(keys: &[u8], values: &[u8], len: usize) -> bool {
+    match TextMap::<2, 3>::new(keys, values) {
+        Ok(map) => has_len(&map, len) && are_first(&map, len),
+        Err(_) => false,
+    }
+}
+
+fn has_len(map: &TextMap<'_, 2, 3>, len: usize) -> bool {
+    map.len() == len
+        && map.is_empty() == (len == 0)
+        && map.keys().table().len() == len
+        && map.values().len() == len
+}
+
+/// Whether an iterator tells that so many entries are left, and has this one next.
+fn is_next(entries: &mut TextEntries<'_, 2, 3>, left: usize, key: &str, value: &str) -> bool {
+    if entries.size_hint() != (left, Some(left)) {
         return false;
     }
+    match entries.next() {
+        Some((found, text)) => found.as_str() == key && text.as_str() == value,
+        None => false,
+    }
+}
+
+fn is_text_at(map: &TextMap<'_, 2, 3>, index: usize, text: &str) -> bool {
+    match map.values().get(index) {
+        Some(found) => found.as_str() == text,
+        None => false,
+    }
+}
+
+/// Whether the entries are the first of the five and no more, each value stands at its index, and the iterator tells each
+/// time how many are left.
+fn are_first(map: &TextMap<'_, 2, 3>, len: usize) -> bool {
     let mut entries = map.iter();
     let mut left = len;
-    for (index, (key, value)) in ENTRIES.into_iter().take(len).enumerate() {
-        if entries.size_hint() != (left, Some(left)) {
-            return false;
-        }
-        let (Some((found, text)), Some(same)) = (entries.next(), map.values().get(index)) else {
-            return false;
-        };
-        if found.as_str() != key || text.as_str() != value || same != text {
+    for (index, (key, value)) in ENTRIES.iter().take(len).enumerate() {
+        if !is_next(&mut entries, left, key, value) || !is_text_at(map, index, value) {
             return false;
         }
         left = left.saturating_sub(1);
