@@ -1,9 +1,10 @@
 //! Records of airports.
 
 use std::test::Fail;
-use tinystr::forms::BytesReadError;
+use tinystr::forms::BytesReadError::{self, Length, NonAscii, Null};
 use tinystr::tinystr;
-use uses::airports::{Airport, Field, RecordError, through_record};
+use uses::airports::Field::{self, City, Code, Country};
+use uses::airports::{Airport, RecordError, through_record};
 
 fn zurich() -> Airport {
     Airport {
@@ -38,36 +39,27 @@ fn bytes_behind_a_record_are_left_alone(rt: HostRuntime) {
     assert!(rt; Airport::read(b"ZRHCHZurich\0\0\0\0\0\xff\0!") == Ok(zurich()));
 }
 
+// Records, each with the first field that is bad and its fault.
+const REFUSED: &[(&[u8], Field, BytesReadError)] = &[
+    (b"", Code, Length { expected: 3 }),
+    (b"ZR", Code, Length { expected: 3 }),
+    (b"Z\0HCHZurich\0\0\0\0\0", Code, Null),
+    (b"ZR\x80\0HZurich\0\0\0\0\0", Code, NonAscii),
+    (b"ZRHC", Country, Length { expected: 2 }),
+    (b"ZRH\0HZ\xfcrich\0\0\0\0\0", Country, Null),
+    (b"ZRHC\xff", Country, NonAscii),
+    (b"ZRHCHZurich\0\0\0\0", City, Length { expected: 11 }),
+    (b"ZRHCHZ\xfcrich\0\0\0\0\0", City, NonAscii),
+    (b"ZRHCHZurich\0\0\0\0!", City, Null),
+];
+
 #[test]
 fn a_refusal_names_the_first_bad_field(rt: HostRuntime) {
-    let ends = |expected| BytesReadError::Length { expected };
-    for (record, field, fault) in [
-        (b"".as_slice(), Field::Code, ends(3)),
-        (b"ZR", Field::Code, ends(3)),
-        (b"Z\0HCHZurich\0\0\0\0\0", Field::Code, BytesReadError::Null),
-        (
-            b"ZR\x80\0HZurich\0\0\0\0\0",
-            Field::Code,
-            BytesReadError::NonAscii,
-        ),
-        (b"ZRHC", Field::Country, ends(2)),
-        (
-            b"ZRH\0HZ\xfcrich\0\0\0\0\0",
-            Field::Country,
-            BytesReadError::Null,
-        ),
-        (b"ZRHC\xff", Field::Country, BytesReadError::NonAscii),
-        (b"ZRHCHZurich\0\0\0\0", Field::City, ends(11)),
-        (
-            b"ZRHCHZ\xfcrich\0\0\0\0\0",
-            Field::City,
-            BytesReadError::NonAscii,
-        ),
-        (b"ZRHCHZurich\0\0\0\0!", Field::City, BytesReadError::Null),
-    ] {
-        assert!(rt;
-            Airport::read(record) == Err(RecordError { field, fault }),
-            "{record:?}"
-        );
+    for &(record, field, fault) in REFUSED {
+        assert!(rt; is_refused(record, field, fault), "{record:?}");
     }
+}
+
+fn is_refused(record: &[u8], field: Field, fault: BytesReadError) -> bool {
+    Airport::read(record) == Err(RecordError { field, fault })
 }

@@ -53,16 +53,19 @@ fn has_count(alloc: Global, texts: &[&str], code: &str, count: Option<usize>) ->
     }
 }
 
+/// How often a code is in a list.
+const LISTS: &[(&str, &str, usize)] = &[
+    ("", "EUR", 0),
+    ("EUR", "EUR", 1),
+    ("CHF", "EUR", 0),
+    ("EUR CHF EUR EU EUR", "EUR", 3),
+    ("EUR CHF EUR EU EUR", "EU", 1),
+    ("EUR CHF EUR EU EUR", "", 0),
+];
+
 #[test]
 fn a_code_is_counted_in_a_list(rt: HostRuntime) {
-    for (codes, code, count) in [
-        ("", "EUR", 0),
-        ("EUR", "EUR", 1),
-        ("CHF", "EUR", 0),
-        ("EUR CHF EUR EU EUR", "EUR", 3),
-        ("EUR CHF EUR EU EUR", "EU", 1),
-        ("EUR CHF EUR EU EUR", "", 0),
-    ] {
+    for &(codes, code, count) in LISTS {
         assert!(rt; is_there(rt.alloc(), codes, code, count), "{codes} {code}");
     }
 }

@@ -1,6 +1,7 @@
 //! Tables and maps that one is handed.
 
 use std::alloc::Global;
+use std::collections::BTreeMap;
 use std::ops::Range;
 use tinystr::{TinyAsciiStr, TinyStr8};
 use tinystr_packed::{PackedMap, SortedTable, Table};
@@ -54,15 +55,18 @@ fn are_keys(alloc: Global, file: &[u8], codes: &str) -> bool {
     keys.len() == len
 }
 
+// Indices, each with the code there.
+const RECORDS: &[(usize, Option<&str>)] = &[
+    (0, Some("CHF")),
+    (1, Some("EUR")),
+    (3, Some("USD")),
+    (4, None),
+    (usize::MAX, None),
+];
+
 #[test]
 fn records_of_a_file_are_the_texts_of_its_table(rt: HostRuntime) {
-    for (index, code) in [
-        (0, Some("CHF")),
-        (1, Some("EUR")),
-        (3, Some("USD")),
-        (4, None),
-        (usize::MAX, None),
-    ] {
+    for &(index, code) in RECORDS {
         assert!(rt; has_record(index, code), "{index}");
     }
 }
@@ -117,18 +121,21 @@ fn open(file: &[u8]) -> Option<SortedTable<'_, 3>> {
     SortedTable::new(Table::new(file).ok()?).ok()
 }
 
+// Codes, each with its index.
+const INDICES: &[(&str, Option<usize>)] = &[
+    ("CHF", Some(0)),
+    ("EUR", Some(1)),
+    ("JPY", Some(2)),
+    ("USD", Some(3)),
+    ("", None),
+    ("EU", None),
+    ("GBP", None),
+    ("zzz", None),
+];
+
 #[test]
 fn a_text_stands_at_one_index(rt: HostRuntime) {
-    for (code, index) in [
-        ("CHF", Some(0)),
-        ("EUR", Some(1)),
-        ("JPY", Some(2)),
-        ("USD", Some(3)),
-        ("", None),
-        ("EU", None),
-        ("GBP", None),
-        ("zzz", None),
-    ] {
+    for &(code, index) in INDICES {
         assert!(rt; stands_at(code, index), "{code}");
     }
 }
@@ -139,6 +146,9 @@ fn stands_at(code: &str, index: Option<usize>) -> bool {
         _ => false,
     }
 }
+
+// The four keys, each with its value.
+const ENTRIES: &[(&str, [u8; 1])] = &[("CHF", [2]), ("EUR", [3]), ("JPY", [5]), ("USD", [7])];
 
 #[test]
 fn a_packed_map_is_unpacked_to_one_of_std(rt: HostRuntime) {
@@ -153,19 +163,30 @@ fn is_unpacked(alloc: Global, keys: &[u8], len: usize) -> bool {
     let Ok(map) = PackedMap::<3, 1>::new(keys, values) else {
         return false;
     };
-    let Ok(made) = unpacked(alloc, &map) else {
-        return false;
-    };
-    let mut found = 0usize;
-    for (code, value) in [("CHF", [2]), ("EUR", [3]), ("JPY", [5]), ("USD", [7])] {
-        let Ok(key) = TinyAsciiStr::try_from_str(code) else {
-            return false;
-        };
-        let expected = if found < len { Some(&value) } else { None };
-        if made.get(&key) != expected {
+    match unpacked(alloc, &map) {
+        Ok(made) => made.len() == len && has_first(&made, len),
+        Err(_) => false,
+    }
+}
+
+/// Whether so many of the four keys have their values, and the others none.
+fn has_first(made: &BTreeMap<TinyAsciiStr<3>, [u8; 1]>, len: usize) -> bool {
+    for (index, (code, value)) in ENTRIES.iter().enumerate() {
+        let value = if index < len { Some(*value) } else { None };
+        if !has_value(made, code, value) {
             return false;
         }
-        found = found.saturating_add(1);
     }
-    made.len() == len
+    true
+}
+
+fn has_value(
+    made: &BTreeMap<TinyAsciiStr<3>, [u8; 1]>,
+    code: &str,
+    value: Option<[u8; 1]>,
+) -> bool {
+    match TinyAsciiStr::try_from_str(code) {
+        Ok(key) => made.get(&key).copied() == value,
+        Err(_) => false,
+    }
 }

@@ -24,16 +24,19 @@ fn stands_at(code: &str, index: usize) -> bool {
     }
 }
 
+// Codes, each with its decimal places.
+const PLACES: &[(&str, Option<[u8; 1]>)] = &[
+    ("EUR", Some([2])),
+    ("JPY", Some([0])),
+    ("USD", Some([2])),
+    ("CHF", None),
+    ("EU", None),
+    ("", None),
+];
+
 #[test]
 fn a_map_has_the_values_that_are_written(rt: HostRuntime) {
-    for (code, places) in [
-        ("EUR", Some([2])),
-        ("JPY", Some([0])),
-        ("USD", Some([2])),
-        ("CHF", None),
-        ("EU", None),
-        ("", None),
-    ] {
+    for &(code, places) in PLACES {
         assert!(rt; has_places(code, places), "{code}");
     }
 }
@@ -45,15 +48,18 @@ fn has_places(code: &str, places: Option<[u8; 1]>) -> bool {
     }
 }
 
+// Countries, each with its currency.
+const CURRENCIES: &[(&str, Option<&str>)] = &[
+    ("CH", Some("CHF")),
+    ("JP", Some("JPY")),
+    ("US", None),
+    ("C", None),
+    ("", None),
+];
+
 #[test]
 fn a_map_of_texts_has_those_that_are_written(rt: HostRuntime) {
-    for (country, currency) in [
-        ("CH", Some("CHF")),
-        ("JP", Some("JPY")),
-        ("US", None),
-        ("C", None),
-        ("", None),
-    ] {
+    for &(country, currency) in CURRENCIES {
         assert!(rt; has_currency(country, currency), "{country}");
     }
     assert!(rt; currency_of_japan().as_str() == "JPY");

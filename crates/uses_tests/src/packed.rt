@@ -31,51 +31,58 @@ fn comes_back(alloc: Global, words: &str) -> bool {
     }
 }
 
+// Lists, each with words that it has and words that it doesn't have.
+const LISTS: &[(&str, &str, &str)] = &[
+    ("", "", "a"),
+    ("b|a|b", "a|b", "|ab|c|B"),
+    ("USD|EUR||JPY|EUR", "EUR||JPY|USD", "CHF|EU|EURO|eur"),
+];
+
 #[test]
 fn texts_of_a_list_are_found_in_what_it_is_sorted_to(rt: HostRuntime) {
-    for (words, found, missing) in [
-        ("", "", "a"),
-        ("b|a|b", "a|b", "|ab|c|B"),
-        ("USD|EUR||JPY|EUR", "EUR||JPY|USD", "CHF|EU|EURO|eur"),
-    ] {
-        assert!(rt;
-            found
-                .split('|')
-                .all(|word| is_answered(rt.alloc(), words, word, true)),
-            "{words}"
-        );
-        assert!(rt;
-            missing
-                .split('|')
-                .all(|word| is_answered(rt.alloc(), words, word, false)),
-            "{words}"
-        );
+    for (words, found, missing) in LISTS {
+        assert!(rt; are_answered(rt.alloc(), words, found, true), "{words}");
+        assert!(rt; are_answered(rt.alloc(), words, missing, false), "{words}");
     }
 }
 
-fn is_answered(alloc: Global, words: &str, word: &str, is_one: bool) -> bool {
-    match (texts(alloc, words), TinyAsciiStr::try_from_str(word)) {
-        (Some(texts), Ok(text)) => {
-            matches!(is_in_sorted(alloc, texts.as_slice(), &text), Ok(found) if found == is_one)
+/// Whether each of the texts that are asked for is said to be one of the list, or none is.
+fn are_answered(alloc: Global, words: &str, asked: &str, is_one: bool) -> bool {
+    let Some(texts) = texts(alloc, words) else {
+        return false;
+    };
+    for word in asked.split('|') {
+        if !is_answered(alloc, &texts, word, is_one) {
+            return false;
         }
-        _ => false,
+    }
+    true
+}
+
+fn is_answered(alloc: Global, texts: &[TinyAsciiStr<4>], word: &str, is_one: bool) -> bool {
+    match TinyAsciiStr::try_from_str(word) {
+        Ok(text) => matches!(is_in_sorted(alloc, texts, &text), Ok(found) if found == is_one),
+        Err(_) => false,
     }
 }
+
+// Keys, each with its value in the map.
+const VALUES: &[(&str, Option<[u8; 2]>)] = &[
+    ("CHF", Some(*b"12")),
+    ("EUR", Some(*b"34")),
+    ("", Some(*b"56")),
+    ("USD", Some(*b"78")),
+    ("CH", None),
+    ("JPY", None),
+    ("eur", None),
+    ("zzz", None),
+];
 
 #[test]
 fn keys_of_a_map_have_their_values_in_what_it_is_packed_to(rt: HostRuntime) {
-    for (key, value) in [
-        ("CHF", Some(*b"12")),
-        ("EUR", Some(*b"34")),
-        ("", Some(*b"56")),
-        ("USD", Some(*b"78")),
-        ("CH", None),
-        ("JPY", None),
-        ("eur", None),
-        ("zzz", None),
-    ] {
+    for (key, value) in VALUES {
         assert!(rt;
-            has_value(rt.alloc(), "USD=78 =56 CHF=00 EUR=34 CHF=12", key, value),
+            has_value(rt.alloc(), "USD=78 =56 CHF=00 EUR=34 CHF=12", key, *value),
             "{key}"
         );
         assert!(rt; has_value(rt.alloc(), "", key, None), "{key}");
@@ -101,23 +108,26 @@ fn has_value(alloc: Global, rows: &str, key: &str, value: Option<[u8; 2]>) -> bo
     }
 }
 
+// Keys, each with its text in the map.
+const TEXTS: &[(&str, Option<&str>)] = &[
+    ("CHF", Some("Franc")),
+    ("EUR", Some("Euro")),
+    ("", Some("none")),
+    ("USD", Some("")),
+    ("CH", None),
+    ("JPY", None),
+    ("zzz", None),
+];
+
 #[test]
 fn keys_of_a_map_have_their_texts_in_what_it_is_packed_to(rt: HostRuntime) {
-    for (key, text) in [
-        ("CHF", Some("Franc")),
-        ("EUR", Some("Euro")),
-        ("", Some("none")),
-        ("USD", Some("")),
-        ("CH", None),
-        ("JPY", None),
-        ("zzz", None),
-    ] {
+    for (key, text) in TEXTS {
         assert!(rt;
             has_text(
                 rt.alloc(),
                 "USD= =none CHF=franc EUR=Euro CHF=Franc",
                 key,
-                text
+                *text
             ),
             "{key}"
         );

@@ -1,21 +1,23 @@
 //! A column of unit codes.
 
 use std::alloc::{AllocError, Global};
-use std::test::Fail;
 use tinystr::TinyAsciiStr;
 use tinystr_packed::PackedMap;
 use uses::unit_column::{UnitColumn, join_units};
 
 /// What a column gives beside grams and kilograms, of kind 1, and metres, of kind 2.
-fn joined(alloc: Global, column: &str) -> Result<Option<UnitColumn>, AllocError> {
+fn joined(alloc: Global, column: &str) -> Option<UnitColumn> {
+    let codes = codes(alloc, column).ok()?;
+    let units = PackedMap::<3, 1>::new(b"GRMKGMMTR", &[1, 1, 2]).ok()?;
+    join_units(alloc, &units, &codes).ok()
+}
+
+fn codes(alloc: Global, column: &str) -> Result<Vec<TinyAsciiStr<3>>, AllocError> {
     let mut codes = Vec::new(alloc);
     for code in column.split_whitespace() {
         codes.push(TinyAsciiStr::<3>::try_from_str(code).unwrap_or_default())?;
     }
-    match PackedMap::<3, 1>::new(b"GRMKGMMTR", &[1, 1, 2]) {
-        Ok(units) => Ok(Some(join_units(alloc, &units, codes.as_slice())?)),
-        Err(_) => Ok(None),
-    }
+    Ok(codes)
 }
 
 /// Whether the rows have these kinds, with a dash where a code isn't there.
@@ -34,35 +36,49 @@ fn are_kinds(column: &UnitColumn, wanted: &str) -> bool {
     kinds.next().is_none()
 }
 
+// Columns, each with the kinds of its rows, how many rows have none, and the first of these.
+const COLUMNS: &[(&str, &str, usize, Option<usize>)] = &[
+    ("", "", 0, None),
+    ("MTR", "2", 0, None),
+    ("XXX", "-", 1, Some(0)),
+    ("KGM MTR GRM MTR", "1212", 0, None),
+    ("KGM MTR grm MTR LTR", "12-2-", 2, Some(2)),
+    ("GRM GRM GRM GRM GRM GRM GRM GRM GRM", "111111111", 0, None),
+    (
+        "MTR GRM MTR GRM MTR GRM MTR GRM MT GRM MTR GRM",
+        "21212121-121",
+        1,
+        Some(8),
+    ),
+    (
+        "AAA BBB CCC GRM HHH KGM LLL MTR ZZZ ZZZ",
+        "---1-1-2--",
+        7,
+        Some(0),
+    ),
+];
+
 #[test]
-fn each_row_has_the_kind_of_its_unit(rt: HostRuntime) -> Result<(), Fail> {
-    for (column, kinds, missing, first_missing) in [
-        ("", "", 0, None),
-        ("MTR", "2", 0, None),
-        ("XXX", "-", 1, Some(0)),
-        ("KGM MTR GRM MTR", "1212", 0, None),
-        ("KGM MTR grm MTR LTR", "12-2-", 2, Some(2)),
-        ("GRM GRM GRM GRM GRM GRM GRM GRM GRM", "111111111", 0, None),
-        (
-            "MTR GRM MTR GRM MTR GRM MTR GRM MT GRM MTR GRM",
-            "21212121-121",
-            1,
-            Some(8),
-        ),
-        (
-            "AAA BBB CCC GRM HHH KGM LLL MTR ZZZ ZZZ",
-            "---1-1-2--",
-            7,
-            Some(0),
-        ),
-    ] {
-        let found = joined(rt.alloc(), column)?;
+fn each_row_has_the_kind_of_its_unit(rt: HostRuntime) {
+    for &(column, kinds, missing, first_missing) in COLUMNS {
         assert!(rt;
-            found.is_some_and(|found| are_kinds(&found, kinds)
-                && found.missing == missing
-                && found.first_missing == first_missing),
+            is_joined(rt.alloc(), column, kinds, missing, first_missing),
             "{column}"
         );
     }
-    Ok(())
+}
+
+fn is_joined(
+    alloc: Global,
+    column: &str,
+    kinds: &str,
+    missing: usize,
+    first_missing: Option<usize>,
+) -> bool {
+    match joined(alloc, column) {
+        Some(found) => are_kinds(&found, kinds)
+            && found.missing == missing
+            && found.first_missing == first_missing,
+        None => false,
+    }
 }
