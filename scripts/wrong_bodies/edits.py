@@ -88,7 +88,11 @@ def applied(edits, texts):
     for edit in edits:
         changes.setdefault(edit.file, []).extend(edit.changes(texts, edit.target(texts)))
     for file, found in changes.items():
-        # from the end, so that the places in front stay
-        for start, end, new in sorted(found, reverse=True):
-            changed[file] = changed[file][:start] + new + changed[file][end:]
+        pieces, at = [], 0
+        for start, end, new in sorted(found):
+            if start < at:
+                raise Unreadable(f"{file}: two edits change one place: {new}")
+            pieces += [texts[file][at:start], new]
+            at = end
+        changed[file] = "".join([*pieces, texts[file][at:]])
     return changed

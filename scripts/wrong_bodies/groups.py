@@ -1,4 +1,5 @@
-"""Groups of a crate's edits, each of which one check tries: no two edits of a group reach one goal or file of lemmas.
+"""Groups of a crate's edits, each of which one check tries: no two edits of a group reach one function, one arm of the
+match in which a body ends, or one file of lemmas.
 
 A function is checked against contracts alone, so the edit of a body reaches that function, or one arm of it; that of a
 constant or of what a law with a body says reaches what names these too. One that reaches contracts, or turns what is no
@@ -64,7 +65,7 @@ def groups_of(edits, texts, only=()):
 
 
 def grouped(edits, controls, texts):
-    """The groups of a crate's wrong bodies and controls: two that reach one goal are in two groups."""
+    """The groups of a crate's wrong bodies and controls: two that reach one part of a function are in two groups."""
     reached = {it.name: reach_of(it, target_of(it, texts), texts) for it in [*edits, *controls]}
     alone = [it for it in edits if reached[it.name] is None]
     left, groups = [it for it in edits if it not in alone], []
@@ -82,8 +83,8 @@ def grouped(edits, controls, texts):
 
 def controls_of(number, controls):
     """The controls of a group: a half of all for each of the first two, and then one, by turns, since each stands in the
-    way of the edits of its function; of a single one each group has that."""
-    if number < 2 < len(controls) or not controls:
+    way of the edits of its function."""
+    if number < 2 or not controls:
         return controls[number::2]
     return [controls[number % len(controls)]]
 

@@ -41,7 +41,7 @@ def judged(edit, own):
     line = f"{kind}: {edit.function} {edit.goal}: {named[0].said[:160]}"
     if kind == edit.kind:
         return Verdict(edit, True, line)
-    return Verdict(edit, False, f"IS TO BE {edit.kind.upper()}, is {line}", is_disturbed)
+    return Verdict(edit, False, f"IS TO BE {edit.kind.upper()}, is {line}", is_disturbed or is_behind)
 
 
 def judge(group, output):

@@ -21,7 +21,7 @@ from wrong_bodies.recording import record
 from wrong_bodies.rooms import Room
 from wrong_bodies.searches import searches_of, with_searches
 
-# With fewer groups to try, it takes longer to find which short searches prove their goals than they save.
+# With so few groups to try, or fewer, it takes longer to find which short searches prove their goals than they save.
 FEW = 3
 
 
@@ -81,7 +81,7 @@ class Run:
         if None in lines:
             self.room = self.room or Room(self.folder)
             self.room.begin(crate)
-            if lines.count(None) > FEW and not self.given.record:
+            if lines.count(None) > FEW and not (self.given.record or self.given.whole):
                 searches = self.room.proved(crate, searches_of(edits, texts), texts)
         for number, group in enumerate(groups):
             if lines[number] is not None:

@@ -25,7 +25,7 @@ pub fn read_texts<const N: usize>(bytes: &[u8]) -> [TinyAsciiStr<N>; COUNT]
     texts
 }
 
-/// The list that begins at start number `i`, and ends at the next; none where the units end before.
+/// The list that begins at start number `i`, and ends at the next; none where the units end before, or the next is lower.
 #[inline(always)]
 pub fn list_at<'a, U>(units: &'a [U], starts: &[u32], i: usize) -> Option<&'a [U]>
     requires { i + 1 < length starts.now }

@@ -3,7 +3,7 @@
 /// A capacity as a type.
 pub struct At<const N: usize>;
 
-/// The value of type `At` at one of the capacities 0 to 40 and 64; another expression at any other.
+/// A reference to the value of type `At` at one of the capacities 0 to 40 and 64; another expression at any other.
 #[macro_export]
 macro_rules! at_capacity {
     ($capacity:expr, else $other:expr) => {

@@ -167,7 +167,7 @@ fn by_turns<const N: usize>(
     Ok(keys)
 }
 
-/// Whether both are so of these keys, where there is memory for them.
+/// Whether the answers for these keys are those of one search each, in the table and in place.
 fn are_same_in_both<const N: usize>(
     file: &[u8],
     sorted: &SortedTable<'_, N>,
@@ -182,7 +182,7 @@ fn are_same_in_both<const N: usize>(
     }
 }
 
-/// Whether they are so of keys of each course, by each step.
+/// Whether they are so for keys of each course, by each step.
 fn are_same_by_steps<const N: usize>(
     alloc: Global,
     file: &[u8],
@@ -205,7 +205,7 @@ fn are_same_by_steps<const N: usize>(
     true
 }
 
-/// Whether they are so of two keys by turns.
+/// Whether they are so for two keys by turns.
 fn are_same_by_turns<const N: usize>(
     alloc: Global,
     file: &[u8],
@@ -225,7 +225,7 @@ fn are_same_by_turns<const N: usize>(
     true
 }
 
-/// Whether they are so of fewer keys.
+/// Whether they are so for fewer keys.
 fn are_same_of_few<const N: usize>(
     alloc: Global,
     file: &[u8],
@@ -244,7 +244,7 @@ fn are_same_of_few<const N: usize>(
     true
 }
 
-/// Whether they are so of a table of so many texts, with keys in each order.
+/// Whether they are so in a table of so many texts, with keys in each order.
 fn are_same_of<const N: usize>(alloc: Global, count: usize, is_grouped: bool) -> bool
     requires above { 0 < N }
     requires below { N < 2 ^ 60 }
@@ -290,7 +290,7 @@ fn have_values(map: &PackedMap<'_, 3, 1>, keys: &[TinyAsciiStr<3>]) -> bool {
     values.next().is_none()
 }
 
-/// Whether that is so of keys in each order.
+/// Whether all values are those of each key, for keys in each order.
 fn values_are_same(alloc: Global, map: &PackedMap<'_, 3, 1>) -> bool {
     for course in COURSES {
         match keys::<3>(alloc, *course, 45, map.len(), false) {
@@ -301,7 +301,7 @@ fn values_are_same(alloc: Global, map: &PackedMap<'_, 3, 1>) -> bool {
     true
 }
 
-/// A byte for each of a hundred texts: their indices.
+/// The indices of a hundred texts, each as a byte.
 fn indices() -> [u8; 100] {
     let mut indices = [0; 100];
     for (index, byte) in indices.iter_mut().enumerate() {
@@ -310,13 +310,13 @@ fn indices() -> [u8; 100] {
     indices
 }
 
-/// Whether that is so of a map of a hundred texts.
+/// Whether that is so of a map of a hundred texts, each with its index.
 fn are_same_of_map(alloc: Global) -> bool {
     let Ok(file) = file::<3>(alloc, 100, false) else {
         return false;
     };
     match PackedMap::<3, 1>::new(&file, &indices()) {
-        Ok(map) => values_are_same(alloc, &map),
+        Ok(map) => map.len() == 100 && values_are_same(alloc, &map),
         Err(_) => false,
     }
 }

@@ -1,7 +1,7 @@
 //! The cases of each error: told apart, cloned and printed.
 
-use std::alloc::{AllocError, Global};
-use std::fmt::Debug;
+use crate::printed::is_printed;
+use std::alloc::AllocError;
 use std::test::Fail;
 use tinystr::ParseError;
 use tinystr::forms::{BytesReadError, FormWriteError, JsonReadError};
@@ -53,6 +53,10 @@ const RECORDS: &[UleError] = &[
         index: 0,
         fault: ParseError::NonAscii,
     },
+    UleError::Parse {
+        index: 1,
+        fault: ParseError::NonAscii,
+    },
 ];
 
 #[test]
@@ -69,32 +73,37 @@ fn cases_of_an_error_are_told_apart(rt: HostRuntime) -> Result<(), Fail> {
     Ok(())
 }
 
-// Whether the cases are printed in brackets as this text.
-fn are_printed<E: Debug>(alloc: Global, cases: &[E], text: &str) -> bool {
-    match format!(in alloc; "{cases:?}") {
-        Ok(printed) => printed.as_str() == text,
-        Err(_) => false,
-    }
-}
-
 #[test]
-fn cases_of_an_error_are_printed_by_their_names(rt: HostRuntime) -> Result<(), Fail> {
-    let read = "[TooLong { max: 4, len: 5 }, TooLong { max: 4, len: 6 }, \
+fn cases_of_an_error_are_printed_by_their_names(rt: HostRuntime) {
+    let text = "[TooLong { max: 4, len: 5 }, TooLong { max: 4, len: 6 }, \
                 TooLong { max: 3, len: 5 }, ContainsNull, NonAscii]";
-    assert!(rt; are_printed(rt.alloc(), READ, read), "of readers");
     assert!(rt;
-        are_printed(rt.alloc(), JSON, "[NotText, InvalidText]"),
+        is_printed(format!(in rt.alloc(); "{READ:?}"), text),
+        "of readers"
+    );
+    let text = "[NotText, InvalidText]";
+    assert!(rt;
+        is_printed(format!(in rt.alloc(); "{JSON:?}"), text),
         "of JSON"
     );
-    let bytes = "[Length { expected: 4 }, Length { expected: 5 }, Null, NonAscii]";
-    assert!(rt; are_printed(rt.alloc(), BYTES, bytes), "of the byte form");
-    let records = "[Length { len: 7 }, Length { len: 8 }, Parse { index: 0, fault: ContainsNull }, \
-                   Parse { index: 1, fault: ContainsNull }, Parse { index: 0, fault: NonAscii }]";
-    assert!(rt; are_printed(rt.alloc(), RECORDS, records), "of records");
+    let text = "[Length { expected: 4 }, Length { expected: 5 }, Null, NonAscii]";
+    assert!(rt;
+        is_printed(format!(in rt.alloc(); "{BYTES:?}"), text),
+        "of the byte form"
+    );
+    let text = "[Length { len: 7 }, Length { len: 8 }, Parse { index: 0, fault: ContainsNull }, \
+                Parse { index: 1, fault: ContainsNull }, Parse { index: 0, fault: NonAscii }, \
+                Parse { index: 1, fault: NonAscii }]";
+    assert!(rt;
+        is_printed(format!(in rt.alloc(); "{RECORDS:?}"), text),
+        "of records"
+    );
     let written = [FormWriteError::NotAscii, FormWriteError::Memory(AllocError)];
     let text = "[NotAscii, Memory(AllocError)]";
-    assert!(rt; are_printed(rt.alloc(), &written, text), "of writing");
-    Ok(())
+    assert!(rt;
+        is_printed(format!(in rt.alloc(); "{written:?}"), text),
+        "of writing"
+    );
 }
 
 const SAID: &[(ParseError, &str)] = &[
@@ -112,16 +121,12 @@ const SAID: &[(ParseError, &str)] = &[
     ),
 ];
 
-fn says(alloc: Global, fault: ParseError, text: &str) -> bool {
-    match format!(in alloc; "{fault}") {
-        Ok(said) => said.as_str() == text,
-        Err(_) => false,
-    }
-}
-
 #[test]
 fn errors_say_what_is_wrong(rt: HostRuntime) {
     for &(fault, text) in SAID {
-        assert!(rt; says(rt.alloc(), fault, text), "{text}");
+        assert!(rt;
+            is_printed(format!(in rt.alloc(); "{fault}"), text),
+            "{text}"
+        );
     }
 }

@@ -11,6 +11,8 @@ mod laws;
 #[cfg(test)]
 mod original;
 #[cfg(test)]
+mod printed;
+#[cfg(test)]
 mod reading;
 #[cfg(test)]
 mod records;

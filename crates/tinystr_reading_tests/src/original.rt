@@ -65,9 +65,10 @@ fn name_of(fault: ParseError) -> &'static [u8] {
 // Whether the list of a row is read as the row says.
 fn is_read_so(row: &[u8]) -> bool {
     let mut fields = row.split(is_bar);
-    let list = fields.next().unwrap_or(b"");
-    let strict = fields.next().unwrap_or(b"");
-    let lossy = fields.next().unwrap_or(b"");
+    let (Some(list), Some(strict), Some(lossy)) = (fields.next(), fields.next(), fields.next())
+    else {
+        return false;
+    };
     let is_strict = match TinyAsciiStr::<8>::try_from_utf8(list) {
         Ok(text) => text.as_utf8() == strict,
         Err(fault) => name_of(fault) == strict,

@@ -1,19 +1,11 @@
 //! Any bytes: made of shorter ones, read as texts, ordered and printed.
 
-use std::alloc::Global;
+use crate::printed::is_printed;
 use std::cmp::Ordering;
 use std::test::Fail;
 use tinystr::{ParseError, TinyAsciiStr, UnvalidatedTinyAsciiStr};
 
 type Unvalidated<const N: usize> = UnvalidatedTinyAsciiStr<N>;
-
-// Whether the bytes are printed as this text.
-fn are_printed<const N: usize>(alloc: Global, bytes: Unvalidated<N>, text: &str) -> bool {
-    match format!(in alloc; "{bytes:?}") {
-        Ok(printed) => printed.as_str() == text,
-        Err(_) => false,
-    }
-}
 
 #[test]
 fn bytes_that_are_no_text_are_kept_and_printed_as_a_list(rt: HostRuntime) -> Result<(), Fail> {
@@ -21,11 +13,11 @@ fn bytes_that_are_no_text_are_kept_and_printed_as_a_list(rt: HostRuntime) -> Res
     let same = Unvalidated::from_utf8_unchecked([0, 0x41, 0]);
     let refused = Err(ParseError::ContainsNull);
     assert!(rt; bytes == same && bytes.try_into_tinystr() == refused);
-    assert!(rt; are_printed(rt.alloc(), bytes, "[0, 65, 0]"));
+    assert!(rt; is_printed(format!(in rt.alloc(); "{bytes:?}"), "[0, 65, 0]"));
     let bytes = Unvalidated::from_utf8_unchecked([0, 0x41, 0, 0xFF, 9]);
-    assert!(rt; are_printed(rt.alloc(), bytes, "[0, 65, 0, 255, 9]"));
+    assert!(rt; is_printed(format!(in rt.alloc(); "{bytes:?}"), "[0, 65, 0, 255, 9]"));
     let bytes = Unvalidated::from_utf8_unchecked(*b"caf\xe9");
-    assert!(rt; are_printed(rt.alloc(), bytes, "[99, 97, 102, 233]"));
+    assert!(rt; is_printed(format!(in rt.alloc(); "{bytes:?}"), "[99, 97, 102, 233]"));
     Ok(())
 }
 
@@ -51,7 +43,7 @@ fn bytes_that_are_a_text_become_it(rt: HostRuntime) -> Result<(), Fail> {
     ] {
         assert!(rt; made == bytes, "{made:?}");
     }
-    assert!(rt; are_printed(rt.alloc(), bytes, "\"ab\""));
+    assert!(rt; is_printed(format!(in rt.alloc(); "{bytes:?}"), "\"ab\""));
     Ok(())
 }
 
@@ -93,8 +85,13 @@ fn values_are_made_by_traits(rt: HostRuntime) -> Result<(), Fail> {
 fn no_bytes_are_the_empty_text(rt: HostRuntime) -> Result<(), Fail> {
     let none = Unvalidated::<0>::default();
     assert!(rt; none.try_into_tinystr() == Ok(TinyAsciiStr::default()));
-    assert!(rt; are_printed(rt.alloc(), none, "\"\""));
-    assert!(rt; are_printed(rt.alloc(), Unvalidated::<4>::default(), "\"\""));
+    assert!(rt; is_printed(format!(in rt.alloc(); "{none:?}"), "\"\""));
+    assert!(rt;
+        is_printed(
+            format!(in rt.alloc(); "{:?}", Unvalidated::<4>::default()),
+            "\"\""
+        )
+    );
     Ok(())
 }
 
@@ -135,6 +132,11 @@ fn any_bytes_are_ordered_byte_by_byte(rt: HostRuntime) {
 #[test]
 fn control_characters_are_printed_escaped(rt: HostRuntime) -> Result<(), Fail> {
     let bytes = TinyAsciiStr::<4>::try_from_utf8(b"\x01\x1B\n\x7F")?.to_unvalidated();
-    assert!(rt; are_printed(rt.alloc(), bytes, r#""\u{1}\u{1b}\n\u{7f}""#));
+    assert!(rt;
+        is_printed(
+            format!(in rt.alloc(); "{bytes:?}"),
+            r#""\u{1}\u{1b}\n\u{7f}""#
+        )
+    );
     Ok(())
 }
