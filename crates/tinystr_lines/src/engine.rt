@@ -1,6 +1,6 @@
 //! Reading the input, answering its lines, writing the output.
 
-ghost use Rattle.std.specs.Prelude.{◌≡◌, ◌+◌, ◌≤◌, ℕ, List, [], ◌∷◌, ◌++◌, ◌≢◌, OnOk, IfOk, OnErr, IfErr, IfSome, IsErrOf, false, is_some, length, take};
+ghost use Rattle.std.specs.Prelude.{◌≡◌, ◌+◌, ◌<◌, ◌≤◌, ℕ, List, [], ◌∷◌, ◌++◌, ◌≢◌, OnOk, IfOk, OnErr, IfErr, IfSome, IsErrOf, false, is_some, length, take};
 ghost use Rattle.std.specs.List.{list_any};
 ghost use Rattle.std.specs.Vec.{vec_len};
 ghost use Rattle.std.specs.Io.KnownBytes.{Keeps, Appends, Consumes, IsAtEnd};
@@ -97,6 +97,7 @@ fn keep(begun: &mut Vec<u8>, bytes: &[u8]) -> Result<(), Refused>
     ensures items { OnOk result (begun.new.items ≡ begun.old.items ++ bytes.now) }
     ensures len { OnOk result (vec_len begun.new ≡ vec_len begun.old + length bytes.now) }
     ensures fault { IfErr result (λ e. e ≡ Refused.Input) }
+    ensures unchanged { OnErr result (vec_len begun.new ≡ vec_len begun.old) }
 {
     begun.extend_from_slice(bytes).or(Err(Refused::Input))
 }
@@ -114,6 +115,9 @@ fn push_output_of_piece(out: &mut Vec<u8>, begun: &mut Vec<u8>, piece: &[u8]) ->
     // No more than a line is begun.
     ensures line { OnOk result (list_any is_line_feed begun.old.items ≡ false
         → list_any is_line_feed begun.new.items ≡ false) }
+    // Where memory for input is refused, nothing of the piece is kept. Where memory for a reply is, the piece's lines are.
+    ensures input { IfErr result (λ e. e ≡ Refused.Input → vec_len begun.new ≤ vec_len begun.old) }
+    ensures reply { IfErr result (λ e. e ≡ Refused.Reply → vec_len begun.old < vec_len begun.new) }
 {
     let Some((lines, rest)) = split_behind_last_line(piece) else {
         return keep(begun, piece);
@@ -145,6 +149,18 @@ fn read_on<R: Read>(reader: &mut R, begun: Vec<u8>, piece: &mut [u8]) -> RunErro
     }
 }
 
+// Why a run fails where memory was refused: for input in one step, and for a reply after reading to the end.
+#[cold]
+fn failure<R: Read>(refused: Refused, reader: &mut R, begun: Vec<u8>, piece: &mut [u8]) -> RunError
+    ensures input { refused ≡ Refused.Input → result ≡ RunError.Memory }
+    ensures fault { result ≢ RunError.Write }
+{
+    match refused {
+        Refused::Input => RunError::Memory,
+        Refused::Reply => read_on(reader, begun, piece),
+    }
+}
+
 // Reads all that the reader has, and gives its output.
 fn read_output<R: Read>(alloc: Global, reader: &mut R) -> Result<Vec<u8>, RunError>
     ensures output { IfOk result (λ out. (input : List ℕ)
@@ -164,10 +180,9 @@ fn read_output<R: Read>(alloc: Global, reader: &mut R) -> Result<Vec<u8>, RunErr
             }
             Ok(count) => match push_output_of_piece(&mut out, &mut begun, &piece[..count]) {
                 Ok(()) => continue,
-                Err(Refused::Input) => return Err(RunError::Memory),
-                Err(Refused::Reply) => {
+                Err(refused) => {
                     drop(out);
-                    return Err(read_on(reader, begun, &mut piece));
+                    return Err(failure(refused, reader, begun, &mut piece));
                 }
             },
             Err(_) => return Err(RunError::Read),
