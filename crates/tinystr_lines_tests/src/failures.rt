@@ -236,3 +236,25 @@ fn a_run_that_writes_nothing_flushes(rt: HostRuntime) {
     assert!(rt; matches!(outcome, Err(RunError::Write)));
     assert!(rt; writer.writes == 0 && writer.flushes == 1);
 }
+
+/// Keeps how many bytes its longest read has room for, and has no bytes.
+#[derive(Drop)]
+struct MeasuringReader {
+    longest: usize,
+}
+
+impl Read for MeasuringReader {
+    fn read(&mut self, buf: &mut [u8]) -> io::Result<usize> {
+        self.longest = self.longest.max(buf.len());
+        Ok(0)
+    }
+}
+
+#[test]
+fn a_read_has_room_for_65536_bytes(rt: HostRuntime) -> Result<(), Fail> {
+    let mut reader = MeasuringReader { longest: 0 };
+    let mut out = Vec::new(rt.alloc());
+    run(rt.alloc(), &mut reader, &mut out)?;
+    assert!(rt; reader.longest == 65_536);
+    Ok(())
+}
