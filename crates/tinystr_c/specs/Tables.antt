@@ -33,29 +33,31 @@ pub record ChecksTable (r : TinystrResult) (bytes : List ℕ) (n : ℕ) : Type 0
   pub count : r.code ≡ OK → r.value ≡ length bytes / n
   pub fault : r.code ≢ OK → (e : UleError) × RefusesRecords e bytes n × (r ≡ records_answer e)
 
--- the number of records, or the fault, or the first that isn't above the one before it
+-- the number of records; or the fault; or, where there is none, the first that isn't above the one before it
 pub record ChecksSorted (r : TinystrResult) (bytes : List ℕ) (n : ℕ) : Type 0 where
   pub accepted : (r.code ≡ OK) ↔ ((texts : List (List ℕ)) × ArePackedRising texts bytes n)
   pub count : r.code ≡ OK → r.value ≡ length bytes / n
   pub fault : r.code ≢ OK → r.code ≢ NOT_RISING → (e : UleError) × RefusesRecords e bytes n × (r ≡ records_answer e)
   pub falls : r.code ≡ NOT_RISING → (packed : IsPacked bytes n) × IsFirstFall packed.texts r.value
 
--- the number of entries, or the fault
+-- the number of entries, or the fault: of the keys, then of their order, then of the values
 pub record ChecksMap (r : TinystrResult) (keys values : List ℕ) (n m : ℕ) : Type 0 where
   pub accepted : (r.code ≡ OK) ↔ ((entries : List (List ℕ × List ℕ)) × ArePacked entries keys values n m)
   pub count : r.code ≡ OK → r.value ≡ length keys / n
   pub fault : r.code ≢ OK → (e : MapError) × RefusesMap e keys values n m × (r ≡ map_answer e)
 
--- the key is refused; or the answer is an index or a place in the bytes, whatever they are, and where they are packed
--- records that rise, it is the key's
+-- the key is rejected; or the answer is an index or a place in the bytes, whatever they are, and where they are packed
+-- records that are strictly ascending, it is the key's
 pub record Searches (r : TinystrResult) (bytes key : List ℕ) (n : ℕ) : Type 0 where
   pub refused : ¬ IsStrictText key n → r ≡ fault_answer (fault_in n key) key
   pub answered : IsStrictText key n → (s : Result ℕ ℕ) × (r ≡ search_answer s)
       × IfOk s (λ index. index < length bytes / n) × IfErr s (λ place. place ≤ length bytes / n)
       × ((texts : List (List ℕ)) → ArePackedRising texts bytes n → IsSearched key texts s)
 
--- the keys are refused, or there is no room for their answers, and nothing is changed; or each key has its own answer, and
--- what is behind the answers isn't changed
+-- the keys are rejected, or they are packed and there is no room for their answers, and nothing is changed; or each key has
+-- an answer that Searches allows, and what is after the answers isn't changed. Where the bytes are packed records that are
+-- strictly ascending, Searches allows one; else any place inside them, so that the answer may differ from that of a search
+-- for the key alone
 pub record SearchesEach (r : TinystrResult) (old new : List TinystrResult) (bytes keys : List ℕ) (n : ℕ) : Type 0 where
   pub refused : ¬ IsPacked keys n → (e : UleError) × RefusesRecords e keys n × (r ≡ records_answer e) × (new ≡ old)
   pub no_room : IsPacked keys n → length old < length keys / n → (r ≡ answer NO_ROOM (length keys / n)) × (new ≡ old)
@@ -64,8 +66,8 @@ pub record SearchesEach (r : TinystrResult) (old new : List TinystrResult) (byte
       × ((i : ℕ) → i < length keys / n → Searches (slice_index_or new i (answer 0 0)) bytes (text_at packed.texts i) n)
       × (drop (length keys / n) new ≡ drop (length keys / n) old)
 
--- the beginning is refused; or the answer is a range in the bytes, whatever they are, and where they are packed records that
--- rise, it is that of the texts that begin so, from the beginning's own place on
+-- the beginning is rejected; or the answer is a range in the bytes, whatever they are, and where they are packed records that
+-- are strictly ascending, it is that of the texts that begin so, from the beginning's own place on
 pub record FindsPrefix (r : TinystrRange) (bytes beginning : List ℕ) (n : ℕ) : Type 0 where
   pub refused : ¬ IsStrictText beginning n → r ≡ no_range (fault_code (fault_in n beginning))
   pub accepted : IsStrictText beginning n → r.code ≡ OK

@@ -17,7 +17,8 @@ use Rattle.tinystr_c.specs.declared.answer.TinystrResult.{TinystrResult}
 abbrev pub is_langid : List ℕ → Bool
 is_langid u = is_lang_id (subtags_of (fold_text u))
 
--- the length of the canonical text, where it is a language identifier, and whether there is room for it
+-- the length of the canonical text, where it is a language identifier, and whether there is room for it; else why it is none,
+-- whatever room there is
 abbrev pub langid_answer : List ℕ → ℕ → TinystrResult
 langid_answer u room =
     if is_langid u
@@ -30,7 +31,7 @@ langid_bytes u old =
     then (if nat_le (length (canonical_text u)) (length old) then pad (canonical_text u) (length old) else old)
     else old
 
--- ---- texts of a capacity, which is at most 16
+-- ---- texts of a capacity, which is at most 16: the capacity is checked before the text
 
 abbrev pub read_answer : List ℕ → ℕ → TinystrResult
 read_answer u capacity =
@@ -57,7 +58,7 @@ question_of k =
 abbrev pub case_of : ℕ → Option Case
 case_of k = if k == 0 then Some Lower else (if k == 1 then Some Title else (if k == 2 then Some Upper else None))
 
--- the text, or the answer where there is none
+-- the text, or the answer where there is none, whatever the question or the case is
 abbrev pub padded_read : List ℕ → Result (List ℕ) TinystrResult
 padded_read bytes =
     if nat_lt 16 (length bytes)

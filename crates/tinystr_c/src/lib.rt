@@ -73,7 +73,7 @@ pub extern "C" fn tinystr_table_check(bytes: &[u8], capacity: usize) -> TinystrR
     crate::at_capacity!(capacity, table_check, answer(BAD_ARGUMENT, capacity), bytes)
 }
 
-/// Whether bytes are packed records of `capacity` bytes, and each text is above the one before it.
+/// Whether bytes are packed records of `capacity` bytes, and strictly ascending: each text is above the one before it.
 #[unsafe(no_mangle)]
 pub extern "C" fn tinystr_sorted_check(bytes: &[u8], capacity: usize) -> TinystrResult
     ensures capacity { ¬ IsCapacity capacity → result ≡ answer BAD_ARGUMENT capacity }
@@ -87,8 +87,8 @@ pub extern "C" fn tinystr_sorted_check(bytes: &[u8], capacity: usize) -> Tinystr
     )
 }
 
-/// The index of a text among packed records that rise, or the index at which it belongs. The records aren't checked
-/// again.
+/// The index of a text among packed records that are strictly ascending, or the index at which it belongs. The records
+/// aren't checked again: of any other bytes it is a place inside them.
 #[unsafe(no_mangle)]
 pub extern "C" fn tinystr_sorted_search(bytes: &[u8], capacity: usize, key: &[u8]) -> TinystrResult
     ensures capacity { ¬ IsCapacity capacity → result ≡ answer BAD_ARGUMENT capacity }
@@ -103,8 +103,10 @@ pub extern "C" fn tinystr_sorted_search(bytes: &[u8], capacity: usize, key: &[u8
     )
 }
 
-/// What `tinystr_sorted_search` answers for each of some keys, which are packed records too, at the start of `out`. Any code
-/// but OK leaves `out` as it was, and OK what is behind the answers.
+/// Puts an answer for each of some keys, which are packed records too, at the start of `out`. Of packed records that are
+/// strictly ascending it is that of `tinystr_sorted_search`. The records aren't checked again: of any other bytes it is a
+/// place inside them, which may differ from what `tinystr_sorted_search` returns. Any code but OK leaves `out` as it was,
+/// and OK leaves what is after the answers.
 #[unsafe(no_mangle)]
 pub extern "C" fn tinystr_sorted_search_each(
     bytes: &[u8],
@@ -125,7 +127,8 @@ pub extern "C" fn tinystr_sorted_search_each(
     )
 }
 
-/// The range of the texts with a prefix, among packed records that rise. The records aren't checked again.
+/// The range of the texts with a prefix, among packed records that are strictly ascending. The records aren't checked again:
+/// of any other bytes it is a range inside them.
 #[unsafe(no_mangle)]
 pub extern "C" fn tinystr_sorted_prefix(
     bytes: &[u8],
@@ -144,7 +147,7 @@ pub extern "C" fn tinystr_sorted_prefix(
     )
 }
 
-/// Whether bytes are the packed keys, which rise, and the values of `value_size` bytes of a map.
+/// Whether bytes are the packed keys of a map, which are strictly ascending, and its values of `value_size` bytes.
 #[unsafe(no_mangle)]
 pub extern "C" fn tinystr_map_check(
     keys: &[u8],
