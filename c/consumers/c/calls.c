@@ -32,6 +32,10 @@ static int are_filled(const tinystr_result *out, size_t start, size_t end) {
     while (start < end && is(out[start], 77, 77)) start++;
     return start == end;
 }
+static int are_sevens(const uint8_t *out, size_t len) {
+    while (len > 0 && out[len - 1] == 7) len--;
+    return len == 0;
+}
 
 static void langids(void) {
     static const char longest[] = "abcdefgh-Latn-419";
@@ -175,6 +179,115 @@ static void many_keys(void) {
     CHECK(are_filled(out, 0, ROOM));
 }
 
+/* Two conditions or more hold at once: a call returns the code of the check that the header lists first. Of the bytes that
+ * a call may write none is changed. */
+static void orders_of_texts(void) {
+    static const char faulty[] = "a\0b\xff" "efghijklmnopqrst";
+    uint8_t out[20];
+    memset(out, 7, sizeof out);
+    /* the language, the later subtags, the room */
+    CHECK(is(tinystr_langid(bytes("e-x"), 3, out, sizeof out), TINYSTR_INVALID_LANGUAGE, 0));
+    CHECK(is(tinystr_langid(bytes("e-x"), 3, out, 0), TINYSTR_INVALID_LANGUAGE, 0));
+    CHECK(is(tinystr_langid(bytes("e"), 1, out, 0), TINYSTR_INVALID_LANGUAGE, 0));
+    CHECK(is(tinystr_langid(bytes("en-x"), 4, out, 0), TINYSTR_INVALID_SUBTAG, 0));
+    CHECK(is(tinystr_langid(bytes("en-US-x"), 7, out, 4), TINYSTR_INVALID_SUBTAG, 0));
+    /* the capacity, the number of bytes, the bytes */
+    CHECK(is(tinystr_read(bytes(faulty), 18, out, 17), TINYSTR_BAD_ARGUMENT, 17));
+    CHECK(is(tinystr_read(bytes("a\0b"), 3, out, 17), TINYSTR_BAD_ARGUMENT, 17));
+    CHECK(is(tinystr_read(bytes("a\xff"), 2, out, 18), TINYSTR_BAD_ARGUMENT, 18));
+    CHECK(is(tinystr_read(bytes(faulty), 17, out, 16), TINYSTR_TOO_LONG, 17));
+    CHECK(is(tinystr_read(bytes("a\0b"), 3, out, 2), TINYSTR_TOO_LONG, 3));
+    CHECK(is(tinystr_read(bytes("a\xff" "b"), 3, out, 2), TINYSTR_TOO_LONG, 3));
+    CHECK(is(tinystr_read(bytes("\0"), 1, out, 0), TINYSTR_TOO_LONG, 1));
+    /* of the bytes the first that is above 127, or is a character after a NUL; and else a NUL at the end */
+    CHECK(is(tinystr_read(bytes(faulty), 4, out, 4), TINYSTR_NUL, 1));
+    CHECK(is(tinystr_read(bytes("a\xff\0b"), 4, out, 4), TINYSTR_NON_ASCII, 1));
+    CHECK(is(tinystr_read(bytes("a\0\xff" "b"), 4, out, 4), TINYSTR_NON_ASCII, 2));
+    CHECK(is(tinystr_read(bytes("ab\0\0"), 4, out, 4), TINYSTR_NUL, 2));
+    /* the number of bytes, the bytes, the question */
+    CHECK(is(tinystr_ask(bytes(faulty), 17, 0), TINYSTR_BAD_ARGUMENT, 17));
+    CHECK(is(tinystr_ask(bytes(faulty), 17, 9), TINYSTR_BAD_ARGUMENT, 17));
+    CHECK(is(tinystr_ask(bytes("abcdefghijklmnopq"), 17, 9), TINYSTR_BAD_ARGUMENT, 17));
+    CHECK(is(tinystr_ask(bytes(faulty), 16, 9), TINYSTR_NUL, 1));
+    CHECK(is(tinystr_ask(bytes("a\0b"), 3, 9), TINYSTR_NUL, 1));
+    CHECK(is(tinystr_ask(bytes("a\xff\0b"), 4, UINT32_MAX), TINYSTR_NON_ASCII, 1));
+    CHECK(is(tinystr_ask(bytes("a\0\xff"), 3, 0), TINYSTR_NON_ASCII, 2));
+    CHECK(is(tinystr_ask(bytes("a\0\0"), 3, 9), TINYSTR_BAD_ARGUMENT, 9));
+    CHECK(are_sevens(out, sizeof out));
+    /* the number of bytes, the bytes, the case */
+    memcpy(out, faulty, sizeof out);
+    CHECK(is(tinystr_change_case(out, 17, TINYSTR_UPPER), TINYSTR_BAD_ARGUMENT, 17));
+    CHECK(is(tinystr_change_case(out, 17, 3), TINYSTR_BAD_ARGUMENT, 17));
+    CHECK(is(tinystr_change_case(out + 4, 16, 3), TINYSTR_BAD_ARGUMENT, 3));
+    CHECK(is(tinystr_change_case(out, 16, 3), TINYSTR_NUL, 1));
+    CHECK(is(tinystr_change_case(out, 3, UINT32_MAX), TINYSTR_NUL, 1));
+    CHECK(is(tinystr_change_case(out + 1, 1, 3), TINYSTR_BAD_ARGUMENT, 3));
+    CHECK(is(tinystr_change_case(out + 3, 2, 3), TINYSTR_NON_ASCII, 0));
+    CHECK(!memcmp(out, faulty, sizeof out));
+}
+
+static void orders_of_tables(void) {
+    /* at capacity 3: a length that 3 doesn't divide, a NUL and a byte above 127, and texts that aren't ascending */
+    static const char length[] = "JPYE\0RE\xff" "RAB", nul[] = "JPYEURE\0R", non_ascii[] = "JPYEURE\xff" "R";
+    tinystr_result out[3];
+    fill(out, 3);
+    /* the capacity, the number of bytes, the first record that isn't a padded text */
+    CHECK(is(tinystr_table_check(bytes(length), 11, 5), TINYSTR_BAD_ARGUMENT, 5));
+    CHECK(is(tinystr_table_check(bytes(nul), 9, 9), TINYSTR_BAD_ARGUMENT, 9));
+    CHECK(is(tinystr_table_check(bytes(non_ascii), 9, 1), TINYSTR_BAD_ARGUMENT, 1));
+    CHECK(is(tinystr_table_check(bytes(length), 11, 3), TINYSTR_BAD_LENGTH, 11));
+    CHECK(is(tinystr_table_check(bytes(length), 9, 3), TINYSTR_NUL, 1));
+    CHECK(is(tinystr_table_check(bytes("EURE\xffRE\0R"), 9, 3), TINYSTR_NON_ASCII, 1));
+    CHECK(is(tinystr_table_check(bytes("EURE\0\xff"), 6, 3), TINYSTR_NON_ASCII, 1));
+    CHECK(is(tinystr_table_check(bytes("EUR\0A\xff"), 6, 3), TINYSTR_NUL, 1));
+    /* these, and then the order of the texts */
+    CHECK(is(tinystr_sorted_check(bytes(length), 11, 5), TINYSTR_BAD_ARGUMENT, 5));
+    CHECK(is(tinystr_sorted_check(bytes("JPYEUR"), 6, 6), TINYSTR_BAD_ARGUMENT, 6));
+    CHECK(is(tinystr_sorted_check(bytes(length), 11, 3), TINYSTR_BAD_LENGTH, 11));
+    CHECK(is(tinystr_sorted_check(bytes("JPYEURA"), 7, 3), TINYSTR_BAD_LENGTH, 7));
+    CHECK(is(tinystr_sorted_check(bytes(nul), 9, 3), TINYSTR_NUL, 2));
+    CHECK(is(tinystr_sorted_check(bytes(non_ascii), 9, 3), TINYSTR_NON_ASCII, 2));
+    /* the capacity, the number of the key's bytes, the key's bytes; the records aren't checked */
+    CHECK(is(tinystr_sorted_search(bytes(length), 11, 5, bytes("E\0RO\xffX"), 6), TINYSTR_BAD_ARGUMENT, 5));
+    CHECK(is(tinystr_sorted_search(bytes("EURJPY"), 6, 0, bytes("E\0R"), 3), TINYSTR_BAD_ARGUMENT, 0));
+    CHECK(is(tinystr_sorted_search(bytes("EURJPY"), 6, 1, bytes("\xff"), 1), TINYSTR_BAD_ARGUMENT, 1));
+    CHECK(is(tinystr_sorted_search(bytes(length), 11, 3, bytes("E\0RO"), 4), TINYSTR_TOO_LONG, 4));
+    CHECK(is(tinystr_sorted_search(bytes(nul), 9, 3, bytes("E\xffRO"), 4), TINYSTR_TOO_LONG, 4));
+    CHECK(is(tinystr_sorted_search(bytes(length), 11, 3, bytes("\0E\xff"), 3), TINYSTR_NUL, 0));
+    CHECK(is(tinystr_sorted_search(bytes(length), 11, 3, bytes("\0\xff" "E"), 3), TINYSTR_NON_ASCII, 1));
+    CHECK(is_range(tinystr_sorted_prefix(bytes(length), 11, 5, bytes("E\0RO\xffX"), 6), TINYSTR_BAD_ARGUMENT, 0, 0));
+    CHECK(is_range(tinystr_sorted_prefix(bytes("EURJPY"), 6, 0, bytes("E\0R"), 3), TINYSTR_BAD_ARGUMENT, 0, 0));
+    CHECK(is_range(tinystr_sorted_prefix(bytes("EURJPY"), 6, 1, bytes("\xff"), 1), TINYSTR_BAD_ARGUMENT, 0, 0));
+    CHECK(is_range(tinystr_sorted_prefix(bytes(length), 11, 3, bytes("E\0RO"), 4), TINYSTR_TOO_LONG, 0, 0));
+    CHECK(is_range(tinystr_sorted_prefix(bytes(nul), 9, 3, bytes("E\xffRO"), 4), TINYSTR_TOO_LONG, 0, 0));
+    CHECK(is_range(tinystr_sorted_prefix(bytes(length), 11, 3, bytes("\0E\xff"), 3), TINYSTR_NUL, 0, 0));
+    CHECK(is_range(tinystr_sorted_prefix(bytes(length), 11, 3, bytes("\0\xff" "E"), 3), TINYSTR_NON_ASCII, 0, 0));
+    /* the capacity, the number of the keys' bytes, the first key that isn't a padded text, the room */
+    CHECK(is(tinystr_sorted_search_each(bytes(length), 11, 5, bytes(length), 11, out, 0), TINYSTR_BAD_ARGUMENT, 5));
+    CHECK(is(tinystr_sorted_search_each(bytes("EURJPY"), 6, 1, bytes("EUR"), 3, out, 2), TINYSTR_BAD_ARGUMENT, 1));
+    CHECK(is(tinystr_sorted_search_each(bytes("EURJPY"), 6, 9, bytes(nul), 9, out, 0), TINYSTR_BAD_ARGUMENT, 9));
+    CHECK(is(tinystr_sorted_search_each(bytes("EURJPY"), 6, 3, bytes(length), 11, out, 0), TINYSTR_BAD_LENGTH, 11));
+    CHECK(is(tinystr_sorted_search_each(bytes("EURJPY"), 6, 3, bytes(length), 11, out, 3), TINYSTR_BAD_LENGTH, 11));
+    CHECK(is(tinystr_sorted_search_each(bytes("EURJPY"), 6, 3, bytes("EURJP"), 5, out, 0), TINYSTR_BAD_LENGTH, 5));
+    CHECK(is(tinystr_sorted_search_each(bytes("EURJPY"), 6, 3, bytes(nul), 9, out, 2), TINYSTR_NUL, 2));
+    CHECK(is(tinystr_sorted_search_each(bytes("EURJPY"), 6, 3, bytes(non_ascii), 9, out, 0), TINYSTR_NON_ASCII, 2));
+    CHECK(is(tinystr_sorted_search_each(bytes(length), 11, 3, bytes("EURJPYCHF"), 9, out, 2), TINYSTR_NO_ROOM, 3));
+    CHECK(are_filled(out, 0, 3));
+    /* the capacity, the size, the keys as tinystr_sorted_check, the values */
+    CHECK(is(tinystr_map_check(bytes(length), 11, 5, bytes(""), 0, 3), TINYSTR_BAD_ARGUMENT, 5));
+    CHECK(is(tinystr_map_check(bytes(nul), 9, 9, bytes(""), 0, 1), TINYSTR_BAD_ARGUMENT, 9));
+    CHECK(is(tinystr_map_check(bytes(length), 11, 3, bytes(""), 0, 3), TINYSTR_BAD_ARGUMENT, 3));
+    CHECK(is(tinystr_map_check(bytes(nul), 9, 3, bytes(""), 0, 0), TINYSTR_BAD_ARGUMENT, 0));
+    CHECK(is(tinystr_map_check(bytes(non_ascii), 9, 3, bytes("\2"), 1, 16), TINYSTR_BAD_ARGUMENT, 16));
+    CHECK(is(tinystr_map_check(bytes("JPYEUR"), 6, 3, bytes("\2\0\0\0\0\0"), 6, 5), TINYSTR_BAD_ARGUMENT, 5));
+    CHECK(is(tinystr_map_check(bytes("EURJPY"), 6, 3, bytes("\2"), 1, 6), TINYSTR_BAD_ARGUMENT, 6));
+    CHECK(is(tinystr_map_check(bytes(length), 11, 3, bytes("\2"), 1, 2), TINYSTR_BAD_LENGTH, 11));
+    CHECK(is(tinystr_map_check(bytes("JPYEURA"), 7, 3, bytes("\2"), 1, 8), TINYSTR_BAD_LENGTH, 7));
+    CHECK(is(tinystr_map_check(bytes(nul), 9, 3, bytes("\2"), 1, 1), TINYSTR_NUL, 2));
+    CHECK(is(tinystr_map_check(bytes(non_ascii), 9, 3, bytes("\2"), 1, 4), TINYSTR_NON_ASCII, 2));
+    CHECK(is(tinystr_map_check(bytes("JPYEUR"), 6, 3, bytes("\2"), 1, 1), TINYSTR_NOT_RISING, 1));
+}
+
 /* A search for a text ends inside the records. */
 static int is_inside(tinystr_result r, size_t records) {
     return (r.code == TINYSTR_OK && r.value < records) || (r.code == TINYSTR_NOT_FOUND && r.value <= records);
@@ -254,6 +367,8 @@ int main(void) {
     questions();
     tables();
     many_keys();
+    orders_of_texts();
+    orders_of_tables();
     unchecked_tables();
     falling_tables();
     broken_calls();
