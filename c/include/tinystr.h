@@ -4,22 +4,22 @@
  * function allocates, keeps anything between calls, calls back, or fails but by the code that it returns.
  *
  * What the caller owes, and no call tests
- *   - A pointer and the number of bytes after it name bytes of one object, which may be read; those of `out`, and of the
- *     `text` of tinystr_change_case, may be written too. The number is at most SSIZE_MAX. A pointer to results and the number
- *     after it name this number of results, in at most SSIZE_MAX bytes.
+ *   - A pointer and the number of bytes after it name bytes of one object, which may be read; those of `out`, and of
+ *     the `text` of tinystr_change_case, may be written too. The number is at most SSIZE_MAX. A pointer to results and
+ *     the number after it name this number of results, in at most SSIZE_MAX bytes.
  *   - A pointer isn't NULL, not even where the number is 0.
  *   - No byte that a call may write is a byte that another argument names: `out` overlaps no input.
  *   - While the call runs, no other thread writes these bytes, or reads those that the call may write. Then any calls may
  *     run at once, in signal handlers too.
- * A table that was never checked, or was changed since, breaks nothing: a search returns a place inside it, which may be the
- * wrong one.
+ * A table that was never checked, or was changed since, breaks nothing: a search returns a place inside it, which may
+ * be the wrong one.
  *
  * Order of checks
- *   Below, each function lists first OK, and NOT_FOUND, which it returns if no check fails, and then the codes of its checks,
- *   in their order. It returns the code of the first check that fails.
- *   NUL and NON_ASCII are one check. It finds the first byte that is above 127, or is a character after a NUL, and the code is
- *   NON_ASCII if this byte is above 127, and NUL otherwise. If there is no such byte, bytes that end with a NUL are a padded
- *   text, and the code is NUL if the function accepts none.
+ *   Below, each function lists first OK, and NOT_FOUND, which it returns if no check fails, and then the codes of its
+ *   checks, in their order. It returns the code of the first check that fails.
+ *   NUL and NON_ASCII are one check. It finds the first byte that is above 127, or is a character after a NUL. The code
+ *   is NON_ASCII if this byte is above 127, and NUL otherwise. If there is no such byte, but a NUL at the end, the bytes
+ *   are a padded text, and the code is NUL if the function accepts only a text.
  *
  * Words
  *   text          bytes from 1 to 127, none or more
@@ -78,8 +78,8 @@ enum tinystr_case {
     TINYSTR_UPPER = 2
 };
 
-/* A code, and a number: 0, or what the function says. If a text is rejected, it is the number of bytes with TOO_LONG, the
- * index of the first NUL with NUL, and that of the first byte above 127 with NON_ASCII. */
+/* A code, and a number: 0, or what the function says. If a text is rejected, it is the number of bytes with TOO_LONG,
+ * the index of the first NUL with NUL, and that of the first byte above 127 with NON_ASCII. */
 typedef struct tinystr_result {
     size_t value;
     uint32_t code;
@@ -98,9 +98,9 @@ uint32_t tinystr_version(void);
 /* Room for each canonical text, and a NUL after it. */
 #define TINYSTR_LANGID_ROOM 18
 
-/* Reads a language identifier: a language of 2, 3 or 5 to 8 letters, and then a script of 4 letters, a region of 2 letters
- * or 3 digits, both or neither, in any case, with `-` or `_` between. Writes its canonical text, as zh-Hant-TW, and
- * NULs up to the end of `out`. Nothing is looked up in a registry.
+/* Reads a language identifier: a language of 2, 3 or 5 to 8 letters, and then a script of 4 letters, a region of 2
+ * letters or 3 digits, both or neither, in any case, with `-` or `_` between. Writes its canonical text, as zh-Hant-TW,
+ * and NULs up to the end of `out`. Nothing is looked up in a registry.
  *   OK                 value: the length of the text, at most 17. Where `out` is longer, it is a C string.
  *   INVALID_LANGUAGE
  *   INVALID_SUBTAG
@@ -131,8 +131,8 @@ tinystr_result tinystr_ask(const uint8_t *text, size_t text_len, uint32_t questi
  * With any code but OK, the bytes are as they were. */
 tinystr_result tinystr_change_case(uint8_t *text, size_t text_len, uint32_t letter_case);
 
-/* ---- Records. A capacity is 2, 3, 4, 8 or 16. Each function below checks this first. The code is BAD_ARGUMENT, and the value
- * of a tinystr_result is the capacity. */
+/* ---- Records. A capacity is 2, 3, 4, 8 or 16. Each function below checks this first: the code is BAD_ARGUMENT, and
+ * the value of a tinystr_result is the capacity. */
 
 /* Whether the bytes are records.
  *   OK                 value: how many.
@@ -144,8 +144,8 @@ tinystr_result tinystr_table_check(const uint8_t *bytes, size_t bytes_len, size_
  *   NOT_RISING         value: the index of the first record that isn't above the one before it. */
 tinystr_result tinystr_sorted_check(const uint8_t *bytes, size_t bytes_len, size_t capacity);
 
-/* Searches a text, without NULs after it, in strictly ascending records. The records aren't checked again: of any other bytes
- * it returns OK with the index of some record, or NOT_FOUND with an index from 0 to the number of records.
+/* Searches a text, without NULs after it, in strictly ascending records. The records aren't checked again: of any other
+ * bytes it returns OK with the index of some record, or NOT_FOUND with an index from 0 to the number of records.
  *   OK                 value: its index.
  *   NOT_FOUND          value: the index at which it is to be inserted.
  *   TOO_LONG           The key has more than `capacity` bytes.
@@ -153,12 +153,13 @@ tinystr_result tinystr_sorted_check(const uint8_t *bytes, size_t bytes_len, size
 tinystr_result tinystr_sorted_search(const uint8_t *bytes, size_t bytes_len, size_t capacity,
                                      const uint8_t *key, size_t key_len);
 
-/* Searches each of some keys in strictly ascending records. The keys are records of the same capacity, in any order, and are
- * checked. The records aren't checked again. For many keys among many records this takes less time than a search for each.
- *   OK                 value: how many keys. `out` begins with a result for each key. Of strictly ascending records it is the
- *                      result of tinystr_sorted_search: OK with the key's index, or NOT_FOUND with the index at which the key
- *                      is to be inserted. Of any other bytes it is a place inside them, as tinystr_sorted_search returns one,
- *                      but it may be another place.
+/* Searches each of some keys in strictly ascending records. The keys are records of the same capacity, in any order,
+ * and are checked. The records aren't checked again. For many keys among many records this takes less time than a
+ * search for each.
+ *   OK                 value: how many keys. `out` begins with a result for each key. Of strictly ascending records it
+ *                      is the result of tinystr_sorted_search: OK with the key's index, or NOT_FOUND with the index at
+ *                      which the key is to be inserted. Of any other bytes it is a place inside them too, which may
+ *                      differ from the one that tinystr_sorted_search returns.
  *   BAD_LENGTH         value: `keys_len`.
  *   NUL, NON_ASCII     value: the index of the first key that isn't a padded text.
  *   NO_ROOM            value: how many keys, which is above `out_len`.
@@ -167,8 +168,8 @@ tinystr_result tinystr_sorted_search_each(const uint8_t *bytes, size_t bytes_len
                                           const uint8_t *keys, size_t keys_len,
                                           tinystr_result *out, size_t out_len);
 
-/* Finds the texts that begin with a text, in strictly ascending records. The records aren't checked again: of any other bytes
- * it returns a range inside them, which may be the wrong one.
+/* Finds the texts that begin with a text, in strictly ascending records. The records aren't checked again: of any other
+ * bytes it returns a range inside them, which may be the wrong one.
  *   OK                 start: the index of the first, or at which `beginning` is to be inserted. count: how many.
  *   TOO_LONG           The beginning has more than `capacity` bytes.
  *   NUL, NON_ASCII     The beginning isn't a text.
@@ -176,8 +177,8 @@ tinystr_result tinystr_sorted_search_each(const uint8_t *bytes, size_t bytes_len
 tinystr_range tinystr_sorted_prefix(const uint8_t *bytes, size_t bytes_len, size_t capacity,
                                     const uint8_t *beginning, size_t beginning_len);
 
-/* Whether the keys are strictly ascending records, and the values are `value_size` bytes for each of them: 1, 2, 4 or 8. The
- * value of the key at an index, which tinystr_sorted_search finds, is at `values + index * value_size`.
+/* Whether the keys are strictly ascending records, and the values are `value_size` bytes for each of them: 1, 2, 4 or
+ * 8. The value of the key at an index, which tinystr_sorted_search finds, is at `values + index * value_size`.
  *   OK                 value: how many keys.
  *   BAD_ARGUMENT       value: `value_size`, which is none of these sizes.
  *   BAD_LENGTH, NUL, NON_ASCII, NOT_RISING   Of the keys, as tinystr_sorted_check returns.

@@ -179,8 +179,7 @@ static void many_keys(void) {
     CHECK(are_filled(out, 0, ROOM));
 }
 
-/* Two conditions or more hold at once: a call returns the code of the check that the header lists first. Of the bytes that
- * a call may write none is changed. */
+/* Where two checks or more fail, a call returns the code of the one that the header lists first, and writes nothing. */
 static void orders_of_texts(void) {
     static const char faulty[] = "a\0b\xff" "efghijklmnopqrst";
     uint8_t out[20];

@@ -54,10 +54,10 @@ pub record Searches (r : TinystrResult) (bytes key : List ℕ) (n : ℕ) : Type 
       × IfOk s (λ index. index < length bytes / n) × IfErr s (λ place. place ≤ length bytes / n)
       × ((texts : List (List ℕ)) → ArePackedRising texts bytes n → IsSearched key texts s)
 
--- the keys are rejected, or they are packed and there is no room for their answers, and nothing is changed; or each key has
--- an answer that Searches allows, and what is after the answers isn't changed. Where the bytes are packed records that are
--- strictly ascending, Searches allows one; else any place inside them, so that the answer may differ from that of a search
--- for the key alone
+-- the keys are rejected, or they are packed and there is no room for their answers, and nothing is changed; or each key
+-- has an answer that Searches allows, and what is after the answers isn't changed. Where the bytes are packed records
+-- that are strictly ascending, Searches allows one; else any place inside them, so that the answer may differ from that
+-- of a search for the key alone
 pub record SearchesEach (r : TinystrResult) (old new : List TinystrResult) (bytes keys : List ℕ) (n : ℕ) : Type 0 where
   pub refused : ¬ IsPacked keys n → (e : UleError) × RefusesRecords e keys n × (r ≡ records_answer e) × (new ≡ old)
   pub no_room : IsPacked keys n → length old < length keys / n → (r ≡ answer NO_ROOM (length keys / n)) × (new ≡ old)
@@ -66,8 +66,8 @@ pub record SearchesEach (r : TinystrResult) (old new : List TinystrResult) (byte
       × ((i : ℕ) → i < length keys / n → Searches (slice_index_or new i (answer 0 0)) bytes (text_at packed.texts i) n)
       × (drop (length keys / n) new ≡ drop (length keys / n) old)
 
--- the beginning is rejected; or the answer is a range in the bytes, whatever they are, and where they are packed records that
--- are strictly ascending, it is that of the texts that begin so, from the beginning's own place on
+-- the beginning is rejected; or the answer is a range in the bytes, whatever they are, and where they are packed
+-- records that are strictly ascending, it is that of the texts that begin so, from the beginning's own place on
 pub record FindsPrefix (r : TinystrRange) (bytes beginning : List ℕ) (n : ℕ) : Type 0 where
   pub refused : ¬ IsStrictText beginning n → r ≡ no_range (fault_code (fault_in n beginning))
   pub accepted : IsStrictText beginning n → r.code ≡ OK

@@ -17,8 +17,8 @@ use Rattle.tinystr_c.specs.declared.answer.TinystrResult.{TinystrResult}
 abbrev pub is_langid : List ℕ → Bool
 is_langid u = is_lang_id (subtags_of (fold_text u))
 
--- the length of the canonical text, where it is a language identifier, and whether there is room for it; else why it is none,
--- whatever room there is
+-- the length of the canonical text, where it is a language identifier, and whether there is room for it; else why it is
+-- none, whatever room there is
 abbrev pub langid_answer : List ℕ → ℕ → TinystrResult
 langid_answer u room =
     if is_langid u

@@ -103,10 +103,10 @@ pub extern "C" fn tinystr_sorted_search(bytes: &[u8], capacity: usize, key: &[u8
     )
 }
 
-/// Puts an answer for each of some keys, which are packed records too, at the start of `out`. Of packed records that are
-/// strictly ascending it is that of `tinystr_sorted_search`. The records aren't checked again: of any other bytes it is a
-/// place inside them, which may differ from what `tinystr_sorted_search` returns. Any code but OK leaves `out` as it was,
-/// and OK leaves what is after the answers.
+/// Puts an answer for each of some keys, which are packed records too, at the start of `out`. Of packed records that
+/// are strictly ascending it is that of `tinystr_sorted_search`. The records aren't checked again: of any other bytes
+/// it is a place inside them, which may differ from what `tinystr_sorted_search` returns. Any code but OK leaves `out`
+/// as it was, and OK leaves what is after the answers.
 #[unsafe(no_mangle)]
 pub extern "C" fn tinystr_sorted_search_each(
     bytes: &[u8],
@@ -127,8 +127,8 @@ pub extern "C" fn tinystr_sorted_search_each(
     )
 }
 
-/// The range of the texts with a prefix, among packed records that are strictly ascending. The records aren't checked again:
-/// of any other bytes it is a range inside them.
+/// The range of the texts with a prefix, among packed records that are strictly ascending. The records aren't checked
+/// again: of any other bytes it is a range inside them.
 #[unsafe(no_mangle)]
 pub extern "C" fn tinystr_sorted_prefix(
     bytes: &[u8],

@@ -52,8 +52,8 @@ pub fn sorted_check<const N: usize>(bytes: &[u8]) -> TinystrResult
     }
 }
 
-/// The index of a key among packed records that are strictly ascending, or the index at which it belongs. Of any other bytes
-/// it is a place inside them.
+/// The index of a key among packed records that are strictly ascending, or the index at which it belongs. Of any other
+/// bytes it is a place inside them.
 pub fn sorted_search<const N: usize>(bytes: &[u8], key: &[u8]) -> TinystrResult
     requires above { 0 < N }
     requires below { N ≤ 16 }
@@ -65,8 +65,8 @@ pub fn sorted_search<const N: usize>(bytes: &[u8], key: &[u8]) -> TinystrResult
     }
 }
 
-/// The range of the texts with a prefix, among packed records that are strictly ascending. Of any other bytes it is a range
-/// inside them.
+/// The range of the texts with a prefix, among packed records that are strictly ascending. Of any other bytes it is a
+/// range inside them.
 pub fn sorted_prefix<const N: usize>(bytes: &[u8], beginning: &[u8]) -> TinystrRange
     requires above { 0 < N }
     requires below { N ≤ 16 }

@@ -1,5 +1,6 @@
-//! Searches for many keys, eight at a time. Of packed records that are strictly ascending, each answer is that of a search for
-//! the key alone. Of any other bytes it is a place inside them, which may differ from that of a search for the key alone.
+//! Searches for many keys, eight at a time. Of packed records that are strictly ascending, each answer is that of a
+//! search for the key alone. Of any other bytes it is a place inside them, which may differ from that of a search for
+//! the key alone.
 
 ghost use Rattle.std.specs.Prelude.{◌≡◌, ◌<◌, ◌≤◌, ◌+◌, ◌^◌, ℕ, length, slice_index_or, All, Ok};
 ghost use Rattle.tinystr_words.specs.Text.{IsStrictText};
@@ -12,8 +13,8 @@ use crate::numbers::{NO_ROOM, OK};
 use tinystr::TinyAsciiStr;
 use tinystr_packed::{Table, in_place};
 
-/// The number of keys, whose answers are put at the start of `out`, or why there are none. The keys are checked before the
-/// room for their answers.
+/// The number of keys, whose answers are put at the start of `out`, or why there are none. The keys are checked before
+/// the room for their answers.
 pub fn sorted_search_each<const N: usize>(
     bytes: &[u8],
     keys: &[u8],
