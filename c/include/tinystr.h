@@ -131,8 +131,8 @@ tinystr_result tinystr_ask(const uint8_t *text, size_t text_len, uint32_t questi
  * With any code but OK, the bytes are as they were. */
 tinystr_result tinystr_change_case(uint8_t *text, size_t text_len, uint32_t letter_case);
 
-/* ---- Records. A capacity is 2, 3, 4, 8 or 16. Each function below checks this first: the code is BAD_ARGUMENT, and
- * the value of a tinystr_result is the capacity. */
+/* ---- Records. A capacity is 2, 3, 4, 8 or 16. Each function below checks this first. At any other capacity the code is
+ * BAD_ARGUMENT, and the value of a tinystr_result is the capacity. */
 
 /* Whether the bytes are records.
  *   OK                 value: how many.
