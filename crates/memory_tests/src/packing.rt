@@ -134,3 +134,87 @@ fn want_of_memory_for_counting(rt: HostRuntime) -> Result<(), Fail> {
     assert!(rt; counts.get(&twice) == Some(&2) && counts.get(&once) == Some(&1));
     Ok(())
 }
+
+// A vector that isn't made as long as its texts are grows several times.
+#[test]
+fn many_texts_are_packed_and_unpacked_by_one_allocation_each(rt: HostRuntime) -> Result<(), Fail> {
+    let given = [TinyAsciiStr::<2>::from_utf8_unchecked(*b"ab"); 100];
+    let packed = match pack(rt.alloc(), &given) {
+        Ok(made) => {
+            println!(rt; "many_packed given")?;
+            made
+        }
+        Err(_) => {
+            println!(rt; "many_packed refused")?;
+            pack(rt.alloc(), &given)?
+        }
+    };
+    let table = match Table::<2>::new(&packed) {
+        Ok(table) => table,
+        Err(_) => return Ok(assert!(rt; false)),
+    };
+    let texts = match unpack(rt.alloc(), &table) {
+        Ok(made) => {
+            println!(rt; "many_unpacked given")?;
+            made
+        }
+        Err(_) => {
+            println!(rt; "many_unpacked refused")?;
+            unpack(rt.alloc(), &table)?
+        }
+    };
+    assert!(rt; texts.as_slice() == given.as_slice());
+    Ok(())
+}
+
+// Values that are much longer than keys don't fit where as many bytes as the keys have were allocated for them.
+#[test]
+fn long_values_are_packed_by_one_allocation(rt: HostRuntime) -> Result<(), Fail> {
+    let mut map = BTreeMap::new(rt.alloc());
+    let [key, ..] = texts();
+    match map.insert(key, [1; 64]) {
+        Ok(_) => println!(rt; "map given")?,
+        Err(_) => {
+            println!(rt; "map refused")?;
+            map.insert(key, [1; 64])?;
+        }
+    }
+    let (keys, values) = match pack_map(rt.alloc(), &map) {
+        Ok(made) => {
+            println!(rt; "long_values given")?;
+            made
+        }
+        Err(_) => {
+            println!(rt; "long_values refused")?;
+            pack_map(rt.alloc(), &map)?
+        }
+    };
+    assert!(rt; keys.as_slice() == b"b\0".as_slice() && values.as_slice() == [1; 64].as_slice());
+    Ok(())
+}
+
+#[test]
+fn long_texts_are_packed_by_one_allocation(rt: HostRuntime) -> Result<(), Fail> {
+    let mut map = BTreeMap::new(rt.alloc());
+    let [key, ..] = texts();
+    let value = TinyAsciiStr::<64>::from_utf8_unchecked([b'a'; 64]);
+    match map.insert(key, value) {
+        Ok(_) => println!(rt; "map given")?,
+        Err(_) => {
+            println!(rt; "map refused")?;
+            map.insert(key, value)?;
+        }
+    }
+    let (keys, texts) = match pack_text_map(rt.alloc(), &map) {
+        Ok(made) => {
+            println!(rt; "long_texts given")?;
+            made
+        }
+        Err(_) => {
+            println!(rt; "long_texts refused")?;
+            pack_text_map(rt.alloc(), &map)?
+        }
+    };
+    assert!(rt; keys.as_slice() == b"b\0".as_slice() && texts.as_slice() == [b'a'; 64].as_slice());
+    Ok(())
+}
