@@ -39,8 +39,8 @@
 extern "C" {
 #endif
 
-/* Of this header: 10,000 times the first number, 100 times the second, and the third. 100 is 0.1.0. */
-#define TINYSTR_VERSION 100
+/* Of this header: 10,000 times the first number, 100 times the second, and the third. 200 is 0.2.0. */
+#define TINYSTR_VERSION 200
 
 /* The codes. A later version keeps their numbers, as it keeps those of the questions and cases. */
 enum tinystr_code {

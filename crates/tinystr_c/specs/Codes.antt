@@ -13,7 +13,7 @@ use Rattle.tinystr_c.specs.declared.answer.TinystrResult.{TinystrResult}
 use Rattle.tinystr_c.specs.declared.answer.TinystrRange.{TinystrRange}
 
 abbrev pub VERSION : ℕ
-VERSION = 100
+VERSION = 200
 
 -- ---- the codes
 
