@@ -1,4 +1,4 @@
-//! Language identifiers, read and printed: `cargo run --example language_tag -- zh_hant_tw en-latin`.
+//! Language identifiers, read and printed: `cargo run --bin language_tag -- zh_hant_tw en-latin`.
 
 use tinystr::subtags::LangId;
 

@@ -1,4 +1,4 @@
-//! A table of currencies, asked by their codes in any case: `cargo run --example currency_table -- eur jpy xyz`.
+//! A table of currencies, asked by their codes in any case: `cargo run --bin currency_table -- eur jpy xyz`.
 
 use std::collections::BTreeMap;
 use tinystr::{TinyAsciiStr, tinystr};

@@ -1,4 +1,4 @@
-//! A packed table, written to a file and opened from it: `cargo run --example packed_table -- zurich`.
+//! A packed table, written to a file and opened from it: `cargo run --bin packed_table -- zurich`.
 //!
 //! Its bytes are checked once, and then searched where they are.
 
