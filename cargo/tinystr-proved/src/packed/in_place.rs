@@ -38,11 +38,13 @@ pub fn search<const N: usize>(bytes: &[u8], key: &TinyAsciiStr<N>) -> Result<usi
     search_records(bytes.as_chunks().0, key)
 }
 
-/// What `search` gives for each of eight keys. `N` must be above 0.
+/// What `search` gives for each of eight keys, among packed records whose texts are strictly ascending. For any other bytes
+/// each answer is a place inside them, which may differ from that of `search`. `N` must be above 0.
 ///
-/// Among records of at most sixteen bytes they are searched for together, so that each search waits for memory while the
-/// others do, unless they are one key or two by turns. Keys in order are looked for a little behind the index `near` first,
-/// that of the last answer, say. `near` changes nothing but the time.
+/// Among records of at most sixteen bytes the keys are searched for together, so that each search waits for memory while the
+/// others do, unless they are one key or two alternating keys. Keys in order are looked for first in the records after the
+/// index `near`, that of the last answer, say. For packed records whose texts are strictly ascending, `near` changes only the
+/// time. For other bytes it may also change which place inside them is returned.
 ///
 /// ```
 /// use tinystr::tinystr;
