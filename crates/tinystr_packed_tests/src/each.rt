@@ -261,17 +261,52 @@ fn are_same_of<const N: usize>(alloc: Global, count: usize, is_grouped: bool) ->
     }
 }
 
-#[test]
-fn each_answer_is_that_of_one_search(rt: HostRuntime) {
+/// Whether they are so in tables of each number of texts.
+fn are_same_of_each_count<const N: usize>(alloc: Global, is_grouped: bool) -> bool
+    requires above { 0 < N }
+    requires below { N < 2 ^ 60 }
+{
     for count in COUNTS {
-        assert!(rt; are_same_of::<3>(rt.alloc(), *count, false));
-        assert!(rt; are_same_of::<8>(rt.alloc(), *count, true));
-        assert!(rt; are_same_of::<9>(rt.alloc(), *count, false));
-        assert!(rt; are_same_of::<16>(rt.alloc(), *count, true));
-        assert!(rt; are_same_of::<17>(rt.alloc(), *count, false));
-        assert!(rt; are_same_of::<40>(rt.alloc(), *count, false));
-        assert!(rt; are_same_of::<40>(rt.alloc(), *count, true));
+        if !are_same_of::<N>(alloc, *count, is_grouped) {
+            return false;
+        }
     }
+    true
+}
+
+#[test]
+fn answers_for_keys_of_3_bytes_are_those_of_one_search_each(rt: HostRuntime) {
+    assert!(rt; are_same_of_each_count::<3>(rt.alloc(), false));
+}
+
+#[test]
+fn answers_for_keys_of_8_bytes_are_those_of_one_search_each(rt: HostRuntime) {
+    assert!(rt; are_same_of_each_count::<8>(rt.alloc(), true));
+}
+
+#[test]
+fn answers_for_keys_of_9_bytes_are_those_of_one_search_each(rt: HostRuntime) {
+    assert!(rt; are_same_of_each_count::<9>(rt.alloc(), false));
+}
+
+#[test]
+fn answers_for_keys_of_16_bytes_are_those_of_one_search_each(rt: HostRuntime) {
+    assert!(rt; are_same_of_each_count::<16>(rt.alloc(), true));
+}
+
+#[test]
+fn answers_for_keys_of_17_bytes_are_those_of_one_search_each(rt: HostRuntime) {
+    assert!(rt; are_same_of_each_count::<17>(rt.alloc(), false));
+}
+
+#[test]
+fn answers_for_keys_of_40_bytes_are_those_of_one_search_each(rt: HostRuntime) {
+    assert!(rt; are_same_of_each_count::<40>(rt.alloc(), false));
+}
+
+#[test]
+fn answers_for_keys_of_40_bytes_in_groups_are_those_of_one_search_each(rt: HostRuntime) {
+    assert!(rt; are_same_of_each_count::<40>(rt.alloc(), true));
 }
 
 /// Whether all values are those of each key.
