@@ -7,6 +7,7 @@
 #include <stdlib.h>
 #include <unistd.h>
 
+extern void *__libc_calloc(size_t, size_t);
 extern void *__libc_malloc(size_t);
 extern void *__libc_realloc(void *, size_t);
 extern void __libc_free(void *);
@@ -30,6 +31,9 @@ static void *counted(void *made, size_t old_size) {
 }
 
 void *malloc(size_t size) { return is_refused() ? NULL : counted(__libc_malloc(size), 0); }
+
+/* None of these is refused, since the program's own allocations are by malloc and realloc. */
+void *calloc(size_t count, size_t size) { return counted(__libc_calloc(count, size), 0); }
 
 void *realloc(void *old, size_t size) {
     size_t old_size = malloc_usable_size(old);

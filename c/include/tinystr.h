@@ -15,8 +15,8 @@
  * be the wrong one.
  *
  * Order of checks
- *   Below, each function lists first OK, and NOT_FOUND, which it returns if no check fails, and then the codes of its
- *   checks, in their order. It returns the code of the first check that fails.
+ *   Each function below lists OK first, and NOT_FOUND if it may return it: it returns one of these if no check fails.
+ *   Then it lists the codes of its checks, in their order, and returns that of the first check that fails.
  *   NUL and NON_ASCII are one check. It finds the first byte that is above 127, or is a character after a NUL. The code
  *   is NON_ASCII if this byte is above 127, and NUL otherwise. If there is no such byte, but a NUL at the end, the bytes
  *   are a padded text, and the code is NUL if the function accepts only a text.

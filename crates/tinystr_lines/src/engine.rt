@@ -97,7 +97,8 @@ fn keep(begun: &mut Vec<u8>, bytes: &[u8]) -> Result<(), Refused>
     ensures items { OnOk result (begun.new.items ≡ begun.old.items ++ bytes.now) }
     ensures len { OnOk result (vec_len begun.new ≡ vec_len begun.old + length bytes.now) }
     ensures fault { IfErr result (λ e. e ≡ Refused.Input) }
-    ensures unchanged { OnErr result (vec_len begun.new ≡ vec_len begun.old) }
+    ensures unchanged { OnErr result (begun.new.items ≡ begun.old.items) }
+    ensures same_len { OnErr result (vec_len begun.new ≡ vec_len begun.old) }
 {
     begun.extend_from_slice(bytes).or(Err(Refused::Input))
 }
@@ -115,7 +116,7 @@ fn push_output_of_piece(out: &mut Vec<u8>, begun: &mut Vec<u8>, piece: &[u8]) ->
     // No more than a line is begun.
     ensures line { OnOk result (list_any is_line_feed begun.old.items ≡ false
         → list_any is_line_feed begun.new.items ≡ false) }
-    // Where memory for input is refused, nothing of the piece is kept. Where memory for a reply is, the piece's lines are.
+    // Where memory for input is refused, `begun` isn't longer. Where memory for a reply is refused, it is, by the lines.
     ensures input { IfErr result (λ e. e ≡ Refused.Input → vec_len begun.new ≤ vec_len begun.old) }
     ensures reply { IfErr result (λ e. e ≡ Refused.Reply → vec_len begun.old < vec_len begun.new) }
 {
@@ -149,7 +150,7 @@ fn read_on<R: Read>(reader: &mut R, begun: Vec<u8>, piece: &mut [u8]) -> RunErro
     }
 }
 
-// Why a run fails where memory was refused: for input in one step, and for a reply after reading to the end.
+// Why a run fails where memory was refused: for input immediately, and for a reply as `read_on` says.
 #[cold]
 fn failure<R: Read>(refused: Refused, reader: &mut R, begun: Vec<u8>, piece: &mut [u8]) -> RunError
     ensures input { refused ≡ Refused.Input → result ≡ RunError.Memory }

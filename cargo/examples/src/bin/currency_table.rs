@@ -1,4 +1,4 @@
-//! A table of currencies, asked by their codes in any case: `cargo run --bin currency_table -- eur jpy xyz`.
+//! A table of currencies, searched by codes in any case: `cargo run --bin currency_table -- eur jpy xyz`.
 
 use std::collections::BTreeMap;
 use tinystr::{TinyAsciiStr, tinystr};
@@ -13,10 +13,10 @@ const CURRENCIES: [(Code, &str, u8); 4] = [
     (tinystr!(3, "KWD"), "Kuwaiti dinar", 3),
 ];
 
-fn answer(table: &BTreeMap<Code, (&str, u8)>, asked: &str) -> String {
-    let code: Code = match asked.parse() {
+fn answer(table: &BTreeMap<Code, (&str, u8)>, word: &str) -> String {
+    let code: Code = match word.parse() {
         Ok(code) => code,
-        Err(fault) => return format!("{asked}: {fault}"),
+        Err(fault) => return format!("{word}: {fault}"),
     };
     let code = code.to_ascii_uppercase();
     match table.get(&code) {
@@ -27,11 +27,11 @@ fn answer(table: &BTreeMap<Code, (&str, u8)>, asked: &str) -> String {
 
 fn main() {
     let table = CURRENCIES.into_iter().map(|(code, name, places)| (code, (name, places))).collect();
-    let mut asked: Vec<String> = std::env::args().skip(1).collect();
-    if asked.is_empty() {
-        asked = ["eur", "Jpy", "xyz", "euros"].map(String::from).to_vec();
+    let mut words: Vec<String> = std::env::args().skip(1).collect();
+    if words.is_empty() {
+        words = ["eur", "Jpy", "xyz", "euros"].map(String::from).to_vec();
     }
-    for it in asked {
+    for it in words {
         println!("{}", answer(&table, &it));
     }
 }

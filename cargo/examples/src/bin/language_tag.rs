@@ -2,7 +2,7 @@
 
 use tinystr::subtags::LangId;
 
-fn told(tag: &str) -> String {
+fn described(tag: &str) -> String {
     match tag.parse::<LangId>() {
         Ok(id) => {
             let script = id.script().map_or(String::new(), |script| format!(", script {script}"));
@@ -19,13 +19,13 @@ fn main() {
         tags = ["zh_hant_tw", "EN", "es-419", "en-latin"].map(String::from).to_vec();
     }
     for tag in tags {
-        println!("{}", told(&tag));
+        println!("{}", described(&tag));
     }
 }
 
 #[test]
-fn parts_are_told_in_their_case() {
-    assert_eq!(told("zh_hant_tw"), "zh_hant_tw is zh-Hant-TW: language zh, script Hant, region TW");
-    assert_eq!(told("es-419"), "es-419 is es-419: language es, region 419");
-    assert_eq!(told("e"), "e: invalid language");
+fn parts_are_in_their_case() {
+    assert_eq!(described("zh_hant_tw"), "zh_hant_tw is zh-Hant-TW: language zh, script Hant, region TW");
+    assert_eq!(described("es-419"), "es-419 is es-419: language es, region 419");
+    assert_eq!(described("e"), "e: invalid language");
 }

@@ -26,10 +26,10 @@ fn main() -> Result<(), Box<dyn Error>> {
     fs::remove_file(&path)?;
     let cities = opened(&bytes)?;
     println!("{} cities in {} bytes", cities.table().len(), bytes.len());
-    for asked in env::args().skip(1).chain(["zurich".into(), "geneva".into()]) {
-        match cities.binary_search(&asked.parse()?) {
-            Ok(index) => println!("{asked} is number {index}"),
-            Err(index) => println!("{asked} isn't there, and would be number {index}"),
+    for city in env::args().skip(1).chain(["zurich".into(), "geneva".into()]) {
+        match cities.binary_search(&city.parse()?) {
+            Ok(index) => println!("{city} is number {index}"),
+            Err(index) => println!("{city} isn't there, and would be number {index}"),
         }
     }
     let in_b: Vec<String> = cities.with_prefix(&"b".parse()?).table().iter().map(|city| city.to_string()).collect();
