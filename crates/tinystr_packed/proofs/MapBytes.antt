@@ -77,7 +77,7 @@ pub IsRising-keys : (ks : List (List ℕ)) → IsStrictlySortedBy (slice_cmp nat
 IsRising-keys ks sorted = λ k inside. Less-from_sorted (slice_cmp nat_cmp) ks k (k + 1) [] sorted (omega arith) inside
 
 -- lists of m bytes are told by what they join to
-same_values : (vs ws : List (List ℕ)) (m : ℕ) → All (λ (v : List ℕ). length v ≡ m) vs → All (λ (v : List ℕ). length v ≡ m) ws → length vs ≡ length ws
+pub same_values : (vs ws : List (List ℕ)) (m : ℕ) → All (λ (v : List ℕ). length v ≡ m) vs → All (λ (v : List ℕ). length v ≡ m) ws → length vs ≡ length ws
     → flat_map (λ (v : List ℕ). v) vs ≡ flat_map (λ (v : List ℕ). v) ws → vs ≡ ws
 same_values [] [] m h k same e = refl
 same_values [] (w ∷ ws) m h k same e = absurd (omega arith)

@@ -99,7 +99,7 @@ ArePacked-new ks vs keys values n m k strict up joined long count is =
     }
 
 -- lists of one length, joined
-length-same : (vs : List (List ℕ)) (m : ℕ) → All (λ (v : List ℕ). length v ≡ m) vs → length (flat_map (λ (v : List ℕ). v) vs) ≡ length vs * m
+pub length-same : (vs : List (List ℕ)) (m : ℕ) → All (λ (v : List ℕ). length v ≡ m) vs → length (flat_map (λ (v : List ℕ). v) vs) ≡ length vs * m
 length-same [] m h = sym (zero-mul m)
 length-same (v ∷ vs) m h =
     omega (arith, length-append v (flat_map (λ (v : List ℕ). v) vs), All-head (λ (v : List ℕ). length v ≡ m) v vs h, length-same vs m (All-tail (λ (v : List ℕ). length v ≡ m) v vs h), suc-mul (length vs) m)

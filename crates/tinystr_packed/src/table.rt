@@ -187,9 +187,14 @@ impl<'a, const N: usize> Table<'a, N> {
         Table { records: all }
     }
 
-    // The records themselves.
+    /// The records themselves: each text, padded with NULs to `N` bytes.
+    ///
+    /// ```rust
+    /// let table = Table::<3>::new(b"EURGB\0").unwrap();
+    /// assert_eq!(rt; table.records()[1], *b"GB\0");
+    /// ```
     #[inline(always)]
-    pub(crate) fn records(&self) -> &'a [[u8; N]]
+    pub fn records(&self) -> &'a [[u8; N]]
         ensures texts { map text_of result.now ≡ self.now }
         ensures padded { All (λ raw. IsPaddedText raw N) result.now }
     {

@@ -1,6 +1,6 @@
 //! Maps whose keys and values are packed texts, read in place.
 
-ghost use Rattle.std.specs.Prelude.{◌≡◌, ◌<◌, ◌^◌, ◌↔◌, [], List, ℕ, filter, is_some, length, nat_eq, IsOk, IsTrue, IfOk, IfErr};
+ghost use Rattle.std.specs.Prelude.{◌≡◌, ◌<◌, ◌^◌, ◌↔◌, [], List, ℕ, filter, is_some, length, nat_eq, zip, IsOk, IsTrue, IfOk, IfErr};
 ghost use Rattle.std.specs.Iterator.{YieldsFirst, item_count};
 ghost use Rattle.std.specs.List.{starts_with};
 ghost use Rattle.std.specs.Map.{keys_of, values_of};
@@ -172,10 +172,7 @@ impl<'a, const N: usize, const M: usize> TextMap<'a, N, M> {
         ensures rising { IsRising (keys_of self.now) }
         ensures bound { length result < 2 ^ 64 }
     {
-        TextEntries {
-            keys: self.keys.table().iter(),
-            values: self.values.iter(),
-        }
+        TextEntries::new(self.keys.table(), &self.values)
     }
 }
 
@@ -200,6 +197,28 @@ impl<'a, const N: usize, const M: usize> Model for TextEntries<'a, N, M> {
     ghost view = { λ s. zip s.keys s.values };
 
     ghost invariant = { λ s. length s.values ≡ length s.keys };
+}
+
+impl<'a, const N: usize, const M: usize> TextEntries<'a, N, M> {
+    /// The entries of keys and of the same number of texts, in their order.
+    ///
+    /// ```rust
+    /// let keys = Table::<2>::new(b"CHJP").unwrap();
+    /// let texts = Table::<3>::new(b"CHFJPY").unwrap();
+    /// let mut entries = TextEntries::new(&keys, &texts);
+    /// assert_eq!(rt; entries.next(), Some((tinystr!(2, "CH")?, tinystr!(3, "CHF")?)));
+    /// ```
+    #[tactic(auto, using(crate::proofs::PackedMaps::map_steps))]
+    pub fn new(keys: &Table<'a, N>, values: &Table<'a, M>) -> Self
+        requires { length values.now ≡ length keys.now }
+        ensures entries { result ≡ zip keys.now values.now }
+        ensures bound { length result < 2 ^ 64 }
+    {
+        TextEntries {
+            keys: keys.iter(),
+            values: values.iter(),
+        }
+    }
 }
 
 impl<'a, const N: usize, const M: usize> Iterator for TextEntries<'a, N, M> {
