@@ -1,0 +1,6 @@
+pub mod Hashing
+pub mod Reading
+pub mod Map
+pub mod TextMap
+pub mod Packing
+pub mod PackingMaps
