@@ -1,0 +1,181 @@
+//! Hashed maps.
+
+use tinystr::ParseError::NonAscii;
+use tinystr::TinyAsciiStr;
+use tinystr::ule::UleError::{Length, Parse};
+use tinystr_hashed::HashedError::{Displacements, Header, Place, Records, Version};
+use tinystr_hashed::HashedMapError::{Keys, Values};
+use tinystr_hashed::{HashedMap, HashedMapError};
+
+// A table of the keys below, in their order. Another program computes it from the definition.
+const KEYS: &[u8] = b"\x01\0\0\0\x02\0\0\0\xd2\xd3\0\x5c\x81\x45\x4e\x5f\
+    \xc7\xfa\x99\xc5\x4c\xf1\xf4\x86EUR\0\0\0USDA\0\0JPY";
+
+const VALUES: &[u8] = b"\x01\x02\x03\x04\x05\x06\0\xff\0\0";
+
+// The keys, each with its value.
+const ENTRIES: &[(&str, [u8; 2])] = &[
+    ("EUR", [1, 2]),
+    ("", [3, 4]),
+    ("USD", [5, 6]),
+    ("A", [0, 255]),
+    ("JPY", [0, 0]),
+];
+
+// Tables of no key and of one.
+const NO_KEY: &[u8] = b"\x01\0\0\0\0\0\0\0\0\0\0\0\0\0\0\0";
+
+const ONE_KEY: &[u8] = b"\x01\0\0\0\0\0\0\0\0\0\0\0\0\0\0\0EUR";
+
+fn value_of(keys: &[u8], values: &[u8], key: &str) -> Option<[u8; 2]> {
+    let map = HashedMap::<3, 2>::new(keys, values).ok()?;
+    map.get(&TinyAsciiStr::try_from_str(key).ok()?).copied()
+}
+
+fn is_key(keys: &[u8], values: &[u8], key: &str) -> bool {
+    match (
+        HashedMap::<3, 2>::new(keys, values),
+        TinyAsciiStr::try_from_str(key),
+    ) {
+        (Ok(map), Ok(key)) => map.contains_key(&key),
+        _ => false,
+    }
+}
+
+/// Whether the map has the key with this value.
+fn is_value(keys: &[u8], values: &[u8], key: &str, value: [u8; 2]) -> bool {
+    value_of(keys, values, key) == Some(value) && is_key(keys, values, key)
+}
+
+/// Whether the map has neither the key nor a value of it.
+fn is_no_key(keys: &[u8], values: &[u8], key: &str) -> bool {
+    value_of(keys, values, key).is_none() && !is_key(keys, values, key)
+}
+
+#[test]
+fn each_key_has_its_value(rt: HostRuntime) {
+    for (key, value) in ENTRIES {
+        assert!(rt; is_value(KEYS, VALUES, key, *value), "{key}");
+    }
+    assert!(rt; is_value(ONE_KEY, b"\0\xff", "EUR", [0, 255]));
+}
+
+#[test]
+fn other_texts_have_no_value(rt: HostRuntime) {
+    for key in "AA|B|E|EU|EUS|FUR|eur|USA|U|JPZ|~~~".split('|') {
+        assert!(rt;
+            is_no_key(KEYS, VALUES, key) && is_no_key(ONE_KEY, b"\x01\x02", key),
+            "{key}"
+        );
+    }
+    for key in ["", "EUR", "USD"] {
+        assert!(rt; is_no_key(NO_KEY, b"", key), "{key}");
+    }
+    assert!(rt; is_no_key(ONE_KEY, b"\x01\x02", "") && is_no_key(ONE_KEY, b"\x01\x02", "USD"));
+}
+
+#[test]
+fn entries_are_in_the_order_of_the_keys(rt: HostRuntime) {
+    assert!(rt; has_entries(KEYS, VALUES, ENTRIES));
+    assert!(rt; has_entries(ONE_KEY, b"\x07\x08", &[("EUR", [7, 8])]));
+    assert!(rt; has_entries(NO_KEY, b"", &[]));
+}
+
+/// Whether the map has these entries in this order and no more, and each count is that of those that are left.
+fn has_entries(keys: &[u8], values: &[u8], entries: &[(&str, [u8; 2])]) -> bool {
+    let Ok(map) = HashedMap::<3, 2>::new(keys, values) else {
+        return false;
+    };
+    let mut found = map.iter();
+    let mut left = entries.len();
+    for (key, value) in entries {
+        if found.size_hint() != (left, Some(left)) {
+            return false;
+        }
+        match found.next() {
+            Some((text, bytes)) if text.as_str() == *key && bytes == value => {}
+            _ => return false,
+        }
+        left = left.saturating_sub(1);
+    }
+    found.size_hint() == (0, Some(0)) && found.next().is_none() && has_len(&map, entries.len())
+}
+
+fn has_len(map: &HashedMap<'_, 3, 2>, len: usize) -> bool {
+    map.len() == len
+        && map.is_empty() == (len == 0)
+        && map.keys().len() == len
+        && map.values().len() == len
+}
+
+// Keys and values, each with the fault for which they are refused.
+const REFUSED: &[(&[u8], &[u8], HashedMapError)] = &[
+    // keys that aren't a hashed table
+    (b"", b"", Keys(Header { len: 0 })),
+    (b"EUR", b"\x01\x02", Keys(Header { len: 3 })),
+    (
+        b"\x02\0\0\0\0\0\0\0\0\0\0\0\0\0\0\0EUR",
+        b"\x01\x02",
+        Keys(Version { version: 2 }),
+    ),
+    (
+        b"\x01\0\0\0\x01\0\0\0\0\0\0\0\0\0\0\0EUR",
+        b"\x01\x02",
+        Keys(Displacements { count: 1, len: 3 }),
+    ),
+    (
+        b"\x01\0\0\0\0\0\0\0\0\0\0\0\0\0\0\0EURO",
+        b"\x01\x02",
+        Keys(Records(Length { len: 4 })),
+    ),
+    (
+        b"\x01\0\0\0\0\0\0\0\0\0\0\0\0\0\0\0EU\xff",
+        b"\x01\x02",
+        Keys(Records(Parse {
+            index: 0,
+            fault: NonAscii,
+        })),
+    ),
+    (
+        b"\x01\0\0\0\x02\0\0\0\xd2\xd3\0\x5c\x81\x45\x4e\x5f\
+            \xc7\xfa\x99\xc5\x4c\xf1\xf4\x86EUR\0\0\0USDJPYA\0\0",
+        VALUES,
+        Keys(Place { index: 3 }),
+    ),
+    // that, though the values are too few
+    (b"EUR", b"\x01", Keys(Header { len: 3 })),
+    (
+        b"\x01\0\0\0\x02\0\0\0\xd2\xd3\0\x5c\x81\x45\x4e\x5f\
+            \xc7\xfa\x99\xc5\x4c\xf1\xf4\x86EUR\0\0\0USDJPYA\0\0",
+        b"\x01",
+        Keys(Place { index: 3 }),
+    ),
+    // values that aren't two bytes for each key
+    (KEYS, b"", Values { keys: 5, len: 0 }),
+    (KEYS, b"\0\0\0\0\0\0\0\0", Values { keys: 5, len: 8 }),
+    (KEYS, b"\0\0\0\0\0\0\0\0\0", Values { keys: 5, len: 9 }),
+    (KEYS, b"\0\0\0\0\0\0\0\0\0\0\0", Values { keys: 5, len: 11 }),
+    (
+        KEYS,
+        b"\0\0\0\0\0\0\0\0\0\0\0\0",
+        Values { keys: 5, len: 12 },
+    ),
+    (ONE_KEY, b"\0", Values { keys: 1, len: 1 }),
+    (ONE_KEY, b"\0\0\0", Values { keys: 1, len: 3 }),
+    (NO_KEY, b"\0", Values { keys: 0, len: 1 }),
+    (NO_KEY, b"\0\0", Values { keys: 0, len: 2 }),
+];
+
+#[test]
+fn keys_are_refused_first_and_then_the_values(rt: HostRuntime) {
+    for (keys, values, fault) in REFUSED {
+        assert!(rt; is_refused(keys, values, *fault), "{fault:?}");
+    }
+}
+
+fn is_refused(keys: &[u8], values: &[u8], fault: HashedMapError) -> bool {
+    match HashedMap::<3, 2>::new(keys, values) {
+        Ok(_) => false,
+        Err(found) => found == fault,
+    }
+}

@@ -1,0 +1,195 @@
+//! Hashed maps of texts.
+
+use tinystr::ParseError::{ContainsNull, NonAscii};
+use tinystr::TinyAsciiStr;
+use tinystr::ule::UleError::{Length, Parse};
+use tinystr_hashed::HashedError::{Displacements, Header, Place, Records, Version};
+use tinystr_hashed::HashedTextMapError::{Count, Keys, Values};
+use tinystr_hashed::{HashedTextMap, HashedTextMapError};
+
+// A table of the keys below, in their order. Another program computes it from the definition.
+const KEYS: &[u8] = b"\x01\0\0\0\x02\0\0\0\xd2\xd3\0\x5c\x81\x45\x4e\x5f\
+    \xc7\xfa\x99\xc5\x4c\xf1\xf4\x86EUR\0\0\0USDA\0\0JPY";
+
+const VALUES: &[u8] = b"EUnoUSa\0\0\0";
+
+// The keys, each with its value.
+const ENTRIES: &[(&str, &str)] = &[
+    ("EUR", "EU"),
+    ("", "no"),
+    ("USD", "US"),
+    ("A", "a"),
+    ("JPY", ""),
+];
+
+// Tables of no key and of one.
+const NO_KEY: &[u8] = b"\x01\0\0\0\0\0\0\0\0\0\0\0\0\0\0\0";
+
+const ONE_KEY: &[u8] = b"\x01\0\0\0\0\0\0\0\0\0\0\0\0\0\0\0EUR";
+
+fn value_of(keys: &[u8], values: &[u8], key: &str) -> Option<TinyAsciiStr<2>> {
+    let map = HashedTextMap::<3, 2>::new(keys, values).ok()?;
+    map.get(&TinyAsciiStr::try_from_str(key).ok()?)
+}
+
+fn is_key(keys: &[u8], values: &[u8], key: &str) -> bool {
+    match (
+        HashedTextMap::<3, 2>::new(keys, values),
+        TinyAsciiStr::try_from_str(key),
+    ) {
+        (Ok(map), Ok(key)) => map.contains_key(&key),
+        _ => false,
+    }
+}
+
+/// Whether the map has the key with this text.
+fn is_value(keys: &[u8], values: &[u8], key: &str, value: &str) -> bool {
+    match value_of(keys, values, key) {
+        Some(text) => text.as_str() == value && is_key(keys, values, key),
+        None => false,
+    }
+}
+
+/// Whether the map has neither the key nor a text of it.
+fn is_no_key(keys: &[u8], values: &[u8], key: &str) -> bool {
+    value_of(keys, values, key).is_none() && !is_key(keys, values, key)
+}
+
+#[test]
+fn each_key_has_its_text(rt: HostRuntime) {
+    for (key, value) in ENTRIES {
+        assert!(rt; is_value(KEYS, VALUES, key, value), "{key}");
+    }
+    assert!(rt; is_value(ONE_KEY, b"\0\0", "EUR", ""));
+}
+
+#[test]
+fn other_texts_have_no_text(rt: HostRuntime) {
+    for key in "AA|B|E|EU|EUS|FUR|eur|USA|U|JPZ|~~~".split('|') {
+        assert!(rt;
+            is_no_key(KEYS, VALUES, key) && is_no_key(ONE_KEY, b"EU", key),
+            "{key}"
+        );
+    }
+    for key in ["", "EUR", "USD"] {
+        assert!(rt; is_no_key(NO_KEY, b"", key), "{key}");
+    }
+    assert!(rt; is_no_key(ONE_KEY, b"EU", "") && is_no_key(ONE_KEY, b"EU", "USD"));
+}
+
+#[test]
+fn entries_are_the_keys_with_their_texts(rt: HostRuntime) {
+    assert!(rt; has_entries(KEYS, VALUES, ENTRIES));
+    assert!(rt; has_entries(ONE_KEY, b"EU", &[("EUR", "EU")]));
+    assert!(rt; has_entries(NO_KEY, b"", &[]));
+}
+
+/// Whether the map has these entries in this order and no more, and each count is that of those that are left.
+fn has_entries(keys: &[u8], values: &[u8], entries: &[(&str, &str)]) -> bool {
+    let Ok(map) = HashedTextMap::<3, 2>::new(keys, values) else {
+        return false;
+    };
+    let mut found = map.iter();
+    let mut left = entries.len();
+    for (key, value) in entries {
+        if found.size_hint() != (left, Some(left)) {
+            return false;
+        }
+        match found.next() {
+            Some((text, other)) if text.as_str() == *key && other.as_str() == *value => {}
+            _ => return false,
+        }
+        left = left.saturating_sub(1);
+    }
+    found.size_hint() == (0, Some(0)) && found.next().is_none() && has_len(&map, entries.len())
+}
+
+fn has_len(map: &HashedTextMap<'_, 3, 2>, len: usize) -> bool {
+    map.len() == len
+        && map.is_empty() == (len == 0)
+        && map.keys().len() == len
+        && map.values().len() == len
+}
+
+// Keys and values, each with the fault for which they are refused.
+const REFUSED: &[(&[u8], &[u8], HashedTextMapError)] = &[
+    // keys that aren't a hashed table
+    (b"", b"", Keys(Header { len: 0 })),
+    (
+        b"\x02\0\0\0\0\0\0\0\0\0\0\0\0\0\0\0EUR",
+        b"EU",
+        Keys(Version { version: 2 }),
+    ),
+    (
+        b"\x01\0\0\0\x01\0\0\0\0\0\0\0\0\0\0\0EUR",
+        b"EU",
+        Keys(Displacements { count: 1, len: 3 }),
+    ),
+    (
+        b"\x01\0\0\0\0\0\0\0\0\0\0\0\0\0\0\0EURO",
+        b"EU",
+        Keys(Records(Length { len: 4 })),
+    ),
+    (
+        b"\x01\0\0\0\0\0\0\0\0\0\0\0\0\0\0\0EU\xff",
+        b"EU",
+        Keys(Records(Parse {
+            index: 0,
+            fault: NonAscii,
+        })),
+    ),
+    (
+        b"\x01\0\0\0\x02\0\0\0\xd2\xd3\0\x5c\x81\x45\x4e\x5f\
+            \xc7\xfa\x99\xc5\x4c\xf1\xf4\x86EUR\0\0\0USDJPYA\0\0",
+        VALUES,
+        Keys(Place { index: 3 }),
+    ),
+    // that, though the values are bad and too few
+    (b"EUR", b"\xff", Keys(Header { len: 3 })),
+    (
+        b"\x01\0\0\0\x02\0\0\0\xd2\xd3\0\x5c\x81\x45\x4e\x5f\
+            \xc7\xfa\x99\xc5\x4c\xf1\xf4\x86EUR\0\0\0USDJPYA\0\0",
+        b"\xffU",
+        Keys(Place { index: 3 }),
+    ),
+    // values that aren't packed, though their number differs too
+    (KEYS, b"EUn", Values(Length { len: 3 })),
+    (ONE_KEY, b"EUn", Values(Length { len: 3 })),
+    (NO_KEY, b"E", Values(Length { len: 1 })),
+    (
+        KEYS,
+        b"EU\0oUSa\0\0\0",
+        Values(Parse {
+            index: 1,
+            fault: ContainsNull,
+        }),
+    ),
+    (
+        ONE_KEY,
+        b"EUn\x80",
+        Values(Parse {
+            index: 1,
+            fault: NonAscii,
+        }),
+    ),
+    // fewer or more values than keys
+    (KEYS, b"", Count { keys: 5, values: 0 }),
+    (KEYS, b"EUnoUSa\0", Count { keys: 5, values: 4 }),
+    (KEYS, b"EUnoUSa\0\0\0\0\0", Count { keys: 5, values: 6 }),
+    (ONE_KEY, b"", Count { keys: 1, values: 0 }),
+    (NO_KEY, b"EU", Count { keys: 0, values: 1 }),
+];
+
+#[test]
+fn keys_are_refused_first_then_the_values_then_their_number(rt: HostRuntime) {
+    for (keys, values, fault) in REFUSED {
+        assert!(rt; is_refused(keys, values, *fault), "{fault:?}");
+    }
+}
+
+fn is_refused(keys: &[u8], values: &[u8], fault: HashedTextMapError) -> bool {
+    match HashedTextMap::<3, 2>::new(keys, values) {
+        Ok(_) => false,
+        Err(found) => found == fault,
+    }
+}
