@@ -16,6 +16,7 @@ pub mod locale;
 pub mod packed;
 pub mod preconditions;
 pub mod printing;
+pub mod rate_column;
 pub mod refusals;
 pub mod round_trip;
 pub mod script_code;

@@ -33,6 +33,8 @@ mod preconditions;
 #[cfg(test)]
 mod printing;
 #[cfg(test)]
+mod rate_column;
+#[cfg(test)]
 mod refusals;
 #[cfg(test)]
 mod round_trip;
