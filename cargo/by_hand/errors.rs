@@ -1,6 +1,9 @@
 //! The texts of the errors that the original doesn't have, and that each is an `Error` of std.
 
 use crate::forms::{BytesReadError, FormWriteError};
+#[cfg(feature = "alloc")]
+use crate::hashed::PackHashedError;
+use crate::hashed::{HashedError, HashedMapError, HashedTextMapError};
 use crate::packed::{MapError, NotRising, SortedError, TextMapError};
 use crate::ule::UleError;
 use core::error::Error;
@@ -81,3 +84,55 @@ impl Display for TextMapError {
 }
 
 impl Error for TextMapError {}
+
+impl Display for HashedError {
+    fn fmt(&self, f: &mut Formatter<'_>) -> Result {
+        match self {
+            HashedError::Header { len } => write!(f, "{len} bytes are fewer than the sixteen of a header"),
+            HashedError::Version { version } => write!(f, "the version is {version}, and not 1"),
+            HashedError::Displacements { count, len } => {
+                write!(f, "{len} bytes after the header are fewer than those of {count} displacements")
+            }
+            HashedError::Records(fault) => write!(f, "{fault}"),
+            HashedError::Place { index } => write!(f, "record {index} isn't at the place of its hash"),
+        }
+    }
+}
+
+impl Error for HashedError {}
+
+impl Display for HashedMapError {
+    fn fmt(&self, f: &mut Formatter<'_>) -> Result {
+        match self {
+            HashedMapError::Keys(fault) => write!(f, "keys: {fault}"),
+            HashedMapError::Values { keys, len } => write!(f, "{len} bytes aren't a value for each of {keys} keys"),
+        }
+    }
+}
+
+impl Error for HashedMapError {}
+
+impl Display for HashedTextMapError {
+    fn fmt(&self, f: &mut Formatter<'_>) -> Result {
+        match self {
+            HashedTextMapError::Keys(fault) => write!(f, "keys: {fault}"),
+            HashedTextMapError::Values(fault) => write!(f, "values: {fault}"),
+            HashedTextMapError::Count { keys, values } => write!(f, "{values} values aren't one for each of {keys} keys"),
+        }
+    }
+}
+
+impl Error for HashedTextMapError {}
+
+#[cfg(feature = "alloc")]
+impl<const N: usize> Display for PackHashedError<N> {
+    fn fmt(&self, f: &mut Formatter<'_>) -> Result {
+        match self {
+            PackHashedError::Duplicate { text } => write!(f, "a text occurs twice: {text}"),
+            PackHashedError::NoSeed => f.write_str("no seed gives each text a place of its own"),
+        }
+    }
+}
+
+#[cfg(feature = "alloc")]
+impl<const N: usize> Error for PackHashedError<N> {}

@@ -10,6 +10,7 @@ mod constants;
 #[cfg(doc)]
 pub mod definitions {}
 mod errors;
+pub mod hashed;
 pub mod packed;
 mod sealed;
 #[cfg(feature = "serde")]

@@ -16,15 +16,22 @@ NAMES = {
     "tinystr::subtags::region": "RegionKind",
     "tinystr::subtags::script": "ScriptKind",
     "tinystr::subtags::subtag": "Subtag SubtagKind",
-    "tinystr::packed": "MapError NotRising PackedMap SortedError SortedTable Table TextMap TextMapError"
+    "tinystr::packed": "MapError NotRising PackedMap SortedError SortedTable Table TextEntries TextMap TextMapError"
     " count_texts in_place pack pack_map pack_sorted pack_text_map unpack",
+    "tinystr::hashed": "HashedError HashedMap HashedMapError HashedTable HashedTextMap HashedTextMapError PackHashedError"
+    " in_place pack_hashed pack_hashed_map pack_hashed_text_map",
     "std::collections": "BTreeMap",
     "crate::words": "CodeUnit decimal_fits",
     "crate::words::int_ops": "Aligned4 Aligned8 Aligned16",
 }
 
-# A call that needs a trait's name besides.
-OF_TRAIT = {"SubtagKind": r"Kind::read\("}
+# What tells that an example needs a name, where that isn't the name alone: a call that needs a trait's name besides, and
+# what a module has of those that share a name.
+TOLD_BY = {
+    ("tinystr::subtags::subtag", "SubtagKind"): r"Kind::read\(",
+    ("tinystr::packed", "in_place"): r"\bin_place::(?:search|with_prefix)",
+    ("tinystr::hashed", "in_place"): r"\bin_place::position",
+}
 
 # What an example writes otherwise in Rust: macros take no handle of the host, and nothing is passed an allocator.
 IN_RUST = [
@@ -32,6 +39,7 @@ IN_RUST = [
     (r"\bformat!\(in rt\.alloc\(\); (.*)\)\?", r"format!(\1)"),
     (r"\bBTreeMap::new\(rt\.alloc\(\)\)", "BTreeMap::new()"),
     (r"(\b(?:places|currencies)\.insert\(.*\))\?;", r"\1;"),
+    (r"\b(pack_hashed\w*)\(rt\.alloc\(\), ", r"\1("),
     (r"\b(pack\w*|unpack|count_texts)\(rt\.alloc\(\), (.*?)\)\?(?=[;.])", r"\1(\2)"),
 ]
 
@@ -49,7 +57,7 @@ def uses(body, own):
     code = re.sub(r'"(?:\\.|[^"\\])*"', "", body)
     lines = []
     for module, names in NAMES.items():
-        wanted = ((it, OF_TRAIT.get(it, rf"(?<![\w:.]){it}\b")) for it in names.split())
+        wanted = ((it, TOLD_BY.get((module, it), rf"(?<![\w:.]){it}\b")) for it in names.split())
         found = sorted(it for it, pattern in wanted if re.search(pattern, code))
         path = module.replace("tinystr", own, 1)
         if found:

@@ -7,7 +7,13 @@ from eraser import Stopped
 from eraser.text import TOKEN
 
 # The module of each crate, in order. That of the type is the root.
-MODULES = {"tinystr_words": "words", "tinystr": "", "subtags": "subtags", "tinystr_packed": "packed"}
+MODULES = {
+    "tinystr_words": "words",
+    "tinystr": "",
+    "subtags": "subtags",
+    "tinystr_packed": "packed",
+    "tinystr_hashed": "hashed",
+}
 
 # Crates whose functions no caller reaches: the module is private, so what they require is met by the proved callers.
 PRIVATE = {"tinystr_words"}
@@ -24,8 +30,11 @@ CONST = {
     "subtags/subtag.rt": ["to_text("],
     "tinystr_packed/map.rt": ["len(", "is_empty(", "iter(", "keys(", "values("],
     "tinystr_packed/sorted.rt": ["table("],
-    "tinystr_packed/table.rt": ["len(", "is_empty(", "iter("],
-    "tinystr_packed/text_map.rt": ["len(", "is_empty(", "iter(", "keys(", "values("],
+    "tinystr_packed/table.rt": ["len(", "is_empty(", "iter(", "records("],
+    "tinystr_packed/text_map.rt": ["len(", "is_empty(", "iter(", "keys(", "values(", "new(keys: &Table"],
+    "tinystr_hashed/map.rt": ["len(", "is_empty(", "iter(", "keys(", "values("],
+    "tinystr_hashed/table.rt": ["len(", "is_empty(", "table("],
+    "tinystr_hashed/text_map.rt": ["len(", "is_empty(", "iter(", "keys(", "values("],
     "tinystr_words/question.rt": ["of_later_words(", "of_later_words("],
 }
 

@@ -30,6 +30,9 @@ CHARACTER = "matches!({}, 1..=127)"
 NO_CHARACTER = "{} must be a non-null ASCII byte (1..=127)"
 NO_RECORD = asserted("N > 0", "`N` is 0", "a record has at least one byte")
 NO_VALUE = asserted("M > 0", "`M` is 0", "a value has at least one byte")
+# no array is longer, so that nothing of these is left when it is built
+NO_LONGER_N = asserted("N <= isize::MAX as usize", "`N` is above `isize::MAX`", "no array is so long")
+NO_LONGER_M = asserted("M <= isize::MAX as usize", "`M` is above `isize::MAX`", "no array is so long")
 
 STANDS_FOR = {
     ("tinystr/ascii/readers.rt", "IsTextByte replacement"): asserted(
@@ -55,12 +58,25 @@ STANDS_FOR = {
     ("tinystr_packed/table.rt", "range.start ≤ range.end"): Panics("the range begins behind its end"),
     ("tinystr_packed/table.rt", "range.end ≤ length self.now"): Panics("the range ends behind the last text"),
     ("tinystr_packed/sorted.rt", "0 < N"): NO_RECORD,
-    # no array is longer, so that nothing of these is left when it is built
-    ("tinystr_packed/sorted.rt", "N < 2 ^ 63"): asserted("N <= isize::MAX as usize", "`N` is above `isize::MAX`", "no array is so long"),
-    ("tinystr_packed/sorted.rt", "M < 2 ^ 63"): asserted("M <= isize::MAX as usize", "`M` is above `isize::MAX`", "no array is so long"),
+    ("tinystr_packed/sorted.rt", "N < 2 ^ 63"): NO_LONGER_N,
+    ("tinystr_packed/sorted.rt", "M < 2 ^ 63"): NO_LONGER_M,
     ("tinystr_packed/map.rt", "0 < N"): NO_RECORD,
     ("tinystr_packed/map.rt", "0 < M"): NO_VALUE,
     ("tinystr_packed/text_map.rt", "0 < N"): NO_RECORD,
     ("tinystr_packed/text_map.rt", "0 < M"): NO_VALUE,
+    # without a check there would be fewer entries than keys or texts
+    ("tinystr_packed/text_map.rt", "length values.now ≡ length keys.now"): asserted(
+        "values.len() == keys.len()", "there isn't one text for each key", "there is one text for each key"
+    ),
     ("tinystr_packed/in_place.rt", "0 < N"): NO_RECORD,
+    ("tinystr_hashed/table.rt", "0 < N"): NO_RECORD,
+    ("tinystr_hashed/table.rt", "N < 2 ^ 63"): NO_LONGER_N,
+    ("tinystr_hashed/table.rt", "M < 2 ^ 63"): NO_LONGER_M,
+    ("tinystr_hashed/map.rt", "0 < N"): NO_RECORD,
+    ("tinystr_hashed/map.rt", "0 < M"): NO_VALUE,
+    ("tinystr_hashed/text_map.rt", "0 < N"): NO_RECORD,
+    ("tinystr_hashed/text_map.rt", "0 < M"): NO_VALUE,
+    ("tinystr_hashed/in_place.rt", "0 < N"): NO_RECORD,
+    ("tinystr_hashed/packing.rt", "0 < N"): NO_RECORD,
+    ("tinystr_hashed/packing_maps.rt", "0 < N"): NO_RECORD,
 }

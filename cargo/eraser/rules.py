@@ -155,6 +155,67 @@ IN_FILE = {
         Rule("extend_from_slice(texts)?;", "extend_from_slice(texts);", WANT_OF_MEMORY),
         Rule("Result<Vec<u8>, AllocError>", "Vec<u8>", WANT_OF_MEMORY),
     ],
+    "tinystr_hashed/lib.rt": [
+        Rule("mod packing;", '#[cfg(feature = "alloc")]\nmod packing;', OF_FEATURE),
+        Rule("mod packing_maps;", '#[cfg(feature = "alloc")]\nmod packing_maps;', OF_FEATURE),
+        Rule("mod placing;", '#[cfg(feature = "alloc")]\nmod placing;', OF_FEATURE),
+        Rule("pub use packing::", '#[cfg(feature = "alloc")]\npub use packing::', OF_FEATURE),
+        Rule("pub use packing_maps::", '#[cfg(feature = "alloc")]\npub use packing_maps::', OF_FEATURE),
+    ],
+    "tinystr_hashed/packing.rt": [
+        Rule("use std::alloc::{AllocError, Global};\n", "use alloc::vec::Vec;\n", OF_ALLOCATOR),
+        Rule("    /// An allocation failed.\n    Memory,\n", "", WANT_OF_MEMORY),
+        Rule("    alloc: Global,\n", "", OF_ALLOCATOR, 4),
+        Rule("Vec::new(alloc)", "Vec::new()", OF_ALLOCATOR),
+        Rule("with_capacity(alloc, len)?;", "with_capacity(len);", OF_ALLOCATOR),
+        Rule("repeated(alloc, texts)?", "repeated(texts)", OF_ALLOCATOR),
+        Rule("pack_with_seed(alloc, texts, index.wrapping_mul(OF_SEEDS))?", "pack_with_seed(texts, index.wrapping_mul(OF_SEEDS))", OF_ALLOCATOR),
+        Rule("displacements(alloc, texts, seed)?", "displacements(texts, seed)", OF_ALLOCATOR),
+        Rule("table_bytes(alloc, texts, seed, displacements.as_slice())?", "table_bytes(texts, seed, displacements.as_slice())", OF_ALLOCATOR),
+        Rule("extend_from_slice(texts)?;", "extend_from_slice(texts);", WANT_OF_MEMORY),
+        Rule("to_le_bytes())?;", "to_le_bytes());", WANT_OF_MEMORY, 4),
+        Rule("resize(len, 0)?;", "resize(len, 0);", WANT_OF_MEMORY),
+        Rule("Result<Option<TinyAsciiStr<N>>, AllocError>", "Option<TinyAsciiStr<N>>", WANT_OF_MEMORY),
+        Rule("Result<Option<Vec<u8>>, AllocError>", "Option<Vec<u8>>", WANT_OF_MEMORY),
+        Rule("Result<Vec<u8>, AllocError>", "Vec<u8>", WANT_OF_MEMORY),
+        Rule("    Ok(first_repeated(sorted.as_slice()))\n", "    first_repeated(sorted.as_slice())\n", WANT_OF_MEMORY),
+        Rule("return Ok(None);", "return None;", WANT_OF_MEMORY),
+        Rule("        Ok(Some(bytes))\n", "        Some(bytes)\n", WANT_OF_MEMORY),
+        Rule("        Ok(None)\n", "        None\n", WANT_OF_MEMORY),
+        Rule("    Ok(bytes)\n}", "    bytes\n}", WANT_OF_MEMORY),
+    ],
+    "tinystr_hashed/packing_maps.rt": [
+        Rule("use std::alloc::Global;\n", "use alloc::vec::Vec;\n", OF_ALLOCATOR),
+        Rule("use std::collections::BTreeMap;", "use alloc::collections::BTreeMap;", OF_ALLOCATOR),
+        Rule("    alloc: Global,\n", "", OF_ALLOCATOR, 3),
+        Rule("packed_keys(alloc, map)?", "packed_keys(map)?", OF_ALLOCATOR, 2),
+        Rule("with_capacity(alloc, ", "with_capacity(", OF_ALLOCATOR, 2),
+        Rule("saturating_mul(M))?;", "saturating_mul(M));", WANT_OF_MEMORY, 2),
+        Rule("extend_from_slice(&map[&key])?;", "extend_from_slice(&map[&key]);", WANT_OF_MEMORY),
+        Rule("all_bytes())?;", "all_bytes());", WANT_OF_MEMORY),
+        Rule("collect(alloc)?;", "collect();", WANT_OF_MEMORY),
+        Rule("pack_hashed(alloc, keys.as_slice())", "pack_hashed(keys.as_slice())", OF_ALLOCATOR),
+    ],
+    "tinystr_hashed/placing.rt": [
+        Rule("use std::alloc::{AllocError, Global};\n", "use alloc::vec;\nuse alloc::vec::Vec;\n", OF_ALLOCATOR),
+        Rule("    alloc: Global,\n", "", OF_ALLOCATOR, 2),
+        Rule("(alloc: Global, ", "(", OF_ALLOCATOR),
+        Rule("vec![in alloc; 0; count]?", "vec![0; count]", OF_ALLOCATOR),
+        Rule("vec![in alloc; false; texts.len()]?", "vec![false; texts.len()]", OF_ALLOCATOR),
+        Rule("sorted_hashes(alloc, texts, seed)?", "sorted_hashes(texts, seed)", OF_ALLOCATOR),
+        Rule("largest_first(alloc, hashes.as_slice(), count)?", "largest_first(hashes.as_slice(), count)", OF_ALLOCATOR),
+        Rule("with_capacity(alloc, texts.len())?;", "with_capacity(texts.len());", OF_ALLOCATOR),
+        Rule("Vec::new(alloc)", "Vec::new()", OF_ALLOCATOR),
+        Rule("all_bytes()))?;", "all_bytes()));", WANT_OF_MEMORY),
+        Rule("push(part)?;", "push(part);", WANT_OF_MEMORY),
+        Rule("Result<Option<Vec<u32>>, AllocError>", "Option<Vec<u32>>", WANT_OF_MEMORY),
+        Rule("Result<Vec<u64>, AllocError>", "Vec<u64>", WANT_OF_MEMORY),
+        Rule("Result<Vec<&[u64]>, AllocError>", "Vec<&[u64]>", WANT_OF_MEMORY),
+        Rule("return Ok(None);", "return None;", WANT_OF_MEMORY),
+        Rule("    Ok(Some(displacements))\n", "    Some(displacements)\n", WANT_OF_MEMORY),
+        Rule("    Ok(hashes)\n", "    hashes\n", WANT_OF_MEMORY),
+        Rule("    Ok(parts)\n", "    parts\n", WANT_OF_MEMORY),
+    ],
     "tinystr_words/decimal.rt": [
         Rule("for i in 0..4u32", "for _ in 0..4u32", "the proof alone names the counter"),
     ],
@@ -170,7 +231,7 @@ IN_FILE = {
 # What may not stand in code that is made: whatever is left of Rattle.
 LEFT = re.compile(
     r"\b(?:ghost|requires|ensures|tactic|invariant|Model|AsStr|AsSlice|AllocError|Global|derive_where|thiserror|serde_json"
-    r"|std|rt|tinystr_words|tinystr_packed)\b|[^\x00-\x7f]"
+    r"|std|rt|tinystr_words|tinystr_packed|tinystr_hashed)\b|[^\x00-\x7f]"
 )
 
 

@@ -4,6 +4,7 @@
 use std::borrow::Borrow;
 use std::collections::HashMap;
 use std::error::Error;
+use tinystr::hashed::{HashedMap, HashedTable, HashedTextMap, PackHashedError, pack_hashed};
 use tinystr::packed::{PackedMap, SortedTable, Table, TextMap};
 use tinystr::subtags::{LangId, Language};
 use tinystr::{ParseError, TinyAsciiStr, TinyStr8, UnvalidatedTinyAsciiStr, tinystr};
@@ -125,4 +126,26 @@ fn each_error_tells_what_is_wrong() {
     assert_eq!(texts(b"JPCH", b"JPYCHF"), Err("keys: record 1 isn't above the one before it".into()));
     assert_eq!(texts(b"CHJP", b"CHFJP"), Err("values: 5 bytes can't be divided into records".into()));
     assert_eq!(texts(b"CHJP", b"CHF"), Err("1 values aren't one for each of 2 keys".into()));
+}
+
+#[test]
+fn each_error_of_a_hashed_table_tells_what_is_wrong() {
+    let table = |bytes: &[u8]| HashedTable::<3>::from_bytes(bytes).map_err(told).map(|table| table.len());
+    assert_eq!(table(b"EUR"), Err("3 bytes are fewer than the sixteen of a header".into()));
+    assert_eq!(table(&[[2, 0, 0, 0]; 4].concat()), Err("the version is 2, and not 1".into()));
+    let two = [&[1, 0, 0, 0, 2, 0, 0, 0], [0; 8].as_slice(), b"EUR"].concat();
+    assert_eq!(table(&two), Err("3 bytes after the header are fewer than those of 2 displacements".into()));
+    let [hashed, sorted, one] = ["JPYEUR", "EURJPY", "EUR"].map(|records| [&[1], [0; 15].as_slice(), records.as_bytes()].concat());
+    assert_eq!(table(&hashed), Ok(2));
+    assert_eq!(table(&hashed[..21]), Err("5 bytes can't be divided into records".into()));
+    assert_eq!(table(&sorted), Err("record 0 isn't at the place of its hash".into()));
+    let map = |keys: &[u8], values: &[u8]| HashedMap::<3, 1>::new(keys, values).map_err(told).map(|map| map.len());
+    assert_eq!(map(b"EUR", &[2]), Err("keys: 3 bytes are fewer than the sixteen of a header".into()));
+    assert_eq!(map(&one, &[2, 0]), Err("2 bytes aren't a value for each of 1 keys".into()));
+    let texts = |keys: &[u8], values: &[u8]| HashedTextMap::<3, 2>::new(keys, values).map_err(told).map(|map| map.len());
+    assert_eq!(texts(b"EUR", b"EU"), Err("keys: 3 bytes are fewer than the sixteen of a header".into()));
+    assert_eq!(texts(&one, b"E"), Err("values: 1 bytes can't be divided into records".into()));
+    assert_eq!(texts(&one, b"EUUS"), Err("2 values aren't one for each of 1 keys".into()));
+    assert_eq!(pack_hashed(&[EURO, EURO]).map_err(told), Err("a text occurs twice: EUR".into()));
+    assert_eq!(told(PackHashedError::<3>::NoSeed), "no seed gives each text a place of its own");
 }

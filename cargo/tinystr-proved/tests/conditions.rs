@@ -1,11 +1,12 @@
 //! What stands for a condition that is proved at each call in Rattle: a panic.
 
 use std::panic::catch_unwind;
-use tinystr::packed::{PackedMap, SortedTable, Table, TextMap, in_place};
+use tinystr::hashed::{self, HashedMap, HashedTable, HashedTextMap};
+use tinystr::packed::{PackedMap, SortedTable, Table, TextEntries, TextMap, in_place};
 use tinystr::{TinyAsciiStr, UnvalidatedTinyAsciiStr, tinystr};
 
 /// Each is a call whose condition doesn't hold, by its name.
-const REFUSED: [(&str, fn()); 28] = [
+const REFUSED: &[(&str, fn())] = &[
     ("from_utf8_lossy by 0", || ignore(TinyAsciiStr::<2>::from_utf8_lossy(b"a", 0))),
     ("from_utf8_lossy by 128", || ignore(TinyAsciiStr::<2>::from_utf8_lossy(b"a", 128))),
     ("from_utf16_lossy by 0", || ignore(TinyAsciiStr::<2>::from_utf16_lossy(&[0x61], 0))),
@@ -31,10 +32,32 @@ const REFUSED: [(&str, fn()); 28] = [
     ("TextMap::new of keys at 0", || ignore(TextMap::<0, 1>::new(b"", b""))),
     ("TextMap::new of texts at 0", || ignore(TextMap::<3, 0>::new(b"EUR", b""))),
     ("TextMap::new of no texts at 0", || ignore(TextMap::<3, 0>::new(b"", b""))),
+    ("TextEntries::new of fewer texts", || ignore(TextEntries::new(&table(), &Table::<1>::new(b"a").unwrap()))),
+    ("TextEntries::new of more texts", || ignore(TextEntries::new(&table(), &Table::<1>::new(b"abc").unwrap()))),
+    ("HashedTable::from_bytes at 0", || ignore(HashedTable::<0>::from_bytes(HEADER))),
+    ("HashedTable::from_bytes at 0 of nothing", || ignore(HashedTable::<0>::from_bytes(b""))),
+    #[cfg(feature = "alloc")]
+    ("pack_hashed at 0", || ignore(hashed::pack_hashed::<0>(&[]))),
+    #[cfg(feature = "alloc")]
+    ("pack_hashed of texts at 0", || ignore(hashed::pack_hashed(&[tinystr!(0, "")]))),
+    #[cfg(feature = "alloc")]
+    ("pack_hashed_map at 0", || ignore(hashed::pack_hashed_map(&[(tinystr!(0, ""), [2])].into()))),
+    #[cfg(feature = "alloc")]
+    ("pack_hashed_text_map at 0", || ignore(hashed::pack_hashed_text_map::<0, 1>(&Default::default()))),
+    ("HashedMap::new of keys at 0", || ignore(HashedMap::<0, 1>::new(HEADER, &[]))),
+    ("HashedMap::new of no values at 0", || ignore(HashedMap::<3, 0>::new(HEADER, &[]))),
+    ("HashedMap::new of both at 0", || ignore(HashedMap::<0, 0>::new(b"", &[]))),
+    ("HashedTextMap::new of keys at 0", || ignore(HashedTextMap::<0, 1>::new(HEADER, b""))),
+    ("HashedTextMap::new of texts at 0", || ignore(HashedTextMap::<3, 0>::new(HEADER, b""))),
+    ("hashed::in_place::position at 0", || ignore(hashed::in_place::position::<0>(HEADER, &tinystr!(0, "")))),
+    ("hashed::in_place::position at 0 of nothing", || ignore(hashed::in_place::position::<0>(b"", &tinystr!(0, "")))),
     ("in_place::search at 0", || ignore(in_place::search::<0>(b"", &tinystr!(0, "")))),
     ("in_place::search_eight at 0", || ignore(in_place::search_eight::<0>(b"", &[tinystr!(0, ""); 8], 0))),
     ("in_place::with_prefix at 0", || ignore(in_place::with_prefix::<0>(b"", &tinystr!(0, "")))),
 ];
+
+/// A hashed table of no texts.
+const HEADER: &[u8] = &[1, 0, 0, 0, 0, 0, 0, 0, 0, 0, 0, 0, 0, 0, 0, 0];
 
 fn table() -> Table<'static, 3> {
     Table::new(b"EURGB\0").unwrap()
@@ -66,4 +89,5 @@ fn a_call_at_the_edge_of_its_condition_answers() {
     assert_eq!(bytes, *b"a\0");
     assert_eq!(table().text_at(1), "GB");
     assert_eq!(table().slice(2..2).len(), 0);
+    assert_eq!(TextEntries::new(&table(), &table()).count(), 2);
 }

@@ -230,12 +230,24 @@ impl<'a, const N: usize> Table<'a, N> {
         Table { records: all }
     }
 
-    // The records themselves.
-    // Proved:
-    //     ensures texts { map text_of result.now ≡ self.now }
-    //     ensures padded { All (λ raw. IsPaddedText raw N) result.now }
+    /// The records themselves: each text, padded with NULs to `N` bytes.
+    ///
+    /// ```
+    /// use tinystr::packed::Table;
+    ///
+    /// let table = Table::<3>::new(b"EURGB\0").unwrap();
+    /// assert_eq!(table.records()[1], *b"GB\0");
+    /// ```
+    ///
+    /// # Contract
+    ///
+    /// ```text
+    /// ensures texts { map text_of result.now ≡ self.now }
+    /// ensures padded { All (λ raw. IsPaddedText raw N) result.now }
+    /// ```
     #[inline(always)]
-    pub(crate) fn records(&self) -> &'a [[u8; N]] {
+    #[must_use]
+    pub const fn records(&self) -> &'a [[u8; N]] {
         self.records
     }
 }

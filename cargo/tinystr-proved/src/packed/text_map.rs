@@ -206,10 +206,7 @@ impl<'a, const N: usize, const M: usize> TextMap<'a, N, M> {
     /// ```
     #[must_use]
     pub const fn iter(&self) -> TextEntries<'a, N, M> {
-        TextEntries {
-            keys: self.keys.table().iter(),
-            values: self.values.iter(),
-        }
+        TextEntries::new(self.keys.table(), &self.values)
     }
 }
 
@@ -227,6 +224,40 @@ impl<'a, const N: usize, const M: usize> TextMap<'a, N, M> {
 pub struct TextEntries<'a, const N: usize, const M: usize> {
     keys: Texts<'a, N>,
     values: Texts<'a, M>,
+}
+
+impl<'a, const N: usize, const M: usize> TextEntries<'a, N, M> {
+    /// The entries of keys and of the same number of texts, in their order.
+    ///
+    /// ```
+    /// use tinystr::tinystr;
+    /// use tinystr::packed::{Table, TextEntries};
+    ///
+    /// let keys = Table::<2>::new(b"CHJP").unwrap();
+    /// let texts = Table::<3>::new(b"CHFJPY").unwrap();
+    /// let mut entries = TextEntries::new(&keys, &texts);
+    /// assert_eq!(entries.next(), Some((tinystr!(2, "CH"), tinystr!(3, "CHF"))));
+    /// ```
+    ///
+    /// # Contract
+    ///
+    /// ```text
+    /// requires { length values.now ≡ length keys.now }
+    /// ensures entries { result ≡ zip keys.now values.now }
+    /// ensures bound { length result < 2 ^ 64 }
+    /// ```
+    ///
+    /// # Panics
+    ///
+    /// Where there isn't one text for each key.
+    #[must_use]
+    pub const fn new(keys: &Table<'a, N>, values: &Table<'a, M>) -> Self {
+        assert!(values.len() == keys.len(), "there is one text for each key");
+        TextEntries {
+            keys: keys.iter(),
+            values: values.iter(),
+        }
+    }
 }
 
 impl<'a, const N: usize, const M: usize> Iterator for TextEntries<'a, N, M> {
