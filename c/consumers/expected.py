@@ -2,15 +2,17 @@
 """expected.py FOLDER: writes what the programs beside it read, and what each of them has to print.
 
 FOLDER/words is a word a line: names of locales and codes from Debian's lists, and awkward words. FOLDER/table is packed
-records of 3 bytes that rise: the codes of ISO 639. FOLDER/wanted has a line for each word, and one for all that are texts of
-at most 3 bytes, made here by regular expressions, str and bisect, and not by the library. The lists that aren't there are
-named, and left out.
+records of 3 bytes that rise: the codes of ISO 639. FOLDER/hashed is a hashed table of the same texts. FOLDER/wanted has a
+line for each word, and one for all that are texts of at most 3 bytes, made here by regular expressions, str, bisect and
+hashed.py, and not by the library. The lists that aren't there are named, and left out.
 """
 import bisect
 import json
 import re
 import sys
 from pathlib import Path
+
+import hashed
 
 NAMES = Path("/usr/share/i18n/SUPPORTED")
 CODES = Path("/usr/share/iso-codes/json")
@@ -50,7 +52,7 @@ def refused(word):
     return (NON_ASCII, above[0]) if above else None
 
 
-def line(word, table):
+def line(word, table, places):
     fault = refused(word)
     code, value, text = langid(word)
     said = [b"langid %d %d [%s]" % (code, value, text)]
@@ -61,6 +63,7 @@ def line(word, table):
     said.append(b"search %d %d" % (fault or (OK if is_there else NOT_FOUND, place)))
     count = sum(code.startswith(word) for code in table)
     said.append(b"prefix %d %d %d" % ((fault[0], 0, 0) if fault else (OK, place, count)))
+    said.append(b"hashed %d %d" % (fault or ((OK, places[word]) if is_there else (NOT_FOUND, 0))))
     return word + b": " + b", ".join(said)
 
 
@@ -74,8 +77,13 @@ def main():
     words = list(dict.fromkeys([*(word.encode() for word in AWKWARD + names + others), *table]))
     (folder / "words").write_bytes(b"".join(word + b"\n" for word in words))
     (folder / "table").write_bytes(b"".join(code.ljust(CAPACITY, b"\0") for code in table))
+    data = hashed.packed(table, CAPACITY, groups=len(table) // 4 + 1)
+    (folder / "hashed").write_bytes(data)
+    places = {record.rstrip(b"\0"): place for place, record in enumerate(hashed.records_of(data, CAPACITY))}
     keys = [word for word in words if not refused(word)]
-    wanted = [b"records %d" % len(table), *(line(word, table) for word in words)]
+    wanted = [b"records %d" % len(table), b"hashed %d %d" % hashed.checked(data, CAPACITY)]
+    wanted.append(b"without the last %d %d" % hashed.checked(data[:-CAPACITY], CAPACITY))
+    wanted += [line(word, table, places) for word in words]
     wanted.append(b"keys %d, found %d" % (len(keys), len(set(keys) & set(table))))
     (folder / "wanted").write_bytes(b"".join(it + b"\n" for it in wanted))
     print(f"{len(words)} words, {len(table)} records" + "".join(f"; left out: {path}" for path in missing))

@@ -11,8 +11,8 @@
  *   - No byte that a call may write is a byte that another argument names: `out` overlaps no input.
  *   - While the call runs, no other thread writes these bytes, or reads those that the call may write. Then any calls may
  *     run at once, in signal handlers too.
- * A table that was never checked, or was changed since, breaks nothing: a search returns a place inside it, which may
- * be the wrong one.
+ * A table that was never checked, or was changed since, breaks nothing: a search returns a place inside it, or that
+ * there is none, which may be wrong.
  *
  * Order of checks
  *   Each function below lists OK first, and NOT_FOUND if it may return it: it returns one of these if no check fails.
@@ -45,17 +45,21 @@ extern "C" {
 /* The codes. A later version keeps their numbers, as it keeps those of the questions and cases. */
 enum tinystr_code {
     TINYSTR_OK = 0,
-    TINYSTR_TOO_LONG = 1,         /* more bytes than the capacity */
-    TINYSTR_NUL = 2,              /* a NUL in a text, or in front of a character in a padded text */
-    TINYSTR_NON_ASCII = 3,        /* a byte above 127 */
-    TINYSTR_INVALID_LANGUAGE = 4, /* the first subtag isn't a language */
-    TINYSTR_INVALID_SUBTAG = 5,   /* the first subtag is one, and a later one isn't accepted */
-    TINYSTR_NO_ROOM = 6,          /* `out` is too short */
-    TINYSTR_BAD_ARGUMENT = 7,     /* there is no such capacity, size, question or case */
-    TINYSTR_BAD_LENGTH = 8,       /* the capacity doesn't divide the number of bytes */
-    TINYSTR_NOT_RISING = 9,       /* a text isn't above the one before it */
-    TINYSTR_BAD_VALUES = 10,      /* the values aren't one for each key */
-    TINYSTR_NOT_FOUND = 11        /* the text is none of the records' */
+    TINYSTR_TOO_LONG = 1,           /* more bytes than the capacity */
+    TINYSTR_NUL = 2,                /* a NUL in a text, or in front of a character in a padded text */
+    TINYSTR_NON_ASCII = 3,          /* a byte above 127 */
+    TINYSTR_INVALID_LANGUAGE = 4,   /* the first subtag isn't a language */
+    TINYSTR_INVALID_SUBTAG = 5,     /* the first subtag is one, and a later one isn't accepted */
+    TINYSTR_NO_ROOM = 6,            /* `out` is too short */
+    TINYSTR_BAD_ARGUMENT = 7,       /* there is no such capacity, size, question or case */
+    TINYSTR_BAD_LENGTH = 8,         /* the capacity doesn't divide the number of bytes */
+    TINYSTR_NOT_RISING = 9,         /* a text isn't above the one before it */
+    TINYSTR_BAD_VALUES = 10,        /* the values aren't one for each key */
+    TINYSTR_NOT_FOUND = 11,         /* the text is none of the records' */
+    TINYSTR_BAD_HEADER = 12,        /* fewer bytes than the header of a hashed table has */
+    TINYSTR_BAD_VERSION = 13,       /* the version of a hashed table isn't 1 */
+    TINYSTR_BAD_DISPLACEMENTS = 14, /* fewer bytes than the displacements of a hashed table have */
+    TINYSTR_MISPLACED = 15          /* a text of a hashed table isn't at its place */
 };
 
 /* The questions of tinystr_ask. Each is true of the empty text. */
@@ -185,6 +189,31 @@ tinystr_range tinystr_sorted_prefix(const uint8_t *bytes, size_t bytes_len, size
  *   BAD_VALUES         value: `values_len`. */
 tinystr_result tinystr_map_check(const uint8_t *keys, size_t keys_len, size_t capacity,
                                  const uint8_t *values, size_t values_len, size_t value_size);
+
+/* ---- Hashed tables: records in the order of a hash, so that a text is compared with one record. The bytes are a version
+ * of 4 bytes, which is 1; the number of displacements, of 4; a seed, of 8; the displacements, of 4 each; and the records.
+ * All numbers are little-endian. A text's place is its index among the records; it is computed from the text, the seed
+ * and one displacement. The repository's crates/tinystr_hashed has the table of this layout (`HashedTable`), defines the
+ * place (`place_of`), and makes the bytes (`pack_hashed`). */
+
+/* Whether the bytes are a hashed table.
+ *   OK                 value: how many texts.
+ *   BAD_HEADER         value: `bytes_len`, which is below 16.
+ *   BAD_VERSION        value: the version, which isn't 1.
+ *   BAD_DISPLACEMENTS  value: the number of displacements, which have more bytes than follow the header.
+ *   BAD_LENGTH         value: the number of bytes after the displacements.
+ *   NUL, NON_ASCII     value: the index of the first record that isn't a padded text.
+ *   MISPLACED          value: the index of the first text that isn't at its place. */
+tinystr_result tinystr_hashed_check(const uint8_t *bytes, size_t bytes_len, size_t capacity);
+
+/* Searches a text, without NULs after it, in a hashed table. The bytes aren't checked again: for any others it returns OK
+ * with the index of some record, or NOT_FOUND.
+ *   OK                 value: its index.
+ *   NOT_FOUND          value: 0.
+ *   TOO_LONG           The key has more than `capacity` bytes.
+ *   NUL, NON_ASCII     The key isn't a text. */
+tinystr_result tinystr_hashed_search(const uint8_t *bytes, size_t bytes_len, size_t capacity,
+                                     const uint8_t *key, size_t key_len);
 
 #ifdef __cplusplus
 }

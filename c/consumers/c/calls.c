@@ -138,6 +138,8 @@ static void tables(void) {
         CHECK(are_filled(&out, 0, 1));
         CHECK(is_range(tinystr_sorted_prefix(bytes("EURJPY"), 6, n, bytes("E"), 1), TINYSTR_BAD_ARGUMENT, 0, 0));
         CHECK(is(tinystr_map_check(bytes("EURJPY"), 6, n, bytes("\2\0"), 2, 3), TINYSTR_BAD_ARGUMENT, n));
+        CHECK(is(tinystr_hashed_check(bytes("EURJPY"), 6, n), TINYSTR_BAD_ARGUMENT, n));
+        CHECK(is(tinystr_hashed_search(bytes("EURJPY"), 6, n, bytes("EUR"), 3), TINYSTR_BAD_ARGUMENT, n));
     }
 }
 
@@ -177,6 +179,148 @@ static void many_keys(void) {
     CHECK(is(each_in_six(bytes("EURJPYE\xff" "R"), 9, out, 2), TINYSTR_NON_ASCII, 2));
     CHECK(is(tinystr_sorted_search_each(bytes(six), 18, 5, bytes("EURJP"), 4, out, 0), TINYSTR_BAD_ARGUMENT, 5));
     CHECK(are_filled(out, 0, ROOM));
+}
+
+/* Hashed tables of six texts each, with two displacements, as c/consumers/hashed.py makes and prints them: the capacity, the
+ * number of bytes, the texts in order, and the header, the displacements and the records. */
+enum { HASHED_TEXTS = 6, HASHED_START = 24, HASHED_ROOM = 120 };
+static const struct hashed {
+    size_t capacity, len;
+    const char *texts[HASHED_TEXTS], *bytes;
+} hashed_tables[] = {
+    {2, 36, {"CH", "GB", "AT", "BE", "X", "DE"},
+     "\001\000\000\000\002\000\000\000\0202Tv\230\272\334\376" "\007\003\002\001\043\003\002\001" "CH" "GB" "AT" "BE"
+     "X\000" "DE"},
+    {3, 42, {"USD", "CHF", "GB", "JPY", "EUR", "CAD"},
+     "\001\000\000\000\002\000\000\000\0202Tv\230\272\334\376" "\006\003\002\001\073\003\002\001" "USD" "CHF" "GB\000"
+     "JPY" "EUR" "CAD"},
+    {4, 48, {"Latn", "Cyrl", "Hant", "", "Hans", "Arab"},
+     "\001\000\000\000\002\000\000\000\0202Tv\230\272\334\376" "\041\003\002\001\004\003\002\001" "Latn" "Cyrl" "Hant"
+     "\000\000\000\000" "Hans" "Arab"},
+    {8, 72, {"a", "valencia", "en", "posix", "euro", "saltino"},
+     "\001\000\000\000\002\000\000\000\0202Tv\230\272\334\376" "\007\003\002\001\005\003\002\001"
+     "a\000\000\000\000\000\000\000" "valencia" "en\000\000\000\000\000\000" "posix\000\000\000" "euro\000\000\000\000"
+     "saltino\000"},
+    {16, 120, {"", "Australia/Sydney", "America/New_York", "Europe/B", "Europe/Berlin", "Europe"},
+     "\001\000\000\000\002\000\000\000\0202Tv\230\272\334\376" "\032\003\002\001\012\003\002\001"
+     "\000\000\000\000\000\000\000\000\000\000\000\000\000\000\000\000" "Australia/Sydney" "America/New_York"
+     "Europe/B\000\000\000\000\000\000\000\000" "Europe/Berlin\000\000\000"
+     "Europe\000\000\000\000\000\000\000\000\000\000"},
+};
+enum { HASHED_TABLES = sizeof hashed_tables / sizeof *hashed_tables };
+static const struct hashed *const of_three = &hashed_tables[1];
+
+/* Each text is found at its index, and no other text is found. */
+static void look_up(const struct hashed *it) {
+    static const char *const others[] = {"", "~", "ZZ", "Eu", "chf", "Arap", "eurp", "Europe/Z", "America/New_YorK"};
+    size_t n = it->capacity, i, k;
+    const uint8_t *table = bytes(it->bytes);
+    for (i = 0; i < HASHED_TEXTS; i++)
+        CHECK(is(tinystr_hashed_search(table, it->len, n, bytes(it->texts[i]), strlen(it->texts[i])), TINYSTR_OK, i));
+    for (k = 0; k < sizeof others / sizeof *others; k++) {
+        tinystr_result r = tinystr_hashed_search(table, it->len, n, bytes(others[k]), strlen(others[k]));
+        for (i = 0; i < HASHED_TEXTS && strcmp(others[k], it->texts[i]); i++) {}
+        if (i < HASHED_TEXTS) CHECK(is(r, TINYSTR_OK, i));
+        else if (strlen(others[k]) > n) CHECK(is(r, TINYSTR_TOO_LONG, strlen(others[k])));
+        else CHECK(is(r, TINYSTR_NOT_FOUND, 0));
+    }
+}
+
+/* All bytes of a table, and fewer of them. */
+static void whole_and_cut(const struct hashed *it) {
+    size_t n = it->capacity, len;
+    const uint8_t *table = bytes(it->bytes);
+    CHECK(is(tinystr_hashed_check(table, it->len, n), TINYSTR_OK, HASHED_TEXTS));
+    for (len = 0; len < it->len; len++) {
+        tinystr_result r = tinystr_hashed_check(table, len, n), found = tinystr_hashed_search(table, len, n, bytes("a"), 1);
+        if (len < 16) CHECK(is(r, TINYSTR_BAD_HEADER, len));
+        else if (len < HASHED_START) CHECK(is(r, TINYSTR_BAD_DISPLACEMENTS, 2));
+        else if ((len - HASHED_START) % n) CHECK(is(r, TINYSTR_BAD_LENGTH, len - HASHED_START));
+        else if (len == HASHED_START) CHECK(is(r, TINYSTR_OK, 0));
+        else CHECK(r.code == TINYSTR_OK || r.code == TINYSTR_MISPLACED);
+        if (len < HASHED_START + n) CHECK(is(found, TINYSTR_NOT_FOUND, 0));
+    }
+}
+
+/* In place of each record, another of the records, or none that is a padded text. */
+static void changed_records(const struct hashed *it) {
+    size_t n = it->capacity, i;
+    uint8_t table[HASHED_ROOM], *records = table + HASHED_START;
+    for (i = 0; i < HASHED_TEXTS; i++) {
+        memcpy(table, it->bytes, it->len);
+        memcpy(records + n * i, records + n * ((i + 1) % HASHED_TEXTS), n);
+        CHECK(is(tinystr_hashed_check(table, it->len, n), TINYSTR_MISPLACED, i));
+        records[n * i] = 0, records[n * i + 1] = 'a';
+        CHECK(is(tinystr_hashed_check(table, it->len, n), TINYSTR_NUL, i));
+        records[n * i + n - 1] = 128;
+        CHECK(is(tinystr_hashed_check(table, it->len, n), n == 2 ? TINYSTR_NON_ASCII : TINYSTR_NUL, i));
+        records[n * i + 1] = 128;
+        CHECK(is(tinystr_hashed_check(table, it->len, n), TINYSTR_NON_ASCII, i));
+    }
+}
+
+/* The check of the table of capacity 3 with another byte. */
+static tinystr_result with_byte(size_t index, uint8_t byte) {
+    uint8_t table[HASHED_ROOM];
+    memcpy(table, of_three->bytes, of_three->len);
+    table[index] = byte;
+    return tinystr_hashed_check(table, of_three->len, 3);
+}
+
+static void hashed(void) {
+    static const char header[] = "\1\0\0\0\0\0\0\0\0\0\0\0\0\0\0\0", version[] = "\2\0\0\0\0\0\0\0\0\0\0\0\0\0\0\0EUR";
+    size_t k;
+    uint8_t table[HASHED_ROOM];
+    for (k = 0; k < HASHED_TABLES; k++) {
+        look_up(&hashed_tables[k]);
+        whole_and_cut(&hashed_tables[k]);
+        changed_records(&hashed_tables[k]);
+    }
+    /* the version, in four bytes */
+    CHECK(is(with_byte(0, 0), TINYSTR_BAD_VERSION, 0));
+    CHECK(is(with_byte(0, 2), TINYSTR_BAD_VERSION, 2));
+    CHECK(is(with_byte(0, 255), TINYSTR_BAD_VERSION, 255));
+    CHECK(is(with_byte(1, 1), TINYSTR_BAD_VERSION, 257));
+    CHECK(is(with_byte(3, 255), TINYSTR_BAD_VERSION, 0xff000001));
+    /* the number of displacements, in four bytes; 26 bytes after the header hold six */
+    CHECK(is(with_byte(4, 6), TINYSTR_BAD_LENGTH, 2));
+    CHECK(is(with_byte(4, 7), TINYSTR_BAD_DISPLACEMENTS, 7));
+    CHECK(is(with_byte(7, 255), TINYSTR_BAD_DISPLACEMENTS, 0xff000002));
+    CHECK(is(with_byte(7, 0x40), TINYSTR_BAD_DISPLACEMENTS, 0x40000002));
+    /* another seed, another displacement, and one record fewer: the places are those that hashed.py finds */
+    CHECK(is(with_byte(8, 0x11), TINYSTR_MISPLACED, 1));
+    CHECK(is(with_byte(15, 0x7e), TINYSTR_MISPLACED, 0));
+    CHECK(is(with_byte(16, 7), TINYSTR_MISPLACED, 0));
+    CHECK(is(with_byte(23, 0x81), TINYSTR_MISPLACED, 4));
+    CHECK(is(tinystr_hashed_check(bytes(of_three->bytes), 39, 3), TINYSTR_MISPLACED, 2));
+    /* other capacities */
+    CHECK(is(tinystr_hashed_check(bytes(of_three->bytes), 42, 2), TINYSTR_NUL, 4));
+    CHECK(is(tinystr_hashed_check(bytes(of_three->bytes), 42, 4), TINYSTR_BAD_LENGTH, 18));
+    CHECK(is(tinystr_hashed_check(bytes(hashed_tables[2].bytes), 48, 2), TINYSTR_MISPLACED, 0));
+    CHECK(is(tinystr_hashed_check(bytes(hashed_tables[2].bytes), 48, 3), TINYSTR_NUL, 5));
+    CHECK(is(tinystr_hashed_check(bytes(hashed_tables[2].bytes), 48, 8), TINYSTR_MISPLACED, 0));
+    CHECK(is(tinystr_hashed_check(bytes(hashed_tables[2].bytes), 48, 16), TINYSTR_BAD_LENGTH, 24));
+    CHECK(is(tinystr_hashed_check(bytes(hashed_tables[3].bytes), 72, 4), TINYSTR_MISPLACED, 1));
+    CHECK(is(tinystr_hashed_check(bytes(hashed_tables[4].bytes), 120, 8), TINYSTR_MISPLACED, 0));
+    /* no displacements, and no records */
+    memcpy(table, header, 16);
+    memcpy(table + 16, "JPYEUR", 6);
+    CHECK(is(tinystr_hashed_check(table, 16, 3), TINYSTR_OK, 0));
+    CHECK(is(tinystr_hashed_check(table, 19, 3), TINYSTR_OK, 1));
+    CHECK(is(tinystr_hashed_check(table, 22, 3), TINYSTR_OK, 2));
+    CHECK(is(tinystr_hashed_search(table, 22, 3, bytes("EUR"), 3), TINYSTR_OK, 1));
+    CHECK(is(tinystr_hashed_search(table, 19, 3, bytes("EUR"), 3), TINYSTR_NOT_FOUND, 0));
+    CHECK(is(tinystr_hashed_search(table, 16, 3, bytes("EUR"), 3), TINYSTR_NOT_FOUND, 0));
+    CHECK(is(tinystr_hashed_search(table, 16, 3, bytes(""), 0), TINYSTR_NOT_FOUND, 0));
+    memcpy(table + 16, "EURJPY", 6);
+    CHECK(is(tinystr_hashed_check(table, 22, 3), TINYSTR_MISPLACED, 0));
+    /* a search in bytes that aren't a hashed table */
+    CHECK(is(tinystr_hashed_search(bytes(version), 19, 3, bytes("EUR"), 3), TINYSTR_NOT_FOUND, 0));
+    CHECK(is(tinystr_hashed_search(bytes(version) + 1, 15, 3, bytes("EUR"), 3), TINYSTR_NOT_FOUND, 0));
+    /* the key's own faults */
+    CHECK(is(tinystr_hashed_search(bytes(of_three->bytes), 42, 3, bytes("EURO"), 4), TINYSTR_TOO_LONG, 4));
+    CHECK(is(tinystr_hashed_search(bytes(of_three->bytes), 42, 3, bytes("GB\0"), 3), TINYSTR_NUL, 2));
+    CHECK(is(tinystr_hashed_search(bytes(of_three->bytes), 42, 3, bytes("E\xff"), 2), TINYSTR_NON_ASCII, 1));
 }
 
 /* Where two checks or more fail, a call returns the code of the one that the header lists first, and writes nothing. */
@@ -287,6 +431,39 @@ static void orders_of_tables(void) {
     CHECK(is(tinystr_map_check(bytes("JPYEUR"), 6, 3, bytes("\2"), 1, 1), TINYSTR_NOT_RISING, 1));
 }
 
+static void orders_of_hashed(void) {
+    /* each has the faults of those after it: a version, a number of displacements, a length that 3 doesn't divide, a NUL and
+     * a byte above 127, and texts that aren't at their places */
+    static const char version[] = "\2\0\0\0\3\0\0\0\0\0\0\0\0\0\0\0EURE\0RE\xff";
+    static const char displacements[] = "\1\0\0\0\3\0\0\0\0\0\0\0\0\0\0\0EURE\0RE\xff";
+    static const char length[] = "\1\0\0\0\0\0\0\0\0\0\0\0\0\0\0\0EURE\0RE\xff";
+    static const char nul[] = "\1\0\0\0\0\0\0\0\0\0\0\0\0\0\0\0EURJPYE\0R";
+    static const char non_ascii[] = "\1\0\0\0\0\0\0\0\0\0\0\0\0\0\0\0EURJPYE\xff" "R";
+    /* the capacity, the header, the version, the displacements, the records as tinystr_table_check, the places */
+    CHECK(is(tinystr_hashed_check(bytes(version), 15, 5), TINYSTR_BAD_ARGUMENT, 5));
+    CHECK(is(tinystr_hashed_check(bytes(version), 24, 9), TINYSTR_BAD_ARGUMENT, 9));
+    CHECK(is(tinystr_hashed_check(bytes(nul), 25, 1), TINYSTR_BAD_ARGUMENT, 1));
+    CHECK(is(tinystr_hashed_check(bytes(version), 15, 3), TINYSTR_BAD_HEADER, 15));
+    CHECK(is(tinystr_hashed_check(bytes(version), 0, 3), TINYSTR_BAD_HEADER, 0));
+    CHECK(is(tinystr_hashed_check(bytes(version), 16, 3), TINYSTR_BAD_VERSION, 2));
+    CHECK(is(tinystr_hashed_check(bytes(version), 24, 3), TINYSTR_BAD_VERSION, 2));
+    CHECK(is(tinystr_hashed_check(bytes(displacements), 24, 3), TINYSTR_BAD_DISPLACEMENTS, 3));
+    CHECK(is(tinystr_hashed_check(bytes(displacements), 16, 3), TINYSTR_BAD_DISPLACEMENTS, 3));
+    CHECK(is(tinystr_hashed_check(bytes(length), 24, 3), TINYSTR_BAD_LENGTH, 8));
+    CHECK(is(tinystr_hashed_check(bytes(nul), 25, 3), TINYSTR_NUL, 2));
+    CHECK(is(tinystr_hashed_check(bytes(non_ascii), 25, 3), TINYSTR_NON_ASCII, 2));
+    CHECK(is(tinystr_hashed_check(bytes(non_ascii), 22, 3), TINYSTR_MISPLACED, 0));
+    /* the capacity, the number of the key's bytes, the key's bytes; the bytes aren't checked */
+    CHECK(is(tinystr_hashed_search(bytes(version), 24, 5, bytes("E\0RO\xffX"), 6), TINYSTR_BAD_ARGUMENT, 5));
+    CHECK(is(tinystr_hashed_search(bytes(version), 15, 0, bytes("E\0R"), 3), TINYSTR_BAD_ARGUMENT, 0));
+    CHECK(is(tinystr_hashed_search(bytes(version), 24, 3, bytes("E\0RO"), 4), TINYSTR_TOO_LONG, 4));
+    CHECK(is(tinystr_hashed_search(bytes(version), 0, 3, bytes("E\xffRO"), 4), TINYSTR_TOO_LONG, 4));
+    CHECK(is(tinystr_hashed_search(bytes(displacements), 24, 3, bytes("\0E\xff"), 3), TINYSTR_NUL, 0));
+    CHECK(is(tinystr_hashed_search(bytes(length), 24, 3, bytes("\0\xff" "E"), 3), TINYSTR_NON_ASCII, 1));
+    CHECK(is(tinystr_hashed_search(bytes(version), 24, 3, bytes("EUR"), 3), TINYSTR_NOT_FOUND, 0));
+    CHECK(is(tinystr_hashed_search(bytes(displacements), 24, 3, bytes("EUR"), 3), TINYSTR_NOT_FOUND, 0));
+}
+
 /* A search for a text ends inside the records. */
 static int is_inside(tinystr_result r, size_t records) {
     return (r.code == TINYSTR_OK && r.value < records) || (r.code == TINYSTR_NOT_FOUND && r.value <= records);
@@ -326,6 +503,29 @@ static void unchecked_tables(void) {
     CHECK(!munmap(pages, 3 * page));
 }
 
+/* 20,000 times any bytes after a header, beside pages that can't be read, which no call checked: a search returns an index
+ * inside the records, or that the key isn't there. Where each record is the key, it is found, whatever the hash is. */
+static void unchecked_hashed(void) {
+    static const size_t capacities[] = {2, 3, 4, 8, 16};
+    size_t page = (size_t)sysconf(_SC_PAGESIZE), k, i;
+    uint8_t *pages = mmap(NULL, 3 * page, PROT_NONE, MAP_PRIVATE | MAP_ANONYMOUS, -1, 0);
+    CHECK(pages != MAP_FAILED && !mprotect(pages + page, page, PROT_READ | PROT_WRITE));
+    if (has_failed) return;
+    for (k = 0; k < 20000; k++) {
+        size_t n = capacities[k % 5], len = k * 7 % 601, key_len = k / 5 % (n + 1), groups = k / 3 % 50, start = 16 + 4 * groups;
+        size_t records = len < start ? 0 : (len - start) / n;
+        uint8_t *table = k % 2 ? pages + page : pages + 2 * page - len, key[16] = {0};
+        tinystr_result r;
+        for (i = 0; i < key_len; i++) key[i] = (uint8_t)(1 + next_byte() % 127);
+        for (i = 0; i < len; i++) table[i] = k % 3 || i < start ? next_byte() : key[(i - start) % n];
+        for (i = 0; i < 8 && i < len; i++) table[i] = i == 0 ? 1 : i == 4 ? (uint8_t)groups : 0;
+        r = tinystr_hashed_search(table, len, n, key, key_len);
+        CHECK((r.code == TINYSTR_OK && r.value < records) || is(r, TINYSTR_NOT_FOUND, 0));
+        CHECK(k % 3 || r.code == (records ? TINYSTR_OK : TINYSTR_NOT_FOUND));
+    }
+    CHECK(!munmap(pages, 3 * page));
+}
+
 /* Records that don't rise: one of them isn't found. */
 static void falling_tables(void) {
     tinystr_result r = tinystr_sorted_search(bytes("JPYEURCHF"), 9, 3, bytes("CHF"), 3);
@@ -354,6 +554,8 @@ static void broken_calls(void) {
     CHECK(is(tinystr_sorted_search_each(NULL, 0, 3, NULL, 0, NULL, 0), TINYSTR_OK, 0));
     CHECK(is_range(tinystr_sorted_prefix(NULL, 0, 3, NULL, 0), TINYSTR_OK, 0, 0));
     CHECK(is(tinystr_map_check(NULL, 0, 3, NULL, 0, 8), TINYSTR_OK, 0));
+    CHECK(is(tinystr_hashed_check(NULL, 0, 3), TINYSTR_BAD_HEADER, 0));
+    CHECK(is(tinystr_hashed_search(NULL, 0, 3, NULL, 0), TINYSTR_NOT_FOUND, 0));
     CHECK(is(tinystr_langid(both, 10, both, sizeof both), TINYSTR_OK, 10) && !strcmp((char *)both, "zh-Hant-TW"));
     CHECK(is(tinystr_langid(both, 10, both + 1, 12), TINYSTR_OK, 10) && !strcmp((char *)both, "zzh-Hant-TW"));
     CHECK(is(tinystr_read(both, 8, both + 2, 16), TINYSTR_OK, 8) && !memcmp(both, "zzzzh-Hant\0\0\0", 13));
@@ -366,9 +568,12 @@ int main(void) {
     questions();
     tables();
     many_keys();
+    hashed();
     orders_of_texts();
     orders_of_tables();
+    orders_of_hashed();
     unchecked_tables();
+    unchecked_hashed();
     falling_tables();
     broken_calls();
     puts(has_failed ? "failed" : "passed");

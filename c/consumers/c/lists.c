@@ -1,11 +1,15 @@
-/* lists WORDS TABLE: a line for each word of a file, about it alone and about the packed records of 3 bytes of another. Then
- * all words of at most 3 bytes are searched by one call, which answers of each as one for it alone. */
+/* lists WORDS TABLE HASHED: a line for each word of a file, about it alone and about the packed records of 3 bytes and the
+ * hashed table of two others. Then all words of at most 3 bytes are searched by one call, which answers of each as one for
+ * it alone. */
 #include <stdio.h>
 #include <stdlib.h>
 #include <string.h>
 #include <tinystr.h>
 
 enum { CAPACITY = 3 };
+
+static uint8_t *table, *hashed;
+static size_t table_len, hashed_len;
 
 static uint8_t *read_file(const char *path, size_t *len) {
     FILE *file = fopen(path, "rb");
@@ -20,9 +24,9 @@ static uint8_t *read_file(const char *path, size_t *len) {
     return bytes;
 }
 
-static tinystr_result about(const uint8_t *word, size_t len, const uint8_t *table, size_t table_len) {
+static tinystr_result about(const uint8_t *word, size_t len) {
     uint8_t text[TINYSTR_LANGID_ROOM] = {0}, code[CAPACITY + 1] = {0};
-    tinystr_result r = tinystr_langid(word, len, text, sizeof text);
+    tinystr_result r = tinystr_langid(word, len, text, sizeof text), place;
     tinystr_range found;
     printf("%.*s: langid %u %zu [%s]", (int)len, (const char *)word, (unsigned)r.code, r.value, (const char *)text);
     r = tinystr_read(word, len, code, CAPACITY);
@@ -31,11 +35,13 @@ static tinystr_result about(const uint8_t *word, size_t len, const uint8_t *tabl
     printf(", alphabetic %zu", r.code == TINYSTR_OK ? tinystr_ask(code, CAPACITY, TINYSTR_ALPHABETIC).value : 0);
     r = tinystr_sorted_search(table, table_len, CAPACITY, word, len);
     found = tinystr_sorted_prefix(table, table_len, CAPACITY, word, len);
-    printf(", search %u %zu, prefix %u %zu %zu\n", (unsigned)r.code, r.value, (unsigned)found.code, found.start, found.count);
+    printf(", search %u %zu, prefix %u %zu %zu", (unsigned)r.code, r.value, (unsigned)found.code, found.start, found.count);
+    place = tinystr_hashed_search(hashed, hashed_len, CAPACITY, word, len);
+    printf(", hashed %u %zu\n", (unsigned)place.code, place.value);
     return r;
 }
 
-static void all_at_once(const uint8_t *keys, const tinystr_result *alone, size_t count, const uint8_t *table, size_t table_len) {
+static void all_at_once(const uint8_t *keys, const tinystr_result *alone, size_t count) {
     tinystr_result *out = malloc((count + 1) * sizeof *out), r;
     size_t k, found = 0;
     if (!out) exit(2);
@@ -50,29 +56,35 @@ static void all_at_once(const uint8_t *keys, const tinystr_result *alone, size_t
 }
 
 int main(int argc, char **argv) {
-    size_t words_len, table_len, start = 0, end, count = 0;
-    uint8_t *words, *table, *keys;
+    size_t words_len, start = 0, end, count = 0;
+    uint8_t *words, *keys;
     tinystr_result r, *alone;
-    if (argc < 3) return 2;
+    if (argc < 4) return 2;
     words = read_file(argv[1], &words_len);
     table = read_file(argv[2], &table_len);
+    hashed = read_file(argv[3], &hashed_len);
     r = tinystr_sorted_check(table, table_len, CAPACITY);
     if (r.code != TINYSTR_OK) return 1;
     printf("records %zu\n", r.value);
+    r = tinystr_hashed_check(hashed, hashed_len, CAPACITY);
+    printf("hashed %u %zu\n", (unsigned)r.code, r.value);
+    r = tinystr_hashed_check(hashed, hashed_len - CAPACITY, CAPACITY);
+    printf("without the last %u %zu\n", (unsigned)r.code, r.value);
     keys = malloc(words_len * CAPACITY + 1);
     alone = malloc(words_len * sizeof *alone + 1);
     if (!keys || !alone) return 2;
     for (end = 0; end < words_len; end++) {
         if (words[end] != '\n') continue;
-        alone[count] = about(words + start, end - start, table, table_len);
+        alone[count] = about(words + start, end - start);
         r = tinystr_read(words + start, end - start, keys + count * CAPACITY, CAPACITY);
         count += r.code == TINYSTR_OK;
         start = end + 1;
     }
-    all_at_once(keys, alone, count, table, table_len);
+    all_at_once(keys, alone, count);
     free(keys);
     free(alone);
     free(words);
     free(table);
+    free(hashed);
     return 0;
 }

@@ -1,4 +1,4 @@
-// lists WORDS TABLE: what c/lists.c prints, from C++17.
+// lists WORDS TABLE HASHED: what c/lists.c prints, from C++17.
 #include <tinystr.h>
 
 #include <fstream>
@@ -26,7 +26,7 @@ std::string read_file(const char *path) {
 
 std::string until_nul(const std::string &s) { return s.substr(0, s.find('\0')); }
 
-tinystr_result about(std::string_view word, std::string_view table) {
+tinystr_result about(std::string_view word, std::string_view table, std::string_view hashed) {
     std::string text(TINYSTR_LANGID_ROOM, '\0'), code(capacity, '\0');
     tinystr_result r = tinystr_langid(bytes(word), word.size(), bytes(text), text.size());
     std::cout << word << ": langid " << r.code << ' ' << r.value << " [" << until_nul(text) << ']';
@@ -36,9 +36,15 @@ tinystr_result about(std::string_view word, std::string_view table) {
     const bool is_alphabetic = r.code == TINYSTR_OK && tinystr_ask(bytes(code), code.size(), TINYSTR_ALPHABETIC).value;
     r = tinystr_sorted_search(bytes(table), table.size(), capacity, bytes(word), word.size());
     const tinystr_range found = tinystr_sorted_prefix(bytes(table), table.size(), capacity, bytes(word), word.size());
+    const tinystr_result place = tinystr_hashed_search(bytes(hashed), hashed.size(), capacity, bytes(word), word.size());
     std::cout << ", alphabetic " << is_alphabetic << ", search " << r.code << ' ' << r.value << ", prefix " << found.code << ' '
-              << found.start << ' ' << found.count << '\n';
+              << found.start << ' ' << found.count << ", hashed " << place.code << ' ' << place.value << '\n';
     return r;
+}
+
+void check(const char *name, std::string_view hashed) {
+    const tinystr_result r = tinystr_hashed_check(bytes(hashed), hashed.size(), capacity);
+    std::cout << name << ' ' << r.code << ' ' << r.value << '\n';
 }
 
 // Searches all keys by one call. Of each it answers as one for it alone.
@@ -57,16 +63,18 @@ bool all_at_once(std::string_view keys, const std::vector<tinystr_result> &alone
 }  // namespace
 
 int main(int argc, char **argv) {
-    if (argc < 3) return 2;
-    const std::string table = read_file(argv[2]);
+    if (argc < 4) return 2;
+    const std::string table = read_file(argv[2]), hashed = read_file(argv[3]);
     const tinystr_result r = tinystr_sorted_check(bytes(std::string_view(table)), table.size(), capacity);
     if (r.code != TINYSTR_OK) return 1;
     std::cout << "records " << r.value << '\n';
+    check("hashed", hashed);
+    check("without the last", std::string_view(hashed).substr(0, hashed.size() - capacity));
     std::ifstream words(argv[1], std::ios::binary);
     std::string keys;
     std::vector<tinystr_result> alone;
     for (std::string word; std::getline(words, word);) {
-        const tinystr_result answer = about(word, table);
+        const tinystr_result answer = about(word, table, hashed);
         if (answer.code != TINYSTR_OK && answer.code != TINYSTR_NOT_FOUND) continue;
         keys += word + std::string(capacity - word.size(), '\0');
         alone.push_back(answer);

@@ -1,4 +1,4 @@
-// lists WORDS TABLE: what c/lists.c prints, from Go, by cgo.
+// lists WORDS TABLE HASHED: what c/lists.c prints, from Go, by cgo.
 package main
 
 /*
@@ -37,7 +37,7 @@ func untilNul(b []byte) []byte {
 	return b
 }
 
-func about(out *bufio.Writer, word, table []byte) C.tinystr_result {
+func about(out *bufio.Writer, word, table, hashed []byte) C.tinystr_result {
 	text, code := make([]byte, C.TINYSTR_LANGID_ROOM), make([]byte, capacity)
 	r := C.tinystr_langid(pointer(word), size(word), pointer(text), size(text))
 	fmt.Fprintf(out, "%s: langid %d %d [%s]", word, r.code, r.value, untilNul(text))
@@ -52,8 +52,15 @@ func about(out *bufio.Writer, word, table []byte) C.tinystr_result {
 	}
 	r = C.tinystr_sorted_search(pointer(table), size(table), capacity, pointer(word), size(word))
 	found := C.tinystr_sorted_prefix(pointer(table), size(table), capacity, pointer(word), size(word))
-	fmt.Fprintf(out, ", alphabetic %d, search %d %d, prefix %d %d %d\n", alphabetic, r.code, r.value, found.code, found.start, found.count)
+	fmt.Fprintf(out, ", alphabetic %d, search %d %d, prefix %d %d %d", alphabetic, r.code, r.value, found.code, found.start, found.count)
+	place := C.tinystr_hashed_search(pointer(hashed), size(hashed), capacity, pointer(word), size(word))
+	fmt.Fprintf(out, ", hashed %d %d\n", place.code, place.value)
 	return r
+}
+
+func check(out *bufio.Writer, name string, hashed []byte) {
+	r := C.tinystr_hashed_check(pointer(hashed), size(hashed), capacity)
+	fmt.Fprintf(out, "%s %d %d\n", name, r.code, r.value)
 }
 
 // Searches all keys by one call. Of each it answers as one for it alone.
@@ -81,7 +88,7 @@ func read(path string) []byte {
 }
 
 func main() {
-	words, table := read(os.Args[1]), read(os.Args[2])
+	words, table, hashed := read(os.Args[1]), read(os.Args[2]), read(os.Args[3])
 	checked := C.tinystr_sorted_check(pointer(table), size(table), capacity)
 	if checked.code != C.TINYSTR_OK {
 		log.Fatal("the records don't rise")
@@ -89,10 +96,12 @@ func main() {
 	out := bufio.NewWriter(os.Stdout)
 	defer out.Flush()
 	fmt.Fprintf(out, "records %d\n", checked.value)
+	check(out, "hashed", hashed)
+	check(out, "without the last", hashed[:len(hashed)-capacity])
 	var keys []byte
 	var alone []C.tinystr_result
 	for _, word := range bytes.Split(bytes.TrimSuffix(words, []byte("\n")), []byte("\n")) {
-		r := about(out, word, table)
+		r := about(out, word, table, hashed)
 		if r.code == C.TINYSTR_OK || r.code == C.TINYSTR_NOT_FOUND {
 			keys = append(append(keys, word...), make([]byte, capacity-len(word))...)
 			alone = append(alone, r)

@@ -1,4 +1,4 @@
-"""lists.py LIBRARY WORDS TABLE: what c/lists.c prints, by ctypes and the shared object."""
+"""lists.py LIBRARY WORDS TABLE HASHED: what c/lists.c prints, by ctypes and the shared object."""
 import ctypes
 import sys
 
@@ -32,9 +32,11 @@ sorted_check = call("sorted_check", Result, read_only, size, size)
 sorted_search = call("sorted_search", Result, read_only, size, size, read_only, size)
 sorted_search_each = call("sorted_search_each", Result, read_only, size, size, read_only, size, ctypes.POINTER(Result), size)
 sorted_prefix = call("sorted_prefix", Range, read_only, size, size, read_only, size)
+hashed_check = call("hashed_check", Result, read_only, size, size)
+hashed_search = call("hashed_search", Result, read_only, size, size, read_only, size)
 
 
-def about(word, table):
+def about(word, table, hashed):
     text, code = ctypes.create_string_buffer(LANGID_ROOM), ctypes.create_string_buffer(CAPACITY)
     r = langid(word, len(word), text, LANGID_ROOM)
     said = b"%s: langid %d %d [%s]" % (word, r.code, r.value, text.value)
@@ -45,7 +47,14 @@ def about(word, table):
     said += b", alphabetic %d" % (r.code == OK and ask(code, CAPACITY, ALPHABETIC).value)
     r = sorted_search(table, len(table), CAPACITY, word, len(word))
     found = sorted_prefix(table, len(table), CAPACITY, word, len(word))
-    return said + b", search %d %d, prefix %d %d %d\n" % (r.code, r.value, found.code, found.start, found.count), r
+    said += b", search %d %d, prefix %d %d %d" % (r.code, r.value, found.code, found.start, found.count)
+    place = hashed_search(hashed, len(hashed), CAPACITY, word, len(word))
+    return said + b", hashed %d %d\n" % (place.code, place.value), r
+
+
+def check(name, hashed):
+    r = hashed_check(hashed, len(hashed), CAPACITY)
+    return b"%s %d %d\n" % (name, r.code, r.value)
 
 
 def all_at_once(keys, alone, table):
@@ -58,15 +67,16 @@ def all_at_once(keys, alone, table):
 
 
 def main():
-    table = open(sys.argv[3], "rb").read()
+    table, hashed = open(sys.argv[3], "rb").read(), open(sys.argv[4], "rb").read()
     checked = sorted_check(table, len(table), CAPACITY)
     if checked.code != OK:
         sys.exit(1)
     sys.stdout.buffer.write(b"records %d\n" % checked.value)
+    sys.stdout.buffer.write(check(b"hashed", hashed) + check(b"without the last", hashed[:-CAPACITY]))
     keys, alone = [], []
     for line in open(sys.argv[2], "rb"):
         word = line.rstrip(b"\n")
-        said, r = about(word, table)
+        said, r = about(word, table, hashed)
         sys.stdout.buffer.write(said)
         if r.code in (OK, NOT_FOUND):
             keys.append(word)

@@ -1,5 +1,5 @@
-//! lists WORDS TABLE: what c/lists.c prints, from Rust. A slice is never a null pointer, and `&mut` overlaps nothing, so safe
-//! Rust upholds what the library's caller owes.
+//! lists WORDS TABLE HASHED: what c/lists.c prints, from Rust. A slice is never a null pointer, and `&mut` overlaps nothing,
+//! so safe Rust upholds what the library's caller owes.
 use std::io::{self, Write};
 
 #[path = "tinystr.rs"]
@@ -18,7 +18,7 @@ fn until_nul(bytes: &[u8]) -> &str {
     std::str::from_utf8(&bytes[..len]).expect("an export writes bytes from 0 to 127")
 }
 
-fn about(out: &mut impl Write, word: &[u8], table: &[u8]) -> io::Result<TinystrResult> {
+fn about(out: &mut impl Write, word: &[u8], table: &[u8], hashed: &[u8]) -> io::Result<TinystrResult> {
     let (mut text, mut code) = ([0; LANGID_ROOM], [0; CAPACITY]);
     let r = tinystr::langid(word, &mut text);
     out.write_all(word)?;
@@ -32,8 +32,15 @@ fn about(out: &mut impl Write, word: &[u8], table: &[u8]) -> io::Result<TinystrR
     let r = tinystr::sorted_search(table, CAPACITY, word);
     let found = tinystr::sorted_prefix(table, CAPACITY, word);
     let range = format!("{} {} {}", found.code, found.start, found.count);
-    writeln!(out, ", alphabetic {alphabetic}, search {} {}, prefix {range}", r.code, r.value)?;
+    write!(out, ", alphabetic {alphabetic}, search {} {}, prefix {range}", r.code, r.value)?;
+    let place = tinystr::hashed_search(hashed, CAPACITY, word);
+    writeln!(out, ", hashed {} {}", place.code, place.value)?;
     Ok(r)
+}
+
+fn check(out: &mut impl Write, name: &str, hashed: &[u8]) -> io::Result<()> {
+    let r = tinystr::hashed_check(hashed, CAPACITY);
+    writeln!(out, "{name} {} {}", r.code, r.value)
 }
 
 /// Searches all keys by one call. Of each it answers as one for it alone.
@@ -48,14 +55,16 @@ fn all_at_once(out: &mut impl Write, keys: &[[u8; CAPACITY]], alone: &[TinystrRe
 
 fn main() -> io::Result<()> {
     let files: Vec<String> = std::env::args().skip(1).collect();
-    let (words, table) = (std::fs::read(&files[0])?, std::fs::read(&files[1])?);
+    let (words, table, hashed) = (std::fs::read(&files[0])?, std::fs::read(&files[1])?, std::fs::read(&files[2])?);
     let checked = tinystr::sorted_check(&table, CAPACITY);
     assert_eq!(checked.code, OK, "the records rise");
     let mut out = io::stdout().lock();
     let (mut keys, mut alone) = (Vec::new(), Vec::new());
     writeln!(out, "records {}", checked.value)?;
+    check(&mut out, "hashed", &hashed)?;
+    check(&mut out, "without the last", &hashed[..hashed.len() - CAPACITY])?;
     for word in words.strip_suffix(b"\n").unwrap_or(&words).split(|byte| *byte == b'\n') {
-        let r = about(&mut out, word, &table)?;
+        let r = about(&mut out, word, &table, &hashed)?;
         if r.code == OK || r.code == NOT_FOUND {
             let mut key = [0; CAPACITY];
             key[..word.len()].copy_from_slice(word);

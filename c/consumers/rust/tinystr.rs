@@ -28,6 +28,8 @@ unsafe extern "C" {
     fn tinystr_sorted_search_each(bytes: *const u8, bytes_len: usize, capacity: usize, keys: *const u8, keys_len: usize, out: *mut TinystrResult, out_len: usize) -> TinystrResult;
     fn tinystr_sorted_prefix(bytes: *const u8, bytes_len: usize, capacity: usize, beginning: *const u8, beginning_len: usize) -> TinystrRange;
     fn tinystr_map_check(keys: *const u8, keys_len: usize, capacity: usize, values: *const u8, values_len: usize, value_size: usize) -> TinystrResult;
+    fn tinystr_hashed_check(bytes: *const u8, bytes_len: usize, capacity: usize) -> TinystrResult;
+    fn tinystr_hashed_search(bytes: *const u8, bytes_len: usize, capacity: usize, key: *const u8, key_len: usize) -> TinystrResult;
 }
 
 // SAFETY of each block: a slice names bytes or results that may be read, or written and named by nothing else, and isn't null.
@@ -62,4 +64,12 @@ pub fn sorted_search_each(bytes: &[u8], capacity: usize, keys: &[u8], out: &mut 
 
 pub fn sorted_prefix(bytes: &[u8], capacity: usize, beginning: &[u8]) -> TinystrRange {
     unsafe { tinystr_sorted_prefix(bytes.as_ptr(), bytes.len(), capacity, beginning.as_ptr(), beginning.len()) }
+}
+
+pub fn hashed_check(bytes: &[u8], capacity: usize) -> TinystrResult {
+    unsafe { tinystr_hashed_check(bytes.as_ptr(), bytes.len(), capacity) }
+}
+
+pub fn hashed_search(bytes: &[u8], capacity: usize, key: &[u8]) -> TinystrResult {
+    unsafe { tinystr_hashed_search(bytes.as_ptr(), bytes.len(), capacity, key.as_ptr(), key.len()) }
 }

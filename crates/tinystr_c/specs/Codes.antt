@@ -1,10 +1,12 @@
 -- What the exports answer: a code and a number.
-use Rattle.std.specs.Prelude.{ℕ, ◌==◌, nat_lt, List, length, position, Option, unwrap_or, Result, Ok, Err}
+use Rattle.std.specs.Prelude.{ℕ, ◌==◌, nat_lt, List, length, position, Option, Some, None, unwrap_or, Result, Ok, Err}
 use Rattle.subtags.specs.declared.error.LangIdError.{LangIdError}
 use Rattle.subtags.specs.declared.error.LangIdError.TheVariants.{InvalidLanguage, InvalidSubtag}
 use Rattle.tinystr.specs.Error.{fault_of}
 use Rattle.tinystr.specs.declared.ule.UleError.{UleError}
 use Rattle.tinystr.specs.declared.ule.UleError.TheVariants.{Length, Parse}
+use Rattle.tinystr_hashed.specs.declared.table.HashedError.{HashedError}
+use Rattle.tinystr_hashed.specs.declared.table.HashedError.TheVariants.{Header, Version, Displacements, Records, Place}
 use Rattle.tinystr_packed.specs.declared.map.MapError.{MapError}
 use Rattle.tinystr_packed.specs.declared.map.MapError.TheVariants.{Keys, Order, Values}
 use Rattle.tinystr_words.specs.Reading.{Fault}
@@ -52,6 +54,18 @@ BAD_VALUES = 10
 
 abbrev pub NOT_FOUND : ℕ
 NOT_FOUND = 11
+
+abbrev pub BAD_HEADER : ℕ
+BAD_HEADER = 12
+
+abbrev pub BAD_VERSION : ℕ
+BAD_VERSION = 13
+
+abbrev pub BAD_DISPLACEMENTS : ℕ
+BAD_DISPLACEMENTS = 14
+
+abbrev pub MISPLACED : ℕ
+MISPLACED = 15
 
 -- ---- and what stands with them
 
@@ -102,3 +116,17 @@ map_answer (Values count len) = answer BAD_VALUES len
 abbrev pub search_answer : Result ℕ ℕ → TinystrResult
 search_answer (Ok index) = answer OK index
 search_answer (Err place) = answer NOT_FOUND place
+
+-- why they aren't a hashed table: their number, or the version, or the number of displacements, or the fault of the
+-- records, or the index of the first text that isn't at its place
+abbrev pub hashed_answer : HashedError → TinystrResult
+hashed_answer (Header len) = answer BAD_HEADER len
+hashed_answer (Version version) = answer BAD_VERSION version
+hashed_answer (Displacements count len) = answer BAD_DISPLACEMENTS count
+hashed_answer (Records fault) = records_answer fault
+hashed_answer (Place index) = answer MISPLACED index
+
+-- the index of a text, or that it isn't there
+abbrev pub position_answer : Option ℕ → TinystrResult
+position_answer (Some index) = answer OK index
+position_answer None = answer NOT_FOUND 0

@@ -2,15 +2,16 @@
 
 ghost use Rattle.std.specs.Prelude.{◌≡◌};
 ghost use Rattle.tinystr.specs.Error.{fault_of};
-ghost use Rattle.tinystr_c.specs.Codes.{answer, no_range, fault_code, first_nul, first_non_ascii, fault_answer, refusal_code, records_answer, map_answer, search_answer};
+ghost use Rattle.tinystr_c.specs.Codes.{answer, no_range, fault_code, first_nul, first_non_ascii, fault_answer, refusal_code, records_answer, map_answer, search_answer, hashed_answer, position_answer};
 
 use crate::numbers::{
-    BAD_LENGTH, BAD_VALUES, INVALID_LANGUAGE, INVALID_SUBTAG, NON_ASCII, NOT_FOUND, NOT_RISING,
-    NUL, OK, TOO_LONG,
+    BAD_DISPLACEMENTS, BAD_HEADER, BAD_LENGTH, BAD_VALUES, BAD_VERSION, INVALID_LANGUAGE,
+    INVALID_SUBTAG, MISPLACED, NON_ASCII, NOT_FOUND, NOT_RISING, NUL, OK, TOO_LONG,
 };
 use subtags::LangIdError;
 use tinystr::ParseError;
 use tinystr::ule::UleError;
+use tinystr_hashed::HashedError;
 use tinystr_packed::MapError;
 
 /// A code, which is 0 if the call succeeded, and a number whose meaning depends on the export.
@@ -131,5 +132,30 @@ pub fn search_answer(found: Result<usize, usize>) -> TinystrResult
     match found {
         Ok(index) => answer(OK, index),
         Err(place) => answer(NOT_FOUND, place),
+    }
+}
+
+/// Why bytes aren't a hashed table.
+#[inline]
+pub fn hashed_answer(fault: HashedError) -> TinystrResult
+    ensures { result ≡ hashed_answer fault }
+{
+    match fault {
+        HashedError::Header { len } => answer(BAD_HEADER, len),
+        HashedError::Version { version } => answer(BAD_VERSION, version as usize),
+        HashedError::Displacements { count, .. } => answer(BAD_DISPLACEMENTS, count),
+        HashedError::Records(fault) => records_answer(fault),
+        HashedError::Place { index } => answer(MISPLACED, index),
+    }
+}
+
+/// The index of a text, or that it isn't there.
+#[inline]
+pub fn position_answer(found: Option<usize>) -> TinystrResult
+    ensures { result ≡ position_answer found }
+{
+    match found {
+        Some(index) => answer(OK, index),
+        None => answer(NOT_FOUND, 0),
     }
 }

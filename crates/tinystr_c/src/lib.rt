@@ -1,8 +1,10 @@
-//! The calls of `tinystr`, `subtags` and `tinystr_packed` for C, which `c/include/tinystr.h` declares. They allocate nothing
-//! and keep nothing between calls. No export has a `requires`: each answers whatever bytes and numbers it is given.
+//! The calls of `tinystr`, `subtags`, `tinystr_packed` and `tinystr_hashed` for C, which `c/include/tinystr.h` declares. They
+//! allocate nothing and keep nothing between calls. No export has a `requires`: each answers whatever bytes and numbers it is
+//! given.
 #![tactic(auto)]
 
 mod answer;
+mod hashed;
 mod numbers;
 mod packed;
 mod search_each;
@@ -10,11 +12,13 @@ mod texts;
 
 ghost use Rattle.std.specs.Prelude.{◌≡◌, length};
 ghost use Rattle.tinystr_c.specs.Codes.{answer, no_range, BAD_ARGUMENT, VERSION};
+ghost use Rattle.tinystr_c.specs.Hashed.{ChecksHashed, SearchesHashed};
 ghost use Rattle.tinystr_c.specs.Tables.{IsCapacity, IsValueSize, ChecksTable, ChecksSorted, ChecksMap, Searches, SearchesEach, FindsPrefix};
 ghost use Rattle.tinystr_c.specs.Texts.{langid_answer, langid_bytes, read_answer, read_bytes, ask_answer, case_answer, case_bytes};
 
 pub use answer::{TinystrRange, TinystrResult};
 use answer::{answer, no_range};
+use hashed::{hashed_check, hashed_search};
 use numbers::{BAD_ARGUMENT, VERSION};
 use packed::{map_check, sorted_check, sorted_prefix, sorted_search, table_check};
 use search_each::sorted_search_each;
@@ -167,5 +171,35 @@ pub extern "C" fn tinystr_map_check(
         keys,
         values,
         value_size
+    )
+}
+
+/// Whether bytes are a hashed table of texts of at most `capacity` bytes.
+#[unsafe(no_mangle)]
+pub extern "C" fn tinystr_hashed_check(bytes: &[u8], capacity: usize) -> TinystrResult
+    ensures capacity { ¬ IsCapacity capacity → result ≡ answer BAD_ARGUMENT capacity }
+    ensures checked { IsCapacity capacity → ChecksHashed result bytes.now capacity }
+{
+    crate::at_capacity!(
+        capacity,
+        hashed_check,
+        answer(BAD_ARGUMENT, capacity),
+        bytes
+    )
+}
+
+/// The index of a text in a hashed table, or that the table doesn't have it. The bytes aren't checked again: of any others
+/// an index is inside their records.
+#[unsafe(no_mangle)]
+pub extern "C" fn tinystr_hashed_search(bytes: &[u8], capacity: usize, key: &[u8]) -> TinystrResult
+    ensures capacity { ¬ IsCapacity capacity → result ≡ answer BAD_ARGUMENT capacity }
+    ensures searched { IsCapacity capacity → SearchesHashed result bytes.now key.now capacity }
+{
+    crate::at_capacity!(
+        capacity,
+        hashed_search,
+        answer(BAD_ARGUMENT, capacity),
+        bytes,
+        key
     )
 }

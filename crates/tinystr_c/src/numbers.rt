@@ -29,6 +29,14 @@ pub const BAD_VALUES: u32 = 10;
 
 pub const NOT_FOUND: u32 = 11;
 
+pub const BAD_HEADER: u32 = 12;
+
+pub const BAD_VERSION: u32 = 13;
+
+pub const BAD_DISPLACEMENTS: u32 = 14;
+
+pub const MISPLACED: u32 = 15;
+
 // The questions.
 
 pub const ALPHABETIC: u32 = 0;
