@@ -1,6 +1,6 @@
-//! Times std's look-ups of the keys that the program of tables.txt looked up, in sorted arrays of bytes, in a `HashSet` whose
-//! hasher is like the kit's, and in a `BTreeSet`, and prints a line for each time, with that program's. The argument is a
-//! file with what that program printed, of one table.
+//! Times std's look-ups of the keys that the program of tables.txt looked up, in sorted arrays of bytes, in a `HashSet`
+//! whose hasher is like the kit's, in one with std's own hasher, and in a `BTreeSet`, and prints a line for each time,
+//! with that program's. The argument is a file with what that program printed, of one table.
 
 #[allow(dead_code)]
 mod folding;
@@ -8,7 +8,7 @@ mod folding;
 use folding::Folding;
 use std::alloc::{GlobalAlloc, Layout, System};
 use std::collections::{BTreeSet, HashSet};
-use std::hash::BuildHasherDefault;
+use std::hash::{BuildHasher, BuildHasherDefault};
 use std::hint::black_box;
 use std::sync::atomic::{AtomicUsize, Ordering::Relaxed};
 use std::time::Instant;
@@ -16,6 +16,21 @@ use std::time::Instant;
 const KEYS: u64 = 100_000;
 const RUN: u64 = 1_000;
 const ROUNDS: usize = 9;
+const BUILDING_ROUNDS: usize = 3;
+
+/// A set of few records is built several times in a round, until about this number of records is reached.
+const RECORDS: usize = 100_000;
+
+// What the program times beside keys, and two orders of keys: in the second each key depends on the last record.
+const BYTES: &str = "bytes a record";
+const BUILD: &str = "build, a record";
+const OPEN: &str = "open, a record";
+const PRESENT: &str = "by chance, there";
+const DEPENDENT: &str = "random, there, dependent";
+
+// A `HashSet` with a hasher like the kit's, and with std's own.
+const FAST_SET: &str = "HashSet";
+const STD_SET: &str = "HashSet with SipHash";
 
 /// The system's memory, counted.
 struct Counted;
@@ -60,7 +75,7 @@ fn rank(state: u64, count: u64) -> u64 {
 fn number(order: &str, turn: u64, state: u64, run: u64, count: u64) -> u64 {
     let rising = turn * 2 * count / KEYS;
     match order {
-        "by chance, there" => (state >> 20) % count * 2,
+        PRESENT | DEPENDENT => (state >> 20) % count * 2,
         "by chance, not there" => (state >> 20) % count * 2 + 1,
         "all in order" => rising,
         "in order, by chance" => rising + (state >> 20) % (2 * count / KEYS).max(1),
@@ -102,14 +117,41 @@ fn text<const N: usize>(number: u64, count: u64) -> [u8; N] {
     raw
 }
 
-/// The nanoseconds for a key of the least round, and what all looks gave.
-fn time<const N: usize>(keys: &[[u8; N]], look: impl Fn(&[u8; N]) -> u64) -> (f64, u64) {
-    let round = || {
+/// The nanoseconds for a key or a record in the least of some rounds, and what these give.
+fn least<T>(rounds: usize, count: usize, round: impl Fn() -> T) -> (f64, T) {
+    let timed = || {
         let start = Instant::now();
-        let sum = keys.iter().map(&look).fold(0, u64::wrapping_add);
-        (start.elapsed().as_nanos() as f64 / KEYS as f64, black_box(sum))
+        let given = black_box(round());
+        (start.elapsed().as_nanos() as f64 / count as f64, given)
     };
-    (0..ROUNDS).map(|_| round()).min_by(|a, b| a.0.total_cmp(&b.0)).unwrap()
+    (0..rounds).map(|_| timed()).min_by(|a, b| a.0.total_cmp(&b.0)).unwrap()
+}
+
+/// The time for a key, and the sum of what all looks give.
+fn time<const N: usize>(keys: &[[u8; N]], look: impl Fn(&[u8; N]) -> u64) -> (f64, u64) {
+    least(ROUNDS, keys.len(), || keys.iter().map(&look).fold(0, u64::wrapping_add))
+}
+
+/// The time for a key, and the number of keys that are there, if the next key depends on the record that is found. Its
+/// first bit is 0, but the processor doesn't know the next key before it has loaded the record.
+fn time_dependent<const N: usize, S: BuildHasher>(keys: &[[u8; N]], set: &HashSet<[u8; N], S>) -> (f64, u64) {
+    least(ROUNDS, keys.len(), || {
+        let (mut found, mut skipped) = (0, 0);
+        for index in 0..keys.len() {
+            if let Some(record) = set.get(&keys[index + skipped]) {
+                found += 1;
+                skipped = usize::from(record[0] >> 7);
+            }
+        }
+        found
+    })
+}
+
+/// The time to build a set, for a record.
+fn time_building<T>(count: usize, make: impl Fn() -> T) -> f64 {
+    let times = (RECORDS / count).max(1);
+    let round = || (0..times).for_each(|_| drop(black_box(make())));
+    least(BUILDING_ROUNDS, count * times, round).0
 }
 
 /// A place twice, and one more where the key is there.
@@ -129,33 +171,72 @@ struct Row<'a> {
     found: u64,
 }
 
-fn print_table<const N: usize>(rows: &[Row], count: u64) {
-    let table = format!("{N} bytes, {count} records");
-    let sorted: Vec<[u8; N]> = (0..count).map(|index| text(2 * index, count)).collect();
-    let of_hashes = || sorted.iter().copied().collect::<HashSet<_, BuildHasherDefault<Folding>>>();
-    let (hashed, hashed_bytes) = weighed(of_hashes);
-    let (in_tree, tree_bytes) = weighed(|| sorted.iter().copied().collect::<BTreeSet<_>>());
-    for row in rows {
-        println!("{table}|{}|{count}|{}|{}", row.order, row.whose, row.time);
-        if row.whose != "here" {
-            continue;
-        }
-        let keys = keys::<N>(row.order, count);
-        let beside = [
-            ("slice::binary_search", row.places, time(&keys, |key| doubled(sorted.binary_search(key)))),
-            ("HashSet", row.found, time(&keys, |key| u64::from(hashed.contains(key)))),
-            ("BTreeSet", row.found, time(&keys, |key| u64::from(in_tree.contains(key)))),
-        ];
-        for (whose, wanted, (nanos, sum)) in beside {
-            assert_eq!(sum, wanted, "{table}, {}, {count}: {whose}", row.order);
-            println!("{table}|{}|{count}|{whose}|{nanos:.3}", row.order);
+impl Row<'_> {
+    /// The order of independent keys that are the same.
+    fn keys(&self) -> &str {
+        if self.order == DEPENDENT { PRESENT } else { self.order }
+    }
+
+    fn is_hashed(&self) -> bool {
+        self.whose.starts_with("hashed")
+    }
+}
+
+/// Checks that the program found as many of the same keys by each search, and in one table at the same places.
+fn check_sums(rows: &[Row]) {
+    for (index, row) in rows.iter().enumerate() {
+        for other in rows[..index].iter().filter(|other| other.keys() == row.keys()) {
+            let searches = (row.order, row.whose, other.order, other.whose);
+            assert_eq!(row.found, other.found, "{searches:?}");
+            assert!(row.places == other.places || row.is_hashed() != other.is_hashed(), "{searches:?}");
         }
     }
-    let bytes_of = |whose, bytes: usize| println!("{table}|bytes a record|{count}|{whose}|{:.2}", bytes as f64 / count as f64);
-    bytes_of("here", N * count as usize);
-    bytes_of("slice::binary_search", N * count as usize);
-    bytes_of("HashSet", hashed_bytes);
-    bytes_of("BTreeSet", tree_bytes);
+}
+
+fn print_table<const N: usize>(rows: &[Row], count: u64) {
+    let table = format!("{N} bytes, {count} records");
+    let print = |order: &str, whose: &str, figure: f64| println!("{table}|{order}|{count}|{whose}|{figure:.3}");
+    let print_checked = |row: &Row, whose: &str, (nanos, sum): (f64, u64), wanted: u64| {
+        assert_eq!(sum, wanted, "{table}, {}: {whose}", row.order);
+        print(row.order, whose, nanos);
+    };
+    let sorted: Vec<[u8; N]> = (0..count).map(|index| text(2 * index, count)).collect();
+    let fast_set = || sorted.iter().copied().collect::<HashSet<_, BuildHasherDefault<Folding>>>();
+    let std_set = || sorted.iter().copied().collect::<HashSet<_>>();
+    let (fast, fast_bytes) = weighed(fast_set);
+    let (of_std, std_bytes) = weighed(std_set);
+    let (in_tree, tree_bytes) = weighed(|| sorted.iter().copied().collect::<BTreeSet<_>>());
+    check_sums(rows);
+    for row in rows {
+        println!("{table}|{}|{count}|{}|{}", row.order, row.whose, row.time);
+        let keys = || keys::<N>(row.order, count);
+        match (row.order, row.whose) {
+            (OPEN, _) | (BYTES, _) => {}
+            (BUILD, _) => {
+                print(BUILD, FAST_SET, time_building(sorted.len(), fast_set));
+                print(BUILD, STD_SET, time_building(sorted.len(), std_set));
+            }
+            (DEPENDENT, "hashed") => {
+                print_checked(row, FAST_SET, time_dependent(&keys(), &fast), row.found);
+                print_checked(row, STD_SET, time_dependent(&keys(), &of_std), row.found);
+            }
+            (_, "here") => {
+                let keys = keys();
+                let in_slice = time(&keys, |key| doubled(sorted.binary_search(key)));
+                print_checked(row, "slice::binary_search", in_slice, row.places);
+                print_checked(row, FAST_SET, time(&keys, |key| u64::from(fast.contains(key))), row.found);
+                print_checked(row, STD_SET, time(&keys, |key| u64::from(of_std.contains(key))), row.found);
+                print_checked(row, "BTreeSet", time(&keys, |key| u64::from(in_tree.contains(key))), row.found);
+            }
+            _ => {}
+        }
+    }
+    let print_bytes = |whose, bytes: usize| print(BYTES, whose, bytes as f64 / count as f64);
+    print_bytes("here", N * sorted.len());
+    print_bytes("slice::binary_search", N * sorted.len());
+    print_bytes(FAST_SET, fast_bytes);
+    print_bytes(STD_SET, std_bytes);
+    print_bytes("BTreeSet", tree_bytes);
 }
 
 fn main() {

@@ -75,11 +75,11 @@ class Figures:
         """The median of the runs."""
         return median(self.times[cell][whose].values())
 
-    def ratios(self, cell, rival):
-        """The ratio of this crate's time to another's, of each run."""
-        here, there = self.times[cell][HERE], self.times[cell][rival]
+    def ratios(self, cell, rival, whose=HERE):
+        """The ratio of one time, this crate's, to another's, of each run."""
+        here, there = self.times[cell][whose], self.times[cell][rival]
         return [here[run] / there[run] for run in here]
 
-    def ratio(self, cell, rival):
+    def ratio(self, cell, rival, whose=HERE):
         """The ratio of the medians. It lies between the least and the most of the runs' ratios."""
-        return self.time(cell, HERE) / self.time(cell, rival)
+        return self.time(cell, whose) / self.time(cell, rival)

@@ -39,7 +39,9 @@ def cell_of(width, order, count):
 
 
 def orders(figures):
-    return [it for it in dict.fromkeys(cell[1] for cell in figures.times) if it != BYTES]
+    """Those of keys that are looked up both in bulk and one by one."""
+    both = [cell[1] for cell, times in figures.times.items() if HERE in times and ONE_BY_ONE in times]
+    return list(dict.fromkeys(both))
 
 
 def in_bulk(figures, cell):

@@ -6,6 +6,7 @@ from textwrap import fill
 from call_tables import beside_others, calls_description, full_and_mixed, in_a_row, lists_and_failing, slower, table
 from capacities import capacities_description
 from figures import THERE
+from hashed_tables import hashed_tables
 from inlined import cargo_description, inlined_table, look_ups
 from jobs import jobs_table
 from machine import machine
@@ -39,6 +40,16 @@ def picture(name, alternative):
 def fenced(file, make, *more):
     """A table of one file's figures."""
     return lambda all_figures, _folder: f"```text\n{make(all_figures[file], *more)}\n```\n"
+
+
+def fenced_if_any(file, make):
+    """A table of one file's figures, or nothing if the file has none of them."""
+
+    def block(all_figures, _folder):
+        made = make(all_figures[file])
+        return f"```text\n{made}\n```\n" if made else ""
+
+    return block
 
 
 def fenced_of_all(make):
@@ -78,6 +89,7 @@ BLOCKS = {
     "look-ups": fenced("cargo", look_ups),
     "tables.svg": picture("tables.svg", lambda them: f"{MANY_KEYS}. {many_keys_description(them['tables'])}"),
     "many keys": fenced("tables", many_keys_tables),
+    "hashed tables": fenced_if_any("tables", hashed_tables),
 }
 
 

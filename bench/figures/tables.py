@@ -38,10 +38,11 @@ def bounded_ratio(figures, cell, rival):
     return f"< {max(LEAST_RATIO, RESOLUTION / there):.2f}" if there >= RESOLUTION else "-"
 
 
-def spread(figures, cell, rival):
+def spread(figures, cell, rival, whose=HERE):
     """The least and the most ratio of the runs where they are more than a tenth apart, and two digits show it."""
-    least, most = min(figures.ratios(cell, rival)), max(figures.ratios(cell, rival))
-    ratio = figures.ratio(cell, rival)
+    ratios = figures.ratios(cell, rival, whose)
+    least, most = min(ratios), max(ratios)
+    ratio = figures.ratio(cell, rival, whose)
     return (least, most) if ratio >= 2 * LEAST_RATIO and most - least > ratio / 10 else None
 
 
@@ -49,9 +50,9 @@ def in_brackets(ends):
     return f" ({ends[0]:.2f}-{ends[1]:.2f})" if ends else ""
 
 
-def said(figures, cell, rival):
+def said(figures, cell, rival, whose=HERE):
     """The ratio, and its spread where there is one."""
-    return said_ratio(figures.ratio(cell, rival)) + in_brackets(spread(figures, cell, rival))
+    return said_ratio(figures.ratio(cell, rival, whose)) + in_brackets(spread(figures, cell, rival, whose))
 
 
 def marked(figures, cell, rival=THERE):
@@ -104,13 +105,13 @@ def ratio_table(rows, columns, figures, rival=THERE, times=False, instructions=F
 
 
 def type_cell(cell, whose, figures):
-    """Bytes, or nanoseconds and the ratio of this crate's time to them."""
+    """Bytes, or nanoseconds and the ratio of this crate's time to them, if it has one."""
     if whose not in figures.times[cell]:
         return ""
     time = figures.time(cell, whose)
     if cell[1].startswith("bytes"):
         return f"{time:.0f}"
-    if whose == HERE:
+    if whose == HERE or HERE not in figures.times[cell]:
         return said_time(time)
     ends = spread(figures, cell, whose) if min(time, figures.time(cell, HERE)) >= RESOLUTION else None
     return f"{said_time(time)}, {bounded_ratio(figures, cell, whose)}{in_brackets(ends)}"
