@@ -9,7 +9,7 @@ from sources import TOP
 
 CRATES = TOP / "crates"
 # The libraries that have a CALLING.md, from the lowest up.
-LIBRARIES = ("tinystr_words", "tinystr", "subtags", "tinystr_packed")
+LIBRARIES = ("tinystr_words", "tinystr", "subtags", "tinystr_packed", "tinystr_hashed")
 # What the declarations of a public module that callers reach begin with.
 PUBLIC = ("pub struct ", "pub enum ", "pub trait ", "pub type ", "pub fn ", "impl", "macro_rules!")
 PUBLIC_TYPE = re.compile(r"^pub (?:struct|enum|trait|type) (\w+)", re.M)
