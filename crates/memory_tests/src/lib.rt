@@ -6,6 +6,8 @@
 #[cfg(test)]
 mod forms;
 #[cfg(test)]
+mod hashing;
+#[cfg(test)]
 mod keys;
 #[cfg(test)]
 mod packing;

@@ -1,11 +1,12 @@
-//! Why bytes aren't a hashed table: each error is different from the others, and printed by its name.
+//! Why bytes aren't a hashed table, and why texts aren't packed as one: each error is different from the others, and
+//! printed by its name.
 
 use std::alloc::{AllocError, Global};
 use std::fmt::Debug;
 use std::test::Fail;
-use tinystr::ParseError;
 use tinystr::ule::UleError;
-use tinystr_hashed::{HashedError, HashedMapError, HashedTextMapError};
+use tinystr::{ParseError, TinyAsciiStr};
+use tinystr_hashed::{HashedError, HashedMapError, HashedTextMapError, PackHashedError};
 
 // No two are the same, and most differ from another in one part alone.
 const FAULTS: &[HashedError] = &[
@@ -125,5 +126,26 @@ fn faults_of_a_map_of_texts_are_different_and_printed(rt: HostRuntime) -> Result
     for (fault, text) in PRINTED_OF_TEXTS {
         assert!(rt; is_printed(rt.alloc(), fault, text)?, "{text}");
     }
+    Ok(())
+}
+
+#[test]
+fn faults_of_packing_are_different_and_printed(rt: HostRuntime) -> Result<(), Fail> {
+    let text = TinyAsciiStr::<3>::from_utf8_unchecked(*b"EUR");
+    let duplicate = PackHashedError::Duplicate { text };
+    let other = PackHashedError::Duplicate {
+        text: TinyAsciiStr::from_utf8_unchecked(*b"EU\0"),
+    };
+    let faults = [
+        duplicate,
+        other,
+        PackHashedError::NoSeed,
+        PackHashedError::Memory,
+    ];
+    assert!(rt; are_different(&faults));
+    assert!(rt; is_printed(rt.alloc(), &duplicate, "Duplicate { text: \"EUR\" }")?);
+    let [.., no_seed, memory] = faults;
+    assert!(rt; is_printed(rt.alloc(), &no_seed, "NoSeed")?);
+    assert!(rt; is_printed(rt.alloc(), &memory, "Memory")?);
     Ok(())
 }

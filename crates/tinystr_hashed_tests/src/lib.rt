@@ -14,6 +14,8 @@ mod hashes;
 #[cfg(test)]
 mod maps;
 #[cfg(test)]
+mod packing;
+#[cfg(test)]
 mod tables;
 #[cfg(test)]
 mod text_maps;

@@ -140,7 +140,10 @@ fn each_byte_of_longer_texts_counts(rt: HostRuntime) -> Result<(), Fail> {
 }
 
 /// Whether the front is that of a table of these texts, in which each key has its index, if it is one of them.
-fn is_table<const N: usize>(alloc: Global, literal: &(&[u8], &[&str])) -> Result<bool, AllocError>
+pub(crate) fn is_table<const N: usize>(
+    alloc: Global,
+    literal: &(&[u8], &[&str]),
+) -> Result<bool, AllocError>
     requires positive { 0 < N }
     requires sized { N < 2 ^ 63 }
 {

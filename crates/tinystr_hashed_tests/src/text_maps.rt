@@ -1,11 +1,13 @@
 //! Hashed maps of texts.
 
+use std::alloc::Global;
+use std::collections::BTreeMap;
 use tinystr::ParseError::{ContainsNull, NonAscii};
 use tinystr::TinyAsciiStr;
 use tinystr::ule::UleError::{Length, Parse};
 use tinystr_hashed::HashedError::{Displacements, Header, Place, Records, Version};
 use tinystr_hashed::HashedTextMapError::{Count, Keys, Values};
-use tinystr_hashed::{HashedTextMap, HashedTextMapError};
+use tinystr_hashed::{HashedTextMap, HashedTextMapError, pack_hashed_text_map};
 
 // A table of the keys below, in their order. Another program computes it from the definition.
 const KEYS: &[u8] = b"\x01\0\0\0\x02\0\0\0\xd2\xd3\0\x5c\x81\x45\x4e\x5f\
@@ -192,4 +194,65 @@ fn is_refused(keys: &[u8], values: &[u8], fault: HashedTextMapError) -> bool {
         Ok(_) => false,
         Err(found) => found == fault,
     }
+}
+
+// The entries above as they are packed, in another order. Another program computes the keys, as it does those of `packing`.
+const PACKED_KEYS: &[u8] = b"\x01\0\0\0\x02\0\0\0\x1d\xdd\x6c\x4f\x91\xf4\x45\x25\
+    \x05\0\0\0\x03\0\0\0EURJPYUSDA\0\0\0\0\0";
+
+const PACKED_VALUES: &[u8] = b"EU\0\0USa\0no";
+
+const PACKED_ENTRIES: &[(&str, &str)] = &[
+    ("EUR", "EU"),
+    ("JPY", ""),
+    ("USD", "US"),
+    ("A", "a"),
+    ("", "no"),
+];
+
+// The keys that are packed of none and of one.
+const PACKED_NO_KEY: &[u8] = b"\x01\0\0\0\0\0\0\0\x1d\xdd\x6c\x4f\x91\xf4\x45\x25";
+
+const PACKED_ONE_KEY: &[u8] = b"\x01\0\0\0\x01\0\0\0\x1d\xdd\x6c\x4f\x91\xf4\x45\x25\0\0\0\0EUR";
+
+#[test]
+fn a_map_of_std_is_packed(rt: HostRuntime) {
+    assert!(rt; is_packed(rt.alloc(), ENTRIES, PACKED_KEYS, PACKED_VALUES));
+    assert!(rt; is_packed(rt.alloc(), &[("EUR", "a")], PACKED_ONE_KEY, b"a\0"));
+    assert!(rt; is_packed(rt.alloc(), &[], PACKED_NO_KEY, b""));
+}
+
+/// Whether std's map of the entries is packed to the keys and the texts.
+fn is_packed(alloc: Global, entries: &[(&str, &str)], keys: &[u8], values: &[u8]) -> bool {
+    let mut map = BTreeMap::new(alloc);
+    for (key, value) in entries {
+        let entry = (
+            TinyAsciiStr::<3>::try_from_str(key),
+            TinyAsciiStr::<2>::try_from_str(value),
+        );
+        let (Ok(key), Ok(value)) = entry else {
+            return false;
+        };
+        if map.insert(key, value).is_err() {
+            return false;
+        }
+    }
+    match pack_hashed_text_map(alloc, &map) {
+        Ok((made, others)) => made.as_slice() == keys && others.as_slice() == values,
+        Err(_) => false,
+    }
+}
+
+#[test]
+fn a_packed_map_has_its_entries_and_no_others(rt: HostRuntime) {
+    assert!(rt; has_entries(PACKED_KEYS, PACKED_VALUES, PACKED_ENTRIES));
+    for (key, value) in ENTRIES {
+        assert!(rt; is_value(PACKED_KEYS, PACKED_VALUES, key, value), "{key}");
+    }
+    for key in "AA|B|E|EU|EUS|FUR|eur|USA|U|JPZ|~~~".split('|') {
+        assert!(rt; is_no_key(PACKED_KEYS, PACKED_VALUES, key), "{key}");
+    }
+    assert!(rt; has_entries(PACKED_ONE_KEY, b"a\0", &[("EUR", "a")]));
+    assert!(rt; has_entries(PACKED_NO_KEY, b"", &[]));
+    assert!(rt; is_no_key(PACKED_ONE_KEY, b"a\0", "") && is_no_key(PACKED_NO_KEY, b"", ""));
 }

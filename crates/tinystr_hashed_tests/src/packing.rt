@@ -1,0 +1,194 @@
+//! Texts packed as hashed tables. The bytes come from another program, which is written from the definition: it takes the
+//! seed that is tried first, and the least displacements, those of the most texts first.
+
+ghost use Rattle.std.specs.Prelude.{◌<◌, ◌^◌};
+
+use crate::files::file;
+use crate::tables::is_table;
+use std::alloc::{AllocError, Global};
+use std::test::Fail;
+use tinystr::TinyAsciiStr;
+use tinystr_hashed::{PackHashedError, pack_hashed};
+
+// Fronts, each with its texts of at most three bytes. A number of texts that share a displacement differs from the others.
+const SHORT: &[(&[u8], &[&str])] = &[
+    (b"\x01\0\0\0\0\0\0\0\x1d\xdd\x6c\x4f\x91\xf4\x45\x25", &[]),
+    (
+        b"\x01\0\0\0\x01\0\0\0\x1d\xdd\x6c\x4f\x91\xf4\x45\x25\0\0\0\0",
+        &["EUR"],
+    ),
+    (
+        b"\x01\0\0\0\x01\0\0\0\x1d\xdd\x6c\x4f\x91\xf4\x45\x25\0\0\0\0",
+        &[""],
+    ),
+    (
+        b"\x01\0\0\0\x01\0\0\0\x1d\xdd\x6c\x4f\x91\xf4\x45\x25\x02\0\0\0",
+        &["USD", "EUR"],
+    ),
+    (
+        b"\x01\0\0\0\x01\0\0\0\x1d\xdd\x6c\x4f\x91\xf4\x45\x25\x1e\0\0\0",
+        &["EUR", "USD", "GB", "JPY"],
+    ),
+    (
+        b"\x01\0\0\0\x02\0\0\0\x1d\xdd\x6c\x4f\x91\xf4\x45\x25\x05\0\0\0\x03\0\0\0",
+        &["EUR", "JPY", "USD", "A", ""],
+    ),
+    (
+        b"\x01\0\0\0\x02\0\0\0\x1d\xdd\x6c\x4f\x91\xf4\x45\x25\x11\0\0\0\x03\0\0\0",
+        &["CAD", "TND", "AUD", "CHF", "BHD"],
+    ),
+    (
+        b"\x01\0\0\0\x03\0\0\0\x1d\xdd\x6c\x4f\x91\xf4\x45\x25\0\0\0\0\x26\0\0\0\x02\0\0\0",
+        &[
+            "CAD", "TND", "AUD", "GBP", "CLF", "KWD", "EUR", "CHF", "BHD",
+        ],
+    ),
+];
+
+// Tables of longer texts, and of shorter ones.
+const OF_1: (&[u8], &[&str]) = (
+    b"\x01\0\0\0\x01\0\0\0\x1d\xdd\x6c\x4f\x91\xf4\x45\x25\x30\0\0\0",
+    &["b", "c", "a", ""],
+);
+
+const OF_8: (&[u8], &[&str]) = (
+    b"\x01\0\0\0\x02\0\0\0\x1d\xdd\x6c\x4f\x91\xf4\x45\x25\0\0\0\0\x06\0\0\0",
+    &["bbcdefgh", "a", "", "abcdefgh", "abcdefgi"],
+);
+
+const OF_9: (&[u8], &[&str]) = (
+    b"\x01\0\0\0\x02\0\0\0\x1d\xdd\x6c\x4f\x91\xf4\x45\x25\0\0\0\0\x25\0\0\0",
+    &["bbcdefghi", "", "abcdefghj", "abcdefgh", "abcdefghi"],
+);
+
+const OF_16: (&[u8], &[&str]) = (
+    b"\x01\0\0\0\x02\0\0\0\x1d\xdd\x6c\x4f\x91\xf4\x45\x25\x01\0\0\0\x02\0\0\0",
+    &[
+        "abcdefghijklmnoq",
+        "abcdefghi",
+        "abcdefgh",
+        "bbcdefghijklmnop",
+        "abcdefghijklmnop",
+    ],
+);
+
+const OF_17: (&[u8], &[&str]) = (
+    b"\x01\0\0\0\x02\0\0\0\x1d\xdd\x6c\x4f\x91\xf4\x45\x25\x01\0\0\0\x06\0\0\0",
+    &[
+        "abcdefghijklmnop",
+        "abcdefghijklmnopr",
+        "bbcdefghijklmnopq",
+        "abcdefghi",
+        "abcdefghijklmnopq",
+    ],
+);
+
+const OF_32: (&[u8], &[&str]) = (
+    b"\x01\0\0\0\x02\0\0\0\x1d\xdd\x6c\x4f\x91\xf4\x45\x25\x03\0\0\0\x0f\0\0\0",
+    &[
+        "abcdefghijklmnop",
+        "abcdefghijklmnopqrstuvwxyzABCDEG",
+        "abcdefghijklmnopr",
+        "abcdefghijklmnopqrstuvwx",
+        "abcdefghijklmnopqrstuvwxyzABCDEF",
+    ],
+);
+
+const OF_33: (&[u8], &[&str]) = (
+    b"\x01\0\0\0\x02\0\0\0\x1d\xdd\x6c\x4f\x91\xf4\x45\x25\x0c\0\0\0\x01\0\0\0",
+    &[
+        "",
+        "abcdefghijklmnopqrstuvwxyzABCDEFH",
+        "abcdefghijklmnopqrstuvwxyzABCDEF",
+        "abcdefghijklmnop",
+        "abcdefghijklmnopqrstuvwxyzABCDEFG",
+    ],
+);
+
+#[test]
+fn texts_are_packed_as_their_table(rt: HostRuntime) -> Result<(), Fail> {
+    for literal in SHORT {
+        assert!(rt; is_packed::<3>(rt.alloc(), literal), "{literal:?}");
+    }
+    assert!(rt; is_packed::<1>(rt.alloc(), &OF_1));
+    assert!(rt; is_packed::<8>(rt.alloc(), &OF_8));
+    assert!(rt; is_packed::<9>(rt.alloc(), &OF_9));
+    assert!(rt; is_packed::<16>(rt.alloc(), &OF_16));
+    assert!(rt; is_packed::<17>(rt.alloc(), &OF_17));
+    assert!(rt; is_packed::<32>(rt.alloc(), &OF_32));
+    assert!(rt; is_packed::<33>(rt.alloc(), &OF_33));
+    Ok(())
+}
+
+/// Whether the texts are packed as this table, in its order and in the opposite one, and each is found in it and no other.
+fn is_packed<const N: usize>(alloc: Global, literal: &(&[u8], &[&str])) -> bool
+    requires positive { 0 < N }
+    requires sized { N < 2 ^ 62 }
+{
+    let (front, words) = *literal;
+    let (Ok(file), Ok(mut texts)) = (file::<N>(alloc, front, words), texts::<N>(alloc, words))
+    else {
+        return false;
+    };
+    let is_packed = is_packed_as(alloc, &texts, &file);
+    texts.reverse();
+    is_packed
+        && is_packed_as(alloc, &texts, &file)
+        && matches!(is_table::<N>(alloc, literal), Ok(true))
+}
+
+fn is_packed_as<const N: usize>(alloc: Global, texts: &[TinyAsciiStr<N>], file: &[u8]) -> bool
+    requires { 0 < N }
+{
+    match pack_hashed(alloc, texts) {
+        Ok(made) => made.as_slice() == file,
+        Err(_) => false,
+    }
+}
+
+/// Words as texts, each cut to `N` bytes.
+fn texts<const N: usize>(alloc: Global, words: &[&str]) -> Result<Vec<TinyAsciiStr<N>>, AllocError>
+    requires { N < 2 ^ 62 }
+{
+    let mut texts = Vec::new(alloc);
+    for word in words {
+        texts.push(TinyAsciiStr::from_utf8_lossy(word.as_bytes(), b'?'))?;
+    }
+    Ok(texts)
+}
+
+// Texts, one of which occurs twice or more.
+const REPEATED: &[(&[&str], &str)] = &[
+    (&["EUR", "EUR"], "EUR"),
+    (&["", ""], ""),
+    (&["EUR", "EUR", "EUR"], "EUR"),
+    (&["USD", "GB", "EUR", "JPY", "USD"], "USD"),
+    (&["EUR", "GB", "JPY", "GB", "USD"], "GB"),
+    (&["ABC", "", "AB", "A", "B", "", "C"], ""),
+    (&["a", "A", "AA", "AAA", "AA", "aa"], "AA"),
+];
+
+#[test]
+fn a_text_that_occurs_twice_is_named(rt: HostRuntime) -> Result<(), Fail> {
+    for (words, text) in REPEATED {
+        assert!(rt; is_refused::<3>(rt.alloc(), words, text), "{words:?}");
+    }
+    let (long, other) = (
+        "abcdefghijklmnopqrstuvwxyzABCDEFG",
+        "abcdefghijklmnopqrstuvwxyzABCDEFH",
+    );
+    assert!(rt; is_refused::<33>(rt.alloc(), &[long, other, long], long));
+    Ok(())
+}
+
+/// Whether the words are refused, since this one occurs twice.
+fn is_refused<const N: usize>(alloc: Global, words: &[&str], word: &str) -> bool
+    requires positive { 0 < N }
+    requires sized { N < 2 ^ 62 }
+{
+    let text = TinyAsciiStr::from_utf8_lossy(word.as_bytes(), b'?');
+    match texts::<N>(alloc, words) {
+        Ok(texts) => pack_hashed(alloc, &texts).err() == Some(PackHashedError::Duplicate { text }),
+        Err(_) => false,
+    }
+}
