@@ -138,7 +138,8 @@ fn is_packed<const N: usize>(alloc: Global, literal: &(&[u8], &[&str])) -> bool
 }
 
 fn is_packed_as<const N: usize>(alloc: Global, texts: &[TinyAsciiStr<N>], file: &[u8]) -> bool
-    requires { 0 < N }
+    requires positive { 0 < N }
+    requires sized { N < 2 ^ 62 }
 {
     match pack_hashed(alloc, texts) {
         Ok(made) => made.as_slice() == file,
