@@ -5,6 +5,7 @@
 #[cfg(feature = "alloc")]
 extern crate alloc;
 
+mod ascii_bytes;
 mod constants;
 #[doc = include_str!("../DEFINITIONS.md")]
 #[cfg(doc)]

@@ -22,7 +22,7 @@ PRIVATE = {"tinystr_words"}
 CONST = {
     "tinystr/ascii.rt": ["default() -> Self"],
     "tinystr/ascii/views.rt": ["is_empty(", "get_byte(", "all_bytes("],
-    "tinystr/ascii/readers.rt": ["from_utf8_unchecked("],
+    "tinystr/ascii/readers.rt": ["from_utf8_unchecked(", "from_padded("],
     "tinystr/forms.rt": ["to_bytes(&self) -> [u8; N]"],
     "tinystr/ule.rt": ["niche_bit_pattern("],
     "tinystr/unvalidated.rt": ["default() -> Self", "from_utf8_unchecked(", "to_unvalidated("],
@@ -80,7 +80,7 @@ def path_of(crate):
 def with_signatures(text, file, is_private):
     """Functions as Rust's callers have them: `const` and `unsafe` where they can or must be, and `#[must_use]`."""
     for function, times in Counter(CONST.get(file, [])).items():
-        text, count = re.subn(rf"pub (unsafe )?fn {re.escape(function)}", lambda it: it[0].replace("pub ", "pub const "), text)
+        text, count = re.subn(rf"(pub(?:\(crate\))? )((?:unsafe )?fn {re.escape(function)})", r"\1const \2", text)
         if count != times:
             raise Stopped(f"{file}: `pub fn {function}` stands {count} times, and not {times}")
     text, count = UNSAFE_CALL.subn(r"unsafe { TinyAsciiStr::from_utf8_unchecked\1 }", text)

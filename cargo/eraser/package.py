@@ -6,6 +6,7 @@ from pathlib import Path
 from eraser import Stopped
 from eraser.contracts import Contracts
 from eraser.examples import module_of_tests, with_doc_tests, without_examples
+from eraser.fields import Fields
 from eraser.ghosts import without_ghosts
 from eraser.items import with_derives, without_items
 from eraser.modules import MODULES, PRIVATE, with_paths, with_signatures
@@ -33,6 +34,7 @@ class Package:
         self.by_hand = by_hand
         self.contracts = Contracts()
         self.rules = Rules()
+        self.fields = Fields()
         self.tests = []
 
     def files(self):
@@ -49,6 +51,7 @@ class Package:
             raise Stopped(f"{file} is left out, and isn't there")
         self.contracts.finish()
         self.rules.finish()
+        self.fields.finish()
         made["src/words/examples.rs"] = module_of_tests(self.tests)
         made["src/words.rs"] += "\n#[cfg(test)]\nmod examples;\n"
         made["src/lib.rs"] = read(self.by_hand / FRONT) + made["src/lib.rs"].partition("\n\n")[2]
@@ -70,7 +73,7 @@ class Package:
         text = without_items(without_ghosts(text), file)
         text = self.contracts.place(text, file, is_private)
         text = with_derives(text, file)
-        text = self.rules.apply(with_paths(text, crate), file)
+        text = self.fields.turn(self.rules.apply(with_paths(text, crate), file), file)
         text = with_signatures(text, file, is_private)
         text = without_examples(text, file, self.tests) if is_private else with_doc_tests(text, file)
         stop_at_what_is_left(text, file)

@@ -47,6 +47,9 @@ OF_ALLOCATOR = "Rust's vectors and maps name no allocator"
 WANT_OF_MEMORY = "want of memory ends a program in Rust, and is no error"
 NOT_PROVED_HERE = "in Rust nothing proves a condition at a call"
 AT_ROOT = "so that the documentation tells of it at its root"
+HINTED = "the compiler is given a hint that the text is no error and not `None`, which share its bytes"
+BELOW_128 = "a type that knows that each byte is below 128 leaves room for `None`"
+OF_BYTES = "the derived equality of a text is that of its bytes, and the proved one is theirs"
 NAMED_AS_STR = "`Deref` to `str` has this name, and the original's callers use that"
 
 IN_FILE = {
@@ -57,9 +60,22 @@ IN_FILE = {
     ],
     "tinystr/error.rt": [Rule("pub enum ParseError", "#[non_exhaustive]\npub enum ParseError", "as in the original")],
     "tinystr/ascii.rt": [
-        Rule("pub struct TinyAsciiStr", "#[repr(transparent)]\npub struct TinyAsciiStr", "as in the original"),
+        Rule(
+            "#[derive(Clone, Copy)]\npub struct TinyAsciiStr",
+            "#[derive(Clone, Copy, PartialEq, Eq)]\n#[repr(transparent)]\npub struct TinyAsciiStr",
+            "as in the original, so that constants are patterns",
+        ),
+        Rule("    bytes: [u8; N],\n", "    bytes: AsciiBytes<N>,\n", BELOW_128),
+        Rule("use crate::error::ParseError;\n", "use crate::ascii_bytes::AsciiBytes;\nuse crate::error::ParseError;\n", BELOW_128),
+    ],
+    "tinystr/ascii/order.rt": [
+        Rule("use crate::ascii::TinyAsciiStr;\n", "use crate::ascii::TinyAsciiStr;\nuse crate::ascii_bytes::AsciiBytes;\n", OF_BYTES),
+        Rule(" PartialEq for TinyAsciiStr<N> {", " PartialEq for AsciiBytes<N> {", OF_BYTES),
+        Rule(" Eq for TinyAsciiStr<N> {", " Eq for AsciiBytes<N> {", OF_BYTES),
+        Rule("padded::equals(&self.bytes, &other.bytes)", "padded::equals(self.as_array(), other.as_array())", OF_BYTES),
     ],
     "tinystr/ascii/readers.rt": [
+        Rule("use crate::error::ParseError;\n", "use crate::ascii_bytes::AsciiBytes;\nuse crate::error::ParseError;\n", BELOW_128),
         Rule("it runs: the condition is\n    /// proved at the call.", "it\n    /// runs.", NOT_PROVED_HERE),
     ],
     "tinystr/forms.rt": [
@@ -78,7 +94,16 @@ IN_FILE = {
         Rule("pub fn get(", "pub fn get_byte(", NAMED_AS_STR),
         Rule(".get(", ".get_byte(", NAMED_AS_STR, 2),
     ],
+    "tinystr/ascii/strict.rt": [
+        Rule("from_padded(padded::low_bytes(units))", "from_padded(padded::low_bytes(units)).hinted_in_result()", HINTED),
+        Rule("    Ok(TinyAsciiStr::from_padded(bytes))\n", "    Ok(TinyAsciiStr::from_padded(bytes).hinted_in_result())\n", HINTED),
+    ],
+    "tinystr_packed/table.rt": [
+        Rule("from_utf8_unchecked(*raw)", "from_utf8_unchecked(*raw).hinted()", HINTED, 2),
+    ],
     "tinystr/ascii/splitting.rt": [
+        Rule("Some((before.resize(), behind.resize()))", "Some((before.resize().hinted(), behind.resize().hinted()))", HINTED),
+        Rule("Some((self.take(at), self.suffix(at + 1)))", "Some((self.take(at).hinted(), self.suffix(at + 1).hinted()))", HINTED),
         Rule("pub fn find(", "pub fn find_byte(", NAMED_AS_STR),
         Rule("text.find(byte)", "text.find_byte(byte)", NAMED_AS_STR),
         Rule("text.get(0)", "text.get_byte(0)", NAMED_AS_STR),

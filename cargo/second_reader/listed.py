@@ -2,7 +2,8 @@
 
 An entry of the text is a line 'once: OLD' or 'N times: OLD', or 'N times in FILE: OLD', and below it '    becomes NEW' or
 '    goes'. What is new alone is 'once added in FILE: NEW', with no line below. `…` in OLD is any text without `;` or a brace
-of its own, and stands in NEW in the same order. Where OLD or NEW has more lines, each begins with eight spaces.
+of its own, and stands in NEW in the same order. Where OLD or NEW has more lines, each begins with eight spaces. One line
+names the function that makes each text.
 """
 
 import re
@@ -13,6 +14,7 @@ from texts import Unreadable, read
 ENTRY = re.compile(r"(?:once|(?P<count>\d+) times)(?P<added> added)?(?: in (?P<file>\S+))?: (?P<old>.*)")
 REQUIRES = re.compile(r"(?P<file>\S+\.rt): (?P<function>\w+) requires (?P<said>.*)")
 FILE = re.compile(r"(left out|by hand): (\S+)")
+MAKER = re.compile(r"texts are made by (?P<function>\w+) of (?P<file>\S+\.rt), which requires (?P<said>.*?), with (?P<call>.*)")
 PRIVATE = re.compile(r"private module: (\w+), of which callers have (.*)")
 STANDS = ("panics first with", "panics in its body at", "is unsafe")
 
@@ -41,12 +43,23 @@ class Stand:
 
 
 @dataclass
+class Maker:
+    """The one function that makes texts: its file, what it requires, and the call in its body that no other one has."""
+
+    file: str
+    function: str
+    said: str
+    call: list
+
+
+@dataclass
 class Listed:
     left_out: list = field(default_factory=list)
     by_hand: list = field(default_factory=list)
     entries: list = field(default_factory=list)
     stands: dict = field(default_factory=dict)
     private: dict = field(default_factory=dict)
+    maker: Maker = None
 
 
 def tokens_of(text):
@@ -77,6 +90,9 @@ def read_list(path):
             open_requires = requires["file"], requires["function"], " ".join(tokens_of(requires["said"]))
         elif file := FILE.fullmatch(line):
             (listed.left_out if file[1] == "left out" else listed.by_hand).append(file[2])
+        elif maker := MAKER.fullmatch(line):
+            said = " ".join(tokens_of(maker["said"]))
+            listed.maker = Maker(maker["file"], maker["function"], said, tokens_of(maker["call"]))
         elif private := PRIVATE.fullmatch(line):
             listed.private[private[1]] = set(private[2].split(" and "))
         elif line.startswith("    ") and open_entry:
@@ -94,4 +110,6 @@ def read_list(path):
             open_requires = None
         elif open_entry or open_requires:
             raise Unreadable(f"{path.name}:{number}: what becomes of the line above isn't said")
+    if listed.maker is None:
+        raise Unreadable(f"{path.name}: it doesn't say which function makes texts")
     return listed

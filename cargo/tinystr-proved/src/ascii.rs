@@ -14,6 +14,7 @@ pub mod splitting;
 mod strict;
 mod views;
 
+use crate::ascii_bytes::AsciiBytes;
 use crate::error::ParseError;
 pub use splitting::Parts;
 use core::hash::{Hash, Hasher};
@@ -31,10 +32,10 @@ pub(crate) use strict::are_padded;
 /// assert!(city < tinystr!(8, "Paris"));
 /// # Ok::<(), Box<dyn std::error::Error>>(())
 /// ```
-#[derive(Clone, Copy)]
+#[derive(Clone, Copy, PartialEq, Eq)]
 #[repr(transparent)]
 pub struct TinyAsciiStr<const N: usize> {
-    bytes: [u8; N],
+    bytes: AsciiBytes<N>,
 }
 
 /// A text of at most 4 bytes.
@@ -69,7 +70,7 @@ pub type TinyStr16 = TinyAsciiStr<16>;
 impl<const N: usize> Hash for TinyAsciiStr<N> {
     #[inline]
     fn hash<H: Hasher>(&self, state: &mut H) {
-        state.write(&self.bytes[..]);
+        state.write(&self.bytes.as_array()[..]);
     }
 }
 
@@ -90,7 +91,7 @@ impl<const N: usize> TinyAsciiStr<N> {
     #[inline]
     #[must_use]
     pub const fn default() -> Self {
-        TinyAsciiStr { bytes: [0; N] }
+        TinyAsciiStr::from_padded([0; N])
     }
 }
 

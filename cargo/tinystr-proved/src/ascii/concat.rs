@@ -24,9 +24,7 @@ impl<const N: usize> TinyAsciiStr<N> {
     #[inline]
     #[must_use]
     pub fn concat<const M: usize, const Q: usize>(self, other: TinyAsciiStr<M>) -> TinyAsciiStr<Q> {
-        TinyAsciiStr {
-            bytes: padded::concat(&self.bytes, &other.bytes),
-        }
+        TinyAsciiStr::from_padded(padded::concat(self.bytes.as_array(), other.bytes.as_array()))
     }
 
     /// The two texts joined, or `None` if they have more than `Q` bytes together.
@@ -98,7 +96,7 @@ impl<const N: usize> TinyAsciiStr<N> {
     ) -> Option<TinyAsciiStr<Q>> {
         let separator = TinyAsciiStr::<1>::from_padded([separator]);
         let mut len = first.len();
-        let mut bytes = first.bytes;
+        let mut bytes = *first.bytes.as_array();
         for text in others {
             len = separator.put_behind(&mut bytes[..], len)?;
             len = text.put_behind(&mut bytes[..], len)?;
@@ -123,7 +121,7 @@ impl<const N: usize> TinyAsciiStr<N> {
             return None;
         }
         if N <= 16 && N <= room {
-            bytes[len..len + N].copy_from_slice(&self.bytes);
+            bytes[len..len + N].copy_from_slice(self.bytes.as_array());
         } else {
             bytes[len..len + text_len].copy_from_slice(self.as_utf8());
         }

@@ -23,8 +23,8 @@ impl<const N: usize> TinyAsciiStr<N> {
     #[inline]
     pub fn new_unsigned_decimal(number: u32) -> Result<Self, Self> {
         match padded::decimal(number) {
-            Ok(bytes) => Ok(TinyAsciiStr { bytes }),
-            Err(bytes) => Err(TinyAsciiStr { bytes }),
+            Ok(bytes) => Ok(TinyAsciiStr::from_padded(bytes)),
+            Err(bytes) => Err(TinyAsciiStr::from_padded(bytes)),
         }
     }
 }

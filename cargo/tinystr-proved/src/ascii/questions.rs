@@ -20,7 +20,7 @@ impl<const N: usize> TinyAsciiStr<N> {
     #[inline(always)]
     #[must_use]
     pub fn ask(&self, question: Question) -> bool {
-        padded::ask(&self.bytes, question)
+        padded::ask(self.bytes.as_array(), question)
     }
 
     /// The text in the given case: `in_case(Case::Title)` is `to_ascii_titlecase()`.
@@ -39,9 +39,9 @@ impl<const N: usize> TinyAsciiStr<N> {
     #[inline(always)]
     #[must_use]
     pub fn in_case(self, case: Case) -> Self {
-        let mut bytes = self.bytes;
+        let mut bytes = *self.bytes.as_array();
         padded::put_in_case(&mut bytes, case);
-        TinyAsciiStr { bytes }
+        TinyAsciiStr::from_padded(bytes)
     }
 
     /// Whether each byte is a letter. Like the other questions, it is true of the empty text.

@@ -1,6 +1,7 @@
 //! The readers: strict, of padded bytes, lossy, and of bytes that are known to be padded.
 
 use crate::ascii::{TinyAsciiStr, strict};
+use crate::ascii_bytes::AsciiBytes;
 use crate::error::ParseError;
 use crate::words::{CodeUnit, padded};
 
@@ -112,9 +113,7 @@ impl<const N: usize> TinyAsciiStr<N> {
     //     ensures { result ≡ lossy (map U.number units.now) replacement N }
     #[inline(always)]
     fn read_lossy<U: CodeUnit>(units: &[U], replacement: u8) -> Self {
-        TinyAsciiStr {
-            bytes: padded::lossy(units, replacement),
-        }
+        TinyAsciiStr::from_padded(padded::lossy(units, replacement))
     }
 
     /// Reads the first `N` bytes, with `replacement` for each that is NUL or above 127. Later bytes are ignored.
@@ -192,7 +191,7 @@ impl<const N: usize> TinyAsciiStr<N> {
     #[inline]
     #[must_use]
     pub const unsafe fn from_utf8_unchecked(code_units: [u8; N]) -> Self {
-        TinyAsciiStr { bytes: code_units }
+        TinyAsciiStr::from_padded(code_units)
     }
 
     // `from_utf8_unchecked` for this crate, whose Rust is no `unsafe fn`: it keeps the type's invariant by its own proofs.
@@ -200,7 +199,9 @@ impl<const N: usize> TinyAsciiStr<N> {
     //     requires { IsPaddedText bytes N }
     //     ensures { result ≡ text_of bytes.entry }
     #[inline]
-    pub(crate) fn from_padded(bytes: [u8; N]) -> Self {
-        TinyAsciiStr { bytes }
+    pub(crate) const fn from_padded(bytes: [u8; N]) -> Self {
+        debug_assert!(AsciiBytes::are_padded(&bytes), "the bytes aren't a text and then NULs");
+        // SAFETY: a text and then NULs, so each byte is below 128. This is proved at each call.
+        TinyAsciiStr { bytes: unsafe { AsciiBytes::new(bytes) } }
     }
 }

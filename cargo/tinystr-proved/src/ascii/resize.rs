@@ -22,9 +22,7 @@ impl<const N: usize> TinyAsciiStr<N> {
     #[inline]
     #[must_use]
     pub fn resize<const M: usize>(self) -> TinyAsciiStr<M> {
-        TinyAsciiStr {
-            bytes: padded::resize(&self.bytes),
-        }
+        TinyAsciiStr::from_padded(padded::resize(self.bytes.as_array()))
     }
 
     /// The text at capacity `M`, or `None` if it has more than `M` bytes.

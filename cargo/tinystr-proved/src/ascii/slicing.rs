@@ -64,7 +64,7 @@ impl<const N: usize> TinyAsciiStr<N> {
     //     ensures { result ≡ take M (drop start self.now) }
     #[inline(always)]
     pub(crate) fn suffix<const M: usize>(&self, start: usize) -> TinyAsciiStr<M> {
-        let bytes = &self.bytes[..];
+        let bytes = &self.bytes.as_array()[..];
         if M <= N && start <= N - M {
             return TinyAsciiStr::from_padded(resize_at_once(&bytes[start..start + M]));
         }
@@ -83,7 +83,7 @@ impl<const N: usize> TinyAsciiStr<N> {
         if len >= N {
             return self;
         }
-        let bytes = &self.bytes[..];
+        let bytes = &self.bytes.as_array()[..];
         if N <= 8 {
             let lanes = first_lanes_of_eight(u8x8::from_array(resize(bytes)), len);
             return TinyAsciiStr::from_padded(resize(&lanes.to_array()[..]));

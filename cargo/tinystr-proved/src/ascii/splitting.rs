@@ -45,7 +45,7 @@ impl<const N: usize> TinyAsciiStr<N> {
     #[inline]
     #[must_use]
     pub fn find_byte(&self, byte: u8) -> Option<usize> {
-        let bytes = &self.bytes[..];
+        let bytes = &self.bytes.as_array()[..];
         let found = find_in_sixteen(first_sixteen(bytes), byte);
         if found.is_none() && N > 16 && bytes[16] != 0 {
             return find_past_sixteen(bytes, byte);
@@ -75,9 +75,9 @@ impl<const N: usize> TinyAsciiStr<N> {
         let at = self.find_byte(separator)?;
         if N <= 8 {
             let (before, behind) = split_around(self.resize(), at);
-            return Some((before.resize(), behind.resize()));
+            return Some((before.resize().hinted(), behind.resize().hinted()));
         }
-        Some((self.take(at), self.suffix(at + 1)))
+        Some((self.take(at).hinted(), self.suffix(at + 1).hinted()))
     }
 
     /// The parts before, between and behind the separators, in order. A text without a separator is a single part, and
@@ -109,10 +109,10 @@ impl<const N: usize> TinyAsciiStr<N> {
             separator,
         };
         if N <= 8 {
-            let bytes = Aligned8::from_ascii_bytes(&self.bytes).to_bytes();
+            let bytes = Aligned8::from_ascii_bytes(self.bytes.as_array()).to_bytes();
             parts.short = Some(TinyAsciiStr::from_padded(bytes));
         } else {
-            parts.rest = Some(&self.bytes[..]);
+            parts.rest = Some(&self.bytes.as_array()[..]);
         }
         parts
     }
@@ -177,7 +177,7 @@ fn find_in_eight(text: TinyAsciiStr<8>, byte: u8) -> Option<usize> {
 //     ensures rest { result.1 ≡ drop (at + 1) text }
 #[inline(always)]
 fn split_around(text: TinyAsciiStr<8>, at: usize) -> (TinyAsciiStr<8>, TinyAsciiStr<8>) {
-    let word = <u64 as Word<8>>::from_le_bytes(&text.bytes);
+    let word = <u64 as Word<8>>::from_le_bytes(text.bytes.as_array());
     let bits = 8 * at;
     let part = word % (1 << bits);
     let rest = (word >> 8) >> bits;

@@ -99,13 +99,13 @@ fn read_pieces<U: CodeUnit, const N: usize>(units: &[U]) -> Result<TinyAsciiStr<
         if !are_characters(units) {
             return Err(fault::<U, N>(units));
         }
-        return Ok(TinyAsciiStr::from_padded(padded::low_bytes(units)));
+        return Ok(TinyAsciiStr::from_padded(padded::low_bytes(units)).hinted_in_result());
     }
     let mut bytes = [0; N];
     if !padded::read_all(&mut bytes[..], units, 0) {
         return Err(fault::<U, N>(units));
     }
-    Ok(TinyAsciiStr::from_padded(bytes))
+    Ok(TinyAsciiStr::from_padded(bytes).hinted_in_result())
 }
 
 // The fault at the first position whose code unit is above 127, or is a character after a NUL. A code unit above 127

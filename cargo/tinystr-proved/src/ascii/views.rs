@@ -21,7 +21,7 @@ impl<const N: usize> TinyAsciiStr<N> {
     #[inline]
     #[must_use]
     pub fn len(&self) -> usize {
-        padded::len(&self.bytes)
+        padded::len(self.bytes.as_array())
     }
 
     /// Whether the text is empty. At capacity 0 it always is.
@@ -34,7 +34,7 @@ impl<const N: usize> TinyAsciiStr<N> {
     #[inline]
     #[must_use]
     pub const fn is_empty(&self) -> bool {
-        N == 0 || self.bytes[0] == 0
+        N == 0 || self.bytes.as_array()[0] == 0
     }
 
     /// The byte of the text at an index, counted from 0, or `None` past its end.
@@ -54,10 +54,10 @@ impl<const N: usize> TinyAsciiStr<N> {
     #[inline]
     #[must_use]
     pub const fn get_byte(&self, index: usize) -> Option<u8> {
-        if index >= N || self.bytes[index] == 0 {
+        if index >= N || self.bytes.as_array()[index] == 0 {
             return None;
         }
-        Some(self.bytes[index])
+        Some(self.bytes.as_array()[index])
     }
 
     /// Borrows the bytes of the text, without the NULs behind it.
@@ -79,7 +79,7 @@ impl<const N: usize> TinyAsciiStr<N> {
     #[inline]
     #[must_use]
     pub fn as_utf8(&self) -> &[u8] {
-        let bytes = self.bytes.as_slice();
+        let bytes = self.bytes.as_array().as_slice();
         &bytes[..self.len()]
     }
 
@@ -125,6 +125,6 @@ impl<const N: usize> TinyAsciiStr<N> {
     #[inline]
     #[must_use]
     pub const fn all_bytes(&self) -> &[u8; N] {
-        &self.bytes
+        self.bytes.as_array()
     }
 }

@@ -96,7 +96,7 @@ impl<'a, const N: usize> Table<'a, N> {
     #[must_use]
     pub fn get(&self, index: usize) -> Option<TinyAsciiStr<N>> {
         let raw = self.records.get(index)?;
-        Some(unsafe { TinyAsciiStr::from_utf8_unchecked(*raw) })
+        Some(unsafe { TinyAsciiStr::from_utf8_unchecked(*raw) }.hinted())
     }
 
     /// The text at an index, counted from 0, which must be below the number of texts.
@@ -273,7 +273,7 @@ impl<'a, const N: usize> Iterator for Texts<'a, N> {
         let records = self.records;
         let (raw, rest) = records.split_first()?;
         self.records = rest;
-        Some(unsafe { TinyAsciiStr::from_utf8_unchecked(*raw) })
+        Some(unsafe { TinyAsciiStr::from_utf8_unchecked(*raw) }.hinted())
     }
 
     fn size_hint(&self) -> (usize, Option<usize>) {

@@ -1,0 +1,73 @@
+"""The bytes of a text in a type that knows that each is below 128: where a text is made, and where its bytes are read."""
+
+import re
+
+from eraser import Stopped
+from eraser.modules import pieces
+from eraser.text import Tokens, code_of, line_of
+
+# The field is private to these files, so no other one makes a text or reads the field.
+FILES = re.compile(r"tinystr/ascii(?:/\w+)?\.rt")
+# The function that makes each text, with what it requires, and what it has in the place of the literal.
+MAKER = ("tinystr/ascii/readers.rt", "from_padded")
+LITERAL = re.compile(r"\bTinyAsciiStr (?=\{\s*bytes\b)")
+VALUE = re.compile(r"\s*bytes(?::\s*(.*?))?,?\s*", re.S)
+CHECKED = """debug_assert!(AsciiBytes::are_padded(&bytes), "the bytes aren't a text and then NULs");
+        // SAFETY: a text and then NULs, so each byte is below 128. This is proved at each call.
+        TinyAsciiStr { bytes: unsafe { AsciiBytes::new(bytes) } }"""
+
+# Each form in which the field is read: a reference, with what is called or indexed behind it, and its value.
+READ = [
+    (r"&(\w+)\.bytes\b(?![\[.(])", r"\1.bytes.as_array()"),
+    (r"\b(\w+)\.bytes\b(?=\[|\.(?!as_array\(\)))", r"\1.bytes.as_array()"),
+    (r"\b(\w+)\.bytes\b(?![.(])", r"*\1.bytes.as_array()"),
+]
+
+
+class Fields:
+    """Turns the literals and the reads of the files, and says whether the function that makes each text was there."""
+
+    def __init__(self):
+        self.is_made = False
+
+    def turn(self, text, file):
+        if not FILES.fullmatch(file):
+            return text
+        return with_reads(self.with_literals(text, file))
+
+    def with_literals(self, text, file):
+        """Each literal of a text as a call of the function that makes all, and the one of this function as unsafe."""
+        for found in reversed(list(LITERAL.finditer(code_of(text)))):
+            tokens = Tokens(text[found.end() :])
+            end = tokens.behind_bracket(0)
+            value = VALUE.fullmatch(tokens.joined(1, end - 1))[1] or "bytes"
+            rest = tokens.joined(end, len(tokens))
+            if (file, function_at(text, found.start(), file)) == MAKER:
+                made, self.is_made = CHECKED, value == "bytes" and not self.is_made
+            else:
+                made = f"TinyAsciiStr::{MAKER[1]}({value})"
+            text = text[: found.start()] + made + rest
+        return text
+
+    def finish(self):
+        if not self.is_made:
+            raise Stopped(f"{MAKER[0]}: `{MAKER[1]}` doesn't make one text of `bytes`")
+
+
+def function_at(text, at, file):
+    """The name of the function around a place."""
+    names = re.findall(r"\bfn (\w+)", code_of(text)[:at])
+    if not names:
+        raise Stopped(f"{file}:{line_of(text, at)}: a text is made in no function")
+    return names[-1]
+
+
+def with_reads(text):
+    made = [it if kind in ("comment", "string") else read_by_call(it) for kind, it in pieces(text)]
+    return "".join(made)
+
+
+def read_by_call(code):
+    for old, new in READ:
+        code = re.sub(old, new, code)
+    return code
