@@ -16,6 +16,18 @@ LEFT_OUT = {
     "tinystr/forms.rt": {"pub enum JsonReadError": "JSON is left out, with `forms/json.rt`: feature `serde` has its place"},
 }
 
+# Derives that the made types have besides: a table or a map is a slice or two, and errors are compared.
+DERIVED_TOO = {
+    "tinystr/forms.rt": {"FormWriteError": ["PartialEq", "Eq"]},
+    "tinystr_packed/map.rt": {"PackedMap": ["Copy"]},
+    "tinystr_packed/sorted.rt": {"SortedTable": ["Copy"]},
+    "tinystr_packed/table.rt": {"Table": ["Copy"]},
+    "tinystr_packed/text_map.rt": {"TextMap": ["Copy"]},
+    "tinystr_hashed/map.rt": {"HashedMap": ["Copy"]},
+    "tinystr_hashed/table.rt": {"HashedTable": ["Copy"]},
+    "tinystr_hashed/text_map.rt": {"HashedTextMap": ["Copy"]},
+}
+
 ABOVE = r"((?:^ *(?://|#\[)[^\n]*\n)*)"
 KIT_IMPL = r"^impl\b[^{]*?\b(?:" + "|".join(KIT_TRAITS) + r")(?:<\w+>)? for "
 
@@ -44,6 +56,11 @@ def without_item(text, head):
 def with_derives(text, file):
     """Takes off the derives that Rust doesn't have, and writes out what they make."""
     text = re.sub(r"#\[derive\(([^)]*)\)\]\n", rust_derives, text)
+    for name, traits in DERIVED_TOO.get(file, {}).items():
+        head = rf"(#\[derive\([^)]*)(\)\]\npub (?:struct|enum) {name}\b)"
+        text, count = re.subn(head, lambda it: it[1] + "".join(f", {trait}" for trait in traits) + it[2], text)
+        if count != 1:
+            raise Stopped(f"{file}: `{name}` with derives stands {count} times, and not once")
     return with_ordered_subtag(with_error_texts(text, file), file)
 
 

@@ -93,13 +93,20 @@ IN_FILE = {
     "tinystr/ascii/views.rt": [
         Rule("pub fn get(", "pub fn get_byte(", NAMED_AS_STR),
         Rule(".get(", ".get_byte(", NAMED_AS_STR, 2),
+        Rule("// proved: these bytes", "// SAFETY: proved: these bytes", "Rust's word for why a block is sound"),
     ],
     "tinystr/ascii/strict.rt": [
         Rule("from_padded(padded::low_bytes(units))", "from_padded(padded::low_bytes(units)).hinted_in_result()", HINTED),
         Rule("    Ok(TinyAsciiStr::from_padded(bytes))\n", "    Ok(TinyAsciiStr::from_padded(bytes).hinted_in_result())\n", HINTED),
     ],
     "tinystr_packed/table.rt": [
-        Rule("from_utf8_unchecked(*raw)", "from_utf8_unchecked(*raw).hinted()", HINTED, 2),
+        Rule(
+            "        Some(TinyAsciiStr::from_utf8_unchecked(*raw))",
+            "        // SAFETY: each record was read as a text and then NULs. This is proved.\n"
+            "        Some(TinyAsciiStr::from_utf8_unchecked(*raw).hinted())",
+            HINTED,
+            2,
+        ),
     ],
     "tinystr/ascii/splitting.rt": [
         Rule("Some((before.resize(), behind.resize()))", "Some((before.resize().hinted(), behind.resize().hinted()))", HINTED),

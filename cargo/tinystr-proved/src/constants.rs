@@ -66,7 +66,7 @@ impl<const N: usize> TinyAsciiStr<N> {
     /// `try_from_utf16` at compile time. At run time `try_from_utf16` is faster.
     pub const fn try_from_utf16_const(code_units: &[u16]) -> Result<Self, ParseError> {
         match padded!(code_units, false) {
-            // SAFETY: as above
+            // SAFETY: `padded` gives bytes from 1 to 127 and then NULs
             Ok(bytes) => Ok(unsafe { Self::from_utf8_unchecked(bytes) }),
             Err(fault) => Err(fault),
         }
@@ -75,7 +75,7 @@ impl<const N: usize> TinyAsciiStr<N> {
     /// `try_from_raw` at compile time. At run time `try_from_raw` is faster.
     pub const fn try_from_raw_const(raw: [u8; N]) -> Result<Self, ParseError> {
         match padded!(raw, true) {
-            // SAFETY: as above
+            // SAFETY: `padded` gives bytes from 1 to 127 and then NULs
             Ok(bytes) => Ok(unsafe { Self::from_utf8_unchecked(bytes) }),
             Err(fault) => Err(fault),
         }

@@ -31,7 +31,7 @@ pub enum BytesReadError {
 /// let bytes = UnvalidatedTinyAsciiStr::from_utf8_unchecked(*b"\0GB");
 /// assert!(matches!(bytes.to_bytes(), Err(FormWriteError::NotAscii)));
 /// ```
-#[derive(Clone, Copy, Debug)]
+#[derive(Clone, Copy, Debug, PartialEq, Eq)]
 pub enum FormWriteError {
     /// The bytes aren't a text and then NULs.
     NotAscii,

@@ -19,6 +19,7 @@ mod serde;
 mod simd;
 mod strings;
 pub mod subtags;
+mod traits;
 // what no caller reaches, and some of it no function here
 #[allow(dead_code, unused_imports)]
 mod words;

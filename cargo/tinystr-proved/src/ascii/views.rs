@@ -103,7 +103,7 @@ impl<const N: usize> TinyAsciiStr<N> {
     #[must_use]
     pub fn as_str(&self) -> &str {
         let text = self.as_utf8();
-        // proved: these bytes are ASCII, so they are UTF-8
+        // SAFETY: proved: these bytes are ASCII, so they are UTF-8
         unsafe { core::str::from_utf8_unchecked(text) }
     }
 

@@ -33,7 +33,7 @@ pub enum HashedMapError {
 /// assert_eq!(places.get(&tinystr!(3, "EUR")), Some(&[2]));
 /// assert_eq!(places.get(&tinystr!(3, "CHF")), None);
 /// ```
-#[derive(Clone)]
+#[derive(Clone, Copy)]
 pub struct HashedMap<'a, const N: usize, const M: usize> {
     keys: HashedTable<'a, N>,
     values: &'a [[u8; M]],

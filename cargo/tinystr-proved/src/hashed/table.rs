@@ -34,7 +34,7 @@ pub(crate) const VERSION: u32 = 1;
 /// assert_eq!(table.position(&tinystr!(3, "EUR")), Some(0));
 /// assert_eq!(table.position(&tinystr!(3, "CHF")), None);
 /// ```
-#[derive(Clone)]
+#[derive(Clone, Copy)]
 pub struct HashedTable<'a, const N: usize> {
     table: Table<'a, N>,
     places: Places<'a>,

@@ -36,7 +36,7 @@ pub enum HashedTextMapError {
 /// assert_eq!(currencies.get(&tinystr!(2, "CH")), Some(tinystr!(3, "CHF")));
 /// assert_eq!(currencies.get(&tinystr!(2, "US")), None);
 /// ```
-#[derive(Clone)]
+#[derive(Clone, Copy)]
 pub struct HashedTextMap<'a, const N: usize, const M: usize> {
     keys: HashedTable<'a, N>,
     values: Table<'a, M>,

@@ -36,7 +36,7 @@ pub enum MapError {
 /// assert_eq!(places.get(&tinystr!(3, "EUR")), Some(&[2]));
 /// assert_eq!(places.get(&tinystr!(3, "CHF")), None);
 /// ```
-#[derive(Clone)]
+#[derive(Clone, Copy)]
 pub struct PackedMap<'a, const N: usize, const M: usize> {
     keys: SortedTable<'a, N>,
     values: &'a [[u8; M]],

@@ -19,7 +19,7 @@ use crate::ule::UleError;
 /// assert_eq!(codes.binary_search(&tinystr!(3, "JPY")), Ok(2));
 /// assert_eq!(codes.binary_search(&tinystr!(3, "GBP")), Err(2));
 /// ```
-#[derive(Clone)]
+#[derive(Clone, Copy)]
 pub struct SortedTable<'a, const N: usize> {
     table: Table<'a, N>,
 }

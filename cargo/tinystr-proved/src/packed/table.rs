@@ -15,7 +15,7 @@ use crate::ule::UleError;
 /// assert_eq!(table.len(), 2);
 /// assert_eq!(table.get(1), Some(tinystr!(3, "GB")));
 /// ```
-#[derive(Clone)]
+#[derive(Clone, Copy)]
 pub struct Table<'a, const N: usize> {
     records: &'a [[u8; N]],
 }
@@ -96,6 +96,7 @@ impl<'a, const N: usize> Table<'a, N> {
     #[must_use]
     pub fn get(&self, index: usize) -> Option<TinyAsciiStr<N>> {
         let raw = self.records.get(index)?;
+        // SAFETY: each record was read as a text and then NULs. This is proved.
         Some(unsafe { TinyAsciiStr::from_utf8_unchecked(*raw) }.hinted())
     }
 
@@ -273,6 +274,7 @@ impl<'a, const N: usize> Iterator for Texts<'a, N> {
         let records = self.records;
         let (raw, rest) = records.split_first()?;
         self.records = rest;
+        // SAFETY: each record was read as a text and then NULs. This is proved.
         Some(unsafe { TinyAsciiStr::from_utf8_unchecked(*raw) }.hinted())
     }
 

@@ -35,7 +35,7 @@ pub enum TextMapError {
 /// assert_eq!(currencies.get(&tinystr!(2, "JP")), Some(tinystr!(3, "JPY")));
 /// assert_eq!(currencies.get(&tinystr!(2, "US")), None);
 /// ```
-#[derive(Clone)]
+#[derive(Clone, Copy)]
 pub struct TextMap<'a, const N: usize, const M: usize> {
     keys: SortedTable<'a, N>,
     values: Table<'a, M>,

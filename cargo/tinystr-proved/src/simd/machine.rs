@@ -10,46 +10,53 @@ fn vector(bytes: [u8; 16]) -> __m128i {
 
 #[inline(always)]
 fn bytes(vector: __m128i) -> [u8; 16] {
-    // SAFETY: as above.
+    // SAFETY: it is sixteen bytes, and each pattern of bits is a value of them.
     unsafe { core::mem::transmute(vector) }
 }
 
 #[inline(always)]
 pub fn equal(a: [u8; 16], b: [u8; 16]) -> [u8; 16] {
-    // SAFETY, here and below: the processor has SSE2, as `cfg` says where this module is named.
+    // SAFETY: the processor has SSE2, as `cfg` says where this module is named.
     bytes(unsafe { _mm_cmpeq_epi8(vector(a), vector(b)) })
 }
 
 /// There is a comparison of signed bytes alone. Which is less stays as it is with the high bits turned.
 #[inline(always)]
 pub fn less(a: [u8; 16], b: [u8; 16]) -> [u8; 16] {
+    // SAFETY: the processor has SSE2, as `cfg` says where this module is named.
     let turned = |bytes| unsafe { _mm_xor_si128(vector(bytes), _mm_set1_epi8(-128)) };
+    // SAFETY: the processor has SSE2, as `cfg` says where this module is named.
     bytes(unsafe { _mm_cmplt_epi8(turned(a), turned(b)) })
 }
 
 #[inline(always)]
 pub fn sub(a: [u8; 16], b: [u8; 16]) -> [u8; 16] {
+    // SAFETY: the processor has SSE2, as `cfg` says where this module is named.
     bytes(unsafe { _mm_sub_epi8(vector(a), vector(b)) })
 }
 
 #[inline(always)]
 pub fn bitand(a: [u8; 16], b: [u8; 16]) -> [u8; 16] {
+    // SAFETY: the processor has SSE2, as `cfg` says where this module is named.
     bytes(unsafe { _mm_and_si128(vector(a), vector(b)) })
 }
 
 #[inline(always)]
 pub fn bitor(a: [u8; 16], b: [u8; 16]) -> [u8; 16] {
+    // SAFETY: the processor has SSE2, as `cfg` says where this module is named.
     bytes(unsafe { _mm_or_si128(vector(a), vector(b)) })
 }
 
 #[inline(always)]
 pub fn select(mask: [u8; 16], one: [u8; 16], other: [u8; 16]) -> [u8; 16] {
+    // SAFETY: the processor has SSE2, as `cfg` says where this module is named.
     bitor(bitand(mask, one), bytes(unsafe { _mm_andnot_si128(vector(mask), vector(other)) }))
 }
 
 #[inline(always)]
 pub fn bits(mask: [u8; 16]) -> u64 {
     // it sets no bits above the sixteen
+    // SAFETY: the processor has SSE2, as `cfg` says where this module is named.
     unsafe { _mm_movemask_epi8(vector(mask)) as u64 }
 }
 
@@ -61,14 +68,17 @@ pub fn bytes_of(units: [u16; 8]) -> [u8; 16] {
 
 #[inline(always)]
 pub fn even(a: [u8; 16]) -> [u8; 8] {
+    // SAFETY: the processor has SSE2, as `cfg` says where this module is named.
     let low = unsafe { _mm_and_si128(vector(a), _mm_set1_epi16(0xff)) };
     // each number of sixteen bits is below 256, and is packed as it is
+    // SAFETY: the processor has SSE2, as `cfg` says where this module is named.
     let packed = unsafe { _mm_cvtsi128_si64(_mm_packus_epi16(low, low)) };
     packed.to_le_bytes()
 }
 
 #[inline(always)]
 pub fn next(a: [u8; 16], b: [u8; 16]) -> [u8; 16] {
+    // SAFETY: the processor has SSE2, as `cfg` says where this module is named.
     bytes(unsafe { _mm_or_si128(_mm_srli_si128::<1>(vector(a)), _mm_slli_si128::<15>(vector(b))) })
 }
 

@@ -1,0 +1,135 @@
+//! The traits that Rust's users expect of tables, maps, iterators and errors.
+
+use std::fmt::Debug;
+use std::iter::FusedIterator;
+use tinystr::forms::FormWriteError;
+use tinystr::hashed::{self, HashedMap, HashedTable, HashedTextMap};
+use tinystr::packed::{Entries, PackedMap, SortedTable, Table, TextEntries, TextMap, Texts};
+use tinystr::subtags::{LangId, LangIdError, Language, Region, Script};
+use tinystr::ule::UleError;
+use tinystr::{ParseError, Parts, TinyAsciiStr, UnvalidatedTinyAsciiStr, tinystr};
+
+fn table() -> Table<'static, 3> {
+    Table::new(b"EURGB\0USD").unwrap()
+}
+
+fn sorted() -> SortedTable<'static, 3> {
+    SortedTable::from_bytes(b"EURGB\0USD").unwrap()
+}
+
+fn map() -> PackedMap<'static, 3, 1> {
+    PackedMap::new(b"EURJPY", &[2, 0]).unwrap()
+}
+
+fn texts() -> TextMap<'static, 2, 3> {
+    TextMap::new(b"CHJP", b"CHFJPY").unwrap()
+}
+
+/// A header of no displacements, and one text.
+const ONE: &[u8] = b"\x01\0\0\0\0\0\0\0\0\0\0\0\0\0\0\0EUR";
+
+fn hashed_map() -> HashedMap<'static, 3, 1> {
+    HashedMap::new(ONE, &[2]).unwrap()
+}
+
+fn hashed_texts() -> HashedTextMap<'static, 3, 2> {
+    HashedTextMap::new(ONE, b"DE").unwrap()
+}
+
+fn shown(value: impl Debug) -> String {
+    format!("{value:?}")
+}
+
+#[test]
+fn tables_are_printed_as_lists() {
+    let list = r#"["EUR", "GB", "USD"]"#;
+    assert_eq!([shown(table()), shown(sorted()), shown(table().iter())], [list; 3]);
+    assert_eq!(shown(HashedTable::<3>::from_bytes(ONE)), r#"Ok(["EUR"])"#);
+    assert_eq!(shown(Table::<3>::new(b"")), "Ok([])");
+    let tag = tinystr!(16, "zh-Hant-TW");
+    let (mut all, mut parts) = (table().iter(), tag.split_byte(b'-'));
+    assert_eq!((all.next(), parts.next()), (Some(tinystr!(3, "EUR")), Some(tinystr!(16, "zh"))));
+    assert_eq!((shown(&all), shown(&parts)), (r#"["GB", "USD"]"#.into(), r#"["Hant", "TW"]"#.into()));
+    assert_eq!((all.count(), parts.count()), (2, 2));
+    assert_eq!(format!("{:#?}", table()), "[\n    \"EUR\",\n    \"GB\",\n    \"USD\",\n]");
+}
+
+#[test]
+fn maps_are_printed_as_maps() {
+    assert_eq!([shown(map()), shown(map().iter())], [r#"{"EUR": [2], "JPY": [0]}"#; 2]);
+    assert_eq!([shown(texts()), shown(texts().iter())], [r#"{"CH": "CHF", "JP": "JPY"}"#; 2]);
+    assert_eq!([shown(hashed_map()), shown(hashed_map().iter())], [r#"{"EUR": [2]}"#; 2]);
+    assert_eq!([shown(hashed_texts()), shown(hashed_texts().iter())], [r#"{"EUR": "DE"}"#; 2]);
+    let keys = [tinystr!(3, "JPY"), tinystr!(3, "CHF")];
+    assert_eq!(shown(map().get_each(&keys)), "GetEach { len: 2, .. }");
+    assert_eq!(shown(sorted().binary_search_each(&keys[1..])), "BinarySearchEach { len: 1, .. }");
+}
+
+fn is_copied<T: Copy + Debug>(value: T) -> T {
+    value
+}
+
+#[test]
+fn tables_and_maps_are_copied() {
+    let (one, other) = (table(), is_copied(table()));
+    assert_eq!((shown(one), shown(is_copied(one))), (shown(other), shown(one)));
+    assert_eq!(shown(is_copied(sorted())), shown(table()));
+    assert_eq!(is_copied(map()).get(&tinystr!(3, "JPY")), Some(&[0]));
+    assert_eq!(is_copied(texts()).get(&tinystr!(2, "JP")), Some(tinystr!(3, "JPY")));
+    assert_eq!(is_copied(hashed_map()).get(&tinystr!(3, "EUR")), Some(&[2]));
+    assert_eq!(is_copied(hashed_texts()).get(&tinystr!(3, "EUR")), Some(tinystr!(2, "DE")));
+}
+
+#[test]
+fn loops_run_through_tables_and_maps() {
+    let mut found = Vec::new();
+    for text in &table() {
+        found.push(text);
+    }
+    for text in table() {
+        found.push(text);
+    }
+    assert_eq!(found, ["EUR", "GB", "USD", "EUR", "GB", "USD"]);
+    assert_eq!((&map()).into_iter().chain(map()).map(|(_, value)| value[0]).collect::<Vec<_>>(), [2, 0, 2, 0]);
+    assert_eq!((&texts()).into_iter().chain(texts()).filter(|(key, _)| key == "CH").count(), 2);
+    assert_eq!((&hashed_map()).into_iter().chain(hashed_map()).collect::<Vec<_>>(), [(tinystr!(3, "EUR"), &[2]); 2]);
+    assert_eq!((&hashed_texts()).into_iter().chain(hashed_texts()).collect::<Vec<_>>(), [(tinystr!(3, "EUR"), tinystr!(2, "DE")); 2]);
+}
+
+/// An iterator says how many it still gives, and gives none after the last.
+fn counts_down(mut it: impl ExactSizeIterator + FusedIterator, mut len: usize) {
+    while len > 0 {
+        assert_eq!((it.len(), it.size_hint()), (len, (len, Some(len))));
+        assert!(it.next().is_some());
+        len -= 1;
+    }
+    assert_eq!((it.len(), it.next().is_none(), it.next().is_none(), it.len()), (0, true, true, 0));
+}
+
+#[test]
+fn iterators_say_how_much_is_left() {
+    counts_down(table().iter(), 3);
+    counts_down(map().iter(), 2);
+    counts_down(texts().iter(), 2);
+    counts_down(hashed_map().iter(), 1);
+    counts_down(hashed_texts().iter(), 1);
+    counts_down(Table::<3>::new(b"").unwrap().iter(), 0);
+}
+
+fn has_common_traits<T: Clone + Debug + Send + Sync + Unpin>() {}
+fn is_value<T: Copy + Eq + Debug + Send + Sync + Unpin>() {}
+
+#[test]
+fn public_types_have_the_common_traits() {
+    has_common_traits::<Texts<'static, 3>>();
+    has_common_traits::<Entries<'static, 3, 1>>();
+    has_common_traits::<hashed::Entries<'static, 3, 1>>();
+    has_common_traits::<TextEntries<'static, 3, 1>>();
+    has_common_traits::<Parts<'static, 3>>();
+    is_value::<TinyAsciiStr<3>>();
+    is_value::<UnvalidatedTinyAsciiStr<3>>();
+    is_value::<(LangId, Language, Script, Region)>();
+    is_value::<(LangIdError, ParseError, UleError, FormWriteError)>();
+    let written = UnvalidatedTinyAsciiStr::from_utf8_unchecked(*b"\0GB").to_bytes();
+    assert_eq!(written, Err(FormWriteError::NotAscii));
+}
