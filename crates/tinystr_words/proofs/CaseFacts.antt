@@ -1,13 +1,15 @@
 -- Case changes done twice, texts that they leave alone, classes joined from others, and classes of characters.
-use Rattle.std.proofs.Common.{◌≡◌, ℕ, ◌↔◌, Bool, true, ◌&&◌, List, [], ◌∷◌, map, ap, ap₂, ◌∙◌, refl, arith}
+use Rattle.std.proofs.Common.{◌≡◌, ◌≢◌, ◌==◌, ℕ, ◌↔◌, Bool, true, false, ◌&&◌, List, [], ◌∷◌, None, map, ap, ap₂, ◌∙◌, refl, sym, arith}
 use Rattle.std.proofs.Math.Path.{fun_ext}
 use Rattle.std.proofs.lemmas.Simd.{map-map}
 use Rattle.std.proofs.lemmas.Bool.Decides.{nat_tests}
-use Rattle.std.proofs.lemmas.List.Elements.{All-cons, All-nil}
-use Rattle.std.specs.List.{list_all}
+use Rattle.std.proofs.lemmas.Bool.{false≢true}
+use Rattle.std.proofs.lemmas.List.{length-map}
+use Rattle.std.proofs.lemmas.List.Elements.{All-cons, All-head, All-map, All-nil, All-tail, All-weaker}
+use Rattle.std.specs.List.{All, list_all, position}
 use Rattle.tinystr_words.specs.Classes.{ask, is_not_lower, is_not_upper}
 use Rattle.tinystr_words.specs.Case.{lower, raise, lowercase, titlecase, uppercase}
-use Rattle.tinystr_words.specs.Text.{IsText, IsTextByte}
+use Rattle.tinystr_words.specs.Text.{IsStrictText, IsText, IsTextByte}
 use Rattle.tinystr_words.proofs.TextsByPieces.{ask-same}
 
 -- ---- done twice
@@ -20,6 +22,55 @@ map-map_same f g h each t = map-map f g t ∙ ap (λ (change : ℕ → ℕ). map
 pub titlecase-twice : (t : List ℕ) → titlecase (titlecase t) ≡ titlecase t
 titlecase-twice [] = refl
 titlecase-twice (b ∷ t) = ap₂ (λ x xs. x ∷ xs) (grind (arith, nat_tests)) (map-map_same lower lower lower (λ b. grind (arith, nat_tests)) t)
+
+-- a text in another case, put in titlecase
+pub titlecase-lowercase : (t : List ℕ) → titlecase (lowercase t) ≡ titlecase t
+titlecase-lowercase [] = refl
+titlecase-lowercase (b ∷ t) = ap₂ (λ x xs. x ∷ xs) (grind (arith, nat_tests)) (map-map_same lower lower lower (λ b. grind (arith, nat_tests)) t)
+
+pub titlecase-uppercase : (t : List ℕ) → titlecase (uppercase t) ≡ titlecase t
+titlecase-uppercase [] = refl
+titlecase-uppercase (b ∷ t) = ap₂ (λ x xs. x ∷ xs) (grind (arith, nat_tests)) (map-map_same lower raise lower (λ b. grind (arith, nat_tests)) t)
+
+-- a text in titlecase, put in another case
+pub lowercase-titlecase : (t : List ℕ) → lowercase (titlecase t) ≡ lowercase t
+lowercase-titlecase [] = refl
+lowercase-titlecase (b ∷ t) = ap₂ (λ x xs. x ∷ xs) (grind (arith, nat_tests)) (map-map_same lower lower lower (λ b. grind (arith, nat_tests)) t)
+
+pub uppercase-titlecase : (t : List ℕ) → uppercase (titlecase t) ≡ uppercase t
+uppercase-titlecase [] = refl
+uppercase-titlecase (b ∷ t) = ap₂ (λ x xs. x ∷ xs) (grind (arith, nat_tests)) (map-map_same raise lower raise (λ b. grind (arith, nat_tests)) t)
+
+-- ---- kept by a case change
+
+-- a class that a change of each byte keeps
+list_all-kept : (p : ℕ → Bool) (f : ℕ → ℕ) → ((b : ℕ) → p (f b) ≡ p b) → (t : List ℕ) → list_all p (map f t) ≡ list_all p t
+list_all-kept p f kept [] = refl
+list_all-kept p f kept (b ∷ t) = ap₂ (λ x y. x && y) (kept b) (list_all-kept p f kept t)
+
+pub ask-map : (p : ℕ → Bool) (f : ℕ → ℕ) → ((b : ℕ) → p (f b) ≡ p b) → (t : List ℕ) → ask p p (map f t) ≡ ask p p t
+ask-map p f kept t = ask-same p (map f t) ∙ list_all-kept p f kept t ∙ sym (ask-same p t)
+
+pub ask-titlecase : (p : ℕ → Bool) → ((b : ℕ) → p (raise b) ≡ p b) → ((b : ℕ) → p (lower b) ≡ p b) → (t : List ℕ) → ask p p (titlecase t) ≡ ask p p t
+ask-titlecase p raised lowered [] = refl
+ask-titlecase p raised lowered (b ∷ t) = ap₂ (λ x y. x && y) (raised b) (list_all-kept p lower lowered t)
+
+-- a text that fits, under a change that makes bytes of texts of such bytes
+pub IsStrictText-map : (f : ℕ → ℕ) → ((b : ℕ) → IsTextByte b → IsTextByte (f b)) → (t : List ℕ) (n : ℕ) → IsStrictText t n → IsStrictText (map f t) n
+IsStrictText-map f kept t n h = record {
+  text = All-map IsTextByte f t (All-weaker IsTextByte (λ b. IsTextByte (f b)) kept t h.text);
+  fits = omega (arith, length-map t f, h.fits);
+}
+
+pub IsStrictText-titlecase : (t : List ℕ) (n : ℕ) → IsStrictText t n → IsStrictText (titlecase t) n
+IsStrictText-titlecase [] n h = h
+IsStrictText-titlecase (b ∷ t) n h =
+    let first : IsTextByte b = All-head IsTextByte b t h.text in
+    let others = All-tail IsTextByte b t h.text in
+    record {
+      text = All-cons IsTextByte (raise b) (map lower t) (grind (arith, nat_tests)) (All-map IsTextByte lower t (All-weaker IsTextByte (λ c. IsTextByte (lower c)) (λ c k. grind (arith, nat_tests)) t others));
+      fits = omega (arith, length-map t lower, h.fits);
+    }
 
 -- ---- left alone
 
@@ -76,7 +127,7 @@ ask-joined first others class first_case others_case at_first at_others (b ∷ t
 -- ---- classes of characters
 
 -- each byte is of a class of characters
-IsText-list_all : (p : ℕ → Bool) → ((b : ℕ) → p b ≡ true → IsTextByte b) → (t : List ℕ) → list_all p t ≡ true → IsText t
+pub IsText-list_all : (p : ℕ → Bool) → ((b : ℕ) → p b ≡ true → IsTextByte b) → (t : List ℕ) → list_all p t ≡ true → IsText t
 IsText-list_all p each [] h = All-nil IsTextByte
 IsText-list_all p each (b ∷ t) h = All-cons IsTextByte b t (each b (grind arith)) (IsText-list_all p each t (grind arith))
 
@@ -84,3 +135,18 @@ IsText-list_all p each (b ∷ t) h = All-cons IsTextByte b t (each b (grind arit
 pub IsText-asked : (first others : ℕ → Bool) → ((b : ℕ) → first b ≡ true → IsTextByte b) → ((b : ℕ) → others b ≡ true → IsTextByte b) → (t : List ℕ) → ask first others t ≡ true → IsText t
 IsText-asked first others one each [] h = All-nil IsTextByte
 IsText-asked first others one each (b ∷ t) h = All-cons IsTextByte b t (one b (grind arith)) (IsText-list_all others each t (grind arith))
+
+-- no byte of a class is a byte that isn't
+pub All-differs : (p : ℕ → Bool) (c : ℕ) (t : List ℕ) → list_all p t ≡ true → p c ≡ false → All (λ b. b ≢ c) t
+All-differs p c [] h out = All-nil (λ b. b ≢ c)
+All-differs p c (b ∷ t) h out =
+    let here : p b ≡ true = grind arith in
+    All-cons (λ b. b ≢ c) b t (λ e. false≢true (sym out ∙ (ap p (sym e) ∙ here))) (All-differs p c t (grind arith) out)
+
+-- a list whose bytes all differ from a byte has no place of it
+pub position-missed : (c : ℕ) (t : List ℕ) → All (λ b. b ≢ c) t → position (λ b. b == c) t ≡ None
+position-missed c [] h = refl
+position-missed c (b ∷ t) h =
+    let other : b ≢ c = All-head (λ b. b ≢ c) b t h in
+    let rest = position-missed c t (All-tail (λ b. b ≢ c) b t h) in
+    grind (arith, nat_tests)

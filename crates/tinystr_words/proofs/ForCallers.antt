@@ -1,6 +1,6 @@
 -- The laws as lemmas over plain variables, for callers: a law's clause `c` is `LAW_c`, and the set `LAW` holds them all. The
 -- functions of `laws` rest on them, and they keep their names and statements.
-use Rattle.std.proofs.Common.{◌≡◌, ◌≢◌, ◌==◌, ◌<◌, ◌≤◌, ◌^◌, ◌/◌, ◌↔◌, ◌⊎◌, ◌+◌, ◌-◌, ◌*◌, ◌++◌, ◌∷◌, ◌&&◌, ◌∙◌, [], ℕ, Bool, List, All, IsTrue, Some, None, ap, arith, drop, length, map, refl, replicate, take}
+use Rattle.std.proofs.Common.{◌≡◌, ◌≢◌, ◌==◌, ◌<◌, ◌≤◌, ◌^◌, ◌/◌, ◌↔◌, ◌⊎◌, ◌+◌, ◌-◌, ◌*◌, ◌++◌, ◌∷◌, ◌&&◌, ◌∙◌, [], ℕ, Bool, false, List, All, Contains, IsTrue, Some, None, ap, arith, drop, length, map, refl, replicate, take}
 use Rattle.std.specs.Char.{is_ascii_alphabetic, is_ascii_alphanumeric, is_ascii_digit, is_ascii_lowercase, is_ascii_uppercase, to_ascii_lowercase, to_ascii_uppercase}
 use Rattle.std.specs.Cmp.Lexicographic.{slice_cmp}
 use Rattle.std.specs.Fmt.{char_count, decimal, padded, spec_fill, styled_text, take_chars}
@@ -12,6 +12,7 @@ use Rattle.std.specs.declared.cmp.Ordering.TheVariants.{Less, Equal}
 use Rattle.std.proofs.lemmas.Bool.{false≢true}
 use Rattle.std.proofs.lemmas.Bool.Decides.{nat_tests}
 use Rattle.std.proofs.lemmas.List.{append-nil, drop_at, get_or-replicate, length-append, length-map, length-replicate, map-append, take_all, take_at}
+use Rattle.std.proofs.lemmas.List.Elements.{All-contains}
 use Rattle.std.proofs.lemmas.List.Splits.{join_with_byte-slice_split}
 use Rattle.std.proofs.lemmas.Slice.Eq.{bytes_eq-Decides}
 use Rattle.tinystr_words.specs.ByteForm.{byte_fault}
@@ -27,7 +28,7 @@ use Rattle.tinystr_words.specs.Words.{lane, word}
 use Rattle.tinystr_words.specs.declared.question.Case.TheVariants.{Title}
 use Rattle.tinystr_words.proofs.Before.{before_not_same, before_one_way, before_or_same, before_padded, cmp_is_before, cmp_is_same}
 use Rattle.tinystr_words.proofs.ByteForms.{byte_fault-first_padded, byte_fault-padded}
-use Rattle.tinystr_words.proofs.CaseFacts.{IsText-asked, ask-joined, lowercase-alone, map-map_same, titlecase-alone, titlecase-twice, uppercase-alone}
+use Rattle.tinystr_words.proofs.CaseFacts.{All-differs, IsStrictText-map, IsStrictText-titlecase, IsText-asked, IsText-list_all, ask-joined, ask-map, ask-titlecase, lowercase-alone, lowercase-titlecase, map-map_same, position-missed, titlecase-alone, titlecase-lowercase, titlecase-twice, titlecase-uppercase, uppercase-alone, uppercase-titlecase}
 use Rattle.tinystr_words.proofs.Fronts.{lowercase-take, take_join_cut, titlecase-take, uppercase-take}
 use Rattle.tinystr_words.proofs.Numerals.{IsDecimalOf-decimal, IsDecimalOf-only, length-decimal-le_ten}
 use Rattle.tinystr_words.proofs.Packing.{IsPacked-joined, IsPacked-record, length-joined, text_of-record}
@@ -74,6 +75,48 @@ case_cut_upper = uppercase-take
 
 pub ruleset case_cut = (case_cut_lower, case_cut_title, case_cut_upper)
 
+-- A case change keeps whether a text consists of letters, of digits, or of both.
+pub case_keeps_lower_alphabetic : (t : List ℕ) → ask is_alphabetic is_alphabetic (lowercase t) ≡ ask is_alphabetic is_alphabetic t
+case_keeps_lower_alphabetic = ask-map is_alphabetic lower (λ b. grind (arith, nat_tests))
+
+pub case_keeps_lower_alphanumeric : (t : List ℕ) → ask is_alphanumeric is_alphanumeric (lowercase t) ≡ ask is_alphanumeric is_alphanumeric t
+case_keeps_lower_alphanumeric = ask-map is_alphanumeric lower (λ b. grind (arith, nat_tests))
+
+pub case_keeps_lower_digit : (t : List ℕ) → ask is_digit is_digit (lowercase t) ≡ ask is_digit is_digit t
+case_keeps_lower_digit = ask-map is_digit lower (λ b. grind (arith, nat_tests))
+
+pub case_keeps_title_alphabetic : (t : List ℕ) → ask is_alphabetic is_alphabetic (titlecase t) ≡ ask is_alphabetic is_alphabetic t
+case_keeps_title_alphabetic = ask-titlecase is_alphabetic (λ b. grind (arith, nat_tests)) (λ b. grind (arith, nat_tests))
+
+pub case_keeps_title_alphanumeric : (t : List ℕ) → ask is_alphanumeric is_alphanumeric (titlecase t) ≡ ask is_alphanumeric is_alphanumeric t
+case_keeps_title_alphanumeric = ask-titlecase is_alphanumeric (λ b. grind (arith, nat_tests)) (λ b. grind (arith, nat_tests))
+
+pub case_keeps_title_digit : (t : List ℕ) → ask is_digit is_digit (titlecase t) ≡ ask is_digit is_digit t
+case_keeps_title_digit = ask-titlecase is_digit (λ b. grind (arith, nat_tests)) (λ b. grind (arith, nat_tests))
+
+pub case_keeps_upper_alphabetic : (t : List ℕ) → ask is_alphabetic is_alphabetic (uppercase t) ≡ ask is_alphabetic is_alphabetic t
+case_keeps_upper_alphabetic = ask-map is_alphabetic raise (λ b. grind (arith, nat_tests))
+
+pub case_keeps_upper_alphanumeric : (t : List ℕ) → ask is_alphanumeric is_alphanumeric (uppercase t) ≡ ask is_alphanumeric is_alphanumeric t
+case_keeps_upper_alphanumeric = ask-map is_alphanumeric raise (λ b. grind (arith, nat_tests))
+
+pub case_keeps_upper_digit : (t : List ℕ) → ask is_digit is_digit (uppercase t) ≡ ask is_digit is_digit t
+case_keeps_upper_digit = ask-map is_digit raise (λ b. grind (arith, nat_tests))
+
+pub ruleset case_keeps = (case_keeps_lower_alphabetic, case_keeps_lower_alphanumeric, case_keeps_lower_digit, case_keeps_title_alphabetic, case_keeps_title_alphanumeric, case_keeps_title_digit, case_keeps_upper_alphabetic, case_keeps_upper_alphanumeric, case_keeps_upper_digit)
+
+-- A text that fits also fits in each case.
+pub case_fits_lower : (t : List ℕ) (n : ℕ) → IsStrictText t n → IsStrictText (lowercase t) n
+case_fits_lower = IsStrictText-map lower (λ b h. grind (arith, nat_tests))
+
+pub case_fits_title : (t : List ℕ) (n : ℕ) → IsStrictText t n → IsStrictText (titlecase t) n
+case_fits_title = IsStrictText-titlecase
+
+pub case_fits_upper : (t : List ℕ) (n : ℕ) → IsStrictText t n → IsStrictText (uppercase t) n
+case_fits_upper = IsStrictText-map raise (λ b h. grind (arith, nat_tests))
+
+pub ruleset case_fits = (case_fits_lower, case_fits_title, case_fits_upper)
+
 -- A case change keeps the length, repeating it changes nothing, and lowercase after uppercase is lowercase.
 pub case_twice_lower : (t : List ℕ) → (length (lowercase t) ≡ length t) × (lowercase (lowercase t) ≡ lowercase t)
 case_twice_lower t = (length-map t lower, map-map_same lower lower lower (λ b. grind (arith, nat_tests)) t)
@@ -88,6 +131,36 @@ pub case_twice_lower_upper : (t : List ℕ) → lowercase (uppercase t) ≡ lowe
 case_twice_lower_upper = map-map_same lower raise lower (λ b. grind (arith, nat_tests))
 
 pub ruleset case_twice = (case_twice_lower, case_twice_title, case_twice_upper, case_twice_lower_upper)
+
+-- Of two case changes, the second alone decides.
+pub case_last_lower_lower : (t : List ℕ) → lowercase (lowercase t) ≡ lowercase t
+case_last_lower_lower = map-map_same lower lower lower (λ b. grind (arith, nat_tests))
+
+pub case_last_lower_title : (t : List ℕ) → lowercase (titlecase t) ≡ lowercase t
+case_last_lower_title = lowercase-titlecase
+
+pub case_last_lower_upper : (t : List ℕ) → lowercase (uppercase t) ≡ lowercase t
+case_last_lower_upper = map-map_same lower raise lower (λ b. grind (arith, nat_tests))
+
+pub case_last_title_lower : (t : List ℕ) → titlecase (lowercase t) ≡ titlecase t
+case_last_title_lower = titlecase-lowercase
+
+pub case_last_title_title : (t : List ℕ) → titlecase (titlecase t) ≡ titlecase t
+case_last_title_title = titlecase-twice
+
+pub case_last_title_upper : (t : List ℕ) → titlecase (uppercase t) ≡ titlecase t
+case_last_title_upper = titlecase-uppercase
+
+pub case_last_upper_lower : (t : List ℕ) → uppercase (lowercase t) ≡ uppercase t
+case_last_upper_lower = map-map_same raise lower raise (λ b. grind (arith, nat_tests))
+
+pub case_last_upper_title : (t : List ℕ) → uppercase (titlecase t) ≡ uppercase t
+case_last_upper_title = uppercase-titlecase
+
+pub case_last_upper_upper : (t : List ℕ) → uppercase (uppercase t) ≡ uppercase t
+case_last_upper_upper = map-map_same raise raise raise (λ b. grind (arith, nat_tests))
+
+pub ruleset case_last = (case_last_lower_lower, case_last_lower_title, case_last_lower_upper, case_last_title_lower, case_last_title_title, case_last_title_upper, case_last_upper_lower, case_last_upper_title, case_last_upper_upper)
 
 -- A case change leaves a text unchanged exactly if the text is in that case.
 pub case_fixed_lower : (t : List ℕ) → (lowercase t ≡ t) ↔ IsTrue (ask is_not_upper is_not_upper t)
@@ -229,6 +302,36 @@ pub class_texts_upper : (t : List ℕ) → IsTrue (ask is_upper is_upper t) → 
 class_texts_upper t h = IsText-asked is_upper is_upper (λ b k. grind (arith, nat_tests)) (λ b k. grind (arith, nat_tests)) t h
 
 pub ruleset class_texts = (class_texts_alphanumeric, class_texts_alphabetic, class_texts_digit, class_texts_lower, class_texts_title, class_texts_upper)
+
+-- A list of at most `n` letters, digits, or both, or of letters in one case, is a text that fits.
+pub class_fits_alphanumeric : (t : List ℕ) (n : ℕ) → IsTrue (list_all is_alphanumeric t) → length t ≤ n → IsStrictText t n
+class_fits_alphanumeric t n h fits = record { text = IsText-list_all is_alphanumeric (λ b k. grind (arith, nat_tests)) t h; fits = fits }
+
+pub class_fits_alphabetic : (t : List ℕ) (n : ℕ) → IsTrue (list_all is_alphabetic t) → length t ≤ n → IsStrictText t n
+class_fits_alphabetic t n h fits = record { text = IsText-list_all is_alphabetic (λ b k. grind (arith, nat_tests)) t h; fits = fits }
+
+pub class_fits_digit : (t : List ℕ) (n : ℕ) → IsTrue (list_all is_digit t) → length t ≤ n → IsStrictText t n
+class_fits_digit t n h fits = record { text = IsText-list_all is_digit (λ b k. grind (arith, nat_tests)) t h; fits = fits }
+
+pub class_fits_lower : (t : List ℕ) (n : ℕ) → IsTrue (list_all is_lower t) → length t ≤ n → IsStrictText t n
+class_fits_lower t n h fits = record { text = IsText-list_all is_lower (λ b k. grind (arith, nat_tests)) t h; fits = fits }
+
+pub class_fits_upper : (t : List ℕ) (n : ℕ) → IsTrue (list_all is_upper t) → length t ≤ n → IsStrictText t n
+class_fits_upper t n h fits = record { text = IsText-list_all is_upper (λ b k. grind (arith, nat_tests)) t h; fits = fits }
+
+pub ruleset class_fits = (class_fits_alphanumeric, class_fits_alphabetic, class_fits_digit, class_fits_lower, class_fits_upper)
+
+-- A byte that isn't of a class is no byte of a list of that class.
+pub class_without_differs : (p : ℕ → Bool) (c : ℕ) (t : List ℕ) → IsTrue (list_all p t) → p c ≡ false → All (λ b. b ≢ c) t
+class_without_differs = All-differs
+
+pub class_without_absent : (p : ℕ → Bool) (c : ℕ) (t : List ℕ) → IsTrue (list_all p t) → p c ≡ false → ¬ Contains t c
+class_without_absent p c t h out inside = All-contains (λ b. b ≢ c) t c (All-differs p c t h out) inside refl
+
+pub class_without_missed : (p : ℕ → Bool) (c : ℕ) (t : List ℕ) → IsTrue (list_all p t) → p c ≡ false → position (λ b. b == c) t ≡ None
+class_without_missed p c t h out = position-missed c t (All-differs p c t h out)
+
+pub ruleset class_without = (class_without_differs, class_without_absent, class_without_missed)
 
 -- A text that is one of a list fits if each of the list does.
 pub listed_texts : (t : List ℕ) (ts : List (List ℕ)) (n : ℕ) → IsTrue (list_all (λ s. is_strict_text s n) ts) → IsTrue (list_any (bytes_eq t) ts) → IsStrictText t n

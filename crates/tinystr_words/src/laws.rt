@@ -1,6 +1,6 @@
 //! Facts of the definitions alone. Each function computes nothing, and its contract is its law.
 
-ghost use Rattle.std.specs.Prelude.{IsTrue, ◌≡◌, ◌≢◌, ◌==◌, ◌<◌, ◌≤◌, ◌^◌, ◌/◌, ◌↔◌, ◌⊎◌, ℕ, List, ◌++◌, length, take, ◌+◌, ◌-◌, ◌*◌, Bool, [], ◌&&◌, ◌∷◌, All, slice_index, slice_index_or, position, map, replicate, drop, Some, None};
+ghost use Rattle.std.specs.Prelude.{IsTrue, ◌≡◌, ◌≢◌, ◌==◌, ◌<◌, ◌≤◌, ◌^◌, ◌/◌, ◌↔◌, ◌⊎◌, ℕ, List, ◌++◌, length, take, ◌+◌, ◌-◌, ◌*◌, Bool, [], ◌&&◌, ◌∷◌, All, Contains, slice_index, slice_index_or, position, map, replicate, drop, Some, None, false};
 ghost use Rattle.std.specs.Cmp.Lexicographic.{slice_cmp};
 ghost use Rattle.std.specs.Char.{is_ascii_alphabetic, is_ascii_alphanumeric, is_ascii_digit, is_ascii_lowercase, is_ascii_uppercase, to_ascii_lowercase, to_ascii_uppercase};
 ghost use Rattle.std.specs.Fmt.{char_count, decimal, padded, spec_fill, styled_text, take_chars};
@@ -44,6 +44,28 @@ pub fn case_cut()
     ensures upper { (m : ℕ) (t : List ℕ) → uppercase (take m t) ≡ take m (uppercase t) }
 {}
 
+/// A case change keeps whether a text consists of letters, of digits, or of both.
+#[tactic(auto, using(crate::proofs::ForCallers::case_keeps))]
+pub fn case_keeps()
+    ensures lower_alphabetic { (t : List ℕ) → ask is_alphabetic is_alphabetic (lowercase t) ≡ ask is_alphabetic is_alphabetic t }
+    ensures lower_alphanumeric { (t : List ℕ) → ask is_alphanumeric is_alphanumeric (lowercase t) ≡ ask is_alphanumeric is_alphanumeric t }
+    ensures lower_digit { (t : List ℕ) → ask is_digit is_digit (lowercase t) ≡ ask is_digit is_digit t }
+    ensures title_alphabetic { (t : List ℕ) → ask is_alphabetic is_alphabetic (titlecase t) ≡ ask is_alphabetic is_alphabetic t }
+    ensures title_alphanumeric { (t : List ℕ) → ask is_alphanumeric is_alphanumeric (titlecase t) ≡ ask is_alphanumeric is_alphanumeric t }
+    ensures title_digit { (t : List ℕ) → ask is_digit is_digit (titlecase t) ≡ ask is_digit is_digit t }
+    ensures upper_alphabetic { (t : List ℕ) → ask is_alphabetic is_alphabetic (uppercase t) ≡ ask is_alphabetic is_alphabetic t }
+    ensures upper_alphanumeric { (t : List ℕ) → ask is_alphanumeric is_alphanumeric (uppercase t) ≡ ask is_alphanumeric is_alphanumeric t }
+    ensures upper_digit { (t : List ℕ) → ask is_digit is_digit (uppercase t) ≡ ask is_digit is_digit t }
+{}
+
+/// A text that fits also fits in each case.
+#[tactic(auto, using(crate::proofs::ForCallers::case_fits))]
+pub fn case_fits()
+    ensures lower { (t : List ℕ) (n : ℕ) → IsStrictText t n → IsStrictText (lowercase t) n }
+    ensures title { (t : List ℕ) (n : ℕ) → IsStrictText t n → IsStrictText (titlecase t) n }
+    ensures upper { (t : List ℕ) (n : ℕ) → IsStrictText t n → IsStrictText (uppercase t) n }
+{}
+
 /// A case change keeps the length, repeating it changes nothing, and lowercase after uppercase is lowercase.
 #[tactic(auto, using(crate::proofs::ForCallers::case_twice))]
 pub fn case_twice()
@@ -51,6 +73,20 @@ pub fn case_twice()
     ensures title { (t : List ℕ) → (length (titlecase t) ≡ length t) × (titlecase (titlecase t) ≡ titlecase t) }
     ensures upper { (t : List ℕ) → (length (uppercase t) ≡ length t) × (uppercase (uppercase t) ≡ uppercase t) }
     ensures lower_upper { (t : List ℕ) → lowercase (uppercase t) ≡ lowercase t }
+{}
+
+/// Of two case changes, the second alone decides.
+#[tactic(auto, using(crate::proofs::ForCallers::case_last))]
+pub fn case_last()
+    ensures lower_lower { (t : List ℕ) → lowercase (lowercase t) ≡ lowercase t }
+    ensures lower_title { (t : List ℕ) → lowercase (titlecase t) ≡ lowercase t }
+    ensures lower_upper { (t : List ℕ) → lowercase (uppercase t) ≡ lowercase t }
+    ensures title_lower { (t : List ℕ) → titlecase (lowercase t) ≡ titlecase t }
+    ensures title_title { (t : List ℕ) → titlecase (titlecase t) ≡ titlecase t }
+    ensures title_upper { (t : List ℕ) → titlecase (uppercase t) ≡ titlecase t }
+    ensures upper_lower { (t : List ℕ) → uppercase (lowercase t) ≡ uppercase t }
+    ensures upper_title { (t : List ℕ) → uppercase (titlecase t) ≡ uppercase t }
+    ensures upper_upper { (t : List ℕ) → uppercase (uppercase t) ≡ uppercase t }
 {}
 
 /// A case change leaves a text unchanged exactly if the text is in that case.
@@ -179,6 +215,24 @@ pub fn class_texts()
     ensures lower { (t : List ℕ) → IsTrue (ask is_lower is_lower t) → IsText t }
     ensures title { (t : List ℕ) → IsTrue (ask is_upper is_lower t) → IsText t }
     ensures upper { (t : List ℕ) → IsTrue (ask is_upper is_upper t) → IsText t }
+{}
+
+/// A list of at most `n` letters, digits, or both, or of letters in one case, is a text that fits.
+#[tactic(auto, using(crate::proofs::ForCallers::class_fits))]
+pub fn class_fits()
+    ensures alphanumeric { (t : List ℕ) (n : ℕ) → IsTrue (list_all is_alphanumeric t) → length t ≤ n → IsStrictText t n }
+    ensures alphabetic { (t : List ℕ) (n : ℕ) → IsTrue (list_all is_alphabetic t) → length t ≤ n → IsStrictText t n }
+    ensures digit { (t : List ℕ) (n : ℕ) → IsTrue (list_all is_digit t) → length t ≤ n → IsStrictText t n }
+    ensures lower { (t : List ℕ) (n : ℕ) → IsTrue (list_all is_lower t) → length t ≤ n → IsStrictText t n }
+    ensures upper { (t : List ℕ) (n : ℕ) → IsTrue (list_all is_upper t) → length t ≤ n → IsStrictText t n }
+{}
+
+/// A byte that isn't of a class is no byte of a list of that class.
+#[tactic(auto, using(crate::proofs::ForCallers::class_without))]
+pub fn class_without()
+    ensures differs { (p : ℕ → Bool) (c : ℕ) (t : List ℕ) → IsTrue (list_all p t) → p c ≡ false → All (λ b. b ≢ c) t }
+    ensures absent { (p : ℕ → Bool) (c : ℕ) (t : List ℕ) → IsTrue (list_all p t) → p c ≡ false → ¬ Contains t c }
+    ensures missed { (p : ℕ → Bool) (c : ℕ) (t : List ℕ) → IsTrue (list_all p t) → p c ≡ false → position (λ b. b == c) t ≡ None }
 {}
 
 /// A text that is one of a list fits if each of the list does.
