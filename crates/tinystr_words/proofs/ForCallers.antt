@@ -5,12 +5,14 @@ use Rattle.std.specs.Char.{is_ascii_alphabetic, is_ascii_alphanumeric, is_ascii_
 use Rattle.std.specs.Cmp.Lexicographic.{slice_cmp}
 use Rattle.std.specs.Fmt.{char_count, decimal, padded, spec_fill, styled_text, take_chars}
 use Rattle.std.specs.Int.{IsInRange}
-use Rattle.std.specs.List.{after_first, before_first, flat_map, join_with_byte, list_all, list_any, position, position_or_len, slice_index, slice_index_or, slice_split}
+use Rattle.std.specs.List.{AllPairs, after_first, before_first, flat_map, join_with_byte, list_all, list_any, position, position_or_len, slice_get, slice_index, slice_index_or, slice_split}
+use Rattle.std.specs.Option.{IsSome}
 use Rattle.std.specs.Ordering.{nat_cmp}
 use Rattle.std.specs.Str.{bytes_eq, str_to_ascii_lowercase, str_to_ascii_uppercase}
 use Rattle.std.specs.declared.cmp.Ordering.TheVariants.{Less, Equal}
 use Rattle.std.proofs.lemmas.Bool.{false≢true}
 use Rattle.std.proofs.lemmas.Bool.Decides.{nat_tests}
+use Rattle.std.proofs.lemmas.Fmt.{length-decimal-le}
 use Rattle.std.proofs.lemmas.List.{append-nil, drop_at, get_or-replicate, length-append, length-map, length-replicate, map-append, take_all, take_at}
 use Rattle.std.proofs.lemmas.List.Elements.{All-contains}
 use Rattle.std.proofs.lemmas.List.Splits.{join_with_byte-slice_split}
@@ -18,7 +20,7 @@ use Rattle.std.proofs.lemmas.Slice.Eq.{bytes_eq-Decides}
 use Rattle.tinystr_words.specs.ByteForm.{byte_fault}
 use Rattle.tinystr_words.specs.Case.{lower, raise, lowercase, titlecase, uppercase}
 use Rattle.tinystr_words.specs.Classes.{ask, is_alphabetic, is_alphanumeric, is_digit, is_lower, is_upper, is_not_lower, is_not_upper}
-use Rattle.tinystr_words.specs.Decimal.{IsDecimalOf}
+use Rattle.tinystr_words.specs.Decimal.{IsDecimalOf, number_of}
 use Rattle.tinystr_words.specs.Order.{IsBefore}
 use Rattle.tinystr_words.specs.Packed.{IsPacked, is_packed, record_at}
 use Rattle.tinystr_words.specs.Reading.{fault_in, first_fault, strict_of}
@@ -29,14 +31,15 @@ use Rattle.tinystr_words.specs.declared.question.Case.TheVariants.{Title}
 use Rattle.tinystr_words.proofs.Before.{before_not_same, before_one_way, before_or_same, before_padded, cmp_is_before, cmp_is_same}
 use Rattle.tinystr_words.proofs.ByteForms.{byte_fault-first_padded, byte_fault-padded}
 use Rattle.tinystr_words.proofs.CaseFacts.{All-differs, IsStrictText-map, IsStrictText-titlecase, IsText-asked, IsText-list_all, ask-joined, ask-map, ask-titlecase, lowercase-alone, lowercase-titlecase, map-map_same, position-missed, titlecase-alone, titlecase-lowercase, titlecase-twice, titlecase-uppercase, uppercase-alone, uppercase-titlecase}
+use Rattle.tinystr_words.proofs.Found.{All-absent, before_first-absent, byte_position-none, byte_position-some, split-whole, text_position-at, text_position-distinct, text_position-none, text_position-some}
 use Rattle.tinystr_words.proofs.Fronts.{lowercase-take, take_join_cut, titlecase-take, uppercase-take}
-use Rattle.tinystr_words.proofs.Numerals.{IsDecimalOf-decimal, IsDecimalOf-only, length-decimal-le_ten}
+use Rattle.tinystr_words.proofs.Numerals.{IsDecimalOf-decimal, IsDecimalOf-only, IsText-decimal, length-decimal-le_ten}
 use Rattle.tinystr_words.proofs.Packing.{IsPacked-joined, IsPacked-record, length-joined, text_of-record}
 use Rattle.tinystr_words.proofs.Parts.{IsStrictText-after_first, IsStrictText-before_first, IsStrictText-drop, IsStrictText-slice_split, IsStrictText-take, IsText-joined, ask-joined_texts, map-joined, slice_split-found, slice_split-joined, slice_split-missed}
 use Rattle.tinystr_words.proofs.Printing.{char_count-text, length-padded, padded-before, padded-behind, padded-between, styled-padded, take_chars-text}
 use Rattle.tinystr_words.proofs.Readers.{IsScanned-none, fault_in-fits, first_fault-high}
 use Rattle.tinystr_words.proofs.SameAsStd.{is_alphanumeric-std, lower-std, lowercase-std, raise-std, uppercase-std}
-use Rattle.tinystr_words.proofs.Texts.{IsAscii-padded, IsPaddedText-pad, length-pad, text_of-pad}
+use Rattle.tinystr_words.proofs.Texts.{IsAscii-padded, IsPaddedText-pad, after_first-joined, before_first-joined, length-pad, text_of-pad}
 use Rattle.tinystr_words.proofs.Texts as texts
 use Rattle.tinystr_words.proofs.TextsByPieces.{ask-append, ask-same, in_case-append, length-in_case}
 use Rattle.tinystr_words.proofs.TextsDecided.{is_packed-Decides, is_padded_text-Decides, is_strict_text-Decides, is_text_byte-Decides}
@@ -206,6 +209,15 @@ pub digits_shortest_only : (n : ℕ) (ds : List ℕ) → n < 2 ^ 64 → IsDecima
 digits_shortest_only = IsDecimalOf-only
 
 pub ruleset digits_shortest = (digits_shortest_is, digits_shortest_only)
+
+-- The decimal text of a number below 10^k fits in k bytes, and its digits spell the number.
+pub decimal_back_strict : (n k : ℕ) → n < 2 ^ 64 → 0 < k → n < 10 ^ k → IsStrictText (decimal n) k
+decimal_back_strict n k fits some short = record { text = IsText-decimal n fits; fits = length-decimal-le k n some short fits }
+
+pub decimal_back_value : (n : ℕ) → n < 2 ^ 64 → number_of (decimal n) ≡ n
+decimal_back_value n fits = (IsDecimalOf-decimal n fits).value
+
+pub ruleset decimal_back = (decimal_back_strict, decimal_back_value)
 
 -- If no lane is above 0x7f, no lane of a sum carries into the next.
 pub lane_sum : (a c : List ℕ) → length a ≡ length c → All (λ b. b ≤ 0x7f) a → All (λ b. b ≤ 0x7f) c → (word a + word c < 256 ^ length a) × ((i : ℕ) → i < length a → lane (word a + word c) i ≡ slice_index a i + slice_index c i)
@@ -398,6 +410,47 @@ pub split_found_one : (p : ℕ → Bool) (t : List ℕ) → position p t ≡ Non
 split_found_one = slice_split-missed
 
 pub ruleset split_found = (split_found_inside, split_found_before, split_found_behind, split_found_parts, split_found_whole, split_found_one)
+
+-- `position` finds a text exactly if the list has it, and the index is one at which the list has it. If no two texts of
+-- the list are equal, it is the only one.
+pub text_position_at : (t : List ℕ) (ts : List (List ℕ)) (i : ℕ) → position (bytes_eq t) ts ≡ Some i → slice_get ts i ≡ Some t
+text_position_at = text_position-at
+
+pub text_position_exact : (t : List ℕ) (ts : List (List ℕ)) → IsSome (position (bytes_eq t) ts) ↔ Contains ts t
+text_position_exact = text_position-some
+
+pub text_position_missing : (t : List ℕ) (ts : List (List ℕ)) → (position (bytes_eq t) ts ≡ None) ↔ ¬ Contains ts t
+text_position_missing = text_position-none
+
+pub text_position_distinct : (t : List ℕ) (ts : List (List ℕ)) (i : ℕ) → AllPairs (λ a b. a ≢ b) ts → slice_get ts i ≡ Some t → position (bytes_eq t) ts ≡ Some i
+text_position_distinct = text_position-distinct
+
+pub ruleset text_position = (text_position_at, text_position_exact, text_position_missing, text_position_distinct)
+
+-- `position` finds a byte exactly if the bytes have it.
+pub byte_position_exact : (c : ℕ) (t : List ℕ) → IsSome (position (λ b. b == c) t) ↔ Contains t c
+byte_position_exact = byte_position-some
+
+pub byte_position_missing : (c : ℕ) (t : List ℕ) → (position (λ b. b == c) t ≡ None) ↔ ¬ Contains t c
+byte_position_missing = byte_position-none
+
+pub ruleset byte_position = (byte_position_exact, byte_position_missing)
+
+-- Bytes that have a byte are the bytes before the first such byte, which don't have it, this byte, and the bytes after
+-- it. These two parts are the only ones of which this is true.
+pub byte_split_whole : (c : ℕ) (t : List ℕ) → Contains t c → t ≡ before_first (λ b. b == c) t ++ c ∷ after_first (λ b. b == c) t
+byte_split_whole = split-whole
+
+pub byte_split_absent : (c : ℕ) (t : List ℕ) → ¬ Contains (before_first (λ b. b == c) t) c
+byte_split_absent = before_first-absent
+
+pub byte_split_before : (c : ℕ) (before after : List ℕ) → ¬ Contains before c → before_first (λ b. b == c) (before ++ c ∷ after) ≡ before
+byte_split_before c before after none = before_first-joined c before after (All-absent c before none)
+
+pub byte_split_after : (c : ℕ) (before after : List ℕ) → ¬ Contains before c → after_first (λ b. b == c) (before ++ c ∷ after) ≡ after
+byte_split_after c before after none = after_first-joined c before after (All-absent c before none)
+
+pub ruleset byte_split = (byte_split_whole, byte_split_absent, byte_split_before, byte_split_after)
 
 -- Texts joined by a byte are in a class if each of them and the byte is, and lowercase and uppercase change each of
 -- them and the byte.

@@ -1,18 +1,18 @@
 //! Facts of the definitions alone. Each function computes nothing, and its contract is its law.
 
-ghost use Rattle.std.specs.Prelude.{IsTrue, ◌≡◌, ◌≢◌, ◌==◌, ◌<◌, ◌≤◌, ◌^◌, ◌/◌, ◌↔◌, ◌⊎◌, ℕ, List, ◌++◌, length, take, ◌+◌, ◌-◌, ◌*◌, Bool, [], ◌&&◌, ◌∷◌, All, Contains, slice_index, slice_index_or, position, map, replicate, drop, Some, None, false};
+ghost use Rattle.std.specs.Prelude.{IsTrue, ◌≡◌, ◌≢◌, ◌==◌, ◌<◌, ◌≤◌, ◌^◌, ◌/◌, ◌↔◌, ◌⊎◌, ℕ, List, ◌++◌, length, take, ◌+◌, ◌-◌, ◌*◌, Bool, [], ◌&&◌, ◌∷◌, All, Contains, slice_index, slice_index_or, position, map, replicate, drop, Some, None, false, IsSome, slice_get};
 ghost use Rattle.std.specs.Cmp.Lexicographic.{slice_cmp};
 ghost use Rattle.std.specs.Char.{is_ascii_alphabetic, is_ascii_alphanumeric, is_ascii_digit, is_ascii_lowercase, is_ascii_uppercase, to_ascii_lowercase, to_ascii_uppercase};
 ghost use Rattle.std.specs.Fmt.{char_count, decimal, padded, spec_fill, styled_text, take_chars};
 ghost use Rattle.std.specs.Int.{IsInRange};
-ghost use Rattle.std.specs.List.{after_first, before_first, flat_map, join_with_byte, list_all, list_any, slice_split};
+ghost use Rattle.std.specs.List.{AllPairs, after_first, before_first, flat_map, join_with_byte, list_all, list_any, slice_split};
 ghost use Rattle.std.specs.Ordering.{nat_cmp};
 ghost use Rattle.std.specs.Str.{bytes_eq, str_to_ascii_lowercase, str_to_ascii_uppercase};
 ghost use Rattle.std.specs.declared.cmp.Ordering.TheVariants.{Less, Equal};
 ghost use Rattle.tinystr_words.specs.ByteForm.{byte_fault};
 ghost use Rattle.tinystr_words.specs.Case.{lower, raise, lowercase, titlecase, uppercase};
 ghost use Rattle.tinystr_words.specs.Classes.{ask, is_alphabetic, is_alphanumeric, is_digit, is_lower, is_upper, is_not_lower, is_not_upper};
-ghost use Rattle.tinystr_words.specs.Decimal.{IsDecimalOf};
+ghost use Rattle.tinystr_words.specs.Decimal.{IsDecimalOf, number_of};
 ghost use Rattle.tinystr_words.specs.Order.{IsBefore};
 ghost use Rattle.tinystr_words.specs.Packed.{IsPacked, is_packed, record_at};
 ghost use Rattle.tinystr_words.specs.Reading.{fault_in, strict_of};
@@ -132,6 +132,13 @@ pub fn digits_ten()
 pub fn digits_shortest()
     ensures is { (n : ℕ) → n < 2 ^ 64 → IsDecimalOf n (decimal n) }
     ensures only { (n : ℕ) (ds : List ℕ) → n < 2 ^ 64 → IsDecimalOf n ds → ds ≡ decimal n }
+{}
+
+/// The decimal text of a number below 10^k fits in k bytes, and its digits spell the number.
+#[tactic(auto, using(crate::proofs::ForCallers::decimal_back))]
+pub fn decimal_back()
+    ensures strict { (n k : ℕ) → n < 2 ^ 64 → 0 < k → n < 10 ^ k → IsStrictText (decimal n) k }
+    ensures value { (n : ℕ) → n < 2 ^ 64 → number_of (decimal n) ≡ n }
 {}
 
 /// If no lane is above 0x7f, no lane of a sum carries into the next.
@@ -283,6 +290,33 @@ pub fn split_found()
         slice_split p t ≡ take at t ∷ slice_split p (drop (at + 1) t) }
     ensures whole { (p : ℕ → Bool) (t : List ℕ) → position p t ≡ None → before_first p t ≡ t }
     ensures one { (p : ℕ → Bool) (t : List ℕ) → position p t ≡ None → slice_split p t ≡ t ∷ [] }
+{}
+
+/// `position` finds a text exactly if the list has it, and the index is one at which the list has it. If no two texts
+/// of the list are equal, it is the only one.
+#[tactic(auto, using(crate::proofs::ForCallers::text_position))]
+pub fn text_position()
+    ensures at { (t : List ℕ) (ts : List (List ℕ)) (i : ℕ) → position (bytes_eq t) ts ≡ Some i → slice_get ts i ≡ Some t }
+    ensures exact { (t : List ℕ) (ts : List (List ℕ)) → IsSome (position (bytes_eq t) ts) ↔ Contains ts t }
+    ensures missing { (t : List ℕ) (ts : List (List ℕ)) → (position (bytes_eq t) ts ≡ None) ↔ ¬ Contains ts t }
+    ensures distinct { (t : List ℕ) (ts : List (List ℕ)) (i : ℕ) → AllPairs (λ a b. a ≢ b) ts → slice_get ts i ≡ Some t → position (bytes_eq t) ts ≡ Some i }
+{}
+
+/// `position` finds a byte exactly if the bytes have it.
+#[tactic(auto, using(crate::proofs::ForCallers::byte_position))]
+pub fn byte_position()
+    ensures exact { (c : ℕ) (t : List ℕ) → IsSome (position (λ b. b == c) t) ↔ Contains t c }
+    ensures missing { (c : ℕ) (t : List ℕ) → (position (λ b. b == c) t ≡ None) ↔ ¬ Contains t c }
+{}
+
+/// Bytes that have a byte are the bytes before the first such byte, which don't have it, this byte, and the bytes after
+/// it. These two parts are the only ones of which this is true.
+#[tactic(auto, using(crate::proofs::ForCallers::byte_split))]
+pub fn byte_split()
+    ensures whole { (c : ℕ) (t : List ℕ) → Contains t c → t ≡ before_first (λ b. b == c) t ++ c ∷ after_first (λ b. b == c) t }
+    ensures absent { (c : ℕ) (t : List ℕ) → ¬ Contains (before_first (λ b. b == c) t) c }
+    ensures before { (c : ℕ) (before after : List ℕ) → ¬ Contains before c → before_first (λ b. b == c) (before ++ c ∷ after) ≡ before }
+    ensures after { (c : ℕ) (before after : List ℕ) → ¬ Contains before c → after_first (λ b. b == c) (before ++ c ∷ after) ≡ after }
 {}
 
 /// Texts joined by a byte are in a class if each of them and the byte is, and lowercase and uppercase change each of

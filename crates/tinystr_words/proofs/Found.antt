@@ -1,0 +1,119 @@
+-- Which element of a list `position` finds, for a test that only one value passes.
+use Rattle.std.proofs.Common.{◌≡◌, ◌≢◌, ◌==◌, ◌+◌, ◌<◌, ◌≤◌, ◌↔◌, ◌⊎◌, ℕ, inl, inr, Bool, true, false, Some, None, List, [], ◌∷◌, ◌++◌, length, get_or, take, drop, refl, sym, ap, ◌∙◌, arith}
+use Rattle.std.specs.List.{All, AllPairs, Contains, after_first, before_first, position, position_or_len, slice_get}
+use Rattle.std.specs.Option.{IsSome}
+use Rattle.std.specs.Str.{bytes_eq}
+use Rattle.std.proofs.lemmas.Bool.{cases_lt, false_from_ne_true, false≢true}
+use Rattle.std.proofs.lemmas.Bool.Decides.{Decides-eqb, nat_tests}
+use Rattle.std.proofs.lemmas.List.{get_or-take, get_or_default, length-take}
+use Rattle.std.proofs.lemmas.List.Elements.{All-contains, All-from_get_or}
+use Rattle.std.proofs.lemmas.List.Sums.{fails_before_first, passes_at_first, position_or_len_is, split_at_first}
+use Rattle.std.proofs.lemmas.Option.{get_or_from_slice_get, slice_get-get_or, slice_get_within}
+use Rattle.std.proofs.lemmas.Slice.Eq.{bytes_eq-Decides}
+
+-- the place of the first that passes, which is found exactly where it is inside
+position-inside : {X : Type 0} (p : X → Bool) (xs : List X) (i : ℕ) → position p xs ≡ Some i → (position_or_len p xs ≡ i) × (i < length xs)
+position-inside p xs i at = (grind (arith, nat_tests), grind (arith, nat_tests))
+
+position-some : {X : Type 0} (p : X → Bool) (xs : List X) → position_or_len p xs < length xs → position p xs ≡ Some (position_or_len p xs)
+position-some p xs inside = grind (arith, nat_tests)
+
+position-none : {X : Type 0} (p : X → Bool) (xs : List X) → length xs ≤ position_or_len p xs → position p xs ≡ None
+position-none p xs outside = grind (arith, nat_tests)
+
+-- an element of the list is at a place before which none passes
+place-inside : {X : Type 0} (p : X → Bool) (x : X) (xs : List X) → p x ≡ true → Contains xs x → position_or_len p xs < length xs
+place-inside p x xs passes (k, inside, is) = elim (cases_lt k (position_or_len p xs)) [
+  | inl before ↦ absurd (false≢true (sym (fails_before_first p xs k x before) ∙ (ap p is ∙ passes)))
+  | inr from ↦ omega arith
+]
+
+-- ---- a text among texts
+
+pub text_position-at : (t : List ℕ) (ts : List (List ℕ)) (i : ℕ) → position (bytes_eq t) ts ≡ Some i → slice_get ts i ≡ Some t
+text_position-at t ts i at =
+    let h = position-inside (bytes_eq t) ts i at in
+    let same : t ≡ get_or ts i [] = (bytes_eq-Decides t (get_or ts i [])).0 (ap (λ k. bytes_eq t (get_or ts k [])) (sym h.0) ∙ passes_at_first (bytes_eq t) ts [] (omega (arith, h.0, h.1))) in
+    slice_get-get_or ts i [] h.1 ∙ ap Some (sym same)
+
+Contains-slice_get : (ts : List (List ℕ)) (t : List ℕ) (i : ℕ) → slice_get ts i ≡ Some t → Contains ts t
+Contains-slice_get ts t i at = (i, slice_get_within ts i t at, get_or_from_slice_get ts i t t at)
+
+passes_itself : (t : List ℕ) → bytes_eq t t ≡ true
+passes_itself t = (bytes_eq-Decides t t).1 refl
+
+pub text_position-some : (t : List ℕ) (ts : List (List ℕ)) → IsSome (position (bytes_eq t) ts) ↔ Contains ts t
+text_position-some t ts = (
+  λ some. elim (cases_lt (position_or_len (bytes_eq t) ts) (length ts)) [
+    | inl inside ↦ Contains-slice_get ts t (position_or_len (bytes_eq t) ts) (text_position-at t ts (position_or_len (bytes_eq t) ts) (position-some (bytes_eq t) ts inside))
+    | inr outside ↦ (let none = position-none (bytes_eq t) ts outside in absurd (grind arith))
+  ],
+  λ has. let some = position-some (bytes_eq t) ts (place-inside (bytes_eq t) t ts (passes_itself t) has) in grind arith,
+)
+
+pub text_position-none : (t : List ℕ) (ts : List (List ℕ)) → (position (bytes_eq t) ts ≡ None) ↔ ¬ Contains ts t
+text_position-none t ts = (
+  λ none has. let some = position-some (bytes_eq t) ts (place-inside (bytes_eq t) t ts (passes_itself t) has) in cc,
+  λ other. elim (cases_lt (position_or_len (bytes_eq t) ts) (length ts)) [
+    | inl inside ↦ absurd (other (Contains-slice_get ts t (position_or_len (bytes_eq t) ts) (text_position-at t ts (position_or_len (bytes_eq t) ts) (position-some (bytes_eq t) ts inside))))
+    | inr outside ↦ position-none (bytes_eq t) ts outside
+  ],
+)
+
+-- where no two texts are equal, each is found at its own place
+pub text_position-distinct : (t : List ℕ) (ts : List (List ℕ)) (i : ℕ) → AllPairs (λ a b. a ≢ b) ts → slice_get ts i ≡ Some t → position (bytes_eq t) ts ≡ Some i
+text_position-distinct t ts i distinct at =
+    let inside = slice_get_within ts i t at in
+    let same : (d : List ℕ) → get_or ts i d ≡ t = λ d. get_or_from_slice_get ts i t d at in
+    let other : (k : ℕ) → k < i → bytes_eq t (get_or ts k []) ≡ false = λ k before. false_from_ne_true (bytes_eq t (get_or ts k [])) (λ equal. distinct k i [] before inside (sym ((bytes_eq-Decides t (get_or ts k [])).0 equal) ∙ sym (same []))) in
+    let is = position_or_len_is (bytes_eq t) ts i [] (omega arith) other (λ _. (bytes_eq-Decides t (get_or ts i [])).1 (sym (same []))) in
+    position-some (bytes_eq t) ts (omega (arith, is)) ∙ ap Some is
+
+-- ---- a byte among bytes
+
+passes_own : (c : ℕ) → (c == c) ≡ true
+passes_own c = grind (arith, nat_tests)
+
+Contains-place : (c : ℕ) (t : List ℕ) → position_or_len (λ b. b == c) t < length t → Contains t c
+Contains-place c t inside =
+    let i = position_or_len (λ b. b == c) t in
+    let is : get_or t i c ≡ c = (Decides-eqb (get_or t i c) c).0 (passes_at_first (λ b. b == c) t c inside) in
+    (i, inside, is)
+
+pub byte_position-some : (c : ℕ) (t : List ℕ) → IsSome (position (λ b. b == c) t) ↔ Contains t c
+byte_position-some c t = (
+  λ some. elim (cases_lt (position_or_len (λ b. b == c) t) (length t)) [
+    | inl inside ↦ Contains-place c t inside
+    | inr outside ↦ (let none = position-none (λ b. b == c) t outside in absurd (grind arith))
+  ],
+  λ has. let some = position-some (λ b. b == c) t (place-inside (λ b. b == c) c t (passes_own c) has) in grind arith,
+)
+
+pub byte_position-none : (c : ℕ) (t : List ℕ) → (position (λ b. b == c) t ≡ None) ↔ ¬ Contains t c
+byte_position-none c t = (
+  λ none has. let some = position-some (λ b. b == c) t (place-inside (λ b. b == c) c t (passes_own c) has) in cc,
+  λ other. elim (cases_lt (position_or_len (λ b. b == c) t) (length t)) [
+    | inl inside ↦ absurd (other (Contains-place c t inside))
+    | inr outside ↦ position-none (λ b. b == c) t outside
+  ],
+)
+
+-- a list that has a byte is the bytes before the first such byte, this byte, and the bytes after it
+pub split-whole : (c : ℕ) (t : List ℕ) → Contains t c → t ≡ before_first (λ b. b == c) t ++ c ∷ after_first (λ b. b == c) t
+split-whole c t has =
+    let p : ℕ → Bool = λ b. b == c in
+    let inside = place-inside p c t (passes_own c) has in
+    let is : get_or t (position_or_len p t) c ≡ c = (Decides-eqb (get_or t (position_or_len p t) c) c).0 (passes_at_first p t c inside) in
+    split_at_first p t c inside ∙ ap (λ d. before_first p t ++ (d ∷ after_first p t)) is
+
+-- no byte before the first is such a byte
+pub before_first-absent : (c : ℕ) (t : List ℕ) → ¬ Contains (before_first (λ b. b == c) t) c
+before_first-absent c t (k, inside, is) =
+    let p : ℕ → Bool = λ b. b == c in
+    let n = position_or_len p t in
+    let early : k < n = omega (arith, length-take n t) in
+    let here : get_or t k c ≡ c = sym (get_or-take n t k c early) ∙ is in
+    false≢true (sym (fails_before_first p t k c early) ∙ (ap p here ∙ passes_own c))
+
+pub All-absent : (c : ℕ) (t : List ℕ) → ¬ Contains t c → All (λ b. b ≢ c) t
+All-absent c t none = λ k d inside e. none (k, inside, get_or_default t k c d inside ∙ e)
