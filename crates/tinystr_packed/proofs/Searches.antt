@@ -1,13 +1,15 @@
 -- What a search gives.
-use Rattle.std.proofs.Common.{◌≡◌, ◌≢◌, ℕ, suc, zero, ◌+◌, ◌<◌, ◌≤◌, List, [], ◌∷◌, length, map, get_or, refl, sym, ap, ◌∙◌, arith, Bool, true, false, cond, nat_lt, inl, inr}
+use Rattle.std.proofs.Common.{◌≡◌, ◌≢◌, ◌↔◌, ℕ, suc, zero, ◌+◌, ◌-◌, ◌<◌, ◌≤◌, List, [], ◌∷◌, length, map, get_or, refl, sym, ap, subst, ◌∙◌, arith, Bool, true, false, cond, nat_lt, inl, inr}
 use Rattle.std.specs.List.{Contains, count_by, position, position_or_len, slice_get}
 use Rattle.std.specs.Map.{keys_of, values_of}
-use Rattle.std.specs.Option.{ok_or}
-use Rattle.std.specs.Ordering.{is_le, is_lt}
+use Rattle.std.specs.Option.{is_some, ok_or}
+use Rattle.std.specs.Ordering.{is_le, is_lt, ordering_index}
+use Rattle.std.specs.Result.{IsOk, is_ok, result_ok}
 use Rattle.std.specs.Str.{bytes_eq}
 use Rattle.std.specs.declared.cmp.Ordering.{Ordering}
 use Rattle.std.specs.declared.cmp.Ordering.TheVariants.{Less, Equal, Greater}
-use Rattle.std.specs.declared.option.Option.TheVariants.{Some}
+use Rattle.std.specs.declared.option.Option.{Option}
+use Rattle.std.specs.declared.option.Option.TheVariants.{None, Some}
 use Rattle.std.specs.Prelude.{IsTrue}
 use Rattle.std.specs.declared.result.Result.{Result}
 use Rattle.std.specs.declared.result.Result.TheVariants.{Ok, Err}
@@ -19,11 +21,12 @@ use Rattle.std.proofs.lemmas.List.Sums.{count_by-le-length, sum_by-cons, positio
 use Rattle.std.proofs.lemmas.Option.{slice_get-get_or, slice_get_within, get_or_from_slice_get}
 use Rattle.std.proofs.lemmas.Slice.Eq.{bytes_eq-Decides}
 use Rattle.tinystr_words.proofs.Before.{cmp_is_same}
+use Rattle.tinystr_words.proofs.Found.{text_position-at, text_position-some}
 use Rattle.tinystr_packed.specs.Map.{get}
 use Rattle.tinystr_packed.specs.Rising.{order, text_at, IsRising, IsFirstNotBelow, IsPlaceFor}
-use Rattle.tinystr_packed.specs.Search.{search, value_at}
+use Rattle.tinystr_packed.specs.Search.{search_result, value_at}
 use Rattle.tinystr_packed.proofs.PackedMaps.{get-found, get-absent}
-use Rattle.tinystr_packed.proofs.RisingTexts.{Less-from_is_lt, below_from_rising, not_above}
+use Rattle.tinystr_packed.proofs.RisingTexts.{IsPlaceFor-missed, Less-from_is_lt, below_from_rising, not_above, order-rising}
 
 -- a text that is below a key, or above it, is another
 other_text : (t key : List ℕ) → order t key ≢ Equal → bytes_eq key t ≡ false
@@ -58,18 +61,18 @@ ok_or-position_none p ts e past =
     rw test refl
 
 -- a search that finds the key at its place gives that
-pub search-found : (ts : List (List ℕ)) (key : List ℕ) (i : ℕ) → IsFirstNotBelow key ts i → slice_get ts i ≡ Some key → Ok i ≡ search ts key
-unfolding search
-search-found ts key i h at =
+pub search_result-found : (ts : List (List ℕ)) (key : List ℕ) (i : ℕ) → IsFirstNotBelow key ts i → slice_get ts i ≡ Some key → Ok i ≡ search_result ts key
+unfolding search_result
+search_result-found ts key i h at =
     let inside = slice_get_within ts i key at in
     let same : key ≡ get_or ts i [] = sym (get_or_from_slice_get ts i key [] at) in
     let is = position_or_len_is (bytes_eq key) ts i [] h.inside (λ k before. other_text (get_or ts k []) key (λ tied. let less = h.below k before in cc)) (λ _. (bytes_eq-Decides key (get_or ts i [])).1 same) in
     sym (ok_or-position (bytes_eq key) ts i (count_by (λ t. is_lt (order t key)) ts) is inside)
 
 -- and one that doesn't, the place for it
-pub search-absent : (ts : List (List ℕ)) (key : List ℕ) (i : ℕ) → IsPlaceFor key ts i → Err i ≡ search ts key
-unfolding search
-search-absent ts key i h =
+pub search_result-absent : (ts : List (List ℕ)) (key : List ℕ) (i : ℕ) → IsPlaceFor key ts i → Err i ≡ search_result ts key
+unfolding search_result
+search_result-absent ts key i h =
     let other : (k : ℕ) → k < length ts → bytes_eq key (get_or ts k []) ≡ false = λ k inside. other_text (get_or ts k []) key (elim (cases_lt k i) [
       | inl before ↦ (λ tied. let less = h.below k before in cc)
       | inr from ↦ (λ tied. let more = h.above k from inside in cc)
@@ -123,8 +126,8 @@ not_above_missed ts key up =
       λ k before. is_le-from_is_lt (order (text_at ts k) key) (count_by-front below ts (λ i j le inside passes. ap is_lt (below_from_rising ts key i j up le inside (Less-from_is_lt (order (text_at ts j) key) passes))) k before),
     )
 
-pub not_above_before : (ts : List (List ℕ)) (key : List ℕ) (r : Result ℕ ℕ) → IsRising ts → r ≡ search ts key → AreNotAbove ts key (place_behind r)
-unfolding search
+pub not_above_before : (ts : List (List ℕ)) (key : List ℕ) (r : Result ℕ ℕ) → IsRising ts → r ≡ search_result ts key → AreNotAbove ts key (place_behind r)
+unfolding search_result
 not_above_before ts key r up is =
     let i = position_or_len (bytes_eq key) ts in
     let e = count_by (λ t. is_lt (order t key)) ts in
@@ -137,13 +140,13 @@ not_above_before ts key r up is =
     ]
 
 -- what a search gives for one key, it gives for the same key
-pub search-same : (ts : List (List ℕ)) (key other : List ℕ) (r : Result ℕ ℕ) → r ≡ search ts key → order key other ≡ Equal → r ≡ search ts other
-search-same ts key other r is tied = is ∙ ap (search ts) ((cmp_is_same key other).0 tied)
+pub search_result-same : (ts : List (List ℕ)) (key other : List ℕ) (r : Result ℕ ℕ) → r ≡ search_result ts key → order key other ≡ Equal → r ≡ search_result ts other
+search_result-same ts key other r is tied = is ∙ ap (search_result ts) ((cmp_is_same key other).0 tied)
 
 -- the value at what a search among the keys gives is that of the key
-pub value_at-search : (es : List (List ℕ × List ℕ)) (key : List ℕ) → IsRising (keys_of es) → value_at (values_of es) (search (keys_of es) key) ≡ get es key
-unfolding search
-value_at-search es key up =
+pub value_at-search_result : (es : List (List ℕ × List ℕ)) (key : List ℕ) → IsRising (keys_of es) → value_at (values_of es) (search_result (keys_of es) key) ≡ get es key
+unfolding search_result
+value_at-search_result es key up =
     let ks = keys_of es in
     let i = position_or_len (bytes_eq key) ks in
     let e = count_by (λ t. is_lt (order t key)) ks in
@@ -158,6 +161,77 @@ value_at-search es key up =
     ]
 
 -- of each of many keys
-pub values_at-search : (es : List (List ℕ × List ℕ)) (keys : List (List ℕ)) → IsRising (keys_of es) → map (value_at (values_of es)) (map (search (keys_of es)) keys) ≡ map (get es) keys
-values_at-search es [] up = refl
-values_at-search es (key ∷ keys) up = rw (value_at-search es key up, values_at-search es keys up) refl
+pub values_at-search_result : (es : List (List ℕ × List ℕ)) (keys : List (List ℕ)) → IsRising (keys_of es) → map (value_at (values_of es)) (map (search_result (keys_of es)) keys) ≡ map (get es) keys
+values_at-search_result es [] up = refl
+values_at-search_result es (key ∷ keys) up = rw (value_at-search_result es key up, values_at-search_result es keys up) refl
+
+-- ---- what a search gives, of plain lists
+
+result_ok-ok_or : (o : Option ℕ) (e : ℕ) → result_ok (ok_or o e) ≡ o
+result_ok-ok_or None e = refl
+result_ok-ok_or (Some i) e = refl
+
+is_ok-ok_or : (o : Option ℕ) (e : ℕ) → is_ok (ok_or o e) ≡ is_some o
+is_ok-ok_or None e = refl
+is_ok-ok_or (Some i) e = refl
+
+-- its Ok is what `position` finds
+pub result_ok-search_result : (ts : List (List ℕ)) (t : List ℕ) → result_ok (search_result ts t) ≡ position (bytes_eq t) ts
+unfolding search_result
+result_ok-search_result ts t = result_ok-ok_or (position (bytes_eq t) ts) (count_by (λ s. is_lt (order s t)) ts)
+
+pub IsOk-search_result : (ts : List (List ℕ)) (t : List ℕ) → IsOk (search_result ts t) ↔ Contains ts t
+unfolding search_result
+IsOk-search_result ts t = rw (is_ok-ok_or (position (bytes_eq t) ts) (count_by (λ s. is_lt (order s t)) ts)) (text_position-some t ts)
+
+pub search_result-at : (ts : List (List ℕ)) (t : List ℕ) (i : ℕ) → search_result ts t ≡ Ok i → slice_get ts i ≡ Some t
+search_result-at ts t i is = text_position-at t ts i (sym (result_ok-search_result ts t) ∙ ap result_ok is)
+
+less_before : (ts : List (List ℕ)) (t : List ℕ) (i : ℕ) → 0 < i → text_at ts i ≡ t → order (text_at ts (i - 1)) (text_at ts (i - 1 + 1)) ≡ Less → order (text_at ts (i - 1)) t ≡ Less
+less_before ts t i some same less = let e : i - 1 + 1 ≡ i = omega arith in rw (e, same) at less
+
+-- among texts that rise each has one place, which a search gives
+IsFirstNotBelow-at : (ts : List (List ℕ)) (t : List ℕ) (i : ℕ) → IsRising ts → slice_get ts i ≡ Some t → IsFirstNotBelow t ts i
+IsFirstNotBelow-at ts t i up at =
+    let inside = slice_get_within ts i t at in
+    let same : text_at ts i ≡ t = get_or_from_slice_get ts i t [] at in
+    let tie : order (text_at ts i) t ≡ Equal = rw same (tied_itself nat_list_cmp_total t) in
+    record {
+      inside = omega arith;
+      below = λ k before. below_from_rising ts t k (i - 1) up (omega arith) (omega arith) (less_before ts t i (omega arith) same (up (i - 1) (omega arith)));
+      not_below = λ k from within less. (let h = order-rising ts t i k up from within in absurd (omega (arith, h, ap ordering_index tie, ap ordering_index less)));
+    }
+
+pub search_result-own : (ts : List (List ℕ)) (t : List ℕ) (i : ℕ) → IsRising ts → slice_get ts i ≡ Some t → search_result ts t ≡ Ok i
+search_result-own ts t i up at = sym (search_result-found ts t i (IsFirstNotBelow-at ts t i up at) at)
+
+later_fails : (p : List ℕ → Bool) (t : List ℕ) (ts : List (List ℕ)) (k : ℕ) → 0 < k → p (get_or ts (k - 1) []) ≡ false → p (get_or (t ∷ ts) k []) ≡ false
+later_fails p t ts zero some fails = absurd (omega arith)
+later_fails p t ts (suc k) some fails = let e : suc k - 1 ≡ k = omega arith in rw e at fails
+
+-- where the texts that pass a test are the first ones, none from their number on passes it
+count_by-behind : (p : List ℕ → Bool) (ts : List (List ℕ)) → ((i j : ℕ) → i ≤ j → j < length ts → p (get_or ts j []) ≡ true → p (get_or ts i []) ≡ true) → (k : ℕ) → count_by p ts ≤ k → k < length ts → p (get_or ts k []) ≡ false
+count_by-behind p [] front k many inside = absurd (omega arith)
+count_by-behind p (t ∷ ts) front k many inside = elim (cases_Bool (p t)) [
+  | inl passes ↦ (let count : count_by p (t ∷ ts) ≡ 1 + count_by p ts = count_by-cons p t ts ∙ rw passes refl in
+      later_fails p t ts k (omega (arith, many, count)) (count_by-behind p ts (λ i j le within. front (suc i) (suc j) (omega arith) (omega arith)) (k - 1) (omega (arith, many, count)) (omega (arith, many, count, inside))))
+  | inr fails ↦ false_from_ne_true (p (get_or (t ∷ ts) k [])) (λ passes. false≢true (sym fails ∙ front 0 k (omega arith) inside passes))
+]
+
+pub search_result-place : (ts : List (List ℕ)) (t : List ℕ) (i : ℕ) → IsRising ts → search_result ts t ≡ Err i → IsPlaceFor t ts i
+unfolding search_result
+search_result-place ts t i up is =
+    let below : List ℕ → Bool = λ s. is_lt (order s t) in
+    let e = count_by below ts in
+    elim (cases_lt (position_or_len (bytes_eq t) ts) (length ts)) [
+      | inl inside ↦ (let found = ok_or-position (bytes_eq t) ts (position_or_len (bytes_eq t) ts) e refl inside in absurd (cc))
+      | inr past ↦ (let missed : e ≡ i = (let h = ok_or-position_none (bytes_eq t) ts e past in cc) in
+          let front = λ (i j : ℕ) (le : i ≤ j) (within : j < length ts) (passes : below (get_or ts j []) ≡ true). ap is_lt (below_from_rising ts t i j up le within (Less-from_is_lt (order (text_at ts j) t) passes)) in
+          let first : IsFirstNotBelow t ts e = record {
+            inside = count_by-le-length below ts;
+            below = λ k before. Less-from_is_lt (order (text_at ts k) t) (count_by-front below ts front k before);
+            not_below = λ k from within less. false≢true (sym (count_by-behind below ts front k from within) ∙ ap is_lt less);
+          } in
+          let other : e < length ts → text_at ts e ≢ t = λ within same. false≢true (sym (fails_before_first (bytes_eq t) ts e [] (omega arith)) ∙ (bytes_eq-Decides t (text_at ts e)).1 (sym same)) in
+          subst (λ (x : ℕ). IsPlaceFor t ts x) missed (IsPlaceFor-missed ts t e up first other))
+    ]

@@ -10,7 +10,7 @@ use Rattle.tinystr_words.specs.Text.{IsPaddedText, IsStrictText, pad}
 use Rattle.tinystr_words.proofs.Texts.{get_or-pad, length-pad}
 use Rattle.tinystr_packed.specs.Private.Numbers.{number_at, pair_at}
 use Rattle.tinystr_packed.specs.Rising.{text_at}
-use Rattle.tinystr_packed.specs.Search.{search}
+use Rattle.tinystr_packed.specs.Search.{search_result}
 use Rattle.tinystr_packed.specs.Private.SideBySide.{paired, AreAnswers, AreHalves, AreNumbered, AreReady, AreWithin, DoNotFallInTurn, IsPlaceWithin, ArePlacesWithin}
 use Rattle.tinystr_packed.proofs.RisingTexts.{ascii-padded}
 
@@ -88,19 +88,19 @@ ArePlacesWithin-start n s records w i j size end h = record {
 -- ---- answers for eight keys
 
 -- two answers by turns, for two keys by turns
-pub AreAnswers-by_turns : (texts keys : List (List ℕ)) (r s : Result ℕ ℕ) → ((i : ℕ) → i < 6 → text_at keys (i + 2) ≡ text_at keys i) → r ≡ search texts (text_at keys 0) → s ≡ search texts (text_at keys 1) → AreAnswers texts keys (r ∷ s ∷ r ∷ s ∷ r ∷ s ∷ r ∷ s ∷ []) 8
+pub AreAnswers-by_turns : (texts keys : List (List ℕ)) (r s : Result ℕ ℕ) → ((i : ℕ) → i < 6 → text_at keys (i + 2) ≡ text_at keys i) → r ≡ search_result texts (text_at keys 0) → s ≡ search_result texts (text_at keys 1) → AreAnswers texts keys (r ∷ s ∷ r ∷ s ∷ r ∷ s ∷ r ∷ s ∷ []) 8
 AreAnswers-by_turns texts keys r s turns first second zero within = first
 AreAnswers-by_turns texts keys r s turns first second (suc zero) within = second
-AreAnswers-by_turns texts keys r s turns first second (suc (suc zero)) within = first ∙ ap (search texts) (sym (turns 0 (omega arith)))
-AreAnswers-by_turns texts keys r s turns first second (suc (suc (suc zero))) within = second ∙ ap (search texts) (sym (turns 1 (omega arith)))
-AreAnswers-by_turns texts keys r s turns first second (suc (suc (suc (suc zero)))) within = first ∙ ap (search texts) (sym (turns 2 (omega arith) ∙ turns 0 (omega arith)))
-AreAnswers-by_turns texts keys r s turns first second (suc (suc (suc (suc (suc zero))))) within = second ∙ ap (search texts) (sym (turns 3 (omega arith) ∙ turns 1 (omega arith)))
-AreAnswers-by_turns texts keys r s turns first second (suc (suc (suc (suc (suc (suc zero)))))) within = first ∙ ap (search texts) (sym (turns 4 (omega arith) ∙ turns 2 (omega arith) ∙ turns 0 (omega arith)))
-AreAnswers-by_turns texts keys r s turns first second (suc (suc (suc (suc (suc (suc (suc zero))))))) within = second ∙ ap (search texts) (sym (turns 5 (omega arith) ∙ turns 3 (omega arith) ∙ turns 1 (omega arith)))
+AreAnswers-by_turns texts keys r s turns first second (suc (suc zero)) within = first ∙ ap (search_result texts) (sym (turns 0 (omega arith)))
+AreAnswers-by_turns texts keys r s turns first second (suc (suc (suc zero))) within = second ∙ ap (search_result texts) (sym (turns 1 (omega arith)))
+AreAnswers-by_turns texts keys r s turns first second (suc (suc (suc (suc zero)))) within = first ∙ ap (search_result texts) (sym (turns 2 (omega arith) ∙ turns 0 (omega arith)))
+AreAnswers-by_turns texts keys r s turns first second (suc (suc (suc (suc (suc zero))))) within = second ∙ ap (search_result texts) (sym (turns 3 (omega arith) ∙ turns 1 (omega arith)))
+AreAnswers-by_turns texts keys r s turns first second (suc (suc (suc (suc (suc (suc zero)))))) within = first ∙ ap (search_result texts) (sym (turns 4 (omega arith) ∙ turns 2 (omega arith) ∙ turns 0 (omega arith)))
+AreAnswers-by_turns texts keys r s turns first second (suc (suc (suc (suc (suc (suc (suc zero))))))) within = second ∙ ap (search_result texts) (sym (turns 5 (omega arith) ∙ turns 3 (omega arith) ∙ turns 1 (omega arith)))
 AreAnswers-by_turns texts keys r s turns first second (suc (suc (suc (suc (suc (suc (suc (suc i)))))))) within = absurd (omega arith)
 
 -- the answer that is ready for the next key
-pub AreReady-first : (texts keys : List (List ℕ)) (answers : List (Result ℕ ℕ)) (m n : ℕ) → 0 < n → AreReady texts keys answers m n → get_or answers (8 - n) (Ok 0) ≡ search texts (text_at keys m)
+pub AreReady-first : (texts keys : List (List ℕ)) (answers : List (Result ℕ ℕ)) (m n : ℕ) → 0 < n → AreReady texts keys answers m n → get_or answers (8 - n) (Ok 0) ≡ search_result texts (text_at keys m)
 AreReady-first texts keys answers m n some h =
     let a : m + 0 ≡ m = omega arith in
     let b : 8 - n + 0 ≡ 8 - n = omega arith in
@@ -120,5 +120,5 @@ AreReady-filled texts keys answers m h i less =
     rw a (rw (take_all (length keys - m) (drop m keys) (omega (arith, length-drop m keys)), get_or-drop m keys i []) at (h i less))
 
 -- the first of the answers that are left
-pub search-next : (texts keys : List (List ℕ)) (m : ℕ) (r : Result ℕ ℕ) → m < length keys → r ≡ search texts (text_at keys m) → map (search texts) (drop m keys) ≡ r ∷ map (search texts) (drop (m + 1) keys)
-search-next texts keys m r inside is = at_drop_more (map (search texts)) keys m [] inside ∙ ap (λ (x : Result ℕ ℕ). x ∷ map (search texts) (drop (m + 1) keys)) (sym is)
+pub search_result-next : (texts keys : List (List ℕ)) (m : ℕ) (r : Result ℕ ℕ) → m < length keys → r ≡ search_result texts (text_at keys m) → map (search_result texts) (drop m keys) ≡ r ∷ map (search_result texts) (drop (m + 1) keys)
+search_result-next texts keys m r inside is = at_drop_more (map (search_result texts)) keys m [] inside ∙ ap (λ (x : Result ℕ ℕ). x ∷ map (search_result texts) (drop (m + 1) keys)) (sym is)

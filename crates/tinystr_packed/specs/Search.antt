@@ -12,8 +12,8 @@ use Rattle.tinystr_words.specs.Text.{IsPaddedText, text_of}
 use Rattle.tinystr_packed.specs.Rising.{order, IsRising, IsSearched}
 
 -- the index of the text that is the key, or else how many texts are below the key
-unfoldable pub search : List (List ℕ) → List ℕ → Result ℕ ℕ
-search texts key = ok_or (position (bytes_eq key) texts) (count_by (λ t. is_lt (order t key)) texts)
+unfoldable pub search_result : List (List ℕ) → List ℕ → Result ℕ ℕ
+search_result texts key = ok_or (position (bytes_eq key) texts) (count_by (λ t. is_lt (order t key)) texts)
 
 -- the value at what a search gives, of values in the order of their keys
 abbrev pub value_at : List (List ℕ) → Result ℕ ℕ → Option (List ℕ)

@@ -3,7 +3,7 @@
 ghost use Rattle.std.specs.Prelude.{◌≡◌, ◌+◌, ◌<◌, ◌≤◌, ◌-◌, IfNone, IfSome, List, ℕ, drop, length, map};
 ghost use Rattle.std.specs.Iterator.{YieldsFirst, item_count};
 ghost use Rattle.tinystr_packed.specs.Rising.{text_at};
-ghost use Rattle.tinystr_packed.specs.Search.{search};
+ghost use Rattle.tinystr_packed.specs.Search.{search_result};
 
 use crate::eight::search_first_eight;
 use crate::sorted::SortedTable;
@@ -36,12 +36,12 @@ pub struct BinarySearchEach<'a, 'k, const N: usize> {
 impl<'a, 'k, const N: usize> Model for BinarySearchEach<'a, 'k, N> {
     ghost use Rattle.std.specs.Prelude.{◌^◌, ◌+◌, ◌<◌, ◌≤◌, List, ℕ, drop, length, map};
     ghost use Rattle.std.specs.declared.result.Result.{Result};
-    ghost use Rattle.tinystr_packed.specs.Search.{search};
+    ghost use Rattle.tinystr_packed.specs.Search.{search_result};
     ghost use Rattle.tinystr_packed.specs.Private.SideBySide.{AreReady, IsLast};
 
     ghost Value = { List (Result ℕ ℕ) };
 
-    ghost view = { λ s. map (search s.sorted) (drop s.given s.keys.now) };
+    ghost view = { λ s. map (search_result s.sorted) (drop s.given s.keys.now) };
 
     ghost invariant = { λ s. (N < 2 ^ 63) × (s.given ≤ length s.keys.now) × (s.ready ≤ 8)
         × AreReady s.sorted s.keys.now s.answers s.given s.ready
@@ -51,7 +51,7 @@ impl<'a, 'k, const N: usize> Model for BinarySearchEach<'a, 'k, N> {
 impl<'a, 'k, const N: usize> BinarySearchEach<'a, 'k, N> {
     // All answers are left.
     pub(crate) fn new(sorted: SortedTable<'a, N>, keys: &'k [TinyAsciiStr<N>]) -> Self
-        ensures { result ≡ map (search sorted.entry) keys.now }
+        ensures { result ≡ map (search_result sorted.entry) keys.now }
     {
         BinarySearchEach {
             sorted,
@@ -74,8 +74,8 @@ fn answer_alone<const N: usize>(
     last: Result<usize, usize>,
 ) -> Option<Result<usize, usize>>
     requires inside { index < length keys.now }
-    requires last { 0 < index → last ≡ search sorted.now (text_at keys.now (index - 1)) }
-    ensures answer { IfSome result (λ answer. answer ≡ search sorted.now (text_at keys.now index)) }
+    requires last { 0 < index → last ≡ search_result sorted.now (text_at keys.now (index - 1)) }
+    ensures answer { IfSome result (λ answer. answer ≡ search_result sorted.now (text_at keys.now index)) }
     ensures many { IfNone result (index + 8 ≤ length keys.now) }
 {
     let key = &keys[index];

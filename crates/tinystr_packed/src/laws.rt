@@ -1,12 +1,15 @@
 //! Laws of packed bytes, each a function whose contract is the law.
 
-ghost use Rattle.std.specs.Prelude.{◌≡◌, ◌<◌, ◌*◌, ◌↔◌, ℕ, List, All, IsTrue, None, length};
+ghost use Rattle.std.specs.Prelude.{◌≡◌, ◌<◌, ◌*◌, ◌↔◌, ℕ, List, All, Contains, Err, IsOk, IsTrue, None, Ok, Some, length, position, slice_get};
 ghost use Rattle.std.specs.List.{flat_map};
 ghost use Rattle.std.specs.Map.{keys_of, values_of};
+ghost use Rattle.std.specs.Result.{result_ok};
+ghost use Rattle.std.specs.Str.{bytes_eq};
 ghost use Rattle.tinystr_words.specs.Text.{IsStrictText, pad};
 ghost use Rattle.tinystr_packed.specs.Map.{ArePacked, get};
 ghost use Rattle.tinystr_packed.specs.Reading.{are_packed};
-ghost use Rattle.tinystr_packed.specs.Rising.{IsRising, is_rising};
+ghost use Rattle.tinystr_packed.specs.Rising.{IsPlaceFor, IsRising, is_rising};
+ghost use Rattle.tinystr_packed.specs.Search.{search_result};
 ghost use Rattle.tinystr_packed.specs.TextMap.{ArePackedTexts};
 
 use crate::map::PackedMap;
@@ -41,6 +44,18 @@ pub fn map_len()
         ArePacked entries keys values n m → length keys ≡ length entries * n }
     ensures values { (entries : List (List ℕ × List ℕ)) (keys values : List ℕ) (n m : ℕ) →
         ArePacked entries keys values n m → length values ≡ length entries * m }
+{}
+
+/// A search finds a text exactly if the list has it, and gives the index that `position` gives. Among texts that are
+/// strictly ascending this is the text's only index; if the list doesn't have the text, the error is the place where it
+/// belongs.
+#[tactic(auto, using(crate::proofs::ForCallers::search_found))]
+pub fn search_found()
+    ensures position { (texts : List (List ℕ)) (t : List ℕ) → result_ok (search_result texts t) ≡ position (bytes_eq t) texts }
+    ensures exact { (texts : List (List ℕ)) (t : List ℕ) → IsOk (search_result texts t) ↔ Contains texts t }
+    ensures found { (texts : List (List ℕ)) (t : List ℕ) (i : ℕ) → search_result texts t ≡ Ok i → slice_get texts i ≡ Some t }
+    ensures index { (texts : List (List ℕ)) (t : List ℕ) (i : ℕ) → IsRising texts → slice_get texts i ≡ Some t → search_result texts t ≡ Ok i }
+    ensures place { (texts : List (List ℕ)) (t : List ℕ) (i : ℕ) → IsRising texts → search_result texts t ≡ Err i → IsPlaceFor t texts i }
 {}
 
 /// There are `n` bytes for each key, and `m` for each text.

@@ -6,7 +6,7 @@ ghost use Rattle.std.specs.Result.{result_ok};
 ghost use Rattle.tinystr_words.specs.Text.{IsStrictText};
 ghost use Rattle.tinystr_packed.specs.Reading.{sorted_of, sorted_table_of};
 ghost use Rattle.tinystr_packed.specs.Rising.{text_at, IsRising, ArePackedRising, IsFirstFall, IsPlaceFor, IsFirstNotBelow, IsPrefixRange};
-ghost use Rattle.tinystr_packed.specs.Search.{search};
+ghost use Rattle.tinystr_packed.specs.Search.{search_result};
 ghost use Rattle.tinystr_packed.specs.Sorting.{RefusesSorted};
 
 use crate::each::BinarySearchEach;
@@ -128,7 +128,7 @@ impl<'a, const N: usize> SortedTable<'a, N> {
         ensures place { IfErr result (λ place. IsPlaceFor key.now self.now place) }
         ensures exact { IsOk result ↔ Contains self.now key.now }
         ensures rising { IsRising self.now }
-        ensures answer { result ≡ search self.now key.now }
+        ensures answer { result ≡ search_result self.now key.now }
     {
         self.answer_at(self.first_not_below(key), key)
     }
@@ -148,7 +148,7 @@ impl<'a, const N: usize> SortedTable<'a, N> {
     /// assert_eq!(rt; places.next(), None);
     /// ```
     pub fn binary_search_each<'k>(&self, keys: &'k [TinyAsciiStr<N>]) -> BinarySearchEach<'a, 'k, N>
-        ensures answers { result ≡ map (search self.now) keys.now }
+        ensures answers { result ≡ map (search_result self.now) keys.now }
         ensures rising { IsRising self.now }
     {
         BinarySearchEach::new(self.copied(), keys)
@@ -232,7 +232,7 @@ impl<'a, const N: usize> SortedTable<'a, N> {
         ensures found { IfOk result (λ index. slice_get self.now index ≡ Some key.now) }
         ensures place { IfErr result (λ place. IsPlaceFor key.now self.now place) }
         ensures exact { IsOk result ↔ Contains self.now key.now }
-        ensures answer { result ≡ search self.now key.now }
+        ensures answer { result ≡ search_result self.now key.now }
         ensures rising { IsRising self.now }
     {
         if self.table.has_text_at(place, key) {
@@ -251,8 +251,8 @@ impl<'a, const N: usize> SortedTable<'a, N> {
         answer: Result<usize, usize>,
         key: &TinyAsciiStr<N>,
     ) -> Option<Result<usize, usize>>
-        requires { answer ≡ search self.now before.now }
-        ensures { IfSome result (λ answer. answer ≡ search self.now key.now) }
+        requires { answer ≡ search_result self.now before.now }
+        ensures { IfSome result (λ answer. answer ≡ search_result self.now key.now) }
     {
         let records = self.table.records();
         match before.cmp(key) {

@@ -32,7 +32,7 @@ pub struct BinarySearchEach<'a, 'k, const N: usize> {
 impl<'a, 'k, const N: usize> BinarySearchEach<'a, 'k, N> {
     // All answers are left.
     // Proved:
-    //     ensures { result ≡ map (search sorted.entry) keys.now }
+    //     ensures { result ≡ map (search_result sorted.entry) keys.now }
     pub(crate) fn new(sorted: SortedTable<'a, N>, keys: &'k [TinyAsciiStr<N>]) -> Self {
         BinarySearchEach {
             sorted,
@@ -49,8 +49,8 @@ impl<'a, 'k, const N: usize> BinarySearchEach<'a, 'k, N> {
 // The answer for the key at an index, if that for the key before it tells it, or if fewer than eight keys are left.
 // Proved:
 //     requires inside { index < length keys.now }
-//     requires last { 0 < index → last ≡ search sorted.now (text_at keys.now (index - 1)) }
-//     ensures answer { IfSome result (λ answer. answer ≡ search sorted.now (text_at keys.now index)) }
+//     requires last { 0 < index → last ≡ search_result sorted.now (text_at keys.now (index - 1)) }
+//     ensures answer { IfSome result (λ answer. answer ≡ search_result sorted.now (text_at keys.now index)) }
 //     ensures many { IfNone result (index + 8 ≤ length keys.now) }
 #[inline(always)]
 fn answer_alone<const N: usize>(

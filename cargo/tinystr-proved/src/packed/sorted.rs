@@ -140,7 +140,7 @@ impl<'a, const N: usize> SortedTable<'a, N> {
     /// ensures place { IfErr result (λ place. IsPlaceFor key.now self.now place) }
     /// ensures exact { IsOk result ↔ Contains self.now key.now }
     /// ensures rising { IsRising self.now }
-    /// ensures answer { result ≡ search self.now key.now }
+    /// ensures answer { result ≡ search_result self.now key.now }
     /// ```
     pub fn binary_search(&self, key: &TinyAsciiStr<N>) -> Result<usize, usize> {
         self.answer_at(self.first_not_below(key), key)
@@ -167,7 +167,7 @@ impl<'a, const N: usize> SortedTable<'a, N> {
     /// # Contract
     ///
     /// ```text
-    /// ensures answers { result ≡ map (search self.now) keys.now }
+    /// ensures answers { result ≡ map (search_result self.now) keys.now }
     /// ensures rising { IsRising self.now }
     /// ```
     #[must_use]
@@ -279,7 +279,7 @@ impl<'a, const N: usize> SortedTable<'a, N> {
     //     ensures found { IfOk result (λ index. slice_get self.now index ≡ Some key.now) }
     //     ensures place { IfErr result (λ place. IsPlaceFor key.now self.now place) }
     //     ensures exact { IsOk result ↔ Contains self.now key.now }
-    //     ensures answer { result ≡ search self.now key.now }
+    //     ensures answer { result ≡ search_result self.now key.now }
     //     ensures rising { IsRising self.now }
     #[inline(always)]
     pub(crate) fn answer_at(&self, place: usize, key: &TinyAsciiStr<N>) -> Result<usize, usize> {
@@ -293,8 +293,8 @@ impl<'a, const N: usize> SortedTable<'a, N> {
     // The answer for a key, if that for the key before it tells it: the same for the same key, and for one above it the place
     // behind, or a little behind that.
     // Proved:
-    //     requires { answer ≡ search self.now before.now }
-    //     ensures { IfSome result (λ answer. answer ≡ search self.now key.now) }
+    //     requires { answer ≡ search_result self.now before.now }
+    //     ensures { IfSome result (λ answer. answer ≡ search_result self.now key.now) }
     #[inline(always)]
     pub(crate) fn answer_behind(
         &self,

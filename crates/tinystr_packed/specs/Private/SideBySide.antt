@@ -5,7 +5,7 @@ use Rattle.std.specs.declared.result.Result.TheVariants.{Ok}
 use Rattle.tinystr_words.specs.Text.{IsPaddedText}
 use Rattle.tinystr_packed.specs.Private.Numbers.{pair_at}
 use Rattle.tinystr_packed.specs.Rising.{text_at}
-use Rattle.tinystr_packed.specs.Search.{search}
+use Rattle.tinystr_packed.specs.Search.{search_result}
 
 -- the number of two halves
 abbrev pub paired : ℕ → ℕ → ℕ
@@ -55,12 +55,12 @@ pub record ArePlacesWithin (n start : ℕ) (records : List (List ℕ)) (w : ℕ 
 
 -- the first n of eight answers are those for the first keys
 abbrev pub AreAnswers : List (List ℕ) → List (List ℕ) → List (Result ℕ ℕ) → ℕ → Type 0
-AreAnswers texts keys answers n = (i : ℕ) → i < n → slice_index_or answers i (Ok 0) ≡ search texts (text_at keys i)
+AreAnswers texts keys answers n = (i : ℕ) → i < n → slice_index_or answers i (Ok 0) ≡ search_result texts (text_at keys i)
 
 -- an answer is that for the key before m, if there is one
 abbrev pub IsLast : List (List ℕ) → List (List ℕ) → Result ℕ ℕ → ℕ → Type 0
-IsLast texts keys answer m = 0 < m → answer ≡ search texts (text_at keys (m - 1))
+IsLast texts keys answer m = 0 < m → answer ≡ search_result texts (text_at keys (m - 1))
 
 -- the last n of eight answers are those for the keys from m on
 abbrev pub AreReady : List (List ℕ) → List (List ℕ) → List (Result ℕ ℕ) → ℕ → ℕ → Type 0
-AreReady texts keys answers m n = (i : ℕ) → i < n → slice_index_or answers (8 - n + i) (Ok 0) ≡ search texts (text_at keys (m + i))
+AreReady texts keys answers m n = (i : ℕ) → i < n → slice_index_or answers (8 - n + i) (Ok 0) ≡ search_result texts (text_at keys (m + i))

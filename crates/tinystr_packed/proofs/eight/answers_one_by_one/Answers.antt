@@ -3,7 +3,7 @@ use Rattle.std.proofs.lemmas.List.{get_or_default, length-set}
 use Rattle.std.specs.declared.result.Result.{Result}
 use Rattle.std.specs.declared.result.Result.TheVariants.{Ok}
 use Rattle.tinystr_packed.specs.Rising.{text_at}
-use Rattle.tinystr_packed.specs.Search.{search}
+use Rattle.tinystr_packed.specs.Search.{search_result}
 use Rattle.tinystr_packed.proofs.SideBySide.{so_far-set}
 use Rattle.tinystr_packed.proofs.eight.answers_one_by_one.Goals as goal
 
@@ -16,5 +16,5 @@ loop-lane-preserved g c =
     let here = c.index-keys-lane.is ∙ get_or_default keys lane c.index-keys-lane.result [] (omega (arith, c.requires)) in
     record {
       long = length-set answers lane c.binary_search.result ∙ c.loop-lane.invariant.long;
-      each = so_far-set (Ok 0) (λ (i : ℕ) (answer : Result ℕ ℕ). answer ≡ search texts (text_at keys i)) answers lane c.binary_search.result (omega (arith, c.loop-lane.invariant.long)) c.loop-lane.invariant.each (c.binary_search.ensures.answer ∙ ap (search texts) here);
+      each = so_far-set (Ok 0) (λ (i : ℕ) (answer : Result ℕ ℕ). answer ≡ search_result texts (text_at keys i)) answers lane c.binary_search.result (omega (arith, c.loop-lane.invariant.long)) c.loop-lane.invariant.each (c.binary_search.ensures.answer ∙ ap (search_result texts) here);
     }

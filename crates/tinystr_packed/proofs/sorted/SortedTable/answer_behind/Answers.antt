@@ -4,7 +4,7 @@ use Rattle.std.proofs.lemmas.List.{length-map}
 use Rattle.std.specs.BTreeMap.Comparable.{le_lt_trans}
 use Rattle.tinystr_packed.specs.Rising.{text_at}
 use Rattle.tinystr_packed.proofs.RisingTexts.{AreRisingRecords-texts, IsFirstNotBelow-texts, order-key}
-use Rattle.tinystr_packed.proofs.Searches.{not_above_before, place_behind, search-same}
+use Rattle.tinystr_packed.proofs.Searches.{not_above_before, place_behind, search_result-same}
 use Rattle.tinystr_packed.proofs.sorted.SortedTable.answer_behind.Goals.{in-Ok, in-Err}
 use Rattle.tinystr_packed.proofs.sorted.SortedTable.answer_behind.Goals as goal
 
@@ -50,4 +50,4 @@ answer_at-requires g c =
     )
 
 pub returns-in-Equal : goal.returns-in-Equal
-returns-in-Equal g c = search-same c.args.self.now c.args.before.now c.args.key.now c.args.answer c.requires (sym c.in-Equal.ensures)
+returns-in-Equal g c = search_result-same c.args.self.now c.args.before.now c.args.key.now c.args.answer c.requires (sym c.in-Equal.ensures)
