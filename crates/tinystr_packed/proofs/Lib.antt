@@ -14,3 +14,4 @@ pub mod SideBySide
 pub mod SortedPacks
 pub mod Computed
 pub mod ForCallers
+pub mod Collected

@@ -2,6 +2,7 @@
 #![tactic(auto)]
 
 pub mod airports;
+pub mod code_column;
 pub mod columns;
 pub mod counting;
 pub mod countries;

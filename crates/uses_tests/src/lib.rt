@@ -5,6 +5,8 @@
 #[cfg(test)]
 mod airports;
 #[cfg(test)]
+mod code_column;
+#[cfg(test)]
 mod columns;
 #[cfg(test)]
 mod counting;
