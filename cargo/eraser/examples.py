@@ -21,7 +21,7 @@ NAMES = {
     "tinystr::hashed": "HashedError HashedMap HashedMapError HashedTable HashedTextMap HashedTextMapError PackHashedError"
     " in_place pack_hashed pack_hashed_map pack_hashed_text_map",
     "std::collections": "BTreeMap",
-    "crate::words": "CodeUnit decimal_fits",
+    "crate::words": "CodeUnit decimal_fits split_at_byte",
     "crate::words::int_ops": "Aligned4 Aligned8 Aligned16",
 }
 

@@ -1,12 +1,11 @@
 -- Which element of a list `position` finds, for a test that only one value passes.
-use Rattle.std.proofs.Common.{◌≡◌, ◌≢◌, ◌==◌, ◌+◌, ◌<◌, ◌≤◌, ◌↔◌, ◌⊎◌, ℕ, inl, inr, Bool, true, false, Some, None, List, [], ◌∷◌, ◌++◌, length, get_or, take, drop, refl, sym, ap, ◌∙◌, arith}
+use Rattle.std.proofs.Common.{◌≡◌, ◌≢◌, ◌==◌, ◌+◌, ◌-◌, ◌<◌, ◌≤◌, ◌↔◌, ℕ, inl, inr, Bool, true, false, Some, None, List, [], ◌∷◌, ◌++◌, length, get_or, take, drop, refl, sym, ap, ◌∙◌, arith}
 use Rattle.std.specs.List.{All, AllPairs, Contains, after_first, before_first, position, position_or_len, slice_get}
 use Rattle.std.specs.Option.{IsSome}
 use Rattle.std.specs.Str.{bytes_eq}
 use Rattle.std.proofs.lemmas.Bool.{cases_lt, false_from_ne_true, false≢true}
 use Rattle.std.proofs.lemmas.Bool.Decides.{Decides-eqb, nat_tests}
-use Rattle.std.proofs.lemmas.List.{get_or-take, get_or_default, length-take}
-use Rattle.std.proofs.lemmas.List.Elements.{All-contains, All-from_get_or}
+use Rattle.std.proofs.lemmas.List.{get_or-take, get_or_default, length-drop, length-take, take_all}
 use Rattle.std.proofs.lemmas.List.Sums.{fails_before_first, passes_at_first, position_or_len_is, split_at_first}
 use Rattle.std.proofs.lemmas.Option.{get_or_from_slice_get, slice_get-get_or, slice_get_within}
 use Rattle.std.proofs.lemmas.Slice.Eq.{bytes_eq-Decides}
@@ -22,8 +21,8 @@ position-none : {X : Type 0} (p : X → Bool) (xs : List X) → length xs ≤ po
 position-none p xs outside = grind (arith, nat_tests)
 
 -- an element of the list is at a place before which none passes
-place-inside : {X : Type 0} (p : X → Bool) (x : X) (xs : List X) → p x ≡ true → Contains xs x → position_or_len p xs < length xs
-place-inside p x xs passes (k, inside, is) = elim (cases_lt k (position_or_len p xs)) [
+position_or_len-inside : {X : Type 0} (p : X → Bool) (x : X) (xs : List X) → p x ≡ true → Contains xs x → position_or_len p xs < length xs
+position_or_len-inside p x xs passes (k, inside, is) = elim (cases_lt k (position_or_len p xs)) [
   | inl before ↦ absurd (false≢true (sym (fails_before_first p xs k x before) ∙ (ap p is ∙ passes)))
   | inr from ↦ omega arith
 ]
@@ -48,12 +47,12 @@ text_position-some t ts = (
     | inl inside ↦ Contains-slice_get ts t (position_or_len (bytes_eq t) ts) (text_position-at t ts (position_or_len (bytes_eq t) ts) (position-some (bytes_eq t) ts inside))
     | inr outside ↦ (let none = position-none (bytes_eq t) ts outside in absurd (grind arith))
   ],
-  λ has. let some = position-some (bytes_eq t) ts (place-inside (bytes_eq t) t ts (passes_itself t) has) in grind arith,
+  λ has. let some = position-some (bytes_eq t) ts (position_or_len-inside (bytes_eq t) t ts (passes_itself t) has) in grind arith,
 )
 
 pub text_position-none : (t : List ℕ) (ts : List (List ℕ)) → (position (bytes_eq t) ts ≡ None) ↔ ¬ Contains ts t
 text_position-none t ts = (
-  λ none has. let some = position-some (bytes_eq t) ts (place-inside (bytes_eq t) t ts (passes_itself t) has) in cc,
+  λ none has. let some = position-some (bytes_eq t) ts (position_or_len-inside (bytes_eq t) t ts (passes_itself t) has) in cc,
   λ other. elim (cases_lt (position_or_len (bytes_eq t) ts) (length ts)) [
     | inl inside ↦ absurd (other (Contains-slice_get ts t (position_or_len (bytes_eq t) ts) (text_position-at t ts (position_or_len (bytes_eq t) ts) (position-some (bytes_eq t) ts inside))))
     | inr outside ↦ position-none (bytes_eq t) ts outside
@@ -86,12 +85,12 @@ byte_position-some c t = (
     | inl inside ↦ Contains-place c t inside
     | inr outside ↦ (let none = position-none (λ b. b == c) t outside in absurd (grind arith))
   ],
-  λ has. let some = position-some (λ b. b == c) t (place-inside (λ b. b == c) c t (passes_own c) has) in grind arith,
+  λ has. let some = position-some (λ b. b == c) t (position_or_len-inside (λ b. b == c) c t (passes_own c) has) in grind arith,
 )
 
 pub byte_position-none : (c : ℕ) (t : List ℕ) → (position (λ b. b == c) t ≡ None) ↔ ¬ Contains t c
 byte_position-none c t = (
-  λ none has. let some = position-some (λ b. b == c) t (place-inside (λ b. b == c) c t (passes_own c) has) in cc,
+  λ none has. let some = position-some (λ b. b == c) t (position_or_len-inside (λ b. b == c) c t (passes_own c) has) in cc,
   λ other. elim (cases_lt (position_or_len (λ b. b == c) t) (length t)) [
     | inl inside ↦ absurd (other (Contains-place c t inside))
     | inr outside ↦ position-none (λ b. b == c) t outside
@@ -102,7 +101,7 @@ byte_position-none c t = (
 pub split-whole : (c : ℕ) (t : List ℕ) → Contains t c → t ≡ before_first (λ b. b == c) t ++ c ∷ after_first (λ b. b == c) t
 split-whole c t has =
     let p : ℕ → Bool = λ b. b == c in
-    let inside = place-inside p c t (passes_own c) has in
+    let inside = position_or_len-inside p c t (passes_own c) has in
     let is : get_or t (position_or_len p t) c ≡ c = (Decides-eqb (get_or t (position_or_len p t) c) c).0 (passes_at_first p t c inside) in
     split_at_first p t c inside ∙ ap (λ d. before_first p t ++ (d ∷ after_first p t)) is
 
@@ -117,3 +116,21 @@ before_first-absent c t (k, inside, is) =
 
 pub All-absent : (c : ℕ) (t : List ℕ) → ¬ Contains t c → All (λ b. b ≢ c) t
 All-absent c t none = λ k d inside e. none (k, inside, get_or_default t k c d inside ∙ e)
+
+-- the parts around the first such byte, by its place
+pub place-inside : (c : ℕ) (t : List ℕ) (at : ℕ) → position (λ b. b == c) t ≡ Some at → at < length t
+place-inside c t at is = (position-inside (λ b. b == c) t at is).1
+
+pub before-place : (c : ℕ) (t : List ℕ) (at : ℕ) → position (λ b. b == c) t ≡ Some at → take at t ≡ before_first (λ b. b == c) t
+before-place c t at is = rw (position-inside (λ b. b == c) t at is).0 refl
+
+pub after-place : (c : ℕ) (t : List ℕ) (at : ℕ) → position (λ b. b == c) t ≡ Some at → take (length t - (at + 1)) (drop (at + 1) t) ≡ after_first (λ b. b == c) t
+after-place c t at is = take_all (length t - (at + 1)) (drop (at + 1) t) (omega (arith, length-drop (at + 1) t)) ∙ rw (position-inside (λ b. b == c) t at is).0 refl
+
+pub whole-place : (c : ℕ) (t : List ℕ) (at : ℕ) → position (λ b. b == c) t ≡ Some at → t ≡ take at t ++ c ∷ take (length t - (at + 1)) (drop (at + 1) t)
+whole-place c t at is = rw (before-place c t at is, after-place c t at is) (split-whole c t ((byte_position-some c t).0 (rw is refl)))
+
+pub absent-place : (c : ℕ) (t : List ℕ) (at : ℕ) → position (λ b. b == c) t ≡ Some at → ¬ Contains (take at t) c
+absent-place c t at is = rw (before-place c t at is) (before_first-absent c t)
+
+pub ruleset split_bytes = (place-inside, before-place, after-place, whole-place)

@@ -2,6 +2,7 @@
 //! padded texts in words of 32, 64 and 128 bits.
 #![tactic(auto)]
 
+mod bytes;
 mod code_unit;
 mod decimal;
 pub mod int_ops;
@@ -14,6 +15,7 @@ mod question;
 #[doc(hidden)]
 pub mod word;
 
+pub use bytes::split_at_byte;
 pub use code_unit::CodeUnit;
 #[doc(hidden)]
 pub use code_unit::are_characters;

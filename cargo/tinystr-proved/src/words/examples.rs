@@ -1,7 +1,16 @@
 //! The examples of this module's comments.
 
 #[test]
-fn code_unit_1() {
+fn bytes_1() {
+    use crate::words::split_at_byte;
+
+    let parts = split_at_byte(b"EUR=1=2", b'=');
+    assert!(parts == Some((b"EUR".as_slice(), b"1=2".as_slice())));
+    assert!(split_at_byte(b"EUR", b'=').is_none());
+}
+
+#[test]
+fn code_unit_2() {
     use crate::words::CodeUnit;
 
     assert_eq!(CodeUnit::code(b'E'), 0x45);
@@ -9,7 +18,7 @@ fn code_unit_1() {
 }
 
 #[test]
-fn decimal_2() {
+fn decimal_3() {
     use crate::words::decimal_fits;
 
     assert!(decimal_fits(999, 3));
@@ -17,7 +26,7 @@ fn decimal_2() {
 }
 
 #[test]
-fn int_ops_3() {
+fn int_ops_4() {
     use crate::words::int_ops::Aligned4;
 
     let word = Aligned4::from_ascii_bytes(b"gb\0");
@@ -27,14 +36,14 @@ fn int_ops_3() {
 }
 
 #[test]
-fn int_ops_4() {
+fn int_ops_5() {
     use crate::words::int_ops::Aligned4;
 
     assert_eq!(Aligned4::from_ascii_bytes(b"GB").to_bytes(), *b"GB\0\0");
 }
 
 #[test]
-fn int_ops_5() {
+fn int_ops_6() {
     use crate::words::int_ops::Aligned8;
 
     let language = Aligned8::from_ascii_bytes(b"en");
@@ -43,7 +52,7 @@ fn int_ops_5() {
 }
 
 #[test]
-fn int_ops_6() {
+fn int_ops_7() {
     use crate::words::int_ops::Aligned16;
 
     let city = Aligned16::from_ascii_bytes(b"New York");
@@ -51,7 +60,7 @@ fn int_ops_6() {
 }
 
 #[test]
-fn int_ops_7() {
+fn int_ops_8() {
     use crate::words::int_ops::Aligned8;
 
     assert!(Aligned8::try_from_padded(b"GB\0").is_some());
@@ -59,7 +68,7 @@ fn int_ops_7() {
 }
 
 #[test]
-fn int_ops_8() {
+fn int_ops_9() {
     use crate::words::int_ops::Aligned8;
 
     assert!(Aligned8::try_from_text(b"GB").is_some());
@@ -67,7 +76,7 @@ fn int_ops_8() {
 }
 
 #[test]
-fn int_ops_9() {
+fn int_ops_10() {
     use crate::words::int_ops::Aligned8;
 
     assert_eq!(Aligned8::from_number(2026, 4).to_bytes(), *b"2026\0\0\0\0");
@@ -75,14 +84,14 @@ fn int_ops_9() {
 }
 
 #[test]
-fn int_ops_10() {
+fn int_ops_11() {
     use crate::words::int_ops::Aligned16;
 
     assert_eq!(Aligned16::from_decimal(4294967295).to_bytes(), *b"4294967295\0\0\0\0\0\0");
 }
 
 #[test]
-fn question_11() {
+fn question_12() {
     use crate::Question;
     use crate::words::int_ops::Aligned4;
 
@@ -91,7 +100,7 @@ fn question_11() {
 }
 
 #[test]
-fn question_12() {
+fn question_13() {
     use crate::Case;
     use crate::words::int_ops::Aligned4;
 
