@@ -14,7 +14,7 @@ use Rattle.std.specs.declared.option.Option.TheVariants.{None, Some}
 use Rattle.std.proofs.lemmas.Bool.{true_from_ne_false}
 use Rattle.std.proofs.lemmas.Cmp.{nat_list_cmp_total, nat_list_eq_equiv}
 use Rattle.std.proofs.lemmas.List.{get_or_default, length-append}
-use Rattle.std.proofs.lemmas.List.Elements.{All-contains, Contains-push_cases}
+use Rattle.std.proofs.lemmas.List.Elements.{All-contains, All-contains_itself, All-weaker, Contains-push_cases}
 use Rattle.std.proofs.lemmas.List.Sorted.{IsPermutation-sym, sum_by-IsPermutation}
 use Rattle.std.proofs.lemmas.List.Sums.{count_by_more_yes, sum_by-take-le}
 use Rattle.std.proofs.lemmas.Map.Keys.{IsDistinct-from_apart, IsDistinct-IsPermutation, IsDistinct-push, Less-from_sorted, sorted_from_all_adjacent}
@@ -22,6 +22,7 @@ use Rattle.std.proofs.lemmas.Map.Made.{is_member-Decides, length-le_from_is_memb
 use Rattle.std.proofs.lemmas.Map.Text.{is_eq-slice_cmp}
 use Rattle.std.proofs.lemmas.Slice.Eq.{bytes_eq-Decides}
 use Rattle.tinystr_packed.specs.Rising.{text_at}
+use Rattle.tinystr_hashed.proofs.ForCallers.{hashed_once}
 use Rattle.tinystr_hashed.specs.Packing.{ArePackedHashed}
 use Rattle.tinystr_hashed.specs.Reading.{IsHashed}
 
@@ -54,6 +55,15 @@ packed made texts bytes n hashed count all distinct = record {
   same = λ t. (λ found. has_text texts t (true_from_ne_false (is_member bytes_eq texts t) (no_other made texts t distinct count all found)), λ found. All-contains (λ s. Contains made s) texts t all found);
   distinct = distinct;
 }
+
+-- and a table of exactly the texts has each of them, and as many
+pub has_each : (made texts : List (List ℕ)) (bytes : List ℕ) (n : ℕ) → 0 < n → IsHashed made bytes n → ArePackedHashed texts bytes n → All (λ s. Contains made s) texts
+has_each made texts bytes n some hashed packed =
+    let same = hashed_once n made packed.made bytes some hashed packed.hashed in
+    rw same (All-weaker (λ (t : List ℕ). Contains texts t) (λ (t : List ℕ). Contains packed.made t) (λ t. (packed.same t).1) texts (All-contains_itself texts))
+
+pub has_as_many : (made texts : List (List ℕ)) (bytes : List ℕ) (n : ℕ) → 0 < n → IsHashed made bytes n → ArePackedHashed texts bytes n → length made ≡ length texts
+has_as_many made texts bytes n some hashed packed = ap length (hashed_once n made packed.made bytes some hashed packed.hashed) ∙ packed.count
 
 -- a text that is there twice
 twice : (p : List ℕ → Bool) (texts : List (List ℕ)) (k : ℕ) → k + 1 < length texts → p (get_or texts k []) ≡ true → p (get_or texts (k + 1) []) ≡ true → 2 ≤ count_by p texts

@@ -1,6 +1,6 @@
 //! Texts packed as a hashed table.
 
-ghost use Rattle.std.specs.Prelude.{◌≡◌, ◌≢◌, ◌<◌, ◌≤◌, ◌+◌, ◌^◌, ℕ, length, IsTrue, IfOk, IfErr, IfSome, IsNone, MatchOption, All, Contains, count_by};
+ghost use Rattle.std.specs.Prelude.{◌≡◌, ◌≢◌, ◌↔◌, ◌<◌, ◌≤◌, ◌+◌, ◌^◌, ℕ, length, IsTrue, IfOk, IfErr, IfSome, IsNone, MatchOption, All, Contains, count_by};
 ghost use Rattle.std.specs.List.{IsDistinct};
 ghost use Rattle.std.specs.Str.{bytes_eq};
 ghost use Rattle.tinystr_packed.specs.Rising.{text_at};
@@ -171,7 +171,7 @@ fn write_records<const N: usize>(
 fn is_table_of<const N: usize>(bytes: &[u8], texts: &[TinyAsciiStr<N>]) -> bool
     requires some { 0 < N }
     requires distinct { IsDistinct bytes_eq texts.now }
-    ensures { IsTrue result → ArePackedHashed texts.now bytes.now N }
+    ensures { IsTrue result ↔ ArePackedHashed texts.now bytes.now N }
 {
     match HashedTable::<N>::from_bytes(bytes) {
         Ok(table) => table.len() == texts.len() && has_all(&table, texts),
@@ -181,7 +181,7 @@ fn is_table_of<const N: usize>(bytes: &[u8], texts: &[TinyAsciiStr<N>]) -> bool
 
 // Whether a table has each of these texts.
 fn has_all<const N: usize>(table: &HashedTable<'_, N>, texts: &[TinyAsciiStr<N>]) -> bool
-    ensures { IsTrue result → All (λ t. Contains table.now t) texts.now }
+    ensures { IsTrue result ↔ All (λ t. Contains table.now t) texts.now }
 {
     for text in texts {
         if !table.contains(text) {

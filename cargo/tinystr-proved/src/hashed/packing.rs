@@ -165,7 +165,7 @@ fn write_records<const N: usize>(
 // Proved:
 //     requires some { 0 < N }
 //     requires distinct { IsDistinct bytes_eq texts.now }
-//     ensures { IsTrue result → ArePackedHashed texts.now bytes.now N }
+//     ensures { IsTrue result ↔ ArePackedHashed texts.now bytes.now N }
 fn is_table_of<const N: usize>(bytes: &[u8], texts: &[TinyAsciiStr<N>]) -> bool {
     match HashedTable::<N>::from_bytes(bytes) {
         Ok(table) => table.len() == texts.len() && has_all(&table, texts),
@@ -175,7 +175,7 @@ fn is_table_of<const N: usize>(bytes: &[u8], texts: &[TinyAsciiStr<N>]) -> bool 
 
 // Whether a table has each of these texts.
 // Proved:
-//     ensures { IsTrue result → All (λ t. Contains table.now t) texts.now }
+//     ensures { IsTrue result ↔ All (λ t. Contains table.now t) texts.now }
 fn has_all<const N: usize>(table: &HashedTable<'_, N>, texts: &[TinyAsciiStr<N>]) -> bool {
     for text in texts {
         if !table.contains(text) {
