@@ -31,7 +31,7 @@ use Rattle.tinystr_words.specs.declared.question.Case.TheVariants.{Title}
 use Rattle.tinystr_words.proofs.Before.{before_not_same, before_one_way, before_or_same, before_padded, cmp_is_before, cmp_is_same}
 use Rattle.tinystr_words.proofs.ByteForms.{byte_fault-first_padded, byte_fault-padded}
 use Rattle.tinystr_words.proofs.CaseFacts.{All-differs, IsStrictText-map, IsStrictText-titlecase, IsText-asked, IsText-list_all, ask-joined, ask-map, ask-titlecase, lowercase-alone, lowercase-titlecase, map-map_same, position-missed, titlecase-alone, titlecase-lowercase, titlecase-twice, titlecase-uppercase, uppercase-alone, uppercase-titlecase}
-use Rattle.tinystr_words.proofs.Found.{All-absent, before_first-absent, byte_position-none, byte_position-some, split-whole, text_position-at, text_position-distinct, text_position-none, text_position-some}
+use Rattle.tinystr_words.proofs.Found.{All-absent, Contains-joined, before_first-absent, byte_position-none, byte_position-some, split-whole, text_position-at, text_position-distinct, text_position-none, text_position-some}
 use Rattle.tinystr_words.proofs.Fronts.{lowercase-take, take_join_cut, titlecase-take, uppercase-take}
 use Rattle.tinystr_words.proofs.Numerals.{IsDecimalOf-decimal, IsDecimalOf-only, IsText-decimal, length-decimal-le_ten}
 use Rattle.tinystr_words.proofs.Packing.{IsPacked-joined, IsPacked-record, length-joined, text_of-record}
@@ -444,13 +444,16 @@ byte_split_whole = split-whole
 pub byte_split_absent : (c : ℕ) (t : List ℕ) → ¬ Contains (before_first (λ b. b == c) t) c
 byte_split_absent = before_first-absent
 
+pub byte_split_joined : (c : ℕ) (before after : List ℕ) → Contains (before ++ c ∷ after) c
+byte_split_joined = Contains-joined
+
 pub byte_split_before : (c : ℕ) (before after : List ℕ) → ¬ Contains before c → before_first (λ b. b == c) (before ++ c ∷ after) ≡ before
 byte_split_before c before after none = before_first-joined c before after (All-absent c before none)
 
 pub byte_split_after : (c : ℕ) (before after : List ℕ) → ¬ Contains before c → after_first (λ b. b == c) (before ++ c ∷ after) ≡ after
 byte_split_after c before after none = after_first-joined c before after (All-absent c before none)
 
-pub ruleset byte_split = (byte_split_whole, byte_split_absent, byte_split_before, byte_split_after)
+pub ruleset byte_split = (byte_split_whole, byte_split_absent, byte_split_joined, byte_split_before, byte_split_after)
 
 -- Texts joined by a byte are in a class if each of them and the byte is, and lowercase and uppercase change each of
 -- them and the byte.

@@ -5,7 +5,8 @@ use Rattle.std.specs.Option.{IsSome}
 use Rattle.std.specs.Str.{bytes_eq}
 use Rattle.std.proofs.lemmas.Bool.{cases_lt, false_from_ne_true, false≢true}
 use Rattle.std.proofs.lemmas.Bool.Decides.{Decides-eqb, nat_tests}
-use Rattle.std.proofs.lemmas.List.{get_or-take, get_or_default, length-drop, length-take, take_all}
+use Rattle.std.proofs.Math.Seq.{get_or-append_seam}
+use Rattle.std.proofs.lemmas.List.{get_or-take, get_or_default, length-append, length-drop, length-take, take_all}
 use Rattle.std.proofs.lemmas.List.Sums.{fails_before_first, passes_at_first, position_or_len_is, split_at_first}
 use Rattle.std.proofs.lemmas.Option.{get_or_from_slice_get, slice_get-get_or, slice_get_within}
 use Rattle.std.proofs.lemmas.Slice.Eq.{bytes_eq-Decides}
@@ -116,6 +117,10 @@ before_first-absent c t (k, inside, is) =
 
 pub All-absent : (c : ℕ) (t : List ℕ) → ¬ Contains t c → All (λ b. b ≢ c) t
 All-absent c t none = λ k d inside e. none (k, inside, get_or_default t k c d inside ∙ e)
+
+-- two lists joined by a byte have it
+pub Contains-joined : (c : ℕ) (t s : List ℕ) → Contains (t ++ c ∷ s) c
+Contains-joined c t s = (length t, omega (arith, length-append t (c ∷ s)), get_or-append_seam t c s c)
 
 -- the parts around the first such byte, by its place
 pub place-inside : (c : ℕ) (t : List ℕ) (at : ℕ) → position (λ b. b == c) t ≡ Some at → at < length t

@@ -315,6 +315,7 @@ pub fn byte_position()
 pub fn byte_split()
     ensures whole { (c : ℕ) (t : List ℕ) → Contains t c → t ≡ before_first (λ b. b == c) t ++ c ∷ after_first (λ b. b == c) t }
     ensures absent { (c : ℕ) (t : List ℕ) → ¬ Contains (before_first (λ b. b == c) t) c }
+    ensures joined { (c : ℕ) (before after : List ℕ) → Contains (before ++ c ∷ after) c }
     ensures before { (c : ℕ) (before after : List ℕ) → ¬ Contains before c → before_first (λ b. b == c) (before ++ c ∷ after) ≡ before }
     ensures after { (c : ℕ) (before after : List ℕ) → ¬ Contains before c → after_first (λ b. b == c) (before ++ c ∷ after) ≡ after }
 {}

@@ -18,6 +18,7 @@ pub mod packed;
 pub mod preconditions;
 pub mod printing;
 pub mod rate_column;
+pub mod rate_line;
 pub mod refusals;
 pub mod round_trip;
 pub mod script_code;

@@ -37,6 +37,8 @@ mod printing;
 #[cfg(test)]
 mod rate_column;
 #[cfg(test)]
+mod rate_line;
+#[cfg(test)]
 mod refusals;
 #[cfg(test)]
 mod round_trip;
