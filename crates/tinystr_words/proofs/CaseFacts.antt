@@ -43,17 +43,17 @@ uppercase-titlecase (b ∷ t) = ap₂ (λ x xs. x ∷ xs) (grind (arith, nat_tes
 
 -- ---- kept by a case change
 
--- a class that a change of each byte keeps
-list_all-kept : (p : ℕ → Bool) (f : ℕ → ℕ) → ((b : ℕ) → p (f b) ≡ p b) → (t : List ℕ) → list_all p (map f t) ≡ list_all p t
-list_all-kept p f kept [] = refl
-list_all-kept p f kept (b ∷ t) = ap₂ (λ x y. x && y) (kept b) (list_all-kept p f kept t)
+-- a change of each byte that puts the bytes of one class in another
+list_all-changed : (p q : ℕ → Bool) (f : ℕ → ℕ) → ((b : ℕ) → p (f b) ≡ q b) → (t : List ℕ) → list_all p (map f t) ≡ list_all q t
+list_all-changed p q f changed [] = refl
+list_all-changed p q f changed (b ∷ t) = ap₂ (λ x y. x && y) (changed b) (list_all-changed p q f changed t)
 
-pub ask-map : (p : ℕ → Bool) (f : ℕ → ℕ) → ((b : ℕ) → p (f b) ≡ p b) → (t : List ℕ) → ask p p (map f t) ≡ ask p p t
-ask-map p f kept t = ask-same p (map f t) ∙ list_all-kept p f kept t ∙ sym (ask-same p t)
+pub ask-map : (p q : ℕ → Bool) (f : ℕ → ℕ) → ((b : ℕ) → p (f b) ≡ q b) → (t : List ℕ) → ask p p (map f t) ≡ ask q q t
+ask-map p q f changed t = ask-same p (map f t) ∙ list_all-changed p q f changed t ∙ sym (ask-same q t)
 
-pub ask-titlecase : (p : ℕ → Bool) → ((b : ℕ) → p (raise b) ≡ p b) → ((b : ℕ) → p (lower b) ≡ p b) → (t : List ℕ) → ask p p (titlecase t) ≡ ask p p t
-ask-titlecase p raised lowered [] = refl
-ask-titlecase p raised lowered (b ∷ t) = ap₂ (λ x y. x && y) (raised b) (list_all-kept p lower lowered t)
+pub ask-titlecase : (first others q : ℕ → Bool) → ((b : ℕ) → first (raise b) ≡ q b) → ((b : ℕ) → others (lower b) ≡ q b) → (t : List ℕ) → ask first others (titlecase t) ≡ ask q q t
+ask-titlecase first others q raised lowered [] = refl
+ask-titlecase first others q raised lowered (b ∷ t) = ap₂ (λ x y. x && y) (raised b) (list_all-changed others q lower lowered t)
 
 -- a text that fits, under a change that makes bytes of texts of such bytes
 pub IsStrictText-map : (f : ℕ → ℕ) → ((b : ℕ) → IsTextByte b → IsTextByte (f b)) → (t : List ℕ) (n : ℕ) → IsStrictText t n → IsStrictText (map f t) n

@@ -80,33 +80,45 @@ pub ruleset case_cut = (case_cut_lower, case_cut_title, case_cut_upper)
 
 -- A case change keeps whether a text consists of letters, of digits, or of both.
 pub case_keeps_lower_alphabetic : (t : List ℕ) → ask is_alphabetic is_alphabetic (lowercase t) ≡ ask is_alphabetic is_alphabetic t
-case_keeps_lower_alphabetic = ask-map is_alphabetic lower (λ b. grind (arith, nat_tests))
+case_keeps_lower_alphabetic = ask-map is_alphabetic is_alphabetic lower (λ b. grind (arith, nat_tests))
 
 pub case_keeps_lower_alphanumeric : (t : List ℕ) → ask is_alphanumeric is_alphanumeric (lowercase t) ≡ ask is_alphanumeric is_alphanumeric t
-case_keeps_lower_alphanumeric = ask-map is_alphanumeric lower (λ b. grind (arith, nat_tests))
+case_keeps_lower_alphanumeric = ask-map is_alphanumeric is_alphanumeric lower (λ b. grind (arith, nat_tests))
 
 pub case_keeps_lower_digit : (t : List ℕ) → ask is_digit is_digit (lowercase t) ≡ ask is_digit is_digit t
-case_keeps_lower_digit = ask-map is_digit lower (λ b. grind (arith, nat_tests))
+case_keeps_lower_digit = ask-map is_digit is_digit lower (λ b. grind (arith, nat_tests))
 
 pub case_keeps_title_alphabetic : (t : List ℕ) → ask is_alphabetic is_alphabetic (titlecase t) ≡ ask is_alphabetic is_alphabetic t
-case_keeps_title_alphabetic = ask-titlecase is_alphabetic (λ b. grind (arith, nat_tests)) (λ b. grind (arith, nat_tests))
+case_keeps_title_alphabetic = ask-titlecase is_alphabetic is_alphabetic is_alphabetic (λ b. grind (arith, nat_tests)) (λ b. grind (arith, nat_tests))
 
 pub case_keeps_title_alphanumeric : (t : List ℕ) → ask is_alphanumeric is_alphanumeric (titlecase t) ≡ ask is_alphanumeric is_alphanumeric t
-case_keeps_title_alphanumeric = ask-titlecase is_alphanumeric (λ b. grind (arith, nat_tests)) (λ b. grind (arith, nat_tests))
+case_keeps_title_alphanumeric = ask-titlecase is_alphanumeric is_alphanumeric is_alphanumeric (λ b. grind (arith, nat_tests)) (λ b. grind (arith, nat_tests))
 
 pub case_keeps_title_digit : (t : List ℕ) → ask is_digit is_digit (titlecase t) ≡ ask is_digit is_digit t
-case_keeps_title_digit = ask-titlecase is_digit (λ b. grind (arith, nat_tests)) (λ b. grind (arith, nat_tests))
+case_keeps_title_digit = ask-titlecase is_digit is_digit is_digit (λ b. grind (arith, nat_tests)) (λ b. grind (arith, nat_tests))
 
 pub case_keeps_upper_alphabetic : (t : List ℕ) → ask is_alphabetic is_alphabetic (uppercase t) ≡ ask is_alphabetic is_alphabetic t
-case_keeps_upper_alphabetic = ask-map is_alphabetic raise (λ b. grind (arith, nat_tests))
+case_keeps_upper_alphabetic = ask-map is_alphabetic is_alphabetic raise (λ b. grind (arith, nat_tests))
 
 pub case_keeps_upper_alphanumeric : (t : List ℕ) → ask is_alphanumeric is_alphanumeric (uppercase t) ≡ ask is_alphanumeric is_alphanumeric t
-case_keeps_upper_alphanumeric = ask-map is_alphanumeric raise (λ b. grind (arith, nat_tests))
+case_keeps_upper_alphanumeric = ask-map is_alphanumeric is_alphanumeric raise (λ b. grind (arith, nat_tests))
 
 pub case_keeps_upper_digit : (t : List ℕ) → ask is_digit is_digit (uppercase t) ≡ ask is_digit is_digit t
-case_keeps_upper_digit = ask-map is_digit raise (λ b. grind (arith, nat_tests))
+case_keeps_upper_digit = ask-map is_digit is_digit raise (λ b. grind (arith, nat_tests))
 
 pub ruleset case_keeps = (case_keeps_lower_alphabetic, case_keeps_lower_alphanumeric, case_keeps_lower_digit, case_keeps_title_alphabetic, case_keeps_title_alphanumeric, case_keeps_title_digit, case_keeps_upper_alphabetic, case_keeps_upper_alphanumeric, case_keeps_upper_digit)
+
+-- Exactly letters, brought to a case, are letters in that case.
+pub case_letters_lower : (t : List ℕ) → ask is_lower is_lower (lowercase t) ≡ ask is_alphabetic is_alphabetic t
+case_letters_lower = ask-map is_lower is_alphabetic lower (λ b. grind (arith, nat_tests))
+
+pub case_letters_title : (t : List ℕ) → ask is_upper is_lower (titlecase t) ≡ ask is_alphabetic is_alphabetic t
+case_letters_title = ask-titlecase is_upper is_lower is_alphabetic (λ b. grind (arith, nat_tests)) (λ b. grind (arith, nat_tests))
+
+pub case_letters_upper : (t : List ℕ) → ask is_upper is_upper (uppercase t) ≡ ask is_alphabetic is_alphabetic t
+case_letters_upper = ask-map is_upper is_alphabetic raise (λ b. grind (arith, nat_tests))
+
+pub ruleset case_letters = (case_letters_lower, case_letters_title, case_letters_upper)
 
 -- A text that fits also fits in each case.
 pub case_fits_lower : (t : List ℕ) (n : ℕ) → IsStrictText t n → IsStrictText (lowercase t) n

@@ -58,6 +58,14 @@ pub fn case_keeps()
     ensures upper_digit { (t : List ℕ) → ask is_digit is_digit (uppercase t) ≡ ask is_digit is_digit t }
 {}
 
+/// Exactly letters, brought to a case, are letters in that case.
+#[tactic(auto, using(crate::proofs::ForCallers::case_letters))]
+pub fn case_letters()
+    ensures lower { (t : List ℕ) → ask is_lower is_lower (lowercase t) ≡ ask is_alphabetic is_alphabetic t }
+    ensures title { (t : List ℕ) → ask is_upper is_lower (titlecase t) ≡ ask is_alphabetic is_alphabetic t }
+    ensures upper { (t : List ℕ) → ask is_upper is_upper (uppercase t) ≡ ask is_alphabetic is_alphabetic t }
+{}
+
 /// A text that fits also fits in each case.
 #[tactic(auto, using(crate::proofs::ForCallers::case_fits))]
 pub fn case_fits()
