@@ -23,6 +23,7 @@ CONST = {
     "tinystr/ascii.rt": ["default() -> Self"],
     "tinystr/ascii/views.rt": ["is_empty(", "get_byte(", "all_bytes("],
     "tinystr/ascii/readers.rt": ["from_utf8_unchecked(", "from_padded("],
+    "tinystr/ascii/resize.rt": ["resize<"],
     "tinystr/forms.rt": ["to_bytes(&self) -> [u8; N]"],
     "tinystr/ule.rt": ["niche_bit_pattern("],
     "tinystr/unvalidated.rt": ["default() -> Self", "from_utf8_unchecked(", "to_unvalidated("],
@@ -35,6 +36,7 @@ CONST = {
     "tinystr_hashed/map.rt": ["len(", "is_empty(", "iter(", "keys(", "values("],
     "tinystr_hashed/table.rt": ["len(", "is_empty(", "table("],
     "tinystr_hashed/text_map.rt": ["len(", "is_empty(", "iter(", "keys(", "values("],
+    "tinystr_words/padded/copying.rt": ["put(", "resize<"],
     "tinystr_words/question.rt": ["of_later_words(", "of_later_words("],
 }
 

@@ -47,6 +47,8 @@ OF_ALLOCATOR = "Rust's vectors and maps name no allocator"
 WANT_OF_MEMORY = "want of memory ends a program in Rust, and is no error"
 NOT_PROVED_HERE = "in Rust nothing proves a condition at a call"
 AT_ROOT = "so that the documentation tells of it at its root"
+IN_CONSTANTS = "a `const fn` calls no trait, so it has neither an index by a range nor `min`"
+TWIN_MAKES = "`constants.rs` makes one at compile time"
 HINTED = "the compiler is given a hint that the text is no error and not `None`, which share its bytes"
 BELOW_128 = "a type that knows that each byte is below 128 leaves room for `None`"
 OF_BYTES = "the derived equality of a text is that of its bytes, and the proved one is theirs"
@@ -99,7 +101,11 @@ IN_FILE = {
         Rule("from_padded(padded::low_bytes(units))", "from_padded(padded::low_bytes(units)).hinted_in_result()", HINTED),
         Rule("    Ok(TinyAsciiStr::from_padded(bytes))\n", "    Ok(TinyAsciiStr::from_padded(bytes).hinted_in_result())\n", HINTED),
     ],
+    "tinystr_packed/sorted.rt": [
+        Rule("SortedTable<'a, const N: usize> {\n    table:", "SortedTable<'a, const N: usize> {\n    pub(crate) table:", TWIN_MAKES),
+    ],
     "tinystr_packed/table.rt": [
+        Rule("struct Table<'a, const N: usize> {\n    records:", "struct Table<'a, const N: usize> {\n    pub(crate) records:", TWIN_MAKES),
         Rule(
             "        Some(TinyAsciiStr::from_utf8_unchecked(*raw))",
             "        // SAFETY: each record was read as a text and then NULs. This is proved.\n"
@@ -250,6 +256,20 @@ IN_FILE = {
     ],
     "tinystr_words/decimal.rt": [
         Rule("for i in 0..4u32", "for _ in 0..4u32", "the proof alone names the counter"),
+    ],
+    "tinystr_words/padded/copying.rt": [
+        Rule("bytes.len().min(src.len())", "crate::ranges::least(bytes.len(), src.len())", IN_CONSTANTS),
+        Rule(
+            "bytes[at..at + 8].copy_from_slice(&src[at..at + 8])",
+            "crate::ranges::part_mut(bytes, at, at + 8).copy_from_slice(crate::ranges::part(src, at, at + 8))",
+            IN_CONSTANTS,
+        ),
+        Rule(
+            "bytes[at..len].copy_from_slice(&src[at..len])",
+            "crate::ranges::part_mut(bytes, at, len).copy_from_slice(crate::ranges::part(src, at, len))",
+            IN_CONSTANTS,
+        ),
+        Rule("put(&mut resized[..], bytes)", "put(&mut resized, bytes)", IN_CONSTANTS),
     ],
     "tinystr_words/padded/concatenation.rt": [
         Rule(

@@ -13,6 +13,7 @@ pub mod definitions {}
 mod errors;
 pub mod hashed;
 pub mod packed;
+mod ranges;
 mod sealed;
 #[cfg(feature = "serde")]
 mod serde;

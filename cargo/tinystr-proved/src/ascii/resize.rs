@@ -21,7 +21,7 @@ impl<const N: usize> TinyAsciiStr<N> {
     /// ```
     #[inline]
     #[must_use]
-    pub fn resize<const M: usize>(self) -> TinyAsciiStr<M> {
+    pub const fn resize<const M: usize>(self) -> TinyAsciiStr<M> {
         TinyAsciiStr::from_padded(padded::resize(self.bytes.as_array()))
     }
 

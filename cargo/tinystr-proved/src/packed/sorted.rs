@@ -21,7 +21,7 @@ use crate::ule::UleError;
 /// ```
 #[derive(Clone, Copy)]
 pub struct SortedTable<'a, const N: usize> {
-    table: Table<'a, N>,
+    pub(crate) table: Table<'a, N>,
 }
 
 /// The text at `index` is the first that isn't above the one before it.

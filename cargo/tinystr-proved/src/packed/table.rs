@@ -17,7 +17,7 @@ use crate::ule::UleError;
 /// ```
 #[derive(Clone, Copy)]
 pub struct Table<'a, const N: usize> {
-    records: &'a [[u8; N]],
+    pub(crate) records: &'a [[u8; N]],
 }
 
 impl<'a, const N: usize> Table<'a, N> {

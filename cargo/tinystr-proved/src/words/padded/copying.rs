@@ -10,14 +10,14 @@
 /// ensures { bytes.new ≡ take (length bytes.old) src.now ++ drop (length src.now) bytes.old }
 /// ```
 #[inline(always)]
-pub(crate) fn put(bytes: &mut [u8], src: &[u8]) {
-    let len = bytes.len().min(src.len());
+pub(crate) const fn put(bytes: &mut [u8], src: &[u8]) {
+    let len = crate::ranges::least(bytes.len(), src.len());
     let mut at = 0;
     while len - at >= 8 {
-        bytes[at..at + 8].copy_from_slice(&src[at..at + 8]);
+        crate::ranges::part_mut(bytes, at, at + 8).copy_from_slice(crate::ranges::part(src, at, at + 8));
         at += 8;
     }
-    bytes[at..len].copy_from_slice(&src[at..len]);
+    crate::ranges::part_mut(bytes, at, len).copy_from_slice(crate::ranges::part(src, at, len));
 }
 
 /// The first `M` bytes, padded with NULs if there are fewer, eight at a time: for bytes in memory. `resize_at_once`
@@ -31,9 +31,9 @@ pub(crate) fn put(bytes: &mut [u8], src: &[u8]) {
 /// ensures text { IsPadded bytes.now → text_of result ≡ take M (text_of bytes.now) }
 /// ```
 #[inline(always)]
-pub fn resize<const M: usize>(bytes: &[u8]) -> [u8; M] {
+pub const fn resize<const M: usize>(bytes: &[u8]) -> [u8; M] {
     let mut resized = [0; M];
-    put(&mut resized[..], bytes);
+    put(&mut resized, bytes);
     resized
 }
 

@@ -1,0 +1,207 @@
+//! What constants call: the twins give the same as the proved calls, of all short texts and of random ones.
+
+use tinystr::packed::{NotRising, SortedError, SortedTable, Table};
+use tinystr::ule::UleError;
+use tinystr::{Case, Question, TinyAsciiStr, tinystr};
+
+// A program's own constants, and a function of its own that makes one.
+const L: TinyAsciiStr<8> = tinystr!(4, "latn").resize();
+const N: usize = L.len_const();
+const SCRIPTS: [u8; N] = [0; N];
+
+const fn region(code: &[u8]) -> Option<TinyAsciiStr<3>> {
+    match TinyAsciiStr::<3>::try_from_utf8_const(code) {
+        Ok(text) if text.len_const() == 2 && text.is_ascii_alphabetic_const() => Some(text.to_ascii_uppercase_const()),
+        Ok(text) if text.len_const() == 3 && text.is_ascii_numeric_const() => Some(text),
+        _ => None,
+    }
+}
+
+const GB: TinyAsciiStr<3> = region(b"gb").unwrap();
+const TAG: TinyAsciiStr<6> = tinystr!(3, "en-").concat_const(GB);
+
+#[test]
+fn a_program_makes_constants() {
+    assert_eq!((L, SCRIPTS.len(), GB, TAG.as_str()), (tinystr!(8, "latn"), 4, tinystr!(3, "GB"), "en-GB"));
+    const { assert!(region(b"419").is_some() && region(b"g").is_none() && region(b"g1").is_none() && region(b"gbr").is_none()) }
+    assert!(matches!(region(b"gb"), Some(GB)));
+    const CITY: &str = tinystr!(16, "New York").as_str_const();
+    const LOSSY: TinyAsciiStr<4> = TinyAsciiStr::from_utf16_lossy_const(&[0x61, 0x20ac, 0, 0x62, 0x63], b'?');
+    assert_eq!((CITY, LOSSY.as_str()), ("New York", "a??b"));
+}
+
+const QUESTIONS: [Question; 9] = [
+    Question::Alphabetic,
+    Question::Alphanumeric,
+    Question::Numeric,
+    Question::Lowercase,
+    Question::Titlecase,
+    Question::Uppercase,
+    Question::AlphabeticLowercase,
+    Question::AlphabeticTitlecase,
+    Question::AlphabeticUppercase,
+];
+
+/// Each twin of a call on a text gives what the call gives.
+fn twins_agree<const N: usize>(text: TinyAsciiStr<N>) {
+    assert_eq!((text.len_const(), text.as_utf8_const(), text.as_str_const()), (text.len(), text.as_utf8(), text.as_str()));
+    for question in QUESTIONS {
+        assert_eq!(text.ask_const(question), text.ask(question), "{text:?}");
+    }
+    for case in [Case::Lower, Case::Title, Case::Upper] {
+        assert_eq!(text.in_case_const(case), text.in_case(case), "{text:?}");
+    }
+    let named = [
+        (text.is_ascii_alphabetic_const(), text.is_ascii_alphabetic()),
+        (text.is_ascii_alphanumeric_const(), text.is_ascii_alphanumeric()),
+        (text.is_ascii_numeric_const(), text.is_ascii_numeric()),
+        (text.is_ascii_lowercase_const(), text.is_ascii_lowercase()),
+        (text.is_ascii_titlecase_const(), text.is_ascii_titlecase()),
+        (text.is_ascii_uppercase_const(), text.is_ascii_uppercase()),
+        (text.is_ascii_alphabetic_lowercase_const(), text.is_ascii_alphabetic_lowercase()),
+        (text.is_ascii_alphabetic_titlecase_const(), text.is_ascii_alphabetic_titlecase()),
+        (text.is_ascii_alphabetic_uppercase_const(), text.is_ascii_alphabetic_uppercase()),
+    ];
+    assert!(named.iter().all(|(twin, call)| twin == call), "{text:?}: {named:?}");
+    assert_eq!(text.to_ascii_lowercase_const(), text.to_ascii_lowercase());
+    assert_eq!(text.to_ascii_titlecase_const(), text.to_ascii_titlecase());
+    assert_eq!(text.to_ascii_uppercase_const(), text.to_ascii_uppercase());
+}
+
+/// The twins of `concat`, where the result holds both texts, and where it cuts the second or the first.
+fn concat_agrees<const N: usize, const M: usize>(text: TinyAsciiStr<N>, other: TinyAsciiStr<M>) {
+    assert_eq!(text.concat_const::<M, 64>(other), text.concat(other));
+    assert_eq!(text.concat_const::<M, 12>(other), text.concat(other));
+    assert_eq!(text.concat_const::<M, 3>(other), text.concat(other));
+    assert_eq!(text.concat_const::<M, 0>(other), text.concat(other));
+}
+
+/// The twins of lossy readers. Those of strict ones are in `by_hand.rs`.
+fn lossy_agrees<const N: usize>(units: &[u8], wide: &[u16]) {
+    for replacement in [1, b'?', 127] {
+        assert_eq!(TinyAsciiStr::<N>::from_utf8_lossy_const(units, replacement), TinyAsciiStr::from_utf8_lossy(units, replacement));
+        assert_eq!(TinyAsciiStr::<N>::from_utf16_lossy_const(wide, replacement), TinyAsciiStr::from_utf16_lossy(wide, replacement));
+    }
+}
+
+/// All texts of at most two bytes, with the others beside them.
+#[test]
+fn twins_agree_of_all_short_texts() {
+    let mut before = TinyAsciiStr::EMPTY;
+    twins_agree(TinyAsciiStr::<0>::EMPTY);
+    for a in 0..=127 {
+        for b in 0..=127 {
+            let Ok(text) = TinyAsciiStr::<2>::try_from_raw([a, b]) else { continue };
+            twins_agree(text);
+            twins_agree(text.resize::<5>());
+            twins_agree(text.resize::<9>());
+            twins_agree(text.resize::<17>());
+            concat_agrees(text, before);
+            before = text;
+        }
+    }
+    for a in 0..=255 {
+        lossy_agrees::<2>(&[a], &[a.into()]);
+        for b in 0..=255 {
+            lossy_agrees::<2>(&[a, b], &[u16::from(a) * 256, u16::from(b) * 257]);
+        }
+    }
+}
+
+struct Random(u64);
+
+impl Random {
+    fn next(&mut self) -> u64 {
+        self.0 ^= self.0 << 13;
+        self.0 ^= self.0 >> 7;
+        self.0 ^= self.0 << 17;
+        self.0
+    }
+
+    /// A text of any length, of letters, of letters and digits, or of all characters.
+    fn text<const N: usize>(&mut self) -> TinyAsciiStr<N> {
+        let len = self.next() as usize % (N + 1);
+        let kind = self.next() % 5;
+        let bytes: Vec<u8> = (0..len).map(|at| self.byte(if at == 0 && kind == 4 { 1 } else { kind })).collect();
+        TinyAsciiStr::try_from_utf8(&bytes).unwrap()
+    }
+
+    fn byte(&mut self, kind: u64) -> u8 {
+        let number = (self.next() >> 20) as u8;
+        match kind {
+            0 | 4 => b'a' + number % 26,
+            1 => b'A' + number % 26,
+            2 => b'0' + number % 10,
+            _ => 1 + number % 127,
+        }
+    }
+}
+
+fn random_texts_agree<const N: usize>(count: usize) {
+    let mut random = Random(0x9e37_79b9_7f4a_7c15 + N as u64);
+    for _ in 0..count {
+        let text = random.text::<N>();
+        twins_agree(text);
+        concat_agrees(text, random.text::<9>());
+        let units: Vec<u8> = text.as_utf8().iter().map(|byte| byte ^ if random.next() % 9 == 0 { 128 } else { 0 }).collect();
+        let wide: Vec<u16> = units.iter().map(|byte| u16::from(*byte) << (8 * (random.next() % 2))).collect();
+        lossy_agrees::<N>(&units, &wide);
+        lossy_agrees::<5>(&units, &wide);
+    }
+}
+
+/// A million random texts, or fewer where nothing is optimized.
+#[test]
+fn twins_agree_of_random_texts() {
+    let part = if cfg!(debug_assertions) { 20 } else { 1 };
+    random_texts_agree::<1>(50_000 / part);
+    random_texts_agree::<3>(200_000 / part);
+    random_texts_agree::<4>(200_000 / part);
+    random_texts_agree::<8>(200_000 / part);
+    random_texts_agree::<12>(200_000 / part);
+    random_texts_agree::<16>(75_000 / part);
+    random_texts_agree::<17>(50_000 / part);
+    random_texts_agree::<33>(25_000 / part);
+}
+
+fn tables_agree<const N: usize>(bytes: &[u8]) {
+    let records = |table: Result<Table<'_, N>, UleError>| table.map(|it| it.records().to_vec());
+    assert_eq!(records(Table::new_const(bytes)), records(Table::new(bytes)), "{bytes:?}");
+    let sorted = |table: Result<SortedTable<'_, N>, SortedError>| table.map(|it| it.table().records().to_vec());
+    assert_eq!(sorted(SortedTable::from_bytes_const(bytes)), sorted(SortedTable::from_bytes(bytes)), "{bytes:?}");
+}
+
+/// All lists of at most two bytes, and of longer ones each that has one of four bytes at each place.
+#[test]
+fn tables_of_constants_agree() {
+    tables_agree::<1>(b"");
+    for a in 0..=255 {
+        tables_agree::<1>(&[a]);
+        for b in 0..=255 {
+            tables_agree::<1>(&[a, b]);
+            tables_agree::<2>(&[a, b]);
+        }
+    }
+    for len in 0..=7u32 {
+        for kinds in 0..4usize.pow(len) {
+            let bytes: Vec<u8> = (0..len).map(|at| [0, b'a', b'b', 0x80][kinds / 4usize.pow(at) % 4]).collect();
+            tables_agree::<1>(&bytes);
+            tables_agree::<2>(&bytes);
+            tables_agree::<3>(&bytes);
+        }
+    }
+}
+
+const CODES: SortedTable<'static, 3> = match SortedTable::from_bytes_const(b"CHFEURJPY") {
+    Ok(table) => table,
+    Err(_) => panic!("the codes aren't sorted"),
+};
+static NAMES: Result<Table<'static, 4>, UleError> = Table::new_const(b"EuroYen\0");
+const FALLS: Result<SortedTable<'static, 3>, SortedError> = SortedTable::from_bytes_const(b"EURCHF");
+
+#[test]
+fn tables_are_constants() {
+    assert_eq!((CODES.binary_search(&tinystr!(3, "EUR")), CODES.table().len()), (Ok(1), 3));
+    assert_eq!(NAMES.unwrap().get(1), Some(tinystr!(4, "Yen")));
+    assert_eq!(FALLS.err(), Some(SortedError::Order(NotRising { index: 1 })));
+}
