@@ -7,8 +7,8 @@ from eraser.modules import pieces
 from eraser.text import Tokens, code_of, line_of
 
 # The field is private to these files, so no other one makes a text or reads the field.
-FILES = re.compile(r"tinystr/ascii(?:/\w+)?\.rt")
-# The function that makes each text, with what it requires, and what it has in the place of the literal.
+FILES = re.compile(r"tinystr/ascii(?:/.+)?\.rt")
+# The function that makes each text, and what its body has in the place of the literal.
 MAKER = ("tinystr/ascii/readers.rt", "from_padded")
 LITERAL = re.compile(r"\bTinyAsciiStr (?=\{\s*bytes\b)")
 VALUE = re.compile(r"\s*bytes(?::\s*(.*?))?,?\s*", re.S)
@@ -16,7 +16,7 @@ CHECKED = """debug_assert!(AsciiBytes::are_padded(&bytes), "the bytes aren't a t
         // SAFETY: a text and then NULs, so each byte is below 128. This is proved at each call.
         TinyAsciiStr { bytes: unsafe { AsciiBytes::new(bytes) } }"""
 
-# Each form in which the field is read: a reference, with what is called or indexed behind it, and its value.
+# Each form in which the field is read: a reference, what is called or indexed, and the value.
 READ = [
     (r"&(\w+)\.bytes\b(?![\[.(])", r"\1.bytes.as_array()"),
     (r"\b(\w+)\.bytes\b(?=\[|\.(?!as_array\(\)))", r"\1.bytes.as_array()"),
@@ -40,7 +40,10 @@ class Fields:
         for found in reversed(list(LITERAL.finditer(code_of(text)))):
             tokens = Tokens(text[found.end() :])
             end = tokens.behind_bracket(0)
-            value = VALUE.fullmatch(tokens.joined(1, end - 1))[1] or "bytes"
+            inside = VALUE.fullmatch(tokens.joined(1, end - 1))
+            if not inside:
+                raise Stopped(f"{file}:{line_of(text, found.start())}: a text is made of more than `bytes`")
+            value = inside[1] or "bytes"
             rest = tokens.joined(end, len(tokens))
             if (file, function_at(text, found.start(), file)) == MAKER:
                 made, self.is_made = CHECKED, value == "bytes" and not self.is_made

@@ -60,7 +60,7 @@ def with_derives(text, file):
         head = rf"(#\[derive\([^)]*)(\)\]\npub (?:struct|enum) {name}\b)"
         text, count = re.subn(head, lambda it: it[1] + "".join(f", {trait}" for trait in traits) + it[2], text)
         if count != 1:
-            raise Stopped(f"{file}: `{name}` with derives stands {count} times, and not once")
+            raise Stopped(f"{file}: `{name}` with derives is there {count} times, and not once")
     return with_ordered_subtag(with_error_texts(text, file), file)
 
 

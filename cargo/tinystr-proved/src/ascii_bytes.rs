@@ -64,9 +64,9 @@ impl<const N: usize> AsciiBytes<N> {
 }
 
 impl<const N: usize> TinyAsciiStr<N> {
-    /// The text, on its way into an `Option` or a `Result`, where a first byte above 127 is `None` or an error. The hint tells
-    /// the compiler that this text has no such byte, so that it tests none. It costs more than the test where the text is in a
-    /// vector, so few functions give it.
+    /// The text, on its way into an `Option` or a `Result`, where a first byte above 127 is `None` or an error. By the hint that
+    /// this text has no such byte the compiler leaves out a test. Where the text is in a vector, the hint costs more than the
+    /// test, so few functions give it.
     #[inline(always)]
     pub(crate) fn hinted(self) -> Self {
         let bytes = self.all_bytes();

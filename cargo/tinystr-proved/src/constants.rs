@@ -185,8 +185,8 @@ impl<const N: usize> TinyAsciiStr<N> {
         let text = self.as_utf8_const();
         let mut at = 0;
         while at < text.len() {
-            let asked = if at == 0 { question } else { question.of_later_words() };
-            if !is_so(text[at], asked) {
+            let of_byte = if at == 0 { question } else { question.of_later_words() };
+            if !is_so(text[at], of_byte) {
                 return false;
             }
             at += 1;

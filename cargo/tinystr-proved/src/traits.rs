@@ -39,7 +39,7 @@ printed! {
     [const N: usize, const M: usize] TextEntries<'_, N, M>, |it| it.clone();
 }
 
-// These can't be cloned: their names, and how many answers are left.
+// These can't be cloned: their names, and how many results are left.
 impl<const N: usize> Debug for BinarySearchEach<'_, '_, N> {
     fn fmt(&self, f: &mut Formatter<'_>) -> Result {
         f.debug_struct("BinarySearchEach").field("len", &self.len()).finish_non_exhaustive()
@@ -90,7 +90,7 @@ impl<const N: usize, const M: usize> ExactSizeIterator for Entries<'_, N, M> {}
 impl<const N: usize, const M: usize> ExactSizeIterator for hashed::Entries<'_, N, M> {}
 impl<const N: usize, const M: usize> ExactSizeIterator for TextEntries<'_, N, M> {}
 
-// Behind the last one each gives `None` again.
+// After the last one each gives `None` again.
 impl<const N: usize> FusedIterator for Texts<'_, N> {}
 impl<const N: usize> FusedIterator for Parts<'_, N> {}
 impl<const N: usize, const M: usize> FusedIterator for Entries<'_, N, M> {}

@@ -3,7 +3,7 @@
 use tinystr::packed::Table;
 use tinystr::{ParseError, TinyAsciiStr, tinystr};
 
-/// Texts of letters, digits and what stands beside them in ASCII, in each order of cases.
+/// Texts of letters, digits and their neighbours in ASCII, in each order of cases.
 fn texts() -> Vec<String> {
     let mut texts: Vec<String> = ["", "GB", "gb", "Gb", "gB", "001", "7up", "7UP", "7Up", "u7P", "Hant", "hANT", "HANT", "{[`@"].map(Into::into).into();
     texts.extend(["iso8859", "Europe/Rome", "europe/rome", "LongestOfSixteen", "LONGESTOFSIXTEEN", "longestofsixteen"].map(Into::into));
