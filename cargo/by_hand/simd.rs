@@ -206,6 +206,15 @@ impl PartialEq for u8x16 {
     }
 }
 
+impl BitOr for Mask16 {
+    type Output = Self;
+
+    #[inline(always)]
+    fn bitor(self, other: Self) -> Self {
+        Mask16(machine::bitor(self.0, other.0))
+    }
+}
+
 impl Mask16 {
     /// The truth of lane `i` in bit `i`.
     #[inline(always)]

@@ -114,6 +114,9 @@ IN_FILE = {
             2,
         ),
     ],
+    "subtags/lanes.rt": [
+        Rule("from_utf8_unchecked(bytes)", "from_padded(bytes)", "the function of the same contract that this crate has for itself"),
+    ],
     "tinystr/ascii/splitting.rt": [
         Rule("Some((before.resize(), behind.resize()))", "Some((before.resize().hinted(), behind.resize().hinted()))", HINTED),
         Rule("Some((self.take(at), self.suffix(at + 1)))", "Some((self.take(at).hinted(), self.suffix(at + 1).hinted()))", HINTED),

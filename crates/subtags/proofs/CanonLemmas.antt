@@ -9,7 +9,7 @@ use Rattle.tinystr_words.specs.Classes.{is_alphanumeric}
 use Rattle.subtags.specs.declared.error.LangIdError.TheVariants.{InvalidSubtag}
 use Rattle.subtags.specs.Grammar.{dash, fold_text, subtags_of, is_script, is_region, is_tail, is_lang_id, IsLangId, canonical_subtag, canonical_subtags, canonical_text, IsCanonical}
 use Rattle.subtags.specs.Subtags.{join_subtags}
-use Rattle.subtags.specs.Private.ReadingSteps.{leading_script, subtags_after_script, last_region}
+use Rattle.subtags.proofs.ReadingSteps.{leading_script, subtags_after_script, last_region}
 use Rattle.subtags.proofs.FoldLemmas.{map-map_absorbed, fold_text-fold_text, fold_text-canonical_subtag, same_test_from_fold_text, is_script-fold_text, is_region-fold_text, alphanumeric-fold_text, alphanumeric-from_subtag}
 use Rattle.subtags.proofs.SplitLemmas.{subtags_of-fold_text, subtags_of-alphanumeric, subtags_of-append_dash}
 

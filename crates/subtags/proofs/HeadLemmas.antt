@@ -1,93 +1,59 @@
--- The letters in front of an input, and its first subtag.
-use Rattle.std.proofs.Common.{◌≡◌, ◌<◌, ◌≤◌, ℕ, Bool, true, false, not, ◌==◌, List, ◌∷◌, Option, length, take, get_or, take_all, refl, ap, sym, ◌∙◌, arith}
+-- The first subtag of an input.
+use Rattle.std.proofs.Common.{◌≡◌, ◌≤◌, ℕ, Bool, not, ◌==◌, true, false, ◌&&◌, List, ◌∷◌, Option, length, take, refl, sym, ap, ◌∙◌, arith}
 use Rattle.std.specs.Prelude.{IsTrue}
 use Rattle.std.specs.Bool.{then_some}
-use Rattle.std.specs.Option.{SomeIff}
-use Rattle.std.specs.List.{list_all, position_or_len, prefix_len}
-use Rattle.std.proofs.lemmas.Bool.{false_from_ne_true, false≢true}
+use Rattle.std.specs.Option.{SomeIff, IfSome}
+use Rattle.std.specs.List.{list_all, prefix_len, position_or_len}
+use Rattle.std.proofs.lemmas.Bool.{false≢true}
 use Rattle.std.proofs.lemmas.Bool.Decides.{nat_tests}
-use Rattle.std.proofs.lemmas.List.{length-take, get_or-take}
-use Rattle.std.proofs.lemmas.List.Sums.{prefix_len_is, prefix_len_passes, prefix_len-le-length, position_or_len_is, passes_at_first, AllPass-from_list_all, list_all-from_AllPass}
-use Rattle.tinystr_words.specs.Classes.{is_alphabetic, is_alphanumeric}
+use Rattle.std.proofs.lemmas.List.{take_all, length-take}
+use Rattle.std.proofs.lemmas.List.Sums.{prefix_len_is, prefix_len_passes, prefix_len-le-length, AllPass-from_list_all, list_all-from_AllPass}
+use Rattle.tinystr_words.specs.Classes.{is_alphabetic}
 use Rattle.tinystr_words.specs.Case.{lowercase}
+use Rattle.subtags.specs.Subtags.{IsCanonicalSubtag}
+use Rattle.subtags.proofs.FoldLemmas.{IsCanonicalSubtag-lowercase}
 use Rattle.subtags.specs.Grammar.{is_separator, is_language, is_language_length, fold_text, subtags_of}
-use Rattle.subtags.proofs.FoldLemmas.{All-from_list_all, alphanumeric-from_subtag}
+use Rattle.subtags.specs.Private.Tails.{first_subtag}
+use Rattle.subtags.proofs.ReadingSteps.{rest_after, subtags_of_rest}
 use Rattle.subtags.proofs.SplitLemmas.{subtags_at_first_separator}
-use Rattle.subtags.specs.Private.ReadingSteps.{rest_after, ends_at, first_subtag, subtags_of_rest}
 
--- how many letters an input begins with, among its first 8 bytes
-abbrev pub letters_in_front : List ℕ → ℕ
-letters_in_front u = prefix_len is_alphabetic (take 8 u)
+pub length-first_subtag : (u : List ℕ) → length (first_subtag u) ≡ position_or_len is_separator u
+length-first_subtag u = omega (arith, length-take (position_or_len is_separator u) u, prefix_len-le-length (λ b. not (is_separator b)) u)
 
--- a first subtag that is a language is all letters in front
-first_subtag-letters : (u : List ℕ) → is_language (first_subtag u) ≡ true → position_or_len is_separator u ≡ letters_in_front u
-first_subtag-letters u h =
-    let i = position_or_len is_separator u in
-    let inside : i ≤ length u = prefix_len-le-length _ u in
-    let len = length-take i u in
-    let eight = length-take 8 u in
-    let few : i ≤ 8 = grind (arith, nat_tests) in
-    let letters : list_all is_alphabetic (take i u) ≡ true = grind arith in
-    let all = AllPass-from_list_all is_alphabetic (take i u) letters in
-    sym (prefix_len_is is_alphabetic (take 8 u) i 0 (omega arith)
-    (λ k below. rw (get_or-take 8 u k 0 (omega arith), sym (get_or-take i u k 0 below)) (all k 0 (omega arith)))
-    (λ more. let hit = passes_at_first is_separator u 0 (omega arith) in rw (get_or-take 8 u i 0 (omega arith)) (grind (arith, nat_tests))))
-
--- an input that is a language is its own first subtag
-pub first_subtag-language : (u : List ℕ) → is_language u ≡ true → first_subtag u ≡ u
-first_subtag-language u h =
-    let others = All-from_list_all is_alphanumeric (λ b. is_separator b ≡ false) (λ b a. grind (arith, nat_tests)) u (alphanumeric-from_subtag u (grind arith)) in
-    let end : position_or_len is_separator u ≡ length u = position_or_len_is is_separator u (length u) 0 (omega arith) (λ k below. others k 0 below) (λ more. absurd (omega arith)) in
-    rw end (take_all (length u) u (omega arith))
-
--- an input whose first subtag is a language is one exactly if it is as long
-pub whole_language : (u t : List ℕ) → is_language (first_subtag u) ≡ true → t ≡ lowercase (first_subtag u) → (whole : Bool) → (length (first_subtag u) == length u) ≡ whole → SomeIff (then_some whole t) (IsTrue (is_language u)) (lowercase u)
-whole_language u t language is true same =
-    let all : first_subtag u ≡ u = take_all (position_or_len is_separator u) u (grind (arith, nat_tests, length-take (position_or_len is_separator u) u)) in
-    (rw all at language, is ∙ ap lowercase all)
-whole_language u t language is false other = λ h. false≢true (sym other ∙ rw (first_subtag-language u h) (grind (arith, nat_tests)))
-
--- letters in front that end where all do, or before a separator, are the first subtag
-letters-first_subtag : (u : List ℕ) → ends_at (letters_in_front u) u ≡ true
-    → (position_or_len is_separator u ≡ letters_in_front u) × (list_all is_alphabetic (take (letters_in_front u) u) ≡ true)
-letters-first_subtag u ends =
-    let n = letters_in_front u in
-    let eight = length-take 8 u in
-    let most = prefix_len-le-length is_alphabetic (take 8 u) in
-    let letter : (k : ℕ) (d : ℕ) → k < n → is_alphabetic (get_or u k d) ≡ true = λ k d below. rw (get_or-take 8 u k d (omega arith)) at (prefix_len_passes is_alphabetic (take 8 u) k d below) in (
-      position_or_len_is is_separator u n 0 (omega arith) (λ k below. let is = letter k 0 below in grind (arith, nat_tests)) (λ more. grind (arith, nat_tests)),
-      list_all-from_AllPass is_alphabetic (take n u) (λ k d below. let near : k < n = omega (arith, length-take n u) in rw (get_or-take n u k d near) (letter k d near)),
-    )
-
--- where the letters are too few or too many, the first subtag isn't a language
-pub no_language-length : (u : List ℕ) (n : ℕ) → n ≡ letters_in_front u → is_language_length n ≡ false → false ≡ is_language (first_subtag u)
-no_language-length u n is wrong =
-    sym (false_from_ne_true (is_language (first_subtag u)) (λ h.
-    let len : length (first_subtag u) ≡ n = omega (arith, first_subtag-letters u h, is, length-take (position_or_len is_separator u) u, prefix_len-le-length (λ b. not (is_separator b)) u) in
-    let form : is_language_length (length (first_subtag u)) ≡ true = grind arith in
-    false≢true (sym wrong ∙ rw len at form)))
-
--- nor where they go on
-pub no_language-end : (u : List ℕ) (n : ℕ) → n ≡ letters_in_front u → ends_at n u ≡ false → false ≡ is_language (first_subtag u)
-no_language-end u n is goes_on =
-    sym (false_from_ne_true (is_language (first_subtag u)) (λ h.
-    let same : position_or_len is_separator u ≡ n = first_subtag-letters u h ∙ sym is in
-    let inside = prefix_len-le-length (λ b. not (is_separator b)) u in
-    let hit = rw same at (passes_at_first is_separator u 0) in
-    grind (arith, nat_tests)))
-
--- else it is that language
-pub language-letters : (u : List ℕ) (n : ℕ) → n ≡ letters_in_front u → is_language_length n ≡ true → ends_at n u ≡ true
-    → (first_subtag u ≡ take n u) × (is_language (take n u) ≡ true) × (length (take n u) ≡ n)
-language-letters u n is form ends =
-    let found = letters-first_subtag u (rw is at ends) in
-    let most = prefix_len-le-length is_alphabetic (take 8 u) in
-    let len : length (take n u) ≡ n = omega (arith, is, most, length-take n u, length-take 8 u) in
-    let letters : list_all is_alphabetic (take n u) ≡ true = rw (← is) at found.1 in
-    (ap (λ m. take m u) (found.0 ∙ sym is), rw (letters, len, form) refl, len)
-
--- the subtags are the first, and those behind it
+-- the subtags are the first, and those after it
 pub subtags_of_rest-first_subtag : (u : List ℕ) (rest : Option (List ℕ)) → rest ≡ rest_after (length (first_subtag u)) u → subtags_of (fold_text u) ≡ fold_text (first_subtag u) ∷ subtags_of_rest rest
-subtags_of_rest-first_subtag u rest is =
-    let len : length (first_subtag u) ≡ position_or_len is_separator u = omega (arith, length-take (position_or_len is_separator u) u, prefix_len-le-length (λ b. not (is_separator b)) u) in
-    rw (is, len) (subtags_at_first_separator u)
+subtags_of_rest-first_subtag u rest is = rw (is, length-first_subtag u) (subtags_at_first_separator u)
+
+-- it is a language where it is letters, and as many as a language has
+pub is_language-first_subtag : (u : List ℕ) (n : ℕ) → n ≡ position_or_len is_separator u → is_language (first_subtag u) ≡ (list_all is_alphabetic (take n u) && is_language_length n)
+is_language-first_subtag u n is = rw (length-first_subtag u, ← is) refl
+
+-- ---- a language alone, read by the letters in front
+
+-- all of a language are letters in front
+letters_of_language : (u : List ℕ) → is_language u ≡ true → prefix_len is_alphabetic (take 8 u) ≡ length u
+letters_of_language u h =
+    let few : length u ≤ 8 = grind (arith, nat_tests) in
+    let letters = AllPass-from_list_all is_alphabetic u (grind arith) in
+    rw (take_all 8 u few) (prefix_len_is is_alphabetic u (length u) 0 (omega arith) (λ k below. letters k 0 below) (λ more. absurd (omega arith)))
+
+pub no_language-letters : (u : List ℕ) (n : ℕ) → n ≡ prefix_len is_alphabetic (take 8 u) → is_language_length n ≡ false → is_language u ≡ true → ⊥
+no_language-letters u n is wrong h =
+    let all : n ≡ length u = is ∙ letters_of_language u h in
+    let right : is_language_length (length u) ≡ true = grind arith in
+    false≢true (sym wrong ∙ ap is_language_length all ∙ right)
+
+-- where as many letters as a language has are all, they are one, and else there is none
+pub language-letters : (u t : List ℕ) (n : ℕ) → n ≡ prefix_len is_alphabetic (take 8 u) → is_language_length n ≡ true → t ≡ lowercase (take n u)
+    → SomeIff (then_some (n == length u) t) (IsTrue (is_language u)) (lowercase u) × IfSome (then_some (n == length u) t) (IsCanonicalSubtag is_language lowercase)
+language-letters u t n is right text = read (n == length u) refl where
+  read : (whole : Bool) → (n == length u) ≡ whole → SomeIff (then_some whole t) (IsTrue (is_language u)) (lowercase u) × IfSome (then_some whole t) (IsCanonicalSubtag is_language lowercase)
+  read true same =
+      let len : n ≡ length u = grind (arith, nat_tests) in
+      let all : take n u ≡ u = take_all n u (omega (arith, len)) in
+      let few : length u ≤ 8 = grind (arith, nat_tests) in
+      let whole : prefix_len is_alphabetic u ≡ length u = ap (prefix_len is_alphabetic) (sym (take_all 8 u few)) ∙ sym is ∙ len in
+      let letters : list_all is_alphabetic u ≡ true = list_all-from_AllPass is_alphabetic u (λ k d below. prefix_len_passes is_alphabetic u k d (omega (arith, whole, below))) in
+      let h : is_language u ≡ true = rw (letters, ← len, right) refl in
+      ((h, text ∙ ap lowercase all), rw (text, all) (IsCanonicalSubtag-lowercase u h))
+  read false other = (λ h. let all : n ≡ length u = is ∙ letters_of_language u h in grind (arith, nat_tests), tt)

@@ -7,7 +7,7 @@ use Rattle.tinystr_words.specs.Classes.{is_alphanumeric}
 use Rattle.tinystr_words.specs.Case.{lowercase, titlecase, uppercase}
 use Rattle.subtags.specs.Grammar.{fold_text, subtags_of, is_language, is_script, is_region, IsCanonical}
 use Rattle.subtags.specs.Subtags.{IsCanonicalSubtag, language_of, script_of, region_of, after_dash, join_subtags}
-use Rattle.subtags.specs.Private.ReadingSteps.{subtags_of_rest, leading_script, subtags_after_script, last_region}
+use Rattle.subtags.proofs.ReadingSteps.{subtags_of_rest, leading_script, subtags_after_script, last_region}
 use Rattle.subtags.proofs.FoldLemmas.{alphanumeric-fold_text, is_script-fold_text, alphanumeric-from_subtag, titlecase-fold_text}
 use Rattle.subtags.proofs.SplitLemmas.{subtags_of-alphanumeric, subtags_of-append_dash, last_region_of_region}
 use Rattle.subtags.proofs.CanonLemmas.{no_script-from_region}

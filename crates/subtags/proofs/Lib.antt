@@ -1,9 +1,16 @@
+pub mod ReadingSteps
+pub mod MaskLemmas
+pub mod LaneClasses
 pub mod FoldLemmas
 pub mod SplitLemmas
 pub mod CanonLemmas
 pub mod ReadLemmas
+pub mod TailLemmas
+pub mod ExampleLemmas
+pub mod LaneTexts
 pub mod JoinLemmas
 pub mod PlaceLemmas
 pub mod HeadLemmas
 pub mod CanonicalLen
+pub mod IdentifierLemmas
 pub mod ForCallers

@@ -10,7 +10,7 @@ use Rattle.std.specs.Option.{IfSome, unwrap_or}
 use Rattle.tinystr_words.specs.Case.{lowercase, titlecase, uppercase}
 use Rattle.subtags.specs.Grammar.{dash, fold_text, subtags_of, is_language, is_script, is_region, IsCanonical}
 use Rattle.subtags.specs.Subtags.{IsCanonicalSubtag, language_of, script_of, region_of, after_dash, join_subtags}
-use Rattle.subtags.specs.Private.ReadingSteps.{leading_script, subtags_after_script, last_region}
+use Rattle.subtags.proofs.ReadingSteps.{leading_script, subtags_after_script, last_region}
 use Rattle.subtags.specs.Private.SubtagPlaces.{language_end, region_start}
 use Rattle.subtags.proofs.FoldLemmas.{alphanumeric-from_subtag, IsCanonicalSubtag-lowercase, IsCanonicalSubtag-titlecase, IsCanonicalSubtag-uppercase}
 use Rattle.subtags.proofs.SplitLemmas.{no_dash, subtags_at_first_separator}

@@ -7,7 +7,7 @@ use Rattle.subtags.specs.declared.error.LangIdError.TheVariants.{InvalidLanguage
 use Rattle.subtags.specs.Grammar.{fold_text, subtags_of, is_language, is_region, is_tail, is_lang_id, IsLangId, canonical_subtag, canonical_text, IsCanonical}
 use Rattle.subtags.specs.Subtags.{language_of, script_of, region_of, join_subtags}
 use Rattle.subtags.specs.Answers.{refusal_of}
-use Rattle.subtags.specs.Private.ReadingSteps.{leading_script, subtags_after_script, last_region}
+use Rattle.subtags.proofs.ReadingSteps.{leading_script, subtags_after_script, last_region}
 use Rattle.subtags.proofs.FoldLemmas.{is_language-fold_text, fold_text-alphanumeric, alphanumeric-from_subtag}
 use Rattle.subtags.proofs.SplitLemmas.{subtags_at_first_separator}
 use Rattle.subtags.proofs.CanonLemmas.{leading_script-tail, last_region-tail, last_region-no_tail, is_tail-canonical, join_with_byte-tail, subtags_of-canonical_text}

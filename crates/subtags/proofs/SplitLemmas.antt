@@ -10,7 +10,7 @@ use Rattle.tinystr_words.specs.Classes.{is_alphanumeric}
 use Rattle.tinystr_words.specs.Case.{titlecase, uppercase}
 use Rattle.subtags.specs.declared.error.LangIdError.TheVariants.{InvalidSubtag}
 use Rattle.subtags.specs.Grammar.{dash, is_separator, fold_byte, fold_text, subtags_of, is_script, is_region}
-use Rattle.subtags.specs.Private.ReadingSteps.{rest_after, subtags_of_rest, ends_at, leading_script, subtags_after_script, last_region}
+use Rattle.subtags.proofs.ReadingSteps.{rest_after, subtags_of_rest, ends_at, leading_script, subtags_after_script, last_region}
 use Rattle.subtags.proofs.FoldLemmas.{All-from_list_all, is_script-fold_text, is_region-fold_text, alphanumeric-fold_text, alphanumeric-from_subtag, titlecase-fold_text, uppercase-fold_text}
 
 -- to change the bytes and then split is to split and then change the subtags
@@ -66,7 +66,7 @@ script_in_front u ends h =
     rw (rw (position_or_len-script u ends h) at (subtags_at_first_separator u), is_script-fold_text (take 4 u), h, title) (refl, refl)
 
 -- a script has four bytes
-length-script : (p : List ℕ) → is_script p ≡ true → length p ≡ 4
+pub length-script : (p : List ℕ) → is_script p ≡ true → length p ≡ 4
 length-script p e = grind (arith, nat_tests)
 
 -- four bytes end where all do, or before a separator

@@ -1,3 +1,4 @@
 -- The words of private functions. No public contract has one of them.
-pub mod ReadingSteps
+pub mod Lanes
 pub mod SubtagPlaces
+pub mod Tails

@@ -1,6 +1,6 @@
 //! Language identifiers.
 
-ghost use Rattle.std.specs.Prelude.{◌≡◌, ◌+◌, ◌≤◌, ◌∷◌, Some, IsOk, IfOk, IfErr, IfSome, ◌↔◌};
+ghost use Rattle.std.specs.Prelude.{◌≡◌, ◌<◌, ◌+◌, ◌≤◌, length, None, ◌∷◌, Some, IsOk, IfOk, IfErr, IfSome, ◌↔◌};
 ghost use Rattle.std.specs.Fmt.{debug_str, styled_text};
 ghost use Rattle.std.specs.Result.{result_ok};
 ghost use Rattle.tinystr_words.specs.Case.{lowercase, titlecase, uppercase};
@@ -8,19 +8,24 @@ ghost use Rattle.subtags.specs.Grammar.{dash, fold_text, is_language, is_script,
 ghost use Rattle.subtags.specs.Subtags.{IsCanonicalSubtag, language_of, script_of, region_of, join_subtags};
 ghost use Rattle.subtags.specs.Answers.{refusal_of, IsLangIdRead};
 
+use crate::classes::{Classes, are_letters};
 use crate::error::LangIdError;
-use crate::head::take_language;
-use crate::language::Language;
+use crate::head::language_len;
+use crate::lanes::{first_lanes, folded_text, letters_of, text_in_case};
+use crate::language::{Language, is_language_length};
 use crate::places::{has_byte_at, language_end, region_start};
 use crate::region::Region;
 use crate::script::Script;
 use crate::subtag::{Subtag, SubtagKind};
-use crate::tail::{last_region, take_script};
+use crate::tail::is_tail;
 use std::convert::{AsSlice, AsStr};
 use std::fmt;
 use std::marker::Model;
 use std::str::FromStr;
 use tinystr::{TinyAsciiStr, tinystr};
+
+/// The most bytes of an identifier, as `mmmmmmmm-Latn-419` has them.
+const MOST: usize = 17;
 
 /// A language identifier of at most 17 bytes, kept as its canonical text, as `zh-Hant-TW`, and compared by it.
 ///
@@ -66,13 +71,29 @@ impl LangId {
         ensures refusal { IfErr result (λ e. e ≡ refusal_of code_units.now) }
         ensures value { result_ok result ≡ canonical_of code_units.now }
     {
-        let Some(parts) = take_language(code_units) else {
+        if code_units.len() > MOST {
+            return Err(refusal_of_more(code_units));
+        }
+        let lanes = first_lanes(code_units);
+        let letters = letters_of(code_units, lanes);
+        if are_letters(letters, code_units, code_units.len()) {
+            if !is_language_length(code_units.len()) {
+                return Err(LangIdError::InvalidLanguage);
+            }
+            return Ok(LangId {
+                text: folded_text(code_units, lanes),
+            });
+        }
+        let classes = Classes::of(letters, code_units, lanes);
+        let Some(end) = language_len(&classes, code_units) else {
             return Err(LangIdError::InvalidLanguage);
         };
-        let (language, rest) = parts;
-        let (script, rest) = take_script(rest);
-        let region = last_region(rest)?;
-        Ok(Self::from_parts(language, script, region))
+        if !is_tail(classes, code_units, end) {
+            return Err(LangIdError::InvalidSubtag);
+        }
+        Ok(LangId {
+            text: text_in_case(code_units, lanes, end),
+        })
     }
 
     /// Makes the identifier of these subtags, which its other calls give back.
@@ -206,6 +227,23 @@ impl fmt::Debug for LangId {
 
     fn fmt<W: fmt::Write>(&self, f: &mut fmt::Formatter<W>) -> fmt::Result {
         fmt::Debug::fmt(&self.text, f)
+    }
+}
+
+// The error for more bytes than an identifier can have.
+#[cold]
+#[inline(never)]
+fn refusal_of_more(units: &[u8]) -> LangIdError
+    requires { 17 < length units.now }
+    ensures error { result ≡ refusal_of units.now }
+    ensures refused { canonical_of units.now ≡ None }
+{
+    let front = &units[..MOST];
+    let lanes = first_lanes(front);
+    let classes = Classes::of(letters_of(front, lanes), front, lanes);
+    match language_len(&classes, front) {
+        Some(_) => LangIdError::InvalidSubtag,
+        None => LangIdError::InvalidLanguage,
     }
 }
 

@@ -1,14 +1,13 @@
 //! Languages.
 
-ghost use Rattle.std.specs.Prelude.{◌≡◌};
+ghost use Rattle.std.specs.Prelude.{◌≡◌, ◌<◌};
 ghost use Rattle.tinystr_words.specs.Case.{lowercase};
 ghost use Rattle.subtags.specs.Grammar.{is_language, is_language_length};
 ghost use Rattle.subtags.specs.declared.error.LangIdError.TheVariants.{InvalidLanguage};
 
 use crate::error::LangIdError;
-use crate::head::read_language;
 use crate::subtag::{Subtag, SubtagKind};
-use tinystr::TinyAsciiStr;
+use tinystr::{TinyAsciiStr, TinyStr8};
 
 /// A language: 2, 3 or 5 to 8 letters, kept in lowercase.
 ///
@@ -35,7 +34,10 @@ impl SubtagKind<8> for LanguageKind {
 
     #[inline]
     fn read(code_units: &[u8]) -> Option<TinyAsciiStr<8>> {
-        let (text, len) = read_language(code_units)?;
+        let (text, len) = TinyStr8::read_letters(code_units);
+        if !is_language_length(len) {
+            return None;
+        }
         (len == code_units.len()).then_some(text)
     }
 
@@ -44,10 +46,14 @@ impl SubtagKind<8> for LanguageKind {
     }
 }
 
+// A bit for each number of letters that a language may have.
+const LENGTHS: u64 = 0b1_1110_1100;
+
 /// Whether a language may have `len` letters.
-#[inline]
+#[inline(always)]
 pub(crate) fn is_language_length(len: usize) -> bool
+    requires { len < 64 }
     ensures { result ≡ is_language_length len }
 {
-    len == 2 || len == 3 || 5 <= len && len <= 8
+    (LENGTHS >> len) % 2 == 1
 }

@@ -3,8 +3,10 @@
 //! allocates, and none asks a registry which subtags exist.
 #![tactic(auto)]
 
+mod classes;
 pub mod error;
 mod head;
+mod lanes;
 pub mod lang_id;
 pub mod language;
 pub mod laws;

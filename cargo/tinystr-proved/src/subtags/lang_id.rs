@@ -1,16 +1,21 @@
 //! Language identifiers.
 
+use crate::subtags::classes::{Classes, are_letters};
 use crate::subtags::error::LangIdError;
-use crate::subtags::head::take_language;
-use crate::subtags::language::Language;
+use crate::subtags::head::language_len;
+use crate::subtags::lanes::{first_lanes, folded_text, letters_of, text_in_case};
+use crate::subtags::language::{Language, is_language_length};
 use crate::subtags::places::{has_byte_at, language_end, region_start};
 use crate::subtags::region::Region;
 use crate::subtags::script::Script;
 use crate::subtags::subtag::{Subtag, SubtagKind};
-use crate::subtags::tail::{last_region, take_script};
+use crate::subtags::tail::is_tail;
 use core::fmt;
 use core::str::FromStr;
 use crate::{TinyAsciiStr, tinystr};
+
+/// The most bytes of an identifier, as `mmmmmmmm-Latn-419` has them.
+const MOST: usize = 17;
 
 /// A language identifier of at most 17 bytes, kept as its canonical text, as `zh-Hant-TW`, and compared by it.
 ///
@@ -53,13 +58,29 @@ impl LangId {
     /// ensures value { result_ok result ≡ canonical_of code_units.now }
     /// ```
     pub fn try_from_utf8(code_units: &[u8]) -> Result<Self, LangIdError> {
-        let Some(parts) = take_language(code_units) else {
+        if code_units.len() > MOST {
+            return Err(refusal_of_more(code_units));
+        }
+        let lanes = first_lanes(code_units);
+        let letters = letters_of(code_units, lanes);
+        if are_letters(letters, code_units, code_units.len()) {
+            if !is_language_length(code_units.len()) {
+                return Err(LangIdError::InvalidLanguage);
+            }
+            return Ok(LangId {
+                text: folded_text(code_units, lanes),
+            });
+        }
+        let classes = Classes::of(letters, code_units, lanes);
+        let Some(end) = language_len(&classes, code_units) else {
             return Err(LangIdError::InvalidLanguage);
         };
-        let (language, rest) = parts;
-        let (script, rest) = take_script(rest);
-        let region = last_region(rest)?;
-        Ok(Self::from_parts(language, script, region))
+        if !is_tail(classes, code_units, end) {
+            return Err(LangIdError::InvalidSubtag);
+        }
+        Ok(LangId {
+            text: text_in_case(code_units, lanes, end),
+        })
     }
 
     /// Makes the identifier of these subtags, which its other calls give back.
@@ -200,6 +221,23 @@ impl fmt::Display for LangId {
 impl fmt::Debug for LangId {
     fn fmt(&self, f: &mut fmt::Formatter<'_>) -> fmt::Result {
         fmt::Debug::fmt(&self.text, f)
+    }
+}
+
+// The error for more bytes than an identifier can have.
+// Proved:
+//     requires { 17 < length units.now }
+//     ensures error { result ≡ refusal_of units.now }
+//     ensures refused { canonical_of units.now ≡ None }
+#[cold]
+#[inline(never)]
+fn refusal_of_more(units: &[u8]) -> LangIdError {
+    let front = &units[..MOST];
+    let lanes = first_lanes(front);
+    let classes = Classes::of(letters_of(front, lanes), front, lanes);
+    match language_len(&classes, front) {
+        Some(_) => LangIdError::InvalidSubtag,
+        None => LangIdError::InvalidLanguage,
     }
 }
 

@@ -1,9 +1,8 @@
 //! Languages.
 
 use crate::subtags::error::LangIdError;
-use crate::subtags::head::read_language;
 use crate::subtags::subtag::{Subtag, SubtagKind};
-use crate::TinyAsciiStr;
+use crate::{TinyAsciiStr, TinyStr8};
 
 /// A language: 2, 3 or 5 to 8 letters, kept in lowercase.
 ///
@@ -31,7 +30,10 @@ pub struct LanguageKind;
 impl SubtagKind<8> for LanguageKind {
     #[inline]
     fn read(code_units: &[u8]) -> Option<TinyAsciiStr<8>> {
-        let (text, len) = read_language(code_units)?;
+        let (text, len) = TinyStr8::read_letters(code_units);
+        if !is_language_length(len) {
+            return None;
+        }
         (len == code_units.len()).then_some(text)
     }
 
@@ -40,14 +42,18 @@ impl SubtagKind<8> for LanguageKind {
     }
 }
 
+// A bit for each number of letters that a language may have.
+const LENGTHS: u64 = 0b1_1110_1100;
+
 /// Whether a language may have `len` letters.
 ///
 /// # Contract
 ///
 /// ```text
+/// requires { len < 64 }
 /// ensures { result ≡ is_language_length len }
 /// ```
-#[inline]
+#[inline(always)]
 pub(crate) fn is_language_length(len: usize) -> bool {
-    len == 2 || len == 3 || 5 <= len && len <= 8
+    (LENGTHS >> len) % 2 == 1
 }

@@ -1,44 +1,47 @@
-//! The rest of an input behind its language, read from the front: a script, a region, both or nothing.
+//! What follows the language of an input: a script, a region, or both, each after a separator.
 
-use crate::subtags::error::LangIdError;
-use crate::subtags::head::{ends_at, rest_after};
-use crate::subtags::region::Region;
-use crate::subtags::script::Script;
+use crate::subtags::classes::Classes;
 
-/// Takes off the first subtag if it is a script.
+/// Whether the bytes from `end` on have the classes of a script, a region, or both, as the examples have them.
 ///
 /// # Contract
 ///
 /// ```text
-/// ensures script { result.0 ≡ leading_script (subtags_of_rest (option_copied rest.entry)) }
-/// ensures rest { subtags_of_rest (option_copied result.1) ≡ subtags_after_script (subtags_of_rest (option_copied rest.entry)) }
+/// requires few { length units.now ≤ 17 }
+/// requires inside { end < length units.now }
+/// requires letters { classes.letters ≡ mask_l (map is_alphabetic units.now) }
+/// requires digits { classes.digits ≡ mask_l (map is_digit units.now) }
+/// requires separators { classes.separators ≡ mask_l (map is_separator units.now) }
+/// ensures { IsTrue result ↔ IsLike (example (length units.now - end)) (drop end units.now) }
 /// ```
-#[inline]
-pub(crate) fn take_script(rest: Option<&[u8]>) -> (Option<Script>, Option<&[u8]>) {
-    let Some(units) = rest else {
-        return (None, None);
-    };
-    if !ends_at(units, 4) {
-        return (None, rest);
-    }
-    match Script::try_from_utf8(&units[..4]) {
-        Some(script) => (Some(script), rest_after(units, 4)),
-        None => (None, rest),
+#[inline(always)]
+pub(crate) fn is_tail(classes: Classes, units: &[u8], end: usize) -> bool {
+    match example(units.len() - end) {
+        Some(wanted) => classes.from(units, end) == wanted,
+        None => false,
     }
 }
 
-/// Reads what is left: a region, or nothing.
-///
-/// # Contract
-///
-/// ```text
-/// ensures { result ≡ last_region (subtags_of_rest (option_copied rest.entry)) }
-/// ```
-#[inline]
-pub(crate) fn last_region(rest: Option<&[u8]>) -> Result<Option<Region>, LangIdError> {
-    let Some(units) = rest else {
-        return Ok(None);
+// The classes of a tail of `len` bytes, as those of `-US`, `-419`, `-Latn`, `-Latn-US` or `-Latn-419`.
+// Proved:
+//     ensures letters { IfSome result (λ c. c.letters ≡ mask_l (map is_alphabetic (example len))) }
+//     ensures digits { IfSome result (λ c. c.digits ≡ mask_l (map is_digit (example len))) }
+//     ensures separators { IfSome result (λ c. c.separators ≡ mask_l (map is_separator (example len))) }
+//     ensures len { IfSome result (λ _. length (example len) ≡ len) }
+//     ensures none { IsNone result → example len ≡ [] }
+#[inline(always)]
+fn example(len: usize) -> Option<Classes> {
+    let (letters, digits, separators) = match len {
+        3 => (0b110, 0, 0b1),
+        4 => (0, 0b1110, 0b1),
+        5 => (0b1_1110, 0, 0b1),
+        8 => (0b1101_1110, 0, 0b10_0001),
+        9 => (0b1_1110, 0b1_1100_0000, 0b10_0001),
+        _ => return None,
     };
-    let region = Region::try_from_utf8(units).ok_or(LangIdError::InvalidSubtag)?;
-    Ok(Some(region))
+    Some(Classes {
+        letters,
+        digits,
+        separators,
+    })
 }

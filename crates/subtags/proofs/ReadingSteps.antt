@@ -1,6 +1,6 @@
--- The steps in which an input is read from its front. Only private functions speak of them.
-use Rattle.std.specs.Prelude.{ℕ, ◌+◌, ◌==◌, Bool, ◌||◌, if◌then◌else◌, List, [], ◌∷◌, length, take, drop, Option, None, Some, Result, Ok, Err}
-use Rattle.std.specs.List.{slice_index, position_or_len}
+-- The steps in which an input can be read from its front, one subtag after another.
+use Rattle.std.specs.Prelude.{ℕ, ◌+◌, ◌==◌, Bool, ◌||◌, if◌then◌else◌, List, [], ◌∷◌, length, drop, Option, None, Some, Result, Ok, Err}
+use Rattle.std.specs.List.{slice_index}
 use Rattle.tinystr_words.specs.Case.{titlecase, uppercase}
 use Rattle.subtags.specs.declared.error.LangIdError.{LangIdError}
 use Rattle.subtags.specs.declared.error.LangIdError.TheVariants.{InvalidSubtag}
@@ -14,10 +14,6 @@ subtags_of_rest (Some u) = subtags_of (fold_text u)
 -- the rest after the first n bytes and a separator, unless they are all
 abbrev pub rest_after : ℕ → List ℕ → Option (List ℕ)
 rest_after n u = if n == length u then None else Some (drop (n + 1) u)
-
--- what stands before the first separator
-abbrev pub first_subtag : List ℕ → List ℕ
-first_subtag u = take (position_or_len is_separator u) u
 
 -- whether a subtag can end behind n bytes: nothing stands there, or a separator. Past the end a byte counts as 0
 abbrev pub ends_at : ℕ → List ℕ → Bool

@@ -1,0 +1,86 @@
+//! The classes of an input's bytes, as bits. That of the first byte is the lowest.
+
+use crate::subtags::lanes::{digits_of, separators_of};
+use crate::simd::*;
+
+/// Which of some bytes are letters, digits and separators.
+#[derive(Clone, Copy, PartialEq, Eq)]
+pub(crate) struct Classes {
+    pub(crate) letters: u64,
+    pub(crate) digits: u64,
+    pub(crate) separators: u64,
+}
+
+impl Classes {
+    /// Those of at most 17 bytes. Their letters are known.
+    ///
+    /// # Contract
+    ///
+    /// ```text
+    /// requires few { length units.now ≤ 17 }
+    /// requires loaded { IsLoaded lanes units.now }
+    /// ensures letters { result.letters ≡ letters }
+    /// ensures digits { result.digits ≡ mask_l (map is_digit units.now) }
+    /// ensures separators { result.separators ≡ mask_l (map is_separator units.now) }
+    /// ```
+    #[inline(always)]
+    pub(crate) fn of(letters: u64, units: &[u8], lanes: u8x16) -> Self {
+        Classes {
+            letters,
+            digits: digits_of(units, lanes),
+            separators: separators_of(units, lanes),
+        }
+    }
+
+    /// Where the first separator is, or the number of bytes.
+    ///
+    /// # Contract
+    ///
+    /// ```text
+    /// requires few { length units.now ≤ 17 }
+    /// requires separators { self.now.separators ≡ mask_l (map is_separator units.now) }
+    /// ensures { result ≡ position_or_len is_separator units.now }
+    /// ```
+    #[inline(always)]
+    pub(crate) fn first_end(&self, units: &[u8]) -> usize {
+        (self.separators + (1 << units.len())).trailing_zeros() as usize
+    }
+
+    /// Those from a byte on. The bytes are there for the contract.
+    ///
+    /// # Contract
+    ///
+    /// ```text
+    /// requires few { length _units.now ≤ 17 }
+    /// requires inside { start ≤ length _units.now }
+    /// requires letters { self.now.letters ≡ mask_l (map is_alphabetic _units.now) }
+    /// requires digits { self.now.digits ≡ mask_l (map is_digit _units.now) }
+    /// requires separators { self.now.separators ≡ mask_l (map is_separator _units.now) }
+    /// ensures letters { result.letters ≡ mask_l (map is_alphabetic (drop start _units.now)) }
+    /// ensures digits { result.digits ≡ mask_l (map is_digit (drop start _units.now)) }
+    /// ensures separators { result.separators ≡ mask_l (map is_separator (drop start _units.now)) }
+    /// ```
+    #[inline(always)]
+    pub(crate) fn from(&self, _units: &[u8], start: usize) -> Self {
+        Classes {
+            letters: self.letters >> start,
+            digits: self.digits >> start,
+            separators: self.separators >> start,
+        }
+    }
+}
+
+/// Whether the first `count` bytes are letters, by the bits of all bytes. The bytes are there for the contract.
+///
+/// # Contract
+///
+/// ```text
+/// requires few { length _units.now ≤ 17 }
+/// requires inside { count ≤ length _units.now }
+/// requires letters { letters ≡ mask_l (map is_alphabetic _units.now) }
+/// ensures { result ≡ list_all is_alphabetic (take count _units.now) }
+/// ```
+#[inline(always)]
+pub(crate) fn are_letters(letters: u64, _units: &[u8], count: usize) -> bool {
+    letters % (1 << count) + 1 == 1 << count
+}

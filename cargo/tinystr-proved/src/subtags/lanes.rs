@@ -1,0 +1,260 @@
+//! The first sixteen bytes of an input in a vector: their classes, and the texts that they become. This module alone is about
+//! padded bytes.
+
+use crate::simd::*;
+use crate::TinyAsciiStr;
+use crate::words::word::{Word, lanes};
+
+/// At most the first sixteen bytes, and then NULs.
+///
+/// # Contract
+///
+/// ```text
+/// ensures { IsLoaded result units.now }
+/// ```
+#[inline(always)]
+pub(crate) fn first_lanes(units: &[u8]) -> u8x16 {
+    let front = &units[..units.len().min(16)];
+    lanes(<u128 as Word<16>>::load(front))
+}
+
+/// Which of at most 17 bytes are letters.
+///
+/// # Contract
+///
+/// ```text
+/// requires few { length units.now ≤ 17 }
+/// requires loaded { IsLoaded lanes units.now }
+/// ensures { result ≡ mask_l (map is_alphabetic units.now) }
+/// ```
+#[inline(always)]
+pub(crate) fn letters_of(units: &[u8], lanes: u8x16) -> u64 {
+    let letters = letters(lanes);
+    if units.len() <= 16 {
+        letters
+    } else {
+        with_last(letters, is_letter(units[16]))
+    }
+}
+
+/// Which of at most 17 bytes are digits.
+///
+/// # Contract
+///
+/// ```text
+/// requires few { length units.now ≤ 17 }
+/// requires loaded { IsLoaded lanes units.now }
+/// ensures { result ≡ mask_l (map is_digit units.now) }
+/// ```
+#[inline(always)]
+pub(crate) fn digits_of(units: &[u8], lanes: u8x16) -> u64 {
+    let digits = digits(lanes);
+    if units.len() <= 16 {
+        digits
+    } else {
+        with_last(digits, is_digit(units[16]))
+    }
+}
+
+/// Which of at most 17 bytes are separators.
+///
+/// # Contract
+///
+/// ```text
+/// requires few { length units.now ≤ 17 }
+/// requires loaded { IsLoaded lanes units.now }
+/// ensures { result ≡ mask_l (map is_separator units.now) }
+/// ```
+#[inline(always)]
+pub(crate) fn separators_of(units: &[u8], lanes: u8x16) -> u64 {
+    let separators = separators(lanes);
+    if units.len() <= 16 {
+        separators
+    } else {
+        with_last(separators, is_separator(units[16]))
+    }
+}
+
+/// The folded text of at most eight bytes.
+///
+/// # Contract
+///
+/// ```text
+/// requires few { length units.now ≤ 8 }
+/// requires loaded { IsLoaded lanes units.now }
+/// requires text { IsText (map fold_byte units.now) }
+/// ensures { result ≡ map fold_byte units.now }
+/// ```
+#[inline(always)]
+pub(crate) fn folded_text(units: &[u8], lanes: u8x16) -> TinyAsciiStr<17> {
+    text_of(folded(lanes), 0)
+}
+
+/// The text of at most 17 bytes: a language of `end` letters in lowercase, and a tail in the case of the example.
+///
+/// # Contract
+///
+/// ```text
+/// requires few { length units.now ≤ 17 }
+/// requires loaded { IsLoaded lanes units.now }
+/// requires language { end ≤ 8 }
+/// requires inside { end < length units.now }
+/// requires like { IsLike (example (length units.now - end)) (drop end units.now) }
+/// requires text { IsText (map fold_byte (take end units.now) ++ in_case_of (example (length units.now - end)) (drop end units.now)) }
+/// ensures { result ≡ map fold_byte (take end units.now) ++ in_case_of (example (length units.now - end)) (drop end units.now) }
+/// ```
+#[inline(always)]
+pub(crate) fn text_in_case(units: &[u8], lanes: u8x16, end: usize) -> TinyAsciiStr<17> {
+    let steps = steps(end, units.len() - end);
+    text_of(folded(lanes) - steps, last_of(units))
+}
+
+// The bits of sixteen bytes and one more.
+// Proved:
+//     requires { bits < 2 ^ 16 }
+//     ensures { result ≡ bits + (if is_set then 2 ^ 16 else 0) }
+#[inline(always)]
+fn with_last(bits: u64, is_set: bool) -> u64 {
+    bits + (u64::from(is_set) << 16)
+}
+
+// Proved:
+//     ensures { result ≡ is_alphabetic byte }
+#[inline(always)]
+fn is_letter(byte: u8) -> bool {
+    byte.is_ascii_alphabetic()
+}
+
+// Proved:
+//     ensures { result ≡ is_digit byte }
+#[inline(always)]
+fn is_digit(byte: u8) -> bool {
+    byte.is_ascii_digit()
+}
+
+// Proved:
+//     ensures { result ≡ is_separator byte }
+#[inline(always)]
+fn is_separator(byte: u8) -> bool {
+    byte == b'-' || byte == b'_'
+}
+
+// One bit more makes a lowercase letter of an uppercase letter, and a letter of nothing else.
+const LOWERCASE: u8 = 0x20;
+
+// The lanes that are letters.
+// Proved:
+//     ensures { result ≡ mask_l (map is_alphabetic lanes) }
+#[inline(always)]
+fn letters(lanes: u8x16) -> u64 {
+    let from_a = (lanes | u8x16::splat(LOWERCASE)) - u8x16::splat(b'a');
+    from_a.simd_lt(u8x16::splat(26)).to_bitmask()
+}
+
+// The lanes that are digits.
+// Proved:
+//     ensures { result ≡ mask_l (map is_digit lanes) }
+#[inline(always)]
+fn digits(lanes: u8x16) -> u64 {
+    let from_0 = lanes - u8x16::splat(b'0');
+    from_0.simd_lt(u8x16::splat(10)).to_bitmask()
+}
+
+// The lanes that are `-` or `_`.
+// Proved:
+//     ensures { result ≡ mask_l (map is_separator lanes) }
+#[inline(always)]
+fn separators(lanes: u8x16) -> u64 {
+    let dashes = lanes.simd_eq(u8x16::splat(b'-'));
+    (dashes | lanes.simd_eq(u8x16::splat(b'_'))).to_bitmask()
+}
+
+// The lanes with `-` for `_`, and letters in lowercase.
+// Proved:
+//     ensures { result ≡ map fold_byte lanes }
+#[inline(always)]
+fn folded(lanes: u8x16) -> u8x16 {
+    let lowered = lanes | u8x16::splat(LOWERCASE);
+    let are_letters = (lowered - u8x16::splat(b'a')).simd_lt(u8x16::splat(26));
+    let are_underscores = lanes.simd_eq(u8x16::splat(b'_'));
+    let dashed = are_underscores.select(u8x16::splat(b'-'), lanes);
+    are_letters.select(lowered, dashed)
+}
+
+// By how much each byte of the example of each length is below a lowercase letter, after eight zeros for a language, and
+// before zeros.
+static LOWERED: [[u8; 24]; 10] = [
+    [
+        0, 0, 0, 0, 0, 0, 0, 0, 0, 0, 0, 0, 0, 0, 0, 0, 0, 0, 0, 0, 0, 0, 0, 0,
+    ],
+    [
+        0, 0, 0, 0, 0, 0, 0, 0, 0, 0, 0, 0, 0, 0, 0, 0, 0, 0, 0, 0, 0, 0, 0, 0,
+    ],
+    [
+        0, 0, 0, 0, 0, 0, 0, 0, 0, 0, 0, 0, 0, 0, 0, 0, 0, 0, 0, 0, 0, 0, 0, 0,
+    ],
+    [
+        0, 0, 0, 0, 0, 0, 0, 0, 0, 32, 32, 0, 0, 0, 0, 0, 0, 0, 0, 0, 0, 0, 0, 0,
+    ],
+    [
+        0, 0, 0, 0, 0, 0, 0, 0, 0, 0, 0, 0, 0, 0, 0, 0, 0, 0, 0, 0, 0, 0, 0, 0,
+    ],
+    [
+        0, 0, 0, 0, 0, 0, 0, 0, 0, 32, 0, 0, 0, 0, 0, 0, 0, 0, 0, 0, 0, 0, 0, 0,
+    ],
+    [
+        0, 0, 0, 0, 0, 0, 0, 0, 0, 0, 0, 0, 0, 0, 0, 0, 0, 0, 0, 0, 0, 0, 0, 0,
+    ],
+    [
+        0, 0, 0, 0, 0, 0, 0, 0, 0, 0, 0, 0, 0, 0, 0, 0, 0, 0, 0, 0, 0, 0, 0, 0,
+    ],
+    [
+        0, 0, 0, 0, 0, 0, 0, 0, 0, 32, 0, 0, 0, 0, 32, 32, 0, 0, 0, 0, 0, 0, 0, 0,
+    ],
+    [
+        0, 0, 0, 0, 0, 0, 0, 0, 0, 32, 0, 0, 0, 0, 0, 0, 0, 0, 0, 0, 0, 0, 0, 0,
+    ],
+];
+
+// By how much the bytes of a folded identifier are lowered into the case of the example, where a language of `end` letters
+// and `len` more bytes are all.
+// Proved:
+//     requires language { end ≤ 8 }
+//     requires tail { length (example len) ≡ len }
+//     requires few { end + len ≤ 17 }
+//     ensures { result ≡ take 16 (pad (replicate end 0 ++ steps_of (example len)) 17) }
+#[inline(always)]
+fn steps(end: usize, len: usize) -> u8x16 {
+    u8x16::from_slice(&table(len)[8 - end..])
+}
+
+// The steps of a tail after eight zeros, and then zeros.
+// Proved:
+//     requires { len ≤ 9 }
+//     ensures { result.now ≡ pad (replicate 8 0 ++ steps_of (example len)) 24 }
+#[inline(always)]
+fn table(len: usize) -> &'static [u8; 24] {
+    &LOWERED[len]
+}
+
+// The 17th byte, or a NUL.
+// Proved:
+//     ensures { result ≡ slice_index units.now 16 }
+#[inline(always)]
+fn last_of(units: &[u8]) -> u8 {
+    match units.get(16) {
+        Some(byte) => *byte,
+        None => 0,
+    }
+}
+
+// The text of sixteen bytes and one more.
+// Proved:
+//     requires { IsPaddedText (lanes ++ last ∷ []) 17 }
+//     ensures { result ≡ text_of (lanes ++ last ∷ []) }
+#[inline(always)]
+fn text_of(lanes: u8x16, last: u8) -> TinyAsciiStr<17> {
+    let mut bytes = [last; 17];
+    bytes[..16].copy_from_slice(&lanes.to_array()[..]);
+    TinyAsciiStr::from_padded(bytes)
+}
