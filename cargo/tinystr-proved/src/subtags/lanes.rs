@@ -75,18 +75,18 @@ pub(crate) fn separators_of(units: &[u8], lanes: u8x16) -> u64 {
     }
 }
 
-/// The folded text of at most eight bytes.
+/// The folded text of at most eight bytes. The bytes are there for the contract.
 ///
 /// # Contract
 ///
 /// ```text
-/// requires few { length units.now ≤ 8 }
-/// requires loaded { IsLoaded lanes units.now }
-/// requires text { IsText (map fold_byte units.now) }
-/// ensures { result ≡ map fold_byte units.now }
+/// requires few { length _units.now ≤ 8 }
+/// requires loaded { IsLoaded lanes _units.now }
+/// requires text { IsText (map fold_byte _units.now) }
+/// ensures { result ≡ map fold_byte _units.now }
 /// ```
 #[inline(always)]
-pub(crate) fn folded_text(units: &[u8], lanes: u8x16) -> TinyAsciiStr<17> {
+pub(crate) fn folded_text(_units: &[u8], lanes: u8x16) -> TinyAsciiStr<17> {
     text_of(folded(lanes), 0)
 }
 
