@@ -21,9 +21,6 @@ from wrong_bodies.recording import record
 from wrong_bodies.rooms import Room
 from wrong_bodies.searches import searches_of, with_searches
 
-# With so few groups to try, or fewer, it takes longer to find which short searches prove their goals than they save.
-FEW = 3
-
 
 class Threads:
     """Threads that make checks, the longest of those that wait first: one left to the end is waited for alone."""
@@ -81,7 +78,9 @@ class Run:
         if None in lines:
             self.room = self.room or Room(self.folder)
             self.room.begin(crate)
-            if lines.count(None) > FEW and not (self.given.record or self.given.whole):
+            # (beside a wrong callee a goal is tried by its short search alone, so a group of several needs these)
+            is_of_several = any(len(it.edits) > 1 for it, line in zip(groups, lines) if line is None)
+            if is_of_several and not (self.given.record or self.given.whole):
                 searches = self.room.proved(crate, searches_of(edits, texts), texts)
         for number, group in enumerate(groups):
             if lines[number] is not None:
