@@ -1,8 +1,8 @@
 #!/usr/bin/env python3
 """expected.py FOLDER: writes what the programs beside it read, and what each of them has to print.
 
-FOLDER/words is a word a line: names of locales and codes from Debian's lists, and awkward words. FOLDER/table is packed
-records of 3 bytes that rise: the codes of ISO 639. FOLDER/hashed is a hashed table of the same texts. FOLDER/wanted has a
+FOLDER/words is a word a line: names of locales and codes from Debian's lists, and awkward words. FOLDER/table is sorted
+packed records of 3 bytes: the codes of ISO 639. FOLDER/hashed is a hashed table of the same texts. FOLDER/wanted has a
 line for each word, and one for all that are texts of at most 3 bytes, made here by regular expressions, str, bisect and
 hashed.py, and not by the library. The lists that aren't there are named, and left out.
 """

@@ -25,7 +25,7 @@ NAMES = {
     "crate::words::int_ops": "Aligned4 Aligned8 Aligned16",
 }
 
-# What tells that an example needs a name, where that isn't the name alone: a call that needs a trait's name besides, and
+# What shows that an example needs a name, where that isn't the name alone: a call that needs a trait's name besides, and
 # what a module has of those that share a name.
 TOLD_BY = {
     ("tinystr::subtags::subtag", "SubtagKind"): r"Kind::read\(",

@@ -2,7 +2,7 @@
 
 An entry of the text is a line 'once: OLD' or 'N times: OLD', or 'N times in FILE: OLD', and below it '    becomes NEW' or
 '    goes'. What is new alone is 'once added in FILE: NEW', with no line below. `…` in OLD is any text without `;` or a brace
-of its own, and stands in NEW in the same order. Where OLD or NEW has more lines, each begins with eight spaces. One line
+of its own, and is in NEW in the same order. Where OLD or NEW has more lines, each begins with eight spaces. One line
 names the function that makes each text.
 """
 

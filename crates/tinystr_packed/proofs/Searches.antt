@@ -190,7 +190,7 @@ search_result-at ts t i is = text_position-at t ts i (sym (result_ok-search_resu
 less_before : (ts : List (List ℕ)) (t : List ℕ) (i : ℕ) → 0 < i → text_at ts i ≡ t → order (text_at ts (i - 1)) (text_at ts (i - 1 + 1)) ≡ Less → order (text_at ts (i - 1)) t ≡ Less
 less_before ts t i some same less = let e : i - 1 + 1 ≡ i = omega arith in rw (e, same) at less
 
--- among texts that rise each has one place, which a search gives
+-- among sorted texts each has one place, which a search gives
 IsFirstNotBelow-at : (ts : List (List ℕ)) (t : List ℕ) (i : ℕ) → IsRising ts → slice_get ts i ≡ Some t → IsFirstNotBelow t ts i
 IsFirstNotBelow-at ts t i up at =
     let inside = slice_get_within ts i t at in
