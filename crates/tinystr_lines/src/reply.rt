@@ -1,6 +1,6 @@
 //! The reply to a line.
 
-ghost use Rattle.std.specs.Prelude.{◌≡◌, ◌<◌, ◌≤◌, ◌^◌, [], ◌++◌, codes, length, take, true, is_some, IfSome, OnOk};
+ghost use Rattle.std.specs.Prelude.{◌≡◌, ◌<◌, ◌≤◌, ◌^◌, [], ◌++◌, codes, length, take, true, is_some, IfSome, OnOk, Some};
 ghost use Rattle.std.specs.Option.{option_map_or};
 ghost use Rattle.std.specs.Fmt.{decimal};
 ghost use Rattle.tinystr.specs.Error.{fault_of};
@@ -19,6 +19,26 @@ use tinystr::{ParseError, TinyAsciiStr};
 
 // What the lossy reader puts for a code unit that isn't a character.
 const REPLACEMENT: u8 = b'?';
+
+// Calls a function at the capacity that a field spells, or gives another value.
+macro_rules! at_capacity {
+    ($field:expr, $call:ident, $other:expr, $($argument:expr),*) => {
+        match $field {
+            b"0" => $call::<0>($($argument),*),
+            b"1" => $call::<1>($($argument),*),
+            b"2" => $call::<2>($($argument),*),
+            b"3" => $call::<3>($($argument),*),
+            b"4" => $call::<4>($($argument),*),
+            b"5" => $call::<5>($($argument),*),
+            b"8" => $call::<8>($($argument),*),
+            b"9" => $call::<9>($($argument),*),
+            b"16" => $call::<16>($($argument),*),
+            b"17" => $call::<17>($($argument),*),
+            b"32" => $call::<32>($($argument),*),
+            _ => $other,
+        }
+    };
+}
 
 // Appends the first bytes of an array. All of it is copied and cut, since a copy of a known length is faster.
 fn push_beginning<const N: usize>(
@@ -217,7 +237,7 @@ fn push_locale_reply(out: &mut Vec<u8>, units: &[u8]) -> Result<(), AllocError>
     }
 }
 
-// Appends whether the bytes are packed records of as many bytes as a capacity that a field spells.
+// Appends whether the bytes are packed records, at the capacity that a field spells.
 #[tactic(auto, unfolding(crate::specs::Fields::capacity_of))]
 fn push_records_reply_at_run_time(
     out: &mut Vec<u8>,
@@ -228,19 +248,20 @@ fn push_records_reply_at_run_time(
     ensures { OnOk result (out.new.items ≡ out.old.items
         ++ option_map_or (λ n. records_reply n bytes.now) (capacity_of capacity.now) []) }
 {
-    match capacity {
-        b"1" => push_records_reply_at_const::<1>(out, bytes),
-        b"2" => push_records_reply_at_const::<2>(out, bytes),
-        b"3" => push_records_reply_at_const::<3>(out, bytes),
-        b"4" => push_records_reply_at_const::<4>(out, bytes),
-        b"5" => push_records_reply_at_const::<5>(out, bytes),
-        b"8" => push_records_reply_at_const::<8>(out, bytes),
-        b"9" => push_records_reply_at_const::<9>(out, bytes),
-        b"16" => push_records_reply_at_const::<16>(out, bytes),
-        b"17" => push_records_reply_at_const::<17>(out, bytes),
-        b"32" => push_records_reply_at_const::<32>(out, bytes),
-        _ => push_records_reply_at_const::<0>(out, bytes),
-    }
+    at_capacity!(
+        capacity,
+        push_records_reply_at_const,
+        push_records_reply_at_const::<0>(out, bytes),
+        out,
+        bytes
+    )
+}
+
+// A capacity that is known when the program is built.
+fn known_capacity<const N: usize>() -> Option<usize>
+    ensures { result ≡ Some N }
+{
+    Some(N)
 }
 
 // The capacity that a field spells.
@@ -249,20 +270,7 @@ fn parse_capacity(field: &[u8]) -> Option<usize>
     ensures value { result ≡ capacity_of field.now }
     ensures bound { IfSome result (λ n. n ≤ 32) }
 {
-    match field {
-        b"0" => Some(0),
-        b"1" => Some(1),
-        b"2" => Some(2),
-        b"3" => Some(3),
-        b"4" => Some(4),
-        b"5" => Some(5),
-        b"8" => Some(8),
-        b"9" => Some(9),
-        b"16" => Some(16),
-        b"17" => Some(17),
-        b"32" => Some(32),
-        _ => None,
-    }
+    at_capacity!(field, known_capacity, None,)
 }
 
 // Appends the reply to the fields of a line.

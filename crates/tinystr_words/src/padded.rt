@@ -1,6 +1,6 @@
-//! The calls of `tinystr` on padded bytes of any length: a text and then NULs. Up to 16 bytes each call uses the
-//! narrowest word that holds them, as `width_of` tells: `Aligned4`, `Aligned8` or `Aligned16` of `int_ops`. Past 16
-//! bytes it uses the module below that is named for what it does.
+//! The calls of `tinystr` on padded bytes of any length: a text and then NULs. Up to 16 bytes a call uses one word of
+//! `int_ops`: the narrowest that holds them, as `width_of` returns it, except where a comment gives the reason for a wider
+//! one. Past 16 bytes it uses the module below that is named for what it does.
 
 ghost use Rattle.std.specs.Prelude.{◌≡◌, ◌≤◌, ◌++◌, ◌↔◌, length, take, IsTrue, IsOk, IfOk, IfErr};
 ghost use Rattle.std.specs.Fmt.{decimal};

@@ -101,6 +101,7 @@ fn read_pieces<U: CodeUnit, const N: usize>(units: &[U]) -> Result<TinyAsciiStr<
         }
         return Ok(TinyAsciiStr::from_padded(padded::low_bytes(units)).hinted_in_result());
     }
+    // no replacement is seen: bytes that aren't all characters are dropped
     let mut bytes = [0; N];
     if !padded::read_all(&mut bytes[..], units, 0) {
         return Err(fault::<U, N>(units));
