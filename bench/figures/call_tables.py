@@ -1,9 +1,9 @@
 """The tables of bench/calls, and the heat map of them."""
 
-from figures import THERE
-from heat_map import heat_map
-from ratios import CAPACITIES, FAILING, KINDS, SLOWER, cells_of_kind, mean_of, ratios_of_kind
-from tables import aligned, cells_of_table, geometric, marked, ratio_table, rows_of, said
+from figures.figures import THERE
+from figures.heat_map import heat_map
+from figures.ratios import CAPACITIES, FAILING, KINDS, SLOWER, cells_of_kind, mean_of, ratios_of_kind
+from figures.tables import aligned, cells_of_table, geometric, marked, ratio_table, rows_of, said
 
 LISTS = "mixed, each read once"
 PAIR = "full, mixed"

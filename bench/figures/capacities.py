@@ -2,9 +2,9 @@
 
 from math import log10
 
-from drawing import BLUE, CARD, FAINT, GREY, INK, ORANGE, bold, dot, grey, line, mixed, polyline, rectangle, svg, text
-from ratios import CAPACITIES, FAILING, SLOWER, ratios_of_kind
-from tables import geometric
+from figures.drawing import BLUE, CARD, FAINT, GREY, INK, ORANGE, bold, dot, grey, line, mixed, polyline, rectangle, svg, text
+from figures.ratios import CAPACITIES, FAILING, SLOWER, ratios_of_kind
+from figures.tables import geometric
 
 # The calls that are named beside their lines, each with its colour.
 NAMED = {

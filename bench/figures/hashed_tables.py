@@ -3,9 +3,9 @@
 A cell of these figures is as in many_keys.py.
 """
 
-from figures import HERE
-from many_keys import BYTES, ONE_BY_ONE, cell_of, counts, widths
-from tables import aligned, said
+from figures.figures import HERE
+from figures.many_keys import BYTES, ONE_BY_ONE, cell_of, counts, widths
+from figures.tables import aligned, said
 
 HASHED = "hashed"
 SETS = ["HashSet", "HashSet with SipHash"]

@@ -3,8 +3,8 @@ capacity, and their mean in a last column."""
 
 from math import log
 
-from drawing import BORDER, CARD, WIDTH, bold, grey, group, mixed, rectangle, svg, text
-from tables import geometric
+from figures.drawing import BORDER, CARD, WIDTH, bold, grey, group, mixed, rectangle, svg, text
+from figures.tables import geometric
 
 # The colours of the fastest and of the slowest cells, on which text is legible, and from which ratios on they are full.
 FAST, FASTEST = "#58a6ff", 0.08

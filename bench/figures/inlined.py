@@ -1,8 +1,8 @@
 """The table and the picture of bench/cargo: the crate for Cargo beside the Rust crate, both inlined, for two processors."""
 
-from figures import THERE
-from heat_map import heat_map, means_of
-from tables import aligned, geometric, type_table
+from figures.figures import THERE
+from figures.heat_map import heat_map, means_of
+from figures.tables import aligned, geometric, type_table
 
 # The tables of each kind of texts: of lists, and of one value at a time.
 TABLES = {

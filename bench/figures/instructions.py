@@ -1,4 +1,4 @@
-#!/usr/bin/env python3
+#!/usr/bin/env -S python3 -B
 """Reads what callgrind counted of a driver, and prints a line for each crate's call: its place in the tables, and the
 instructions a value, without what the call costs with no round.
 """
@@ -31,4 +31,5 @@ def main():
             print(f"{place}|{(count - idle) / (int(values) * int(rounds)):.2f}")
 
 
-main()
+if __name__ == "__main__":
+    main()

@@ -1,8 +1,8 @@
 """Whole jobs, by bench/run: their table and their picture."""
 
-from drawing import BLUE, FAINT, ORANGE, WIDTH, bold, rectangle, svg, text
-from figures import HERE, START, THERE
-from tables import aligned, said
+from figures.drawing import BLUE, FAINT, ORANGE, WIDTH, bold, rectangle, svg, text
+from figures.figures import HERE, START, THERE
+from figures.tables import aligned, said
 
 NAMES = {START: "this crate at the start", HERE: "this crate now", THERE: "a Rust program over the Rust crate"}
 COLORS = {START: FAINT, HERE: BLUE, THERE: ORANGE}

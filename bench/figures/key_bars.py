@@ -2,9 +2,9 @@
 
 from math import ceil
 
-from drawing import BLUE, ORANGE, PALE_BLUE, PALE_ORANGE, bold, grey, rectangle, svg, text
-from figures import HERE, THERE
-from tables import types_of
+from figures.drawing import BLUE, ORANGE, PALE_BLUE, PALE_ORANGE, bold, grey, rectangle, svg, text
+from figures.figures import HERE, THERE
+from figures.tables import types_of
 
 CALLS = [
     "BTreeMap, insert", "BTreeMap, get a present key", "BTreeMap, get an absent key",

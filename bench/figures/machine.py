@@ -2,7 +2,7 @@
 
 from textwrap import fill
 
-from tables import aligned
+from figures.tables import aligned
 
 COLUMNS = ["date", "commit", "programs beside"]
 

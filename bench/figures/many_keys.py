@@ -5,9 +5,9 @@ A cell of these figures is a table, as '8 bytes, 1000 records', an order of the 
 
 from math import ceil, floor, log10
 
-from drawing import BLUE, GREEN, ORANGE, PURPLE, bold, dot, line, polyline, svg, text
-from figures import HERE
-from tables import aligned, said
+from figures.drawing import BLUE, GREEN, ORANGE, PURPLE, bold, dot, line, polyline, svg, text
+from figures.figures import HERE
+from figures.tables import aligned, said
 
 TITLE = "Nanoseconds for a key among many, by the number of records"
 ONE_BY_ONE = "one by one"
@@ -133,4 +133,3 @@ def many_keys_picture(figures):
         shapes += panel_shapes(figures, width, panel)
     height = PANEL_TOP + PANEL_HEIGHT * ceil(len(widths(figures)) / 2) - 32
     return svg(height, TITLE, many_keys_description(figures), shapes)
-

@@ -2,8 +2,8 @@
 
 import re
 
-from figures import HERE, THERE
-from tables import TYPES, aligned, bounded_ratio, type_cell, type_table, types_of
+from figures.figures import HERE, THERE
+from figures.tables import TYPES, aligned, bounded_ratio, type_cell, type_table, types_of
 
 
 def by_call(cells):

@@ -3,16 +3,16 @@
 import re
 from textwrap import fill
 
-from call_tables import beside_others, calls_description, full_and_mixed, in_a_row, lists_and_failing, slower, table
-from capacities import capacities_description
-from figures import THERE
-from hashed_tables import hashed_tables
-from inlined import cargo_description, inlined_table, look_ups
-from jobs import jobs_table
-from machine import machine
-from many_keys import TITLE as MANY_KEYS, many_keys_description, many_keys_tables
-from other_tables import all_cells, lines, loops, types
-from ratios import FAILING, mean_of, slowest_of
+from figures.call_tables import beside_others, calls_description, full_and_mixed, in_a_row, lists_and_failing, slower, table
+from figures.capacities import capacities_description
+from figures.figures import THERE
+from figures.hashed_tables import hashed_tables
+from figures.inlined import cargo_description, inlined_table, look_ups
+from figures.jobs import jobs_table
+from figures.machine import machine
+from figures.many_keys import TITLE as MANY_KEYS, many_keys_description, many_keys_tables
+from figures.other_tables import all_cells, lines, loops, types
+from figures.ratios import FAILING, mean_of, slowest_of
 
 BLOCK = re.compile(r"(<!-- bench/report (.+?) -->\n).*?(<!-- end -->\n)", re.DOTALL)
 

@@ -1,15 +1,10 @@
-#!/usr/bin/env python3
-"""print_tables.py HEAD TIMES [OPTION..]: prints tables of a driver's figures for drivers/measure, and writes them as CSV."""
+"""Prints tables of a driver's figures for drivers/measure, and writes them as CSV."""
 
 import argparse
-import sys
-from pathlib import Path
 from statistics import mean, median
 
-sys.dont_write_bytecode = True
-sys.path.insert(0, str(Path(__file__).resolve().parent))
-from figures import THERE, Figures
-from tables import cells_of_table, geometric, ratio_table, ratios_by_column, rows_of, type_table
+from figures.figures import THERE, Figures
+from figures.tables import cells_of_table, geometric, ratio_table, ratios_by_column, rows_of, type_table
 
 # The tables beside others than the original, each with whose calls it has.
 BESIDE = {"Beside tinystr 0.3.2": "0.3.2", "Beside vectors written by hand": "by hand"}
@@ -89,4 +84,5 @@ def main():
             figures.write_csv(file)
 
 
-main()
+if __name__ == "__main__":
+    main()

@@ -1,7 +1,7 @@
 """The ratios of bench/calls and bench/cargo by call and capacity, gathered from their tables."""
 
-from figures import THERE
-from tables import geometric
+from figures.figures import THERE
+from figures.tables import geometric
 
 # The tables with all capacities, each with the texts that its calls were given.
 KINDS = {

@@ -4,7 +4,7 @@ from itertools import zip_longest
 from math import exp, log
 from statistics import mean
 
-from figures import HERE, THERE
+from figures.figures import HERE, THERE
 
 TYPES = {HERE: "this crate", THERE: "tinystr 0.8.5"}
 

@@ -7,8 +7,8 @@ import subprocess
 import time
 from pathlib import Path
 
-from figures import Figures
-from tables import type_table
+from figures.figures import Figures
+from figures.tables import type_table
 
 BENCH = Path(__file__).resolve().parent.parent
 

@@ -68,16 +68,24 @@ IN_FILE = {
             "as in the original, so that constants are patterns",
         ),
         Rule("    bytes: [u8; N],\n", "    bytes: AsciiBytes<N>,\n", BELOW_128),
-        Rule("use crate::error::ParseError;\n", "use crate::ascii_bytes::AsciiBytes;\nuse crate::error::ParseError;\n", BELOW_128),
+        Rule(
+            "use crate::error::ParseError;\n", "use crate::ascii_bytes::AsciiBytes;\nuse crate::error::ParseError;\n", BELOW_128
+        ),
     ],
     "tinystr/ascii/order.rt": [
-        Rule("use crate::ascii::TinyAsciiStr;\n", "use crate::ascii::TinyAsciiStr;\nuse crate::ascii_bytes::AsciiBytes;\n", OF_BYTES),
+        Rule(
+            "use crate::ascii::TinyAsciiStr;\n",
+            "use crate::ascii::TinyAsciiStr;\nuse crate::ascii_bytes::AsciiBytes;\n",
+            OF_BYTES,
+        ),
         Rule(" PartialEq for TinyAsciiStr<N> {", " PartialEq for AsciiBytes<N> {", OF_BYTES),
         Rule(" Eq for TinyAsciiStr<N> {", " Eq for AsciiBytes<N> {", OF_BYTES),
         Rule("padded::equals(&self.bytes, &other.bytes)", "padded::equals(self.as_array(), other.as_array())", OF_BYTES),
     ],
     "tinystr/ascii/readers.rt": [
-        Rule("use crate::error::ParseError;\n", "use crate::ascii_bytes::AsciiBytes;\nuse crate::error::ParseError;\n", BELOW_128),
+        Rule(
+            "use crate::error::ParseError;\n", "use crate::ascii_bytes::AsciiBytes;\nuse crate::error::ParseError;\n", BELOW_128
+        ),
         Rule("it runs: the condition is\n    /// proved at the call.", "it\n    /// runs.", NOT_PROVED_HERE),
     ],
     "tinystr/forms.rt": [
@@ -99,13 +107,23 @@ IN_FILE = {
     ],
     "tinystr/ascii/strict.rt": [
         Rule("from_padded(padded::low_bytes(units))", "from_padded(padded::low_bytes(units)).hinted_in_result()", HINTED),
-        Rule("    Ok(TinyAsciiStr::from_padded(bytes))\n", "    Ok(TinyAsciiStr::from_padded(bytes).hinted_in_result())\n", HINTED),
+        Rule(
+            "    Ok(TinyAsciiStr::from_padded(bytes))\n", "    Ok(TinyAsciiStr::from_padded(bytes).hinted_in_result())\n", HINTED
+        ),
     ],
     "tinystr_packed/sorted.rt": [
-        Rule("SortedTable<'a, const N: usize> {\n    table:", "SortedTable<'a, const N: usize> {\n    pub(crate) table:", TWIN_MAKES),
+        Rule(
+            "SortedTable<'a, const N: usize> {\n    table:",
+            "SortedTable<'a, const N: usize> {\n    pub(crate) table:",
+            TWIN_MAKES,
+        ),
     ],
     "tinystr_packed/table.rt": [
-        Rule("struct Table<'a, const N: usize> {\n    records:", "struct Table<'a, const N: usize> {\n    pub(crate) records:", TWIN_MAKES),
+        Rule(
+            "struct Table<'a, const N: usize> {\n    records:",
+            "struct Table<'a, const N: usize> {\n    pub(crate) records:",
+            TWIN_MAKES,
+        ),
         Rule(
             "        Some(TinyAsciiStr::from_utf8_unchecked(*raw))",
             "        // SAFETY: each record was read as a text and then NULs. This is proved.\n"
@@ -115,11 +133,15 @@ IN_FILE = {
         ),
     ],
     "subtags/lanes.rt": [
-        Rule("from_utf8_unchecked(bytes)", "from_padded(bytes)", "the function of the same contract that this crate has for itself"),
+        Rule(
+            "from_utf8_unchecked(bytes)", "from_padded(bytes)", "the function of the same contract that this crate has for itself"
+        ),
     ],
     "tinystr/ascii/splitting.rt": [
         Rule("Some((before.resize(), behind.resize()))", "Some((before.resize().hinted(), behind.resize().hinted()))", HINTED),
-        Rule("Some((self.take(at), self.suffix(at + 1)))", "Some((self.take(at).hinted(), self.suffix(at + 1).hinted()))", HINTED),
+        Rule(
+            "Some((self.take(at), self.suffix(at + 1)))", "Some((self.take(at).hinted(), self.suffix(at + 1).hinted()))", HINTED
+        ),
         Rule("pub fn find(", "pub fn find_byte(", NAMED_AS_STR),
         Rule("text.find(byte)", "text.find_byte(byte)", NAMED_AS_STR),
         Rule("text.get(0)", "text.get_byte(0)", NAMED_AS_STR),
@@ -210,9 +232,17 @@ IN_FILE = {
         Rule("Vec::new(alloc)", "Vec::new()", OF_ALLOCATOR),
         Rule("with_capacity(alloc, len)?;", "with_capacity(len);", OF_ALLOCATOR),
         Rule("repeated(alloc, texts)?", "repeated(texts)", OF_ALLOCATOR),
-        Rule("pack_with_seed(alloc, texts, index.wrapping_mul(OF_SEEDS))?", "pack_with_seed(texts, index.wrapping_mul(OF_SEEDS))", OF_ALLOCATOR),
+        Rule(
+            "pack_with_seed(alloc, texts, index.wrapping_mul(OF_SEEDS))?",
+            "pack_with_seed(texts, index.wrapping_mul(OF_SEEDS))",
+            OF_ALLOCATOR,
+        ),
         Rule("displacements(alloc, texts, seed)?", "displacements(texts, seed)", OF_ALLOCATOR),
-        Rule("table_bytes(alloc, texts, seed, displacements.as_slice())?", "table_bytes(texts, seed, displacements.as_slice())", OF_ALLOCATOR),
+        Rule(
+            "table_bytes(alloc, texts, seed, displacements.as_slice())?",
+            "table_bytes(texts, seed, displacements.as_slice())",
+            OF_ALLOCATOR,
+        ),
         Rule("extend_from_slice(texts)?;", "extend_from_slice(texts);", WANT_OF_MEMORY),
         Rule("to_le_bytes())?;", "to_le_bytes());", WANT_OF_MEMORY, 4),
         Rule("resize(len, 0)?;", "resize(len, 0);", WANT_OF_MEMORY),

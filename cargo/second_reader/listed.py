@@ -9,7 +9,7 @@ names the function that makes each text.
 import re
 from dataclasses import dataclass, field
 
-from texts import Unreadable, read
+from second_reader.texts import Unreadable, read
 
 ENTRY = re.compile(r"(?:once|(?P<count>\d+) times)(?P<added> added)?(?: in (?P<file>\S+))?: (?P<old>.*)")
 REQUIRES = re.compile(r"(?P<file>\S+\.rt): (?P<function>\w+) requires (?P<said>.*)")

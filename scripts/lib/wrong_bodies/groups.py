@@ -8,8 +8,8 @@ function's body, is alone. Groups of several have neutral and disturbed edits as
 
 from dataclasses import dataclass
 
-from wrong_bodies.edits import Unreadable, applied
-from wrong_bodies.reach import reach_of
+from lib.wrong_bodies.edits import Unreadable, applied
+from lib.wrong_bodies.reach import reach_of
 
 
 @dataclass(frozen=True)

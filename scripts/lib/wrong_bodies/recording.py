@@ -1,9 +1,9 @@
 """Writes the goals that refuse a group's edits into their blocks."""
 
-from wrong_bodies.blocks import write_goal
-from wrong_bodies.edits import is_clause
-from wrong_bodies.reach import own_of
-from wrong_bodies.refusals import refusals
+from lib.wrong_bodies.blocks import write_goal
+from lib.wrong_bodies.edits import is_clause
+from lib.wrong_bodies.reach import own_of
+from lib.wrong_bodies.refusals import refusals
 
 
 def record(group, output):

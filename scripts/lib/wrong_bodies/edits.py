@@ -4,7 +4,7 @@ nothing, and is Unreadable where it can't be applied."""
 from dataclasses import dataclass, field
 from pathlib import Path
 
-from sources import items
+from lib.sources import items
 
 # What the check of an edit has to show of its goal: the body breaks it; none is open; it is open for another reason.
 KINDS = ("refused", "neutral", "disturbed")

@@ -5,7 +5,7 @@ goal gets an answer that tries the first two ways. It prints nothing."""
 import re
 from dataclasses import dataclass
 
-from sources import items
+from lib.sources import items
 
 # Imports for each search, and those with which a goal is told by its operators.
 WORDS = ["use Rattle.std.proofs.Common as common", "use Rattle.std.proofs.lemmas.Grind as grinding"]

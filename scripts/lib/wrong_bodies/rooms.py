@@ -8,10 +8,10 @@ import subprocess
 import sys
 import threading
 
-from copies import READ_BY_RT, copy_all
-from sources import below
-from wrong_bodies.refusals import refusals
-from wrong_bodies.searches import with_searches
+from lib.copies import READ_BY_RT, copy_all
+from lib.sources import below
+from lib.wrong_bodies.refusals import refusals
+from lib.wrong_bodies.searches import with_searches
 
 
 class Room:

@@ -8,9 +8,9 @@ where it doesn't compile.
 import re
 from dataclasses import dataclass
 
-from wrong_bodies.edits import Edit
-from wrong_bodies.reach import own_of
-from wrong_bodies.refusals import refusals
+from lib.wrong_bodies.edits import Edit
+from lib.wrong_bodies.reach import own_of
+from lib.wrong_bodies.refusals import refusals
 
 UNCOMPILED = re.compile(r"(?:\./)?src/\S+: error\[.*")
 

@@ -1,7 +1,7 @@
-#!/usr/bin/env python3
+#!/usr/bin/env -S python3 -B
 """Reads pages of Markdown: their fences, what stands between these, their anchors and links.
 
-scripts/pages.py PAGE KIND   prints what the first fence of a kind holds, and fails where a page has none
+scripts/lib/pages.py PAGE KIND   prints what the first fence of a kind holds, and fails where a page has none
 """
 
 import re

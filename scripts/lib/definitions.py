@@ -5,8 +5,8 @@ nothing."""
 import re
 from dataclasses import dataclass, field
 
-from declarations import CRATES, LIBRARIES, lines_for_the_prover, text_of
-from sources import below
+from lib.declarations import CRATES, LIBRARIES, lines_for_the_prover, text_of
+from lib.sources import below
 
 # Where the public contracts of a crate stand.
 CONTRACTS = {

@@ -7,8 +7,8 @@ otherwise is Unreadable, by its name and its line.
 import re
 import threading
 
-from sources import TOP
-from wrong_bodies.edits import KINDS, Edit, Unreadable
+from lib.sources import TOP
+from lib.wrong_bodies.edits import KINDS, Edit, Unreadable
 
 PAIRS = r"(?P<pairs>(?:old: .+\nnew:.*\n)+)"
 BLOCK = re.compile(

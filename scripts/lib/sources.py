@@ -4,7 +4,7 @@ import re
 from dataclasses import dataclass
 from pathlib import Path
 
-TOP = Path(__file__).resolve().parent.parent
+TOP = Path(__file__).resolve().parents[2]
 LAWS = "src/laws.rt"
 FUNCTION = re.compile(r'( *)(?:pub(?:\([a-z]+\))? )?(?:const )?(?:extern "C" )?fn (\w+)')
 CONSTANT = re.compile(r"( *)(?:pub(?:\([a-z]+\))? )?(?:const|static) ([A-Z]\w*)\b")

@@ -12,14 +12,14 @@ from concurrent.futures import Future
 from dataclasses import dataclass
 from pathlib import Path
 
-from sources import texts_of
-from wrong_bodies.blocks import read_blocks
-from wrong_bodies.groups import groups_of
-from wrong_bodies.judging import judge
-from wrong_bodies.keeping import Kept
-from wrong_bodies.recording import record
-from wrong_bodies.rooms import Room
-from wrong_bodies.searches import searches_of, with_searches
+from lib.sources import texts_of
+from lib.wrong_bodies.blocks import read_blocks
+from lib.wrong_bodies.groups import groups_of
+from lib.wrong_bodies.judging import judge
+from lib.wrong_bodies.keeping import Kept
+from lib.wrong_bodies.recording import record
+from lib.wrong_bodies.rooms import Room
+from lib.wrong_bodies.searches import searches_of, with_searches
 
 
 class Threads:

@@ -5,7 +5,7 @@ import re
 import textwrap
 from dataclasses import dataclass
 
-from sources import TOP
+from lib.sources import TOP
 
 CRATES = TOP / "crates"
 # The libraries that have a CALLING.md, from the lowest up.

@@ -6,7 +6,7 @@ import json
 import os
 from pathlib import Path
 
-from sources import TOP, below, libraries, texts_of
+from lib.sources import TOP, below, libraries, texts_of
 
 FOLDER = Path(os.environ.get("XDG_CACHE_HOME") or Path.home() / ".cache") / "wrong-bodies"
 
@@ -15,7 +15,7 @@ class Kept:
     """What passed of a crate's groups."""
 
     def __init__(self, crate, version):
-        scripts = sorted([TOP / "scripts/sources.py", *(TOP / "scripts/wrong_bodies").glob("*.py")])
+        scripts = [TOP / "scripts/lib/sources.py", *sorted((TOP / "scripts/lib/wrong_bodies").glob("*.py"))]
         uses = libraries()
         crates = [(it, uses[it], sorted(texts_of(it).items())) for it in [*below(crate), crate]]
         self.read = repr((version, [it.read_text(encoding="utf-8") for it in scripts], crates))

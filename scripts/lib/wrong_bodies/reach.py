@@ -5,7 +5,7 @@ import re
 from dataclasses import dataclass
 from os.path import commonprefix
 
-from sources import Item, items
+from lib.sources import Item, items
 
 COMMENT_OR_IMPORT = re.compile(r"^ *(?://.*$|(?:pub )?use [^;]*;)", re.M)
 PROOF = re.compile(r"proofs/(.+?)(?:/(?:Answers|Invariants|Proof))?\.antt")

@@ -4,7 +4,7 @@ crates.txt, and HANDLES. It reads the crates as they stand in the checkout, and 
 import re
 import shutil
 
-from sources import TOP, below
+from lib.sources import TOP, below
 
 READ_BY_RT = ("src", "specs", "proofs")
 

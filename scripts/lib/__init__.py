@@ -1,0 +1,1 @@
+"""What the scripts share. Folders of commands that are elsewhere reach it by a link with this name."""
