@@ -20,13 +20,16 @@ def marked_pair(figures, call, capacity, rival=THERE):
 def full_and_mixed(figures):
     """A row for each of the calls over which the means are taken."""
     lines = [[PAIR, *CAPACITIES, "mean"]]
-    pair = lambda full, mixed: f"{full:.2f},  {mixed:.2f}"
+
+    def pair(full, mixed):
+        return f"{full:.2f},  {mixed:.2f}"
+
     full, mixed = ratios_of_kind(figures, "full"), ratios_of_kind(figures, "mixed")
     for call in full:
-        in_order = [marked_pair(figures, call, it) for it in CAPACITIES]
+        in_order = [marked_pair(figures, call, capacity) for capacity in CAPACITIES]
         lines.append([call, *in_order, pair(geometric(full[call].values()), geometric(mixed[call].values()))])
-    groups = [*([it] for it in CAPACITIES), None]
-    means = [pair(mean_of(figures, "full", it), mean_of(figures, "mixed", it)) for it in groups]
+    groups = [*([capacity] for capacity in CAPACITIES), None]
+    means = [pair(mean_of(figures, "full", group), mean_of(figures, "mixed", group)) for group in groups]
     return aligned([*lines, ["geometric mean", *means]])
 
 
@@ -34,11 +37,11 @@ def lists_and_failing(figures):
     """Readers of lists that can't be learned, and the questions that fail: the mean of all, the fastest and the slowest."""
     lines = [["call", *CAPACITIES]]
     for call, cells in cells_of_kind(figures, LISTS).items():
-        lines.append([f"{call}, each text once", *(marked(figures, cells[it]) for it in CAPACITIES)])
+        lines.append([f"{call}, each text once", *(marked(figures, cells[capacity]) for capacity in CAPACITIES)])
     failing = cells_of_kind(figures, "failing").values()
-    ratios = {it: [figures.ratio(cells[it], THERE) for cells in failing] for it in CAPACITIES}
+    ratios = {capacity: [figures.ratio(cells[capacity], THERE) for cells in failing] for capacity in CAPACITIES}
     for name, of in (("mean", geometric), ("fastest", min), ("slowest", max)):
-        lines.append([f"nine questions that fail, {name}", *(f"{of(ratios[it]):.2f}" for it in CAPACITIES)])
+        lines.append([f"nine questions that fail, {name}", *(f"{of(ratios[capacity]):.2f}" for capacity in CAPACITIES)])
     return aligned(lines)
 
 
@@ -64,7 +67,10 @@ def slower(figures):
         for call, ratios in slower_of(ratios_of_kind(figures, kind)).items():
             rows[call if kind == "failing" else f"{call}; {kind}"] = ratios
     heads = sorted(rows, key=lambda head: max(rows[head].values()), reverse=True)
-    line = lambda head: [head, *(f"{rows[head][it]:.2f}" if it in rows[head] else "" for it in CAPACITIES)]
+
+    def line(head):
+        return [head, *(f"{rows[head][capacity]:.2f}" if capacity in rows[head] else "" for capacity in CAPACITIES)]
+
     return aligned([["call", *CAPACITIES], *map(line, heads)])
 
 
@@ -72,9 +78,10 @@ def beside_others(figures):
     """tinystr 0.3.2, which has three capacities, and vectors by hand, which are of sixteen bytes."""
     lines = [[PAIR, *(f"{rival} at {capacity}" for rival, capacity in OTHERS)]]
     for call, cells in cells_of_kind(figures, "full").items():
-        has = lambda rival, capacity: rival in figures.times[cells[capacity]]
-        if any(has(*column) for column in OTHERS):
-            lines.append([call, *(marked_pair(figures, call, it, rival) if has(rival, it) else "" for rival, it in OTHERS)])
+        beside = [(rival, capacity, rival in figures.times[cells[capacity]]) for rival, capacity in OTHERS]
+        if any(is_timed for *_, is_timed in beside):
+            pairs = [marked_pair(figures, call, capacity, rival) if is_timed else "" for rival, capacity, is_timed in beside]
+            lines.append([call, *pairs])
     return aligned(lines)
 
 

@@ -32,13 +32,13 @@ def axes():
         shapes.append(line(LEFT, y_of(tick), RIGHT, y_of(tick), INK if is_one else FAINT, 1.6 if is_one else 0.5))
         shapes.append((bold if is_one else grey)(LEFT - 8, y_of(tick) + 4, f"{tick:.2g}" if tick < 1 else f"{tick:.1f}", "end"))
     shapes.append(text(RIGHT + 10, y_of(1.0) + 4, "1.0: as long as the Rust crate"))
-    shapes += [grey(x_of(it), BOTTOM + 18, it, "middle") for it in CAPACITIES]
+    shapes += [grey(x_of(capacity), BOTTOM + 18, capacity, "middle") for capacity in CAPACITIES]
     shapes.append(grey((LEFT + RIGHT) / 2, BOTTOM + 36, "capacity in bytes", "middle"))
     return shapes
 
 
 def places_of(ratios):
-    return [(x_of(it), y_of(ratio)) for it, ratio in ratios.items()]
+    return [(x_of(capacity), y_of(ratio)) for capacity, ratio in ratios.items()]
 
 
 def named_shapes(name, ratios, color, width, label_y):
@@ -69,7 +69,7 @@ def spread(places, step=17):
 def lines_named(rows):
     """The mean and the named calls: each name with its ratios, its colour and the width of its line."""
     beside_failing = [row for call, row in rows.items() if call != FAILING]
-    mean = {it: geometric([row[it] for row in beside_failing]) for it in CAPACITIES}
+    mean = {capacity: geometric([row[capacity] for row in beside_failing]) for capacity in CAPACITIES}
     named = {label: (rows[call], ORANGE if call == FAILING else GREY, 2) for call, label in NAMED.items()}
     return {f"mean of {len(beside_failing)} calls": (mean, BLUE, 4), **named}
 
@@ -93,7 +93,10 @@ def capacities_picture(figures):
 def capacities_description(figures):
     """The message, for those who don't see the picture."""
     rows, failing = ratios_of_kind(figures, "full"), ratios_of_kind(figures, "failing")[FAILING]
-    mean = lambda capacity: geometric([row[capacity] for row in rows.values()])
+
+    def mean(capacity):
+        return geometric([row[capacity] for row in rows.values()])
+
     first, last = CAPACITIES[0], CAPACITIES[-1]
     slowest = max(failing, key=failing.get)
     return (

@@ -29,7 +29,7 @@ def svg(height, title, description, shapes):
         *shapes,
         "</svg>",
     ]
-    return "".join(f"{it}\n" for it in lines)
+    return "".join(f"{line}\n" for line in lines)
 
 
 def group(shapes, attributes):
@@ -69,5 +69,8 @@ def dot(x, y, color, radius):
 
 def mixed(first, second, share):
     """A colour between two, by the share of the second."""
-    channels = lambda color: [int(color[i : i + 2], 16) for i in (1, 3, 5)]
+
+    def channels(color):
+        return [int(color[i : i + 2], 16) for i in (1, 3, 5)]
+
     return "#" + "".join(f"{round(a + (b - a) * share):02x}" for a, b in zip(channels(first), channels(second)))

@@ -62,7 +62,7 @@ def means_of(rows, capacities):
     means = {}
     for kind in KINDS:
         of_kind = [row[kind] for row in rows.values() if len(row) == len(KINDS)]
-        means[kind] = {it: geometric([row[it] for row in of_kind if it in row]) for it in capacities}
+        means[kind] = {capacity: geometric([row[capacity] for row in of_kind if capacity in row]) for capacity in capacities}
         means[kind]["mean"] = geometric([ratio for row in of_kind for ratio in row.values()])
     return means
 
@@ -74,15 +74,19 @@ def head_shapes(grid, title):
     shapes += group([shape for box in boxes for shape in box], CELLS)
     for kind in KINDS:
         shapes.append(bold(grid.x(kind, grid.columns[0]) + 4, 70, f"{kind} texts"))
-        middle = lambda column: grid.x(kind, column) + grid.width / 2
-        shapes += [(bold if it == "mean" else grey)(middle(it), 86, it, "middle") for it in grid.columns]
+        for column in grid.columns:
+            write = bold if column == "mean" else grey
+            shapes.append(write(grid.x(kind, column) + grid.width / 2, 86, column, "middle"))
     return shapes
 
 
 def heat_map(rows, capacities, title, description):
     """`rows` are ratios by name, kind and capacity; the slowest comes first, and last the mean of those with both kinds."""
     grid = Grid(capacities)
-    slowness = lambda name: geometric(rows[name]["full"].values())
+
+    def slowness(name):
+        return geometric(rows[name]["full"].values())
+
     names = sorted(rows, key=slowness, reverse=True)
     shapes = head_shapes(grid, title)
     for row, name in enumerate(names):

@@ -30,7 +30,9 @@ def rows_of_kind(figures, one_at_a_time):
 
 def slowest_of(rows, call):
     """Of all processors and kinds of texts."""
-    cells = [(ratio, it) for of in rows.values() for by_capacity in of[call].values() for it, ratio in by_capacity.items()]
+    cells = [
+        (ratio, capacity) for of in rows.values() for by_capacity in of[call].values() for capacity, ratio in by_capacity.items()
+    ]
     ratio, capacity = max(cells)
     return f"{ratio:.2f} at {capacity}"
 
@@ -45,8 +47,8 @@ def inlined_table(all_figures):
         for call in next(iter(rows.values())):
             means = [f"{geometric(rows[processor][call][kind].values()):.2f}" for processor, kind in columns]
             lines.append([call + suffix, *means, slowest_of(rows, call)])
-        all_of = lambda processor, kind: [it for of in rows[processor].values() for it in of[kind].values()]
-        lines.append(["geometric mean" + suffix, *(f"{geometric(all_of(*column)):.2f}" for column in columns), ""])
+        ratios = [[ratio for of in rows[processor].values() for ratio in of[kind].values()] for processor, kind in columns]
+        lines.append(["geometric mean" + suffix, *(f"{geometric(of_column):.2f}" for of_column in ratios), ""])
     return aligned(lines)
 
 

@@ -43,6 +43,9 @@ def jobs_picture(figures):
         x += 40 + 7 * len(name)
     for i, cell in enumerate(figures.times):
         shapes += bars(figures, cell, TOP + JOB * i, longest)
-    said_of = lambda cell: f"{cell[1]}: {', '.join(f'{seconds(figures, cell, whose):.2f}' for whose in NAMES)}"
+
+    def said_of(cell):
+        return f"{cell[1]}: {', '.join(f'{seconds(figures, cell, whose):.2f}' for whose in NAMES)}"
+
     description = f"At the start, now, and by a Rust program. {'; '.join(map(said_of, figures.times))} seconds."
     return svg(TOP + JOB * len(figures.times) - 4, TITLE, description, shapes)

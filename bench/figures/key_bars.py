@@ -38,7 +38,7 @@ def bars(figures, cell, types, left, top):
 
 
 def labels(types, top):
-    return [text(LABELS - 8, top + BAR * i + 10.5, NAMES.get(it, it), "end", SMALL) for i, it in enumerate(types)]
+    return [text(LABELS - 8, top + BAR * i + 10.5, NAMES.get(kind, kind), "end", SMALL) for i, kind in enumerate(types)]
 
 
 def legend():
@@ -62,6 +62,9 @@ def keys_picture(figures):
         if i % 3 == 0:
             shapes += labels(types, top)
         shapes += bars(figures, cells[call], types, LABELS + PANEL * (i % 3), top)
-    nanos = lambda call: f"{call}: {figures.time(cells[call], HERE):.0f} and {figures.time(cells[call], THERE):.0f}"
+
+    def nanos(call):
+        return f"{call}: {figures.time(cells[call], HERE):.0f} and {figures.time(cells[call], THERE):.0f}"
+
     description = f"This crate's values and the Rust crate's. {'; '.join(map(nanos, CALLS))} ns."
     return svg(TOP + height * ceil(len(CALLS) / 3) - 16, TITLE, description, shapes)

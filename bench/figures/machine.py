@@ -19,7 +19,10 @@ def shortened(name, value):
 
 def heads_of(all_figures):
     """By file, what stands behind each name."""
-    parted = lambda line: line.partition(": ")[::2]
+
+    def parted(line):
+        return line.partition(": ")[::2]
+
     return {f"{name}.csv": dict(map(parted, figures.head)) for name, figures in all_figures.items()}
 
 
@@ -35,6 +38,6 @@ def machine(all_figures):
     for line, files in files_of.items():
         if line not in alike:
             notes.setdefault(", ".join(files), []).append(line)
-    rows = [[file, *(shortened(it, head.get(it, "-")) for it in COLUMNS)] for file, head in heads.items()]
+    rows = [[file, *(shortened(column, head.get(column, "-")) for column in COLUMNS)] for file, head in heads.items()]
     table = aligned([["file", *COLUMNS], *rows])
     return "\n".join([fill("; ".join(alike), 120), table, *(f"{files}: {'; '.join(lines)}" for files, lines in notes.items())])

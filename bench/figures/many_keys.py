@@ -52,11 +52,16 @@ def in_bulk(figures, cell):
 def width_table(figures, width):
     """A row for each order of keys, and what others take for keys by chance that are there, and hold."""
     numbers = counts(figures)
-    lines = [[f"{width} bytes, keys in bulk", *(f"{int(it):,}" for it in numbers)]]
+    lines = [[f"{width} bytes, keys in bulk", *(f"{int(number):,}" for number in numbers)]]
     for order in orders(figures):
-        lines.append([order, *(in_bulk(figures, cell_of(width, order, it)) for it in numbers)])
-    nanos = lambda whose: [f"{figures.time(cell_of(width, BY_CHANCE, it), whose):.1f}" for it in numbers]
-    held = lambda whose: [f"{figures.time(cell_of(width, BYTES, it), whose):.0f}" for it in numbers]
+        lines.append([order, *(in_bulk(figures, cell_of(width, order, number)) for number in numbers)])
+
+    def nanos(whose):
+        return [f"{figures.time(cell_of(width, BY_CHANCE, number), whose):.1f}" for number in numbers]
+
+    def held(whose):
+        return [f"{figures.time(cell_of(width, BYTES, number), whose):.0f}" for number in numbers]
+
     lines += [[f"{whose}, by chance, there", *nanos(whose)] for whose in RIVALS]
     lines += [[f"{BYTES}: {whose}", *held(whose)] for whose in ("HashSet", "BTreeSet")]
     return aligned(lines)
@@ -88,14 +93,14 @@ class Panel:
             y = self.y(10.0**decade)
             shapes += [line(self.left, y, self.right, y), text(self.left - 5, y + 4, f"{10.0**decade:g}", "end")]
         names = {"400000": "400k", "1000000": "1M"}
-        return shapes + [text(self.x(it), self.bottom + 16, names.get(it, it), "middle") for it in self.counts]
+        return shapes + [text(self.x(count), self.bottom + 16, names.get(count, count), "middle") for count in self.counts]
 
 
 def panel_shapes(figures, width, panel):
     shapes = [bold(panel.left, panel.top - 12, f"records of {width} bytes"), *panel.axes()]
     for name, whose, order, color in LINES:
-        times = {it: figures.time(cell_of(width, order, it), whose) for it in panel.counts}
-        places = {it: (panel.x(it), panel.y(nanos)) for it, nanos in times.items()}
+        times = {count: figures.time(cell_of(width, order, count), whose) for count in panel.counts}
+        places = {count: (panel.x(count), panel.y(nanos)) for count, nanos in times.items()}
         shapes.append(polyline(places.values(), color))
         shapes += [dot(*place, color, 3) for place in places.values()]
     return shapes
@@ -119,7 +124,7 @@ def sentence(figures, width):
 
 
 def many_keys_description(figures):
-    return "Keys by chance that are there, and keys in order. " + " ".join(sentence(figures, it) for it in widths(figures))
+    return "Keys by chance that are there, and keys in order. " + " ".join(sentence(figures, width) for width in widths(figures))
 
 
 def many_keys_picture(figures):

@@ -15,12 +15,12 @@ def by_call(cells):
 
 def types(figures):
     """A row for each call, and in a cell the ratios to a type at all four capacities."""
-    rivals = [it for it in types_of(figures, figures.times) if it != HERE]
+    rivals = [kind for kind in types_of(figures, figures.times) if kind != HERE]
     capacities = [re.search(r"\d+", table)[0] for table in figures.tables()]
-    lines = [["at " + ", ".join(capacities), "nanoseconds", *(TYPES.get(it, it) for it in rivals)]]
+    lines = [["at " + ", ".join(capacities), "nanoseconds", *(TYPES.get(rival, rival) for rival in rivals)]]
     for call, cells in by_call(figures.times).items():
         of_here = ", ".join(type_cell(cell, HERE, figures) for cell in cells)
-        lines.append([call, of_here, *(", ".join(size_or_ratio(figures, cell, it) for cell in cells) for it in rivals)])
+        lines.append([call, of_here, *(", ".join(size_or_ratio(figures, cell, rival) for cell in cells) for rival in rivals)])
     return aligned(lines)
 
 
@@ -44,14 +44,20 @@ def loops(figures):
         question, kind = cell[1].split(", ")
         questions.setdefault(question, {})[kind] = f"{type_cell(cell, HERE, figures)} and {type_cell(cell, THERE, figures)}"
     kinds = list(next(iter(questions.values())))
-    rows = [["this crate and tinystr 0.8.5, ratio", *kinds], *([it, *kept.values()] for it, kept in questions.items())]
+    rows = [
+        ["this crate and tinystr 0.8.5, ratio", *kinds],
+        *([question, *kept.values()] for question, kept in questions.items()),
+    ]
     return "\n\n".join([of_here, type_table(figures, parts), aligned(rows)])
 
 
 def lines(figures):
     """Megabytes a second, by the median, the slowest and the fastest turn."""
     [cell] = figures.times
-    speed = lambda nanos: f"{1000 / nanos:.0f}"
+
+    def speed(nanos):
+        return f"{1000 / nanos:.0f}"
+
     rows = [["MB/s", "median", "slowest", "fastest"]]
     for whose, turns in figures.times[cell].items():
         name = "the line program" if whose == HERE else whose

@@ -24,8 +24,7 @@ def print_all_ratios(figures, options):
         print_ratios(table, *rows_of(cells, lambda cell: cell[2]), figures, THERE, options)
     for title, rival in BESIDE.items():
         cells = [cell for cell in figures.times if rival in figures.times[cell]]
-        column_of = lambda cell: f"{cell[2]} {cell[0].split()[0].lower()}"
-        print_ratios(title, *rows_of(cells, column_of), figures, rival, options)
+        print_ratios(title, *rows_of(cells, lambda cell: f"{cell[2]} {cell[0].split()[0].lower()}"), figures, rival, options)
 
 
 def print_types(figures):

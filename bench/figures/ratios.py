@@ -38,7 +38,7 @@ def ratios_of_kind(figures, kind):
     if kind != "failing":
         return rows
     capacities = dict.fromkeys(capacity for row in rows.values() for capacity in row)
-    return {FAILING: {it: max(row[it] for row in rows.values()) for it in capacities}}
+    return {FAILING: {capacity: max(row[capacity] for row in rows.values()) for capacity in capacities}}
 
 
 def mean_of(figures, kind, capacities=None):

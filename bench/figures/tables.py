@@ -16,7 +16,10 @@ LEAST_RATIO = 0.01
 def aligned(lines):
     """The lines with their cells in columns, the first from the left and the others from the right."""
     widths = [max(map(len, column)) for column in zip_longest(*lines, fillvalue="")]
-    cells = lambda line: [line[0].ljust(widths[0]), *(cell.rjust(width) for cell, width in zip(line[1:], widths[1:]))]
+
+    def cells(line):
+        return [line[0].ljust(widths[0]), *(cell.rjust(width) for cell, width in zip(line[1:], widths[1:]))]
+
     return "\n".join("  ".join(cells(line)).rstrip() for line in lines)
 
 
@@ -61,7 +64,7 @@ def marked(figures, cell, rival=THERE):
 
 
 def geometric(ratios):
-    return exp(mean(log(it) for it in ratios))
+    return exp(mean(log(ratio) for ratio in ratios))
 
 
 def rows_of(cells, column_of):
@@ -90,7 +93,7 @@ def cell_lines(cell, rival, figures, times, instructions):
 
 def ratios_by_column(rows, columns, figures, rival):
     """Of each column the ratios of its cells."""
-    return [[figures.ratio(cells[it], rival) for cells in rows.values() if it in cells] for it in columns]
+    return [[figures.ratio(cells[column], rival) for cells in rows.values() if column in cells] for column in columns]
 
 
 def ratio_table(rows, columns, figures, rival=THERE, times=False, instructions=False):
@@ -100,7 +103,7 @@ def ratio_table(rows, columns, figures, rival=THERE, times=False, instructions=F
         heads = [call] + ["  nanoseconds"] * times + ["  instructions"] * instructions
         in_order = [cell_lines(cells.get(column), rival, figures, times, instructions) for column in columns]
         lines += [[head, *texts] for head, *texts in zip(heads, *in_order)]
-    means = [f"{geometric(it):.2f}" for it in ratios_by_column(rows, columns, figures, rival)]
+    means = [f"{geometric(column):.2f}" for column in ratios_by_column(rows, columns, figures, rival)]
     return aligned([*lines, ["geometric mean", *means]])
 
 
@@ -124,10 +127,10 @@ def types_of(figures, cells):
 def type_table(figures, cells):
     """A row for each cell, and a column for each type."""
     types = types_of(figures, cells)
-    lines = [["nanoseconds, ratio", *(TYPES.get(it, it) for it in types)]]
+    lines = [["nanoseconds, ratio", *(TYPES.get(kind, kind) for kind in types)]]
     for cell in cells:
-        lines.append([cell[1], *(type_cell(cell, it, figures) for it in types)])
+        lines.append([cell[1], *(type_cell(cell, kind, figures) for kind in types)])
         counts = figures.instructions.get(cell)
         if counts:
-            lines.append(["  instructions", *(f"{counts[it]:.2f}" for it in types)])
+            lines.append(["  instructions", *(f"{counts[kind]:.2f}" for kind in types)])
     return aligned(lines)

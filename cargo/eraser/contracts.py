@@ -26,26 +26,28 @@ class Contracts:
                 # a closure has no comment: that of its function tells what both give
                 text = text[: found.start()] + re.sub(r"\A\s*\{", " {", text[found.end() :])
                 continue
-            heads = [it for it in HEAD.finditer(text, 0, found.start()) if is_open(text[it.end() : found.start()])]
+            heads = [head for head in HEAD.finditer(text, 0, found.start()) if is_open(text[head.end() : found.start()])]
             if not heads:
                 raise Stopped(f"{file}:{line_of(text, found.start())}: a contract of no function")
             text = self.place_one(text, found, heads[-1], file, is_private)
         return text
 
     def place_one(self, text, found, head, file, is_private):
-        clauses = [it.split(PART) for it in found.group().strip(EDGE).split(EDGE * 2)]
+        clauses = [clause.split(PART) for clause in found.group().strip(EDGE).split(EDGE * 2)]
         is_public = head[2] == "pub " and not is_private
         stands = [self.stand(file, condition) for kind, _, condition in clauses if kind == "requires" and is_public]
         indent = head[1]
         start = ABOVE.search(text, 0, head.start()).start()
         above = text[start : head.start()].splitlines()
-        comments = [it for it in above if it.strip().startswith("//")]
-        attributes = [it for it in above if not it.strip().startswith("//")]
-        is_doc = is_public or any(it.strip().startswith("///") for it in comments)
-        comments += [f"{indent}{it}".rstrip() for it in as_comment(clauses, stands, is_doc, bool(comments))]
-        checks = [f"\n{indent}    {it.check}" for it in dict.fromkeys(stands) if not isinstance(it, Unsafe) and it.check]
+        comments = [line for line in above if line.strip().startswith("//")]
+        attributes = [line for line in above if not line.strip().startswith("//")]
+        is_doc = is_public or any(comment.strip().startswith("///") for comment in comments)
+        comments += [f"{indent}{line}".rstrip() for line in as_comment(clauses, stands, is_doc, bool(comments))]
+        checks = [
+            f"\n{indent}    {stand.check}" for stand in dict.fromkeys(stands) if not isinstance(stand, Unsafe) and stand.check
+        ]
         signature = text[head.start() : found.start()]
-        if any(isinstance(it, Unsafe) for it in stands):
+        if any(isinstance(stand, Unsafe) for stand in stands):
             signature = re.sub(r"\bfn ", "unsafe fn ", signature, count=1)
         behind = re.sub(r"\A\s*\{", " {" + "".join(checks), text[found.end() :])
         return text[:start] + "\n".join([*comments, *attributes, signature]) + behind
@@ -71,12 +73,12 @@ def as_comment(clauses, stands, is_doc, is_behind_text):
     """The lines that tell a contract, and when a public function panics or is safe to call."""
     lines = [f"{kind} {label + ' ' if label else ''}{{ {condition} }}" for kind, label, condition in clauses]
     if not is_doc:
-        return ["// Proved:", *(f"//     {it}" for it in lines)]
+        return ["// Proved:", *(f"//     {line}" for line in lines)]
     told = ["# Contract", "", "```text", *lines, "```"]
-    for it in dict.fromkeys(stands):
-        if isinstance(it, Unsafe):
-            told += ["", "# Safety", "", it.condition]
-    panics = [it.when for it in dict.fromkeys(stands) if not isinstance(it, Unsafe)]
+    for stand in dict.fromkeys(stands):
+        if isinstance(stand, Unsafe):
+            told += ["", "# Safety", "", stand.condition]
+    panics = [stand.when for stand in dict.fromkeys(stands) if not isinstance(stand, Unsafe)]
     if panics:
         told += ["", "# Panics", "", f"Where {' or '.join(panics)}."]
-    return [f"/// {it}" for it in ([""] if is_behind_text else []) + told]
+    return [f"/// {line}" for line in ([""] if is_behind_text else []) + told]

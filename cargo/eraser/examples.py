@@ -57,8 +57,8 @@ def uses(body, own):
     code = re.sub(r'"(?:\\.|[^"\\])*"', "", body)
     lines = []
     for module, names in NAMES.items():
-        wanted = ((it, TOLD_BY.get((module, it), rf"(?<![\w:.]){it}\b")) for it in names.split())
-        found = sorted(it for it, pattern in wanted if re.search(pattern, code))
+        wanted = ((name, TOLD_BY.get((module, name), rf"(?<![\w:.]){name}\b")) for name in names.split())
+        found = sorted(name for name, pattern in wanted if re.search(pattern, code))
         path = module.replace("tinystr", own, 1)
         if found:
             lines.append(f"use {path}::{found[0]};" if len(found) == 1 else f"use {path}::{{{', '.join(found)}}};")
@@ -70,7 +70,7 @@ def with_doc_tests(text, file):
 
     def doc_test(found):
         indent, body = found[1], in_rust(found[2], file)
-        front = "".join(f"{indent}/// {it}\n" for it in uses(body, "tinystr"))
+        front = "".join(f"{indent}/// {line}\n" for line in uses(body, "tinystr"))
         end = f"{indent}/// # Ok::<(), Box<dyn std::error::Error>>(())\n" if "?" in re.sub(r'"[^"]*"|b\'\?\'', "", body) else ""
         return f"{indent}/// ```\n{front}{indent}///\n{body}{end}{indent}/// ```\n"
 

@@ -66,7 +66,7 @@ def function_at(text, at, file):
 
 
 def with_reads(text):
-    made = [it if kind in ("comment", "string") else read_by_call(it) for kind, it in pieces(text)]
+    made = [piece if kind in ("comment", "string") else read_by_call(piece) for kind, piece in pieces(text)]
     return "".join(made)
 
 

@@ -58,7 +58,7 @@ def with_derives(text, file):
     text = re.sub(r"#\[derive\(([^)]*)\)\]\n", rust_derives, text)
     for name, traits in DERIVED_TOO.get(file, {}).items():
         head = rf"(#\[derive\([^)]*)(\)\]\npub (?:struct|enum) {name}\b)"
-        text, count = re.subn(head, lambda it: it[1] + "".join(f", {trait}" for trait in traits) + it[2], text)
+        text, count = re.subn(head, lambda match: match[1] + "".join(f", {trait}" for trait in traits) + match[2], text)
         if count != 1:
             raise Stopped(f"{file}: `{name}` with derives is there {count} times, and not once")
     return with_ordered_subtag(with_error_texts(text, file), file)
@@ -66,7 +66,7 @@ def with_derives(text, file):
 
 def rust_derives(found):
     """The derives that Rust has too: there is no `Drop` to derive, and `Error` is written out."""
-    left = [it for it in found[1].split(", ") if it not in ("Drop", "Error")]
+    left = [derived for derived in found[1].split(", ") if derived not in ("Drop", "Error")]
     return f"#[derive({', '.join(left)})]\n" if left else ""
 
 

@@ -51,20 +51,20 @@ FUNCTION = re.compile(rf"^( *)pub (?:const )?(?:unsafe )?fn \w+{SIGNATURE}*? -> 
 
 def with_paths(text, crate):
     """The paths of the code, with `crate::` and the other crates' names as modules of the one crate."""
-    made = [it if kind in ("comment", "string") else with_modules(it, crate) for kind, it in pieces(text)]
+    made = [piece if kind in ("comment", "string") else with_modules(piece, crate) for kind, piece in pieces(text)]
     return "".join(made)
 
 
 def pieces(text):
     """The text cut into comments, strings and the code between these."""
     code = []
-    for it in TOKEN.finditer(text):
-        if it.lastgroup in ("comment", "string"):
+    for token in TOKEN.finditer(text):
+        if token.lastgroup in ("comment", "string"):
             yield "code", "".join(code)
-            yield it.lastgroup, it.group()
+            yield token.lastgroup, token.group()
             code = []
         else:
-            code.append(it.group())
+            code.append(token.group())
     yield "code", "".join(code)
 
 

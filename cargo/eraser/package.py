@@ -55,7 +55,7 @@ class Package:
         made["src/words/examples.rs"] = module_of_tests(self.tests)
         made["src/words.rs"] += "\n#[cfg(test)]\nmod examples;\n"
         made["src/lib.rs"] = read(self.by_hand / FRONT) + made["src/lib.rs"].partition("\n\n")[2]
-        for path in sorted(it for it in self.by_hand.rglob("*") if it.is_file()):
+        for path in sorted(path for path in self.by_hand.rglob("*") if path.is_file()):
             inner = path.relative_to(self.by_hand)
             if inner.parts[0] == "package":
                 made[str(inner.relative_to("package"))] = read(path)
@@ -83,7 +83,7 @@ class Package:
 
 def sources(crate):
     """The sources of a crate, each as CRATE/FILE with its path."""
-    found = sorted(it for it in (crate / "src").rglob("*") if it.is_file())
+    found = sorted(path for path in (crate / "src").rglob("*") if path.is_file())
     if not found:
         raise Stopped(f"{crate.name}: no source")
     for path in found:

@@ -341,7 +341,7 @@ class Rules:
         return text
 
     def finish(self):
-        for name in [*IN_FILE, *(it.old for it in EVERYWHERE)]:
+        for name in [*IN_FILE, *(rule.old for rule in EVERYWHERE)]:
             if name not in self.used:
                 raise Stopped(f"a rule fits nothing: {name}")
 

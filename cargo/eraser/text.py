@@ -19,8 +19,8 @@ class Tokens:
 
     def __init__(self, text):
         found = list(TOKEN.finditer(text))
-        self.texts = [it.group() for it in found]
-        self.kinds = [it.lastgroup for it in found]
+        self.texts = [token.group() for token in found]
+        self.kinds = [token.lastgroup for token in found]
 
     def __len__(self):
         return len(self.texts)
@@ -57,19 +57,22 @@ class Tokens:
 def unmatched_bracket(text):
     """The line of the first bracket of the code that has no partner, if one hasn't."""
     open_at = []
-    for it in TOKEN.finditer(text):
-        mark = it.group()
-        if it.lastgroup == "mark" and mark in "([{":
-            open_at.append((mark, it.start()))
-        elif it.lastgroup == "mark" and mark in ")]}":
+    for token in TOKEN.finditer(text):
+        mark = token.group()
+        if token.lastgroup == "mark" and mark in "([{":
+            open_at.append((mark, token.start()))
+        elif token.lastgroup == "mark" and mark in ")]}":
             if not open_at or open_at.pop()[0] + mark not in ("()", "[]", "{}"):
-                return line_of(text, it.start())
+                return line_of(text, token.start())
     return line_of(text, open_at[-1][1]) if open_at else None
 
 
 def code_of(text):
     """The text with its comments and strings blanked, each line as long as it was."""
-    blank = lambda it: re.sub(r"[^\n]", " ", it.group()) if it.lastgroup in ("comment", "string") else it.group()
+
+    def blank(token):
+        return re.sub(r"[^\n]", " ", token.group()) if token.lastgroup in ("comment", "string") else token.group()
+
     return TOKEN.sub(blank, text)
 
 

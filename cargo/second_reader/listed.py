@@ -103,7 +103,7 @@ def read_list(path):
             listed.entries.append(open_entry)
             open_entry = None
         elif line.startswith("    ") and open_requires:
-            kind = next((it for it in STANDS if line.strip().startswith(it)), None)
+            kind = next((kind for kind in STANDS if line.strip().startswith(kind)), None)
             if kind is None:
                 raise Unreadable(f"{path.name}:{number}: it doesn't begin with one of: {', '.join(STANDS)}")
             listed.stands.setdefault(open_requires, []).append(Stand(number, kind, line.strip().removeprefix(kind).strip()))

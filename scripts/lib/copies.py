@@ -13,7 +13,7 @@ def copy_all(folder):
     """Copies what `rt` reads of all crates, but for what was proved of them."""
     shutil.copy(TOP / "HANDLES", folder / "HANDLES")
     shutil.copy(TOP / "crates.txt", folder / "crates.txt")
-    for crate in sorted(it for it in (TOP / "crates").iterdir() if it.is_dir()):
+    for crate in sorted(path for path in (TOP / "crates").iterdir() if path.is_dir()):
         to = folder / "crates" / crate.name
         to.mkdir(parents=True, exist_ok=True)
         for part in READ_BY_RT:
@@ -26,7 +26,7 @@ def copy_with_proofs(folder, crates):
     names = {lower for crate in crates for lower in below(crate)} | set(crates)
     shutil.copy(TOP / "HANDLES", folder / "HANDLES")
     lines = (TOP / "crates.txt").read_text(encoding="utf-8").splitlines()
-    kept = [f"{it}\n" for it in lines if re.match(r"\w*", it)[0] in names]
+    kept = [f"{line}\n" for line in lines if re.match(r"\w*", line)[0] in names]
     (folder / "crates.txt").write_text("".join(kept), encoding="utf-8")
     for name in sorted(names):
         shutil.copytree(TOP / "crates" / name, folder / "crates" / name, symlinks=True, dirs_exist_ok=True)

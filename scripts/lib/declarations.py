@@ -65,19 +65,23 @@ def public_declarations(library):
     """The declarations that callers reach, with the path of a function there: of a public module and the rooms behind
     it, or handed on by name."""
     folder = CRATES / library / "src"
-    root = [it for it in declarations(folder / "lib.rt") if "#[doc(hidden)]" not in it.above]
-    uses = [match for it in root if (match := re.match(r"pub use (\w+)::\{?(.*?)\}?;", it.head))]
+    root = [declaration for declaration in declarations(folder / "lib.rt") if "#[doc(hidden)]" not in declaration.above]
+    uses = [match for declaration in root if (match := re.match(r"pub use (\w+)::\{?(.*?)\}?;", declaration.head))]
     handed_on = {match[1]: match[2].split(", ") for match in uses}
-    for module in [match for it in root if (match := re.match(r"(pub )?mod (\w+);", it.head))]:
+    for module in [match for declaration in root if (match := re.match(r"(pub )?mod (\w+);", declaration.head))]:
         file = folder / f"{module[2]}.rt"
         if module[1]:
-            yield from ((f"{file.stem}::", it) for it in declarations(file) if it.head.startswith(PUBLIC))
+            yield from (
+                (f"{file.stem}::", declaration) for declaration in declarations(file) if declaration.head.startswith(PUBLIC)
+            )
             for room in sorted((folder / module[2]).glob("*.rt")):
                 is_public = f"pub mod {room.stem};" in text_of(file).splitlines()
                 reached = PUBLIC if is_public else "impl"
-                yield from ((f"{room.stem}::", it) for it in declarations(room) if it.head.startswith(reached))
+                yield from (
+                    (f"{room.stem}::", declaration) for declaration in declarations(room) if declaration.head.startswith(reached)
+                )
         elif module[2] in handed_on:
-            yield from (("", it) for it in declarations(file) if it.name in handed_on[module[2]])
+            yield from (("", declaration) for declaration in declarations(file) if declaration.name in handed_on[module[2]])
 
 
 def first_sentence(above, indent):
@@ -115,9 +119,9 @@ def function_names(path):
 
 def laws(library):
     """The clauses of each law that takes no value, by their names: the one that has none is named by nothing."""
-    for it in declarations(CRATES / library / "src/laws.rt"):
-        if it.head == f"pub fn {it.name}()":
-            yield it.name, dict(CLAUSE.findall("\n".join(it.lines)))
+    for law in declarations(CRATES / library / "src/laws.rt"):
+        if law.head == f"pub fn {law.name}()":
+            yield law.name, dict(CLAUSE.findall("\n".join(law.lines)))
 
 
 def lemmas(path):

@@ -10,7 +10,7 @@ from lib.sources import below
 
 # Where the public contracts of a crate stand.
 CONTRACTS = {
-    **{it: CRATES / it / "CALLING.md" for it in LIBRARIES},
+    **{library: CRATES / library / "CALLING.md" for library in LIBRARIES},
     "tinystr_lines": CRATES / "tinystr_lines/src/engine.rt",
     "tinystr_c": CRATES / "tinystr_c/src/lib.rt",
 }
@@ -55,13 +55,13 @@ def words_of(lines):
 
 def of_contracts():
     """The definitions that public contracts name, and those that they are made of, themselves among them."""
-    every = [it for crate in CONTRACTS for it in definitions(crate)]
+    every = [definition for crate in CONTRACTS for definition in definitions(crate)]
     named = []
     for crate, path in CONTRACTS.items():
         words = words_of(line for _, line in lines_for_the_prover(path))
-        named += [it for it in every if it.is_among(words, crate) and it not in named]
+        named += [definition for definition in every if definition.is_among(words, crate) and definition not in named]
     made_of = list(named)
-    for it in made_of:
-        words = words_of(it.lines)
-        made_of += [other for other in every if other.is_among(words, it.crate) and other not in made_of]
+    for definition in made_of:
+        words = words_of(definition.lines)
+        made_of += [other for other in every if other.is_among(words, definition.crate) and other not in made_of]
     return named, made_of

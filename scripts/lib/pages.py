@@ -39,7 +39,7 @@ class Page:
             if kind is None and line.startswith("```"):
                 kind, inside = line[3:], []
             elif line.startswith("```"):
-                self.fences.append(Fence(kind, heading, len(self.prose), "".join(f"{it}\n" for it in inside)))
+                self.fences.append(Fence(kind, heading, len(self.prose), "".join(f"{line}\n" for line in inside)))
                 kind = None
             elif kind is not None:
                 inside.append(line)
@@ -55,11 +55,11 @@ class Page:
         anchor = anchor_of(heading)
         # (a third heading of a name gets the number 2)
         numbered = (f"{anchor}-{number}" for number in range(1, len(self.anchors) + 1))
-        return next((it for it in (anchor, *numbered) if it not in self.anchors))
+        return next((name for name in (anchor, *numbered) if name not in self.anchors))
 
     def fence(self, kind, number=1, heading=None):
         """What the fence of a kind and a number holds, of all or of those below a heading; empty where there is none."""
-        found = [it.text for it in self.fences if it.kind == kind and heading in (None, it.heading)]
+        found = [fence.text for fence in self.fences if fence.kind == kind and heading in (None, fence.heading)]
         return found[number - 1] if number <= len(found) else ""
 
     def links(self):

@@ -35,12 +35,12 @@ class Item:
             return False
         if not self.block:
             module = re.sub(r"(^|/)(lib|main)\.rt$|\.rt$", "", self.file.removeprefix("src/"))
-            return before == [it for it in module.split("/") if it]
+            return before == [part for part in module.split("/") if part]
         head = re.sub(r"^(?:pub )?(?:impl|trait)\b", "", self.block)
         while (bare := re.sub(r"<[^<>]*>", "", head)) != head:
             head = bare
         trait, _, owner = re.sub(r"\bwhere\b.*|\{$|&(?:'\w+ )?|: .*", "", head).rpartition(" for ")
-        trait, owner = (re.split(r"::", it.strip())[-1].lower() for it in (trait, owner))
+        trait, owner = (re.split(r"::", name.strip())[-1].lower() for name in (trait, owner))
         # a method's module is that of its type, wherever the impl stands
         of = before[-1].lower() if before else ""
         return of.startswith(owner + trait) if trait else of.partition("+")[0] == owner
@@ -69,7 +69,7 @@ def items(file, text):
             end = end_of(lines.index("{}", number))
             found.append(Item(file, block, function[2], False, starts[number], end, end))
         elif constant:
-            last = next(it for it in range(number, len(lines)) if lines[it].endswith(";"))
+            last = next(last for last in range(number, len(lines)) if lines[last].endswith(";"))
             found.append(Item(file, block, constant[2], True, starts[number], end_of(last), starts[number]))
     return found
 
@@ -81,7 +81,7 @@ def body_of(lines, number, indent):
         # the head of a function without clauses ends with its brace; a clause stands deeper
         is_head = at == number or line.startswith(indent + ")")
         if line == indent + "{" or is_head and line.endswith(" {"):
-            return at, next(it for it in range(at + 1, len(lines)) if lines[it] == indent + "}")
+            return at, next(end for end in range(at + 1, len(lines)) if lines[end] == indent + "}")
         if line == indent + "{}" or line == "}" or at > number and FUNCTION.match(line):
             return None
     return None
@@ -90,8 +90,8 @@ def body_of(lines, number, indent):
 def texts_of(crate):
     """The texts of a crate that a check reads, by their paths in its folder."""
     folder = TOP / "crates" / crate
-    files = [it for part in ("src", "specs", "proofs") for it in sorted((folder / part).rglob("*")) if it.is_file()]
-    return {str(it.relative_to(folder)): it.read_text(encoding="utf-8") for it in files}
+    files = [path for part in ("src", "specs", "proofs") for path in sorted((folder / part).rglob("*")) if path.is_file()]
+    return {str(path.relative_to(folder)): path.read_text(encoding="utf-8") for path in files}
 
 
 def libraries():
@@ -100,15 +100,15 @@ def libraries():
     for line in (TOP / "crates.txt").read_text(encoding="utf-8").splitlines():
         head, colon, uses = line.partition("#")[0].partition(":")
         if colon:
-            found[head.split()[0]] = [it for it in uses.split() if it in found]
+            found[head.split()[0]] = [library for library in uses.split() if library in found]
     return found
 
 
 def below(crate):
     """The libraries of the repository that a crate stands on, each after those that it uses."""
     uses, found = libraries(), []
-    for it in uses[crate]:
-        found += [lower for lower in [*below(it), it] if lower not in found]
+    for used in uses[crate]:
+        found += [lower for lower in [*below(used), used] if lower not in found]
     return found
 
 
@@ -123,7 +123,7 @@ def arms(texts):
                 last = number
                 if line.endswith("{"):
                     closing = re.match(" *", line)[0] + "}"
-                    last = next(it for it in range(number, len(lines)) if lines[it].rstrip(",") == closing)
+                    last = next(end for end in range(number, len(lines)) if lines[end].rstrip(",") == closing)
                 found.append((file, number + 1, (at, at + len("\n".join(lines[number : last + 1]))), line.strip()))
             at += len(line) + 1
     return found

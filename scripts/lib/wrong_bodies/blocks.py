@@ -36,7 +36,7 @@ def edits_of(path, file):
         if not (read := BLOCK.fullmatch(block)):
             first = block.partition("\n")[0]
             raise Unreadable(f"{path.relative_to(TOP)}:{number}: no block of an edit: {first}")
-        said = {it: read[it] or "" for it in ("function", "goal", "elsewhere")}
+        said = {field: read[field] or "" for field in ("function", "goal", "elsewhere")}
         kind, pairs = read["kind"] or "refused", PAIR.findall(read["pairs"])
         found.append(Edit(read["name"], path, file, block, kind=kind, pairs=pairs, **said))
     return found
@@ -53,7 +53,7 @@ def read_blocks(crate):
     if not has_wrong_bodies(crate):
         raise Unreadable(f"no folder crates/{crate}/wrong-bodies")
     found = []
-    for path in sorted(it for it in (folder / "wrong-bodies").rglob("*") if it.is_file()):
+    for path in sorted(path for path in (folder / "wrong-bodies").rglob("*") if path.is_file()):
         place = path.relative_to(folder / "wrong-bodies")
         if str(place) == "without":
             continue
@@ -80,7 +80,7 @@ def write_goal(edit, function, goal):
     """Writes the goal that refuses an edit into its block, where that stands."""
     with WRITING:
         blocks = [block for _, block in blocks_of(edit.path)]
-        at = next(it for it, block in enumerate(blocks) if block.startswith(f"{edit.name}\n"))
+        at = next(at for at, block in enumerate(blocks) if block.startswith(f"{edit.name}\n"))
         rest = re.sub(r"\Arefused: .*\n", "", blocks[at].partition("\n")[2])
         blocks[at] = f"{edit.name}\nrefused: {function} {goal}\n{rest}"
         edit.path.write_text("\n".join(blocks), encoding="utf-8")

@@ -42,8 +42,8 @@ class Edit:
     def target(self, texts):
         """What it turns: the function that it names, or the only one or constant in which its first old text stands."""
         text, old = texts[self.file], self.pairs[0][0]
-        inside = [it for it in items(self.file, text) if old in text[it.start : it.end]]
-        named = [it for it in inside if it.is_named_by(self.function)]
+        inside = [item for item in items(self.file, text) if old in text[item.start : item.end]]
+        named = [item for item in inside if item.is_named_by(self.function)]
         return named[0] if named else inside[0] if len(inside) == 1 else None
 
     def turns_contract(self, item, texts):
@@ -66,7 +66,7 @@ class Edit:
         if f"proofs/{self.function.replace('::', '/')}.antt" in texts:
             return True
         sources = [(file, text) for file, text in texts.items() if file.startswith("src/")]
-        return any(it.is_named_by(self.function) for file, text in sources for it in items(file, text))
+        return any(item.is_named_by(self.function) for file, text in sources for item in items(file, text))
 
     def changes(self, texts, target):
         """What it changes in its source: where each old text begins and ends, and the new one. Each old text stands once

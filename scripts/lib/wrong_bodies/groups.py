@@ -22,7 +22,7 @@ class Group:
     @property
     def bodies(self):
         """Its wrong bodies."""
-        return [it for it in self.edits if not it.is_control]
+        return [edit for edit in self.edits if not edit.is_control]
 
     @property
     def name(self):
@@ -36,19 +36,19 @@ class Group:
     def names(self, search):
         """Whether a search is of a goal that a wrong body of it names, or of a function with a neutral body in it."""
         return any(
-            it.function == search.function and (it.goal == search.goal and not it.is_control or it.kind == "neutral")
-            for it in self.edits
+            edit.function == search.function and (edit.goal == search.goal and not edit.is_control or edit.kind == "neutral")
+            for edit in self.edits
         )
 
     def of(self, bodies):
         """The group of some of its wrong bodies, and its controls."""
-        kept = [(it, reach) for it, reach in zip(self.edits, self.reached) if it in bodies or it.is_control]
+        kept = [(edit, reach) for edit, reach in zip(self.edits, self.reached) if edit in bodies or edit.is_control]
         return Group(*zip(*kept))
 
     def parts(self, disturbed):
         """Smaller groups, to try again: the disturbed wrong bodies without the others or, where all are disturbed or a
         control is, a half of them each. A single one has no parts."""
-        left = [it for it in self.bodies if it in disturbed] or self.bodies
+        left = [body for body in self.bodies if body in disturbed] or self.bodies
         if len(left) < len(self.bodies):
             return [self.of(left)]
         half = (len(left) + 1) // 2
@@ -58,27 +58,27 @@ class Group:
 def groups_of(edits, texts, only=()):
     """The groups of a crate's edits or, where some are named, of these without controls."""
     if not only:
-        return grouped([it for it in edits if not it.is_control], [it for it in edits if it.is_control], texts)
-    if unknown := set(only) - {it.name for it in edits}:
+        return grouped([edit for edit in edits if not edit.is_control], [edit for edit in edits if edit.is_control], texts)
+    if unknown := set(only) - {edit.name for edit in edits}:
         raise Unreadable(f"no wrong body {', '.join(sorted(unknown))}")
-    return grouped([it for it in edits if it.name in only], [], texts)
+    return grouped([edit for edit in edits if edit.name in only], [], texts)
 
 
 def grouped(edits, controls, texts):
     """The groups of a crate's wrong bodies and controls: two that reach one part of a function are in two groups."""
-    reached = {it.name: reach_of(it, target_of(it, texts), texts) for it in [*edits, *controls]}
-    alone = [it for it in edits if reached[it.name] is None]
-    left, groups = [it for it in edits if it not in alone], []
+    reached = {edit.name: reach_of(edit, target_of(edit, texts), texts) for edit in [*edits, *controls]}
+    alone = [edit for edit in edits if reached[edit.name] is None]
+    left, groups = [edit for edit in edits if edit not in alone], []
     while left:
         taken, new = controls_of(len(groups), controls), []
         for edit in left:
-            if not any(reached[edit.name].meets(reached[it.name]) for it in [*taken, *new]):
+            if not any(reached[edit.name].meets(reached[other.name]) for other in [*taken, *new]):
                 new.append(edit)
         # one alone can't be disturbed
         group = [*taken, *new] if len(new) > 1 else new or left[:1]
-        left = [it for it in left if it not in group]
-        groups.append(Group(tuple(group), tuple(reached[it.name] for it in group)))
-    return groups + [Group((it,), (None,)) for it in alone]
+        left = [edit for edit in left if edit not in group]
+        groups.append(Group(tuple(group), tuple(reached[edit.name] for edit in group)))
+    return groups + [Group((edit,), (None,)) for edit in alone]
 
 
 def controls_of(number, controls):

@@ -27,17 +27,17 @@ class Verdict:
 
 def judged(edit, own):
     """The verdict on an edit, by the goals of its function that are open."""
-    is_disturbed = any(it.names_what_is_gone for it in own)
+    is_disturbed = any(refusal.names_what_is_gone for refusal in own)
     if edit.kind == "neutral":
         said = f"refused, and neutral: {own[0].goal}" if own else "neutral, and not refused"
         return Verdict(edit, not own, said, is_disturbed)
-    named = [it for it in own if (it.function, it.goal) == (edit.function, edit.goal)]
+    named = [refusal for refusal in own if (refusal.function, refusal.goal) == (edit.function, edit.goal)]
     if not named:
-        goals = ", ".join(f"{it.function} {it.goal}" for it in own[:6])
+        goals = ", ".join(f"{refusal.function} {refusal.goal}" for refusal in own[:6])
         said = f"refused at a goal it doesn't name: {goals}" if own else "NOT REFUSED"
         return Verdict(edit, False, said, is_disturbed)
-    is_behind = any(it.is_of_a_step and it.function == edit.function for it in own if it not in named)
-    kind = "disturbed" if is_behind or all(it.names_what_is_gone for it in named) else "refused"
+    is_behind = any(refusal.is_of_a_step and refusal.function == edit.function for refusal in own if refusal not in named)
+    kind = "disturbed" if is_behind or all(refusal.names_what_is_gone for refusal in named) else "refused"
     line = f"{kind}: {edit.function} {edit.goal}: {named[0].said[:160]}"
     if kind == edit.kind:
         return Verdict(edit, True, line)
@@ -48,12 +48,12 @@ def judge(group, output):
     """The verdicts on the edits of a checked group, and what else is wrong, a line each."""
     found, place = refusals(output), f"the group of {group.name}"
     if not re.search(r"^logic=(proved |not-proved)", output, re.M):
-        said = [it for it in output.splitlines() if UNCOMPILED.match(it)] or output.splitlines()[-3:]
-        return [Verdict(it, False, "no verdict") for it in group.edits], [f"{place}: {' '.join(said)[:600]}"]
+        said = [line for line in output.splitlines() if UNCOMPILED.match(line)] or output.splitlines()[-3:]
+        return [Verdict(edit, False, "no verdict") for edit in group.edits], [f"{place}: {' '.join(said)[:600]}"]
     verdicts, own_of_all = [], []
     for edit, reach in zip(group.edits, group.reached):
         own = own_of(reach, found)
         own_of_all += own
         verdicts.append(judged(edit, own))
-    others = [it for it in found if it not in own_of_all]
-    return verdicts, [f"{place}: refused, and not reached: {it.function} {it.goal}" for it in others]
+    others = [refusal for refusal in found if refusal not in own_of_all]
+    return verdicts, [f"{place}: refused, and not reached: {refusal.function} {refusal.goal}" for refusal in others]

@@ -17,11 +17,11 @@ class Kept:
     def __init__(self, crate, version):
         scripts = [TOP / "scripts/lib/sources.py", *sorted((TOP / "scripts/lib/wrong_bodies").glob("*.py"))]
         uses = libraries()
-        crates = [(it, uses[it], sorted(texts_of(it).items())) for it in [*below(crate), crate]]
-        self.read = repr((version, [it.read_text(encoding="utf-8") for it in scripts], crates))
+        crates = [(name, uses[name], sorted(texts_of(name).items())) for name in [*below(crate), crate]]
+        self.read = repr((version, [path.read_text(encoding="utf-8") for path in scripts], crates))
 
     def path(self, group):
-        edits = repr([(it.file, it.text) for it in group.edits])
+        edits = repr([(edit.file, edit.text) for edit in group.edits])
         return FOLDER / hashlib.sha256((self.read + edits).encode()).hexdigest()
 
     def lines(self, group):
@@ -32,5 +32,5 @@ class Kept:
     def keep(self, group, verdicts):
         """Keeps the lines of a group that passed."""
         FOLDER.mkdir(parents=True, exist_ok=True)
-        lines = json.dumps([(it.edit.name, it.said) for it in verdicts])
+        lines = json.dumps([(verdict.edit.name, verdict.said) for verdict in verdicts])
         self.path(group).write_text(lines, encoding="utf-8")

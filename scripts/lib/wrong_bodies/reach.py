@@ -41,7 +41,7 @@ class Reach:
 
     def holds(self, path, goal=""):
         """Whether a goal of a function, or a file of lemmas, as the prover names it, is reached."""
-        return path in self.files or any(it.may_open(path, goal) for it in self.parts)
+        return path in self.files or any(part.may_open(path, goal) for part in self.parts)
 
     def meets(self, other):
         """Whether two edits reach one goal or file."""
@@ -52,7 +52,7 @@ class Reach:
 
 def own_of(reach, refusals):
     """The refusals that an edit may have caused: those of what it reaches, or all where that isn't known."""
-    return [it for it in refusals if reach is None or reach.holds(it.function, it.goal)]
+    return [refusal for refusal in refusals if reach is None or reach.holds(refusal.function, refusal.goal)]
 
 
 def reach_of(edit, item, texts):
@@ -69,28 +69,28 @@ def reach_of(edit, item, texts):
         places = [text.find(old, item.start) + len(commonprefix((old, new))) for old, new in edit.pairs]
         return Reach(widened(parts_at(item, text, places), edit))
     sources = [(file, text) for file, text in texts.items() if file.startswith("src/")]
-    naming = {it for file, text in sources for it in items_that_name(name, file, text)} - {item}
+    naming = {item for file, text in sources for item in items_that_name(name, file, text)} - {item}
     is_cited = any(cited.search(text) for file, text in texts.items() if file.startswith("specs/"))
-    if is_cited or any(it is None or it.is_constant for it in naming):
+    if is_cited or any(user is None or user.is_constant for user in naming):
         return None
     parts = frozenset() if item.is_constant else frozenset([Part(item)])
-    for it in naming:
-        places = [found.start() for found in name.finditer(texts[it.file], it.start, it.end)]
-        parts |= parts_at(it, texts[it.file], places)
+    for user in naming:
+        places = [found.start() for found in name.finditer(texts[user.file], user.start, user.end)]
+        parts |= parts_at(user, texts[user.file], places)
     return Reach(widened(parts, edit), frozenset(files_that_cite(cited, texts)))
 
 
 def widened(parts, edit):
     """The parts, or the whole functions where the goal that the edit names is in none."""
-    is_inside = any(it.has(edit.function, edit.goal) for it in parts)
-    return parts if is_inside else frozenset(Part(it.function) for it in parts)
+    is_inside = any(part.has(edit.function, edit.goal) for part in parts)
+    return parts if is_inside else frozenset(Part(part.function) for part in parts)
 
 
 def parts_at(function, text, places):
     """The parts of a function in which some places of its source stand: the whole where one is in no arm."""
     arms = list(last_arms(function, text))
-    found = {next((name for name, start, end in arms if start <= it < end), "") for it in places}
-    return frozenset(Part(function, it) for it in ([""] if "" in found else found))
+    found = {next((name for name, start, end in arms if start <= place < end), "") for place in places}
+    return frozenset(Part(function, arm) for arm in ([""] if "" in found else found))
 
 
 def last_arms(function, text):
@@ -105,17 +105,17 @@ def last_arms(function, text):
     starts = [function.code + len("\n".join(lines[:at])) + 1 for at in range(len(lines))]
     found = [(at, head.match(lines[at])) for at in range(begins[-1] + 1, len(lines) - 2)]
     found = [(at, arm) for at, arm in found if arm]
-    for (at, arm), end in zip(found, [*(it for it, _ in found[1:]), len(lines) - 2]):
+    for (at, arm), end in zip(found, [*(start for start, _ in found[1:]), len(lines) - 2]):
         yield arm[1], starts[at] + arm.end(), starts[end]
 
 
 def items_that_name(name, file, text):
     """The functions and constants of a source that name something, and None where a contract does."""
     inside = items(file, text)
-    yield from (it for it in inside if name.search(text[it.start : it.end]))
+    yield from (item for item in inside if name.search(text[item.start : item.end]))
     outside = text
-    for it in reversed(inside):
-        outside = outside[: it.start] + outside[it.end :]
+    for item in reversed(inside):
+        outside = outside[: item.start] + outside[item.end :]
     if name.search(COMMENT_OR_IMPORT.sub("", outside)):
         yield None
 
@@ -123,9 +123,9 @@ def items_that_name(name, file, text):
 def files_that_cite(cited, texts):
     """The files of proofs that cite something, and those that import them in turn."""
     proofs = {PROOF.fullmatch(file)[1].replace("/", "::"): text for file, text in texts.items() if PROOF.fullmatch(file)}
-    found, new = set(), {it for it, text in proofs.items() if cited.search(text)}
+    found, new = set(), {file for file, text in proofs.items() if cited.search(text)}
     while new:
         found |= new
-        of_new = re.compile(r"\.proofs\.(?:{})\b".format("|".join(re.escape(it.replace("::", ".")) for it in new)))
-        new = {it for it, text in proofs.items() if of_new.search(text)} - found
+        of_new = re.compile(r"\.proofs\.(?:{})\b".format("|".join(re.escape(file.replace("::", ".")) for file in new)))
+        new = {file for file, text in proofs.items() if of_new.search(text)} - found
     return found

@@ -9,9 +9,9 @@ from lib.wrong_bodies.refusals import refusals
 def record(group, output):
     """Writes the goal that refuses each wrong body of a checked group, a clause before any other. A clause that stands
     there is left, and so is another goal with a line 'elsewhere'."""
-    open_goals = [it for it in refusals(output) if not it.names_what_is_gone]
+    open_goals = [refusal for refusal in refusals(output) if not refusal.names_what_is_gone]
     for edit, reach in zip(group.edits, group.reached):
         own = own_of(reach, open_goals)
         if own and not edit.is_control and not is_clause(edit.goal) and not edit.elsewhere:
-            first = next((it for it in own if is_clause(it.goal)), own[0])
+            first = next((refusal for refusal in own if is_clause(refusal.goal)), own[0])
             write_goal(edit, first.function, first.goal)

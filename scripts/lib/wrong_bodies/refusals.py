@@ -43,9 +43,9 @@ def refusals(output):
         elif line.startswith("fn "):
             if function := UNPROVED.match(line):
                 searched = function[2].partition("did not prove ")[2].partition(";")[0]
-                waiting += [(it, "") for it in re.findall(r"`([^`]+)`", searched) if it not in dict(waiting)]
-                found += [Refusal(function[1], *it) for it in waiting]
+                waiting += [(goal_name, "") for goal_name in re.findall(r"`([^`]+)`", searched) if goal_name not in dict(waiting)]
+                found += [Refusal(function[1], *goal) for goal in waiting]
             waiting = []
         elif goal := STATED.match(line):
             stated[goal[2].replace("/", "::"), goal[1]] = goal[3].partition(" names you can use")[0]
-    return [replace(it, said=stated.get((it.function, it.goal), it.said)) for it in found]
+    return [replace(refusal, said=stated.get((refusal.function, refusal.goal), refusal.said)) for refusal in found]

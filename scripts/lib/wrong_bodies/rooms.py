@@ -49,10 +49,10 @@ class Room:
         output = self.try_group(crate, "searches", with_searches(crate, searches, texts), is_waited_for=True)
         if not re.search(r"^logic=(proved |not-proved)", output, re.M):
             return set()
-        is_open = {(it.function, it.goal) for it in refusals(output)}
+        is_open = {(refusal.function, refusal.goal) for refusal in refusals(output)}
         # (an error that names no goal may keep a file from being read)
         unread = re.findall(r"^(?:\./)?(proofs/\S+/Answers\.antt):\d+:\d+: error: (?!`)", output, re.M)
-        return {it for it in searches if (it.function, it.goal) not in is_open and it.file not in unread}
+        return {search for search in searches if (search.function, search.goal) not in is_open and search.file not in unread}
 
     def try_group(self, crate, number, texts, is_waited_for=False):
         """Checks a copy of the crate with these texts, on what other programs leave free of the processors where nothing
@@ -63,7 +63,7 @@ class Room:
         lines = (self.base / "crates.txt").read_text(encoding="utf-8").splitlines()
         names = {*below(crate), crate}
         # a line begins with the crate's name, behind which `staticlib` may stand
-        kept = [it for it in lines if ":" in it and it.partition(":")[0].split()[0] in names]
+        kept = [line for line in lines if ":" in line and line.partition(":")[0].split()[0] in names]
         (top / "crates.txt").write_text("\n".join(kept), encoding="utf-8")
         for lower in below(crate):
             for part in (*READ_BY_RT, "out/rlib"):

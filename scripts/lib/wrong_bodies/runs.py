@@ -58,7 +58,7 @@ class Trial:
         if self.kept is not None:
             return [(name, True, said) for name, said in self.kept], []
         verdicts, wrong = self.check.result()
-        return [(it.edit.name, it.is_well, it.said) for it in verdicts], wrong
+        return [(verdict.edit.name, verdict.is_well, verdict.said) for verdict in verdicts], wrong
 
 
 class Run:
@@ -73,13 +73,13 @@ class Run:
         """Begins the trials of a crate, or of those of its edits that are named."""
         texts, edits = texts_of(crate), read_blocks(crate)
         groups, kept = groups_of(edits, texts, only), Kept(crate, self.version)
-        lines = [None if self.given.anew else kept.lines(it) for it in groups]
+        lines = [None if self.given.anew else kept.lines(group) for group in groups]
         searches = set()
         if None in lines:
             self.room = self.room or Room(self.folder)
             self.room.begin(crate)
             # (beside a wrong callee a goal is tried by its short search alone, so a group of several needs these)
-            is_of_several = any(len(it.edits) > 1 for it, line in zip(groups, lines) if line is None)
+            is_of_several = any(len(group.edits) > 1 for group, line in zip(groups, lines) if line is None)
             if is_of_several and not (self.given.record or self.given.whole):
                 searches = self.room.proved(crate, searches_of(edits, texts), texts)
         for number, group in enumerate(groups):
@@ -97,14 +97,14 @@ class Run:
         if self.given.output:
             Path(self.given.output, f"{crate}-{number}.txt").write_text(output, encoding="utf-8")
         verdicts, wrong = judge(group, output)
-        disturbed = group.edits if wrong else [it.edit for it in verdicts if it.is_disturbed]
+        disturbed = group.edits if wrong else [verdict.edit for verdict in verdicts if verdict.is_disturbed]
         parts = group.parts(disturbed) if disturbed else []
         if parts:
             tried = [self.check(crate, f"{number}-{at}", part, texts, kept, searches) for at, part in enumerate(parts)]
             verdicts, wrong = together(verdicts, tried)
         elif self.given.record:
             record(group, output)
-        if all(it.is_well for it in verdicts) and not wrong:
+        if all(verdict.is_well for verdict in verdicts) and not wrong:
             kept.keep(group, verdicts)
         return verdicts, wrong
 
@@ -116,14 +116,14 @@ class Run:
 
 def length_of(group, texts):
     """How long a group's check takes beside others: by its edits, and by the size of its crate."""
-    return len(group.edits) * sum(len(it) for it in texts.values())
+    return len(group.edits) * sum(len(text) for text in texts.values())
 
 
 def together(verdicts, tried):
     """The verdicts of a group, and what else is wrong, once its parts were tried again: of each edit the last, and of
     one in two parts the one that isn't well."""
     last = {}
-    for verdict in itertools.chain.from_iterable(it for it, _ in tried):
+    for verdict in itertools.chain.from_iterable(judged for judged, _ in tried):
         if verdict.edit.name not in last or not verdict.is_well:
             last[verdict.edit.name] = verdict
-    return [last.get(it.edit.name, it) for it in verdicts], [line for _, wrong in tried for line in wrong]
+    return [last.get(verdict.edit.name, verdict) for verdict in verdicts], [line for _, wrong in tried for line in wrong]

@@ -34,13 +34,13 @@ class Search:
 
     def added(self, crate, answers):
         """What is in its file, if that is there, with the search as one more answer."""
-        modules = dict.fromkeys(module_of(it, crate) for it in self.lemmas)
-        names = {it: f"lemmas_{at}" for at, it in enumerate(modules)}
-        uses = [*WORDS, *(f"use {it} as {name}" for it, name in names.items())]
+        modules = dict.fromkeys(module_of(lemma, crate) for lemma in self.lemmas)
+        names = {module: f"lemmas_{at}" for at, module in enumerate(modules)}
+        uses = [*WORDS, *(f"use {module} as {name}" for module, name in names.items())]
         uses += [f"use Rattle.{crate}.proofs.{self.function.replace('::', '.')}.Goals as goal"]
         uses += [] if answers else [OPERATORS]
-        head = "".join(f"{it}\n" for it in uses if f"{it}\n" not in answers)
-        lemmas = "".join(f", {names[module_of(it, crate)]}.{it.rpartition('::')[2]}" for it in self.lemmas)
+        head = "".join(f"{line}\n" for line in uses if f"{line}\n" not in answers)
+        lemmas = "".join(f", {names[module_of(lemma, crate)]}.{lemma.rpartition('::')[2]}" for lemma in self.lemmas)
         tried = f"search (common.rules{lemmas}), grind (common.arith, grinding.common_steps{lemmas}) steps 2000000"
         given = "g c" if self.is_generic else "c"
         return f"{head}{answers}\npub {self.goal} : goal.{self.goal}\n{self.goal} {given} = first_of ({tried})\n"
@@ -57,7 +57,7 @@ def searches_of(edits, texts):
     sources = [(items(file, text), text) for file, text in texts.items() if file.startswith("src/")]
     found = set()
     for edit in edits:
-        named = [(it, text) for inside, text in sources for it in inside if it.is_named_by(edit.function)]
+        named = [(item, text) for inside, text in sources for item in inside if item.is_named_by(edit.function)]
         if named and not edit.is_control:
             search = search_of(edit, *named[0])
             if not re.search(rf"^pub {re.escape(edit.goal)} :", texts.get(search.file, ""), re.M):
@@ -76,6 +76,6 @@ def search_of(edit, function, text):
 def with_searches(crate, searches, texts):
     """The texts of a crate, by file, with some searches."""
     changed = dict(texts)
-    for search in sorted(searches, key=lambda it: (it.function, it.goal)):
+    for search in sorted(searches, key=lambda search: (search.function, search.goal)):
         changed[search.file] = search.added(crate, changed.get(search.file, ""))
     return changed
