@@ -1,7 +1,6 @@
 """What the benches share that are Python: the head of their figures, how busy the machine was, and the tables and the CSV
 that they end with."""
 
-import argparse
 import os
 import subprocess
 import time
@@ -9,15 +8,14 @@ from pathlib import Path
 
 from figures.figures import Figures
 from figures.tables import type_table
+from lib import commands
 
 BENCH = Path(__file__).resolve().parent.parent
 
 
 def parser_of(name, document):
     """A parser of options that tells a bench's document as it stands, and takes --csv."""
-    parser = argparse.ArgumentParser(
-        prog=f"bench/{name}", description=document, formatter_class=argparse.RawDescriptionHelpFormatter
-    )
+    parser = commands.parser_of(document, f"bench/{name}")
     parser.add_argument("--csv", metavar="FILE", help="keep all figures")
     return parser
 

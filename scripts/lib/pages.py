@@ -1,9 +1,8 @@
 #!/usr/bin/env -S python3 -B
-"""Reads pages of Markdown: their fences, what stands between these, their anchors and links.
+"""Reads pages of Markdown: their fences, what stands between these, their anchors and links. As a command it prints what the
+first fence of a kind holds, and fails where a page has none."""
 
-scripts/lib/pages.py PAGE KIND   prints what the first fence of a kind holds, and fails where a page has none
-"""
-
+import argparse
 import re
 import sys
 from dataclasses import dataclass
@@ -68,7 +67,11 @@ class Page:
 
 
 def main():
-    text = Page(Path(sys.argv[1])).fence(sys.argv[2])
+    parser = argparse.ArgumentParser(description=__doc__)
+    parser.add_argument("page", metavar="PAGE", type=Path)
+    parser.add_argument("kind", metavar="KIND")
+    options = parser.parse_args()
+    text = Page(options.page).fence(options.kind)
     sys.stdout.write(text)
     return not text
 

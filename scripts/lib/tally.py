@@ -1,13 +1,17 @@
-"""Counts what a check looks at, prints what is wrong with it, and closes with the line 'N passed, M failed'."""
+"""Counts what a check looks at, prints what is wrong with it, and closes with the line 'N passed, M failed'. says.sh does so
+for checks in bash."""
 
 import sys
 
 
 class Tally:
+    """How much passed, and how much failed."""
+
     def __init__(self):
         self.passed = self.failed = 0
 
     def count(self, is_so):
+        """Counts whether something is so."""
         self.passed, self.failed = self.passed + bool(is_so), self.failed + (not is_so)
 
     def says(self, complaint, is_so):
@@ -16,7 +20,18 @@ class Tally:
         if not is_so:
             print(complaint)
 
+    def complains(self, complaint):
+        """Counts a failure for a complaint, and a pass where there is none."""
+        self.says(complaint, not complaint)
+
     def close(self):
         """Ends the check: it fails where something is wrong, and where it looked at nothing."""
         print(f"{self.passed} passed, {self.failed} failed")
         sys.exit(self.failed > 0 or not self.passed)
+
+
+def stop(complaint):
+    """Ends a check that can't go on."""
+    tally = Tally()
+    tally.complains(complaint)
+    tally.close()

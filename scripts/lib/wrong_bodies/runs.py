@@ -1,14 +1,11 @@
-"""One run over some crates: what it takes from earlier runs, and the checks that it makes, the longest first.
+"""One run over some crates: what it takes from earlier runs, and the checks that it makes, of each crate the longest first.
 
 A group in which one edit may have disturbed another is tried again in parts, down to a single wrong body.
 """
 
-import functools
 import itertools
-import queue
 import subprocess
-import threading
-from concurrent.futures import Future
+from concurrent.futures import Future, ThreadPoolExecutor
 from dataclasses import dataclass
 from pathlib import Path
 
@@ -20,29 +17,6 @@ from lib.wrong_bodies.keeping import Kept
 from lib.wrong_bodies.recording import record
 from lib.wrong_bodies.rooms import Room
 from lib.wrong_bodies.searches import searches_of, with_searches
-
-
-class Threads:
-    """Threads that make checks, the longest of those that wait first: one left to the end is waited for alone."""
-
-    def __init__(self, count):
-        self.waiting, self.number = queue.PriorityQueue(), itertools.count()
-        for _ in range(count):
-            threading.Thread(target=self.work, daemon=True).start()
-
-    def work(self):
-        while True:
-            _, _, future, call = self.waiting.get()
-            try:
-                future.set_result(call())
-            except BaseException as why:
-                future.set_exception(why)
-
-    def submit(self, length, call):
-        """Has the call made, and returns what will hold its result."""
-        future = Future()
-        self.waiting.put((-length, next(self.number), future, call))
-        return future
 
 
 @dataclass
@@ -62,12 +36,19 @@ class Trial:
 
 
 class Run:
-    """One run: in a folder that is empty yet, as the words of the command say."""
+    """One run: in a folder that is empty yet, as the words of the command say. Where it ends early, checks that wait don't
+    begin."""
 
     def __init__(self, folder, given):
         self.folder, self.given, self.room = Path(folder), given, None
-        self.threads = Threads(given.jobs)
+        self.pool = ThreadPoolExecutor(given.jobs)
         self.version = subprocess.run(["rt", "version"], capture_output=True, text=True, check=True).stdout
+
+    def __enter__(self):
+        return self
+
+    def __exit__(self, *_):
+        self.pool.shutdown(cancel_futures=True)
 
     def trials(self, crate, only):
         """Begins the trials of a crate, or of those of its edits that are named."""
@@ -82,12 +63,12 @@ class Run:
             is_of_several = any(len(group.edits) > 1 for group, line in zip(groups, lines) if line is None)
             if is_of_several and not (self.given.record or self.given.whole):
                 searches = self.room.proved(crate, searches_of(edits, texts), texts)
-        for number, group in enumerate(groups):
-            if lines[number] is not None:
-                yield Trial(crate, kept=lines[number])
-                continue
-            call = functools.partial(self.check, crate, number, group, texts, kept, searches)
-            yield Trial(crate, check=self.threads.submit(length_of(group, texts), call))
+        left = [number for number, line in enumerate(lines) if line is None]
+        # a long check that is left to the end is waited for alone
+        left.sort(key=lambda number: len(groups[number].edits), reverse=True)
+        args = (texts, kept, searches)
+        checks = {number: self.pool.submit(self.check, crate, number, groups[number], *args) for number in left}
+        return [Trial(crate, line, checks.get(number)) for number, line in enumerate(lines)]
 
     def check(self, crate, number, group, texts, kept, searches):
         """Checks a group, with short searches for the goals that it names, and its parts where it is disturbed. What
@@ -112,11 +93,6 @@ class Run:
         """How many checks a crate's groups took in this run, and the processor time of these and of the first one."""
         tried, seconds = (self.room.tried, self.room.seconds) if self.room else ({}, {})
         return f"{tried.get(crate, 0)} checks in this run, {seconds.get(crate, 0):.0f} processor seconds"
-
-
-def length_of(group, texts):
-    """How long a group's check takes beside others: by its edits, and by the size of its crate."""
-    return len(group.edits) * sum(len(text) for text in texts.values())
 
 
 def together(verdicts, tried):
