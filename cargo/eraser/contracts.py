@@ -5,7 +5,7 @@ import re
 from eraser import Stopped
 from eraser.ghosts import EDGE, PART
 from eraser.requires import STANDS_FOR, Unsafe
-from eraser.text import line_of
+from lib.rattle import line_of
 
 CLAUSES = re.compile(f"(?:{EDGE}[^{EDGE}]*{EDGE})+")
 HEAD = re.compile(r"^( *)(pub(?:\(crate\))? )?(?:const )?fn \w+", re.M)

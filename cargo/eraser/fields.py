@@ -3,8 +3,7 @@
 import re
 
 from eraser import Stopped
-from eraser.modules import pieces
-from eraser.text import Tokens, code_of, line_of
+from lib.rattle import Tokens, code_of, line_of, pieces
 
 # The field is private to these files, so no other one makes a text or reads the field.
 FILES = re.compile(r"tinystr/ascii(?:/.+)?\.rt")

@@ -3,7 +3,7 @@
 import re
 
 from eraser import Stopped
-from eraser.text import Tokens
+from lib.rattle import Tokens
 
 # Traits of the kit: a type's view for the prover, and the names of generic views. `strings.rs` has Rust's forms of these.
 KIT_TRAITS = ("Model", "AsStr", "AsSlice")

@@ -4,7 +4,7 @@ import re
 from collections import Counter
 
 from eraser import Stopped
-from eraser.text import TOKEN
+from lib.rattle import pieces
 
 # The module of each crate, in order. That of the type is the root.
 MODULES = {
@@ -53,19 +53,6 @@ def with_paths(text, crate):
     """The paths of the code, with `crate::` and the other crates' names as modules of the one crate."""
     made = [piece if kind in ("comment", "string") else with_modules(piece, crate) for kind, piece in pieces(text)]
     return "".join(made)
-
-
-def pieces(text):
-    """The text cut into comments, strings and the code between these."""
-    code = []
-    for token in TOKEN.finditer(text):
-        if token.lastgroup in ("comment", "string"):
-            yield "code", "".join(code)
-            yield token.lastgroup, token.group()
-            code = []
-        else:
-            code.append(token.group())
-    yield "code", "".join(code)
 
 
 def with_modules(code, crate):

@@ -12,7 +12,7 @@ from eraser.items import with_derives, without_items
 from eraser.modules import MODULES, PRIVATE, with_paths, with_signatures
 from eraser.names import stop_at_names_of_str
 from eraser.rules import Rules, stop_at_what_is_left
-from eraser.text import unmatched_bracket
+from lib.rattle import unmatched_bracket
 
 # Sources that are left out, each with the reason.
 LEFT_OUT = {

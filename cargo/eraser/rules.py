@@ -8,7 +8,7 @@ import re
 from dataclasses import dataclass
 
 from eraser import Stopped
-from eraser.text import code_of
+from lib.rattle import code_of
 
 
 @dataclass(frozen=True)

@@ -1,4 +1,5 @@
 """Reads proved sources, made files and the list of differences for cargo/compare.
 
-It shares no code with the eraser on purpose: it finds what the eraser reads or writes wrongly, so it reads sources on its own.
+It shares no code with the eraser on purpose, nor with scripts/lib/rattle.py, by which the eraser reads sources: it finds what
+these read or write wrongly, so it reads sources on its own.
 """

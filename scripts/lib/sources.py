@@ -1,14 +1,13 @@
-"""Reads crates.txt, the texts of a crate, and the bodies of a source as `rt fmt` lays it out. It prints nothing."""
+"""Reads crates.txt, the texts of a crate, and what of a source a wrong body can turn. It prints nothing."""
 
 import re
 from dataclasses import dataclass
 from pathlib import Path
 
+from lib.rattle import items_of, line_start
+
 TOP = Path(__file__).resolve().parents[2]
 LAWS = "src/laws.rt"
-FUNCTION = re.compile(r'( *)(?:pub(?:\([a-z]+\))? )?(?:const )?(?:extern "C" )?fn (\w+)')
-CONSTANT = re.compile(r"( *)(?:pub(?:\([a-z]+\))? )?(?:const|static) ([A-Z]\w*)\b")
-BLOCK = re.compile(r"(?:pub )?(?:impl|trait)\b")
 ARM = re.compile(r" +(?:\| )?(?:Width|Question|Case|Command|TextCall|Self)::\w+.*=>")
 
 
@@ -48,43 +47,22 @@ class Item:
 
 def items(file, text):
     """The functions with a body, the laws, and the constants, of a source."""
-    found, block, at = [], "", 0
-    lines, starts = text.split("\n"), []
-    for line in lines:
-        starts.append(at)
-        at += len(line) + 1
-
-    def end_of(number):
-        return starts[number] + len(lines[number])
-
-    for number, line in enumerate(lines):
-        if re.match(r"\S", line) and not line.startswith(("//", "#", ")", "{")):
-            block = line if BLOCK.match(line) else ""
-        function, constant = FUNCTION.match(line), CONSTANT.match(line)
-        if function and (body := body_of(lines, number, function[1])):
-            first, last = body
-            start = number if file == LAWS else first
-            found.append(Item(file, block, function[2], False, starts[start], end_of(last), starts[first]))
-        elif function and file == LAWS:
-            end = end_of(lines.index("{}", number))
-            found.append(Item(file, block, function[2], False, starts[number], end, end))
-        elif constant:
-            last = next(last for last in range(number, len(lines)) if lines[last].endswith(";"))
-            found.append(Item(file, block, constant[2], True, starts[number], end_of(last), starts[number]))
-    return found
+    return list(items_among(items_of(text), file, ""))
 
 
-def body_of(lines, number, indent):
-    """The lines of the braces that open and close the body of the function at a line, if it has one that isn't empty."""
-    for at in range(number, len(lines)):
-        line = lines[at]
-        # the head of a function without clauses ends with its brace; a clause stands deeper
-        is_head = at == number or line.startswith(indent + ")")
-        if line == indent + "{" or is_head and line.endswith(" {"):
-            return at, next(end for end in range(at + 1, len(lines)) if lines[end] == indent + "}")
-        if line == indent + "{}" or line == "}" or at > number and FUNCTION.match(line):
-            return None
-    return None
+def items_among(found, file, block):
+    """Those among some items of a source, and in these; `block` is the head of the impl or trait that has them."""
+    for item in found:
+        start, end = line_start(item.source, item.start), item.end
+        if item.kind in ("impl", "trait", "mod"):
+            yield from items_among(item.inner, file, "" if item.kind == "mod" else item.head)
+        elif item.kind in ("const", "static"):
+            yield Item(file, block, item.name, True, start, end, start)
+        elif item.kind == "fn" and item.has_code:
+            code = line_start(item.source, item.body[0])
+            yield Item(file, block, item.name, False, start if file == LAWS else code, end, code)
+        elif item.kind == "fn" and file == LAWS:
+            yield Item(file, block, item.name, False, start, end, end)
 
 
 def texts_of(crate):

@@ -15,7 +15,10 @@ class Kept:
     """What passed of a crate's groups."""
 
     def __init__(self, crate, version):
-        scripts = [TOP / "scripts/lib/sources.py", *sorted((TOP / "scripts/lib/wrong_bodies").glob("*.py"))]
+        scripts = [
+            *(TOP / f"scripts/lib/{name}.py" for name in ("rattle", "sources")),
+            *sorted((TOP / "scripts/lib/wrong_bodies").glob("*.py")),
+        ]
         uses = libraries()
         crates = [(name, uses[name], sorted(texts_of(name).items())) for name in [*below(crate), crate]]
         self.read = repr((version, [path.read_text(encoding="utf-8") for path in scripts], crates))
