@@ -1,9 +1,9 @@
 """The list of differences: what it says of files, of the text, and of what stands for each `requires`.
 
-An entry of the text is a line 'once: OLD' or 'N times: OLD', or 'N times in FILE: OLD', and below it '    becomes NEW' or
-'    goes'. What is new alone is 'once added in FILE: NEW', with no line below. `…` in OLD is any text without `;` or a brace
-of its own, and is in NEW in the same order. Where OLD or NEW has more lines, each begins with eight spaces. One line
-names the function that makes each text.
+An entry of the text is a line 'once: OLD', 'N times: OLD' or 'wherever: OLD' (once or more), or 'N times in FILE: OLD' and
+so on, and below it '    becomes NEW' or '    goes'. What is new alone is 'once added in FILE: NEW', with no line below. `…`
+in OLD is any text without `;` or a brace of its own, and is in NEW in the same order. Where OLD or NEW has more lines, each
+begins with eight spaces. One line names the function that makes each text.
 """
 
 import re
@@ -11,7 +11,7 @@ from dataclasses import dataclass, field
 
 from second_reader.texts import Unreadable, read
 
-ENTRY = re.compile(r"(?:once|(?P<count>\d+) times)(?P<added> added)?(?: in (?P<file>\S+))?: (?P<old>.*)")
+ENTRY = re.compile(r"(?:once|wherever|(?P<count>\d+) times)(?P<added> added)?(?: in (?P<file>\S+))?: (?P<old>.*)")
 REQUIRES = re.compile(r"(?P<file>\S+\.rt): (?P<function>\w+) requires (?P<said>.*)")
 FILE = re.compile(r"(left out|by hand): (\S+)")
 MAKER = re.compile(r"texts are made by (?P<function>\w+) of (?P<file>\S+\.rt), which requires (?P<said>.*?), with (?P<call>.*)")
@@ -21,11 +21,11 @@ STANDS = ("panics first with", "panics in its body at", "is unsafe")
 
 @dataclass
 class Entry:
-    """A difference: how often it is found and in which file, or in any; the tokens that stand there, and those made of
-    them; whether they stand in what is made alone; and its line in the list."""
+    """A difference: its line in the list; how often it is found, or None where that is once or more, and in which file, or in
+    any; whether it is in what is made alone; and the tokens that are there, and those made of them."""
 
     line: int
-    count: int
+    count: int | None
     file: str
     is_added: bool
     old: list
@@ -81,7 +81,8 @@ def read_list(path):
     listed, open_entry, open_requires = Listed(), None, None
     for number, line in paragraphs(path):
         if entry := re.fullmatch(ENTRY.pattern, line, re.S):
-            count, file, is_added = int(entry["count"] or 1), entry["file"] or "*", bool(entry["added"])
+            count = None if line.startswith("wherever") else int(entry["count"] or 1)
+            file, is_added = entry["file"] or "*", bool(entry["added"])
             open_entry = Entry(number, count, file, is_added, tokens_of(entry["old"]), [])
             if is_added:
                 listed.entries.append(open_entry)
