@@ -1,6 +1,6 @@
 """The tables of bench/calls, and the heat map of them."""
 
-from figures.figures import THERE
+from figures.figures import THERE, Figures
 from figures.heat_map import heat_map
 from figures.ratios import CAPACITIES, FAILING, KINDS, SLOWER, cells_of_kind, mean_of, ratios_of_kind
 from figures.tables import aligned, cells_of_table, geometric, marked, ratio_table, rows_of, said
@@ -12,16 +12,16 @@ PAIR = "full, mixed"
 OTHERS = [("0.3.2", "4"), ("0.3.2", "8"), ("0.3.2", "16"), ("by hand", "16")]
 
 
-def marked_pair(figures, call, capacity, rival=THERE):
+def marked_pair(figures: Figures, call: str, capacity: str, rival: str = THERE) -> str:
     """The ratios of full and of mixed texts."""
     return ", ".join(marked(figures, cells_of_kind(figures, kind)[call][capacity], rival) for kind in ("full", "mixed"))
 
 
-def full_and_mixed(figures):
+def full_and_mixed(figures: Figures) -> str:
     """A row for each of the calls over which the means are taken."""
     lines = [[PAIR, *CAPACITIES, "mean"]]
 
-    def pair(full, mixed):
+    def pair(full: float, mixed: float) -> str:
         return f"{full:.2f},  {mixed:.2f}"
 
     full, mixed = ratios_of_kind(figures, "full"), ratios_of_kind(figures, "mixed")
@@ -33,7 +33,7 @@ def full_and_mixed(figures):
     return aligned([*lines, ["geometric mean", *means]])
 
 
-def lists_and_failing(figures):
+def lists_and_failing(figures: Figures) -> str:
     """Readers of lists that can't be learned, and the questions that fail: the mean of all, the fastest and the slowest."""
     lines = [["call", *CAPACITIES]]
     for call, cells in cells_of_kind(figures, LISTS).items():
@@ -45,11 +45,11 @@ def lists_and_failing(figures):
     return aligned(lines)
 
 
-def merged(call):
+def merged(call: str) -> str:
     return "question, slowest" if call.startswith("is_ascii_") else call
 
 
-def slower_of(ratios):
+def slower_of(ratios: dict[str, dict[str, float]]) -> dict[str, dict[str, float]]:
     """The questions as one, by the slowest of them, and of each call the capacities at which it is slower."""
     found = {}
     for call, by_capacity in ratios.items():
@@ -60,7 +60,7 @@ def slower_of(ratios):
     return {call: of_call for call, of_call in found.items() if of_call}
 
 
-def slower(figures):
+def slower(figures: Figures) -> str:
     """The slowest first."""
     rows = {}
     for kind in dict.fromkeys(KINDS.values()):
@@ -68,13 +68,13 @@ def slower(figures):
             rows[call if kind == "failing" else f"{call}; {kind}"] = ratios
     heads = sorted(rows, key=lambda head: max(rows[head].values()), reverse=True)
 
-    def line(head):
+    def line(head: str) -> list[str]:
         return [head, *(f"{rows[head][capacity]:.2f}" if capacity in rows[head] else "" for capacity in CAPACITIES)]
 
     return aligned([["call", *CAPACITIES], *map(line, heads)])
 
 
-def beside_others(figures):
+def beside_others(figures: Figures) -> str:
     """tinystr 0.3.2, which has three capacities, and vectors by hand, which are of sixteen bytes."""
     lines = [[PAIR, *(f"{rival} at {capacity}" for rival, capacity in OTHERS)]]
     for call, cells in cells_of_kind(figures, "full").items():
@@ -85,11 +85,11 @@ def beside_others(figures):
     return aligned(lines)
 
 
-def table(figures, name):
+def table(figures: Figures, name: str) -> str:
     return ratio_table(*rows_of(cells_of_table(figures, name), lambda cell: cell[2]), figures)
 
 
-def in_a_row(figures, name):
+def in_a_row(figures: Figures, name: str) -> str:
     """A table of one ratio for each call, with their mean."""
     cells = cells_of_table(figures, name)
     mean = geometric([figures.ratio(cell, THERE) for cell in cells])
@@ -97,19 +97,19 @@ def in_a_row(figures, name):
     return aligned([["call", *head, "geometric mean"], ["ratio", *ratios, f"{mean:.2f}"]])
 
 
-def calls_rows(figures):
+def calls_rows(figures: Figures) -> dict[str, dict[str, dict[str, float]]]:
     """Ratios by call, kind of texts and capacity."""
     full, mixed = ratios_of_kind(figures, "full"), ratios_of_kind(figures, "mixed")
     rows = {call: {"full": full[call], "mixed": mixed[call]} for call in full}
     return {**rows, FAILING: {"full": ratios_of_kind(figures, "failing")[FAILING]}}
 
 
-def calls_picture(figures):
+def calls_picture(figures: Figures) -> str:
     title = "Time of each call divided by the Rust crate's, by capacity"
     return heat_map(calls_rows(figures), CAPACITIES, title, calls_description(figures))
 
 
-def calls_description(figures):
+def calls_description(figures: Figures) -> str:
     """The means, in one sentence for those who don't see the picture."""
     return (
         f"Geometric means: {mean_of(figures, 'full'):.2f} on texts that fill their capacity,"

@@ -3,6 +3,7 @@
 from math import log10
 
 from figures.drawing import BLUE, CARD, FAINT, GREY, INK, ORANGE, bold, dot, grey, line, mixed, polyline, rectangle, svg, text
+from figures.figures import Figures
 from figures.ratios import CAPACITIES, FAILING, SLOWER, ratios_of_kind
 from figures.tables import geometric
 
@@ -17,15 +18,15 @@ LEFT, RIGHT, TOP, BOTTOM = 62, 640, 62, 372
 TITLE = "This crate's time divided by the Rust crate's"
 
 
-def x_of(capacity):
+def x_of(capacity: str) -> float:
     return LEFT + 24 + (RIGHT - LEFT - 48) * CAPACITIES.index(capacity) / (len(CAPACITIES) - 1)
 
 
-def y_of(ratio):
+def y_of(ratio: float) -> float:
     return BOTTOM - (BOTTOM - TOP) * log10(ratio / LEAST) / log10(MOST / LEAST)
 
 
-def axes():
+def axes() -> list[str]:
     shapes = [rectangle(LEFT, TOP, RIGHT - LEFT, y_of(1.0) - TOP, mixed(CARD, ORANGE, 0.08))]
     for tick in TICKS:
         is_one = tick == 1.0
@@ -37,11 +38,11 @@ def axes():
     return shapes
 
 
-def places_of(ratios):
+def places_of(ratios: dict[str, float]) -> list[tuple[float, float]]:
     return [(x_of(capacity), y_of(ratio)) for capacity, ratio in ratios.items()]
 
 
-def named_shapes(name, ratios, color, width, label_y):
+def named_shapes(name: str, ratios: dict[str, float], color: str, width: int, label_y: float) -> list[str]:
     shapes = [polyline(places_of(ratios), color, width)]
     for capacity, ratio in ratios.items():
         paint = ORANGE if ratio > SLOWER else color
@@ -51,13 +52,13 @@ def named_shapes(name, ratios, color, width, label_y):
     return [*shapes, (bold if width > 2 else text)(RIGHT + 10, label_y, name, "", f' fill="{color}"')]
 
 
-def slowest_shapes(ratios):
+def slowest_shapes(ratios: dict[str, float]) -> list[str]:
     """The number at the place where a call loses most."""
     slowest = max(ratios, key=ratios.get)
     return [bold(x_of(slowest), y_of(ratios[slowest]) - 9, f"{ratios[slowest]:.2f}", "middle", f' fill="{ORANGE}"')]
 
 
-def spread(places, step=17):
+def spread(places: dict[str, float], step: int = 17) -> dict[str, float]:
     """The heights of labels, by name, so that no two are nearer than a step."""
     heights, last = {}, None
     for name, y in sorted(places.items(), key=lambda item: item[1]):
@@ -66,7 +67,7 @@ def spread(places, step=17):
     return heights
 
 
-def lines_named(rows):
+def lines_named(rows: dict[str, dict[str, float]]) -> dict[str, tuple[dict[str, float], str, int]]:
     """The mean and the named calls: each name with its ratios, its colour and the width of its line."""
     beside_failing = [row for call, row in rows.items() if call != FAILING]
     mean = {capacity: geometric([row[capacity] for row in beside_failing]) for capacity in CAPACITIES}
@@ -74,7 +75,7 @@ def lines_named(rows):
     return {f"mean of {len(beside_failing)} calls": (mean, BLUE, 4), **named}
 
 
-def capacities_picture(figures):
+def capacities_picture(figures: Figures) -> str:
     rows = {**ratios_of_kind(figures, "full"), **ratios_of_kind(figures, "failing")}
     named = lines_named(rows)
     heights = spread({name: y_of(list(ratios.values())[-1]) + 4 for name, (ratios, _, _) in named.items()})
@@ -90,11 +91,11 @@ def capacities_picture(figures):
     return svg(BOTTOM + 50, TITLE, capacities_description(figures), shapes)
 
 
-def capacities_description(figures):
+def capacities_description(figures: Figures) -> str:
     """The message, for those who don't see the picture."""
     rows, failing = ratios_of_kind(figures, "full"), ratios_of_kind(figures, "failing")[FAILING]
 
-    def mean(capacity):
+    def mean(capacity: str) -> float:
         return geometric([row[capacity] for row in rows.values()])
 
     first, last = CAPACITIES[0], CAPACITIES[-1]

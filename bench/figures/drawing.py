@@ -1,6 +1,7 @@
 """Shapes of SVG, and the colours of all pictures. A picture is a card with a background of its own, so that its text has a
 contrast of at least 4.5 on a light page and on a dark one."""
 
+from collections.abc import Iterable
 from html import escape
 
 CARD = "#ffffff"
@@ -18,7 +19,7 @@ PURPLE = "#8250df"
 WIDTH = 860
 
 
-def svg(height, title, description, shapes):
+def svg(height: float, title: str, description: str, shapes: Iterable[str]) -> str:
     size = f'viewBox="0 0 {WIDTH} {height:.0f}" width="{WIDTH}" height="{height:.0f}"'
     lines = [
         f'<svg xmlns="http://www.w3.org/2000/svg" {size} role="img" aria-labelledby="title description"',
@@ -32,45 +33,45 @@ def svg(height, title, description, shapes):
     return "".join(f"{line}\n" for line in lines)
 
 
-def group(shapes, attributes):
+def group(shapes: Iterable[str], attributes: str) -> list[str]:
     """Shapes that share what they don't say themselves."""
     return [f"<g {attributes}>", *shapes, "</g>"]
 
 
-def text(x, y, string, anchor="", more=""):
+def text(x: float, y: float, string: str, anchor: str = "", more: str = "") -> str:
     anchored = f' text-anchor="{anchor}"' if anchor else ""
     return f'<text x="{x:.1f}" y="{y:.1f}"{anchored}{more}>{escape(string)}</text>'
 
 
-def bold(x, y, string, anchor="", more=""):
+def bold(x: float, y: float, string: str, anchor: str = "", more: str = "") -> str:
     return text(x, y, string, anchor, f' font-weight="bold"{more}')
 
 
-def grey(x, y, string, anchor=""):
+def grey(x: float, y: float, string: str, anchor: str = "") -> str:
     return text(x, y, string, anchor, f' fill="{GREY}"')
 
 
-def line(x1, y1, x2, y2, color=FAINT, width=0.5):
+def line(x1: float, y1: float, x2: float, y2: float, color: str = FAINT, width: float = 0.5) -> str:
     return f'<path d="M{x1:.1f} {y1:.1f}L{x2:.1f} {y2:.1f}" stroke="{color}" stroke-width="{width}"/>'
 
 
-def polyline(points, color, width=2):
+def polyline(points: Iterable[tuple[float, float]], color: str, width: float = 2) -> str:
     joined = " ".join(f"{x:.1f},{y:.1f}" for x, y in points)
     return f'<polyline points="{joined}" fill="none" stroke="{color}" stroke-width="{width}" stroke-linejoin="round"/>'
 
 
-def rectangle(x, y, width, height, color):
+def rectangle(x: float, y: float, width: float, height: float, color: str) -> str:
     return f'<rect x="{x:.1f}" y="{y:.1f}" width="{width:.1f}" height="{height:.1f}" fill="{color}"/>'
 
 
-def dot(x, y, color, radius):
+def dot(x: float, y: float, color: str, radius: float) -> str:
     return f'<circle cx="{x:.1f}" cy="{y:.1f}" r="{radius}" fill="{color}"/>'
 
 
-def mixed(first, second, share):
+def mixed(first: str, second: str, share: float) -> str:
     """A colour between two, by the share of the second."""
 
-    def channels(color):
+    def channels(color: str) -> list[int]:
         return [int(color[i : i + 2], 16) for i in (1, 3, 5)]
 
     return "#" + "".join(f"{round(a + (b - a) * share):02x}" for a, b in zip(channels(first), channels(second)))

@@ -2,13 +2,18 @@
 
 import csv
 from collections import defaultdict
+from collections.abc import Iterable
 from statistics import median
+from typing import TextIO
+
 
 # Whose times they are: this crate's, the Rust crate's or those of a program over it, and this crate's of an older commit.
 HERE = "here"
 THERE = "there"
 START = "start"
 
+# A table, a call and a column.
+Cell = tuple[str, str, str]
 COLUMNS = ["run", "table", "call", "column", "whose", "nanoseconds", "instructions"]
 
 
@@ -17,19 +22,19 @@ class Figures:
     places of its code, and the instructions, where they were counted.
     """
 
-    def __init__(self):
+    def __init__(self) -> None:
         self.head = []
         self.times = defaultdict(lambda: defaultdict(dict))
         self.instructions = defaultdict(dict)
         self.notes = []
         self.steady = []
 
-    def add(self, run, cell, whose, time):
+    def add(self, run: int | str, cell: Cell, whose: str, time: float | str) -> None:
         """Keeps the least time of a run."""
         of_runs = self.times[cell][whose]
         of_runs[run] = min(of_runs.get(run, float("inf")), float(time))
 
-    def read_times(self, lines):
+    def read_times(self, lines: Iterable[str]) -> None:
         for line in lines:
             fields = line.rstrip("\n").split("|")
             run, _place, kind = fields[:3]
@@ -42,12 +47,12 @@ class Figures:
                 *cell, whose, time = fields[2:]
                 self.add(run, tuple(cell), whose, time)
 
-    def read_instructions(self, lines):
+    def read_instructions(self, lines: Iterable[str]) -> None:
         for line in lines:
             *cell, whose, count = line.rstrip("\n").split("|")
             self.instructions[tuple(cell)][whose] = float(count)
 
-    def read_csv(self, lines):
+    def read_csv(self, lines: Iterable[str]) -> None:
         lines = list(lines)
         self.head = [line[2:].rstrip("\n") for line in lines if line.startswith("# ")]
         for row in csv.DictReader(line for line in lines if not line.startswith("#")):
@@ -56,7 +61,7 @@ class Figures:
             if row["instructions"]:
                 self.instructions[cell][row["whose"]] = float(row["instructions"])
 
-    def write_csv(self, file):
+    def write_csv(self, file: TextIO) -> None:
         file.writelines(f"# {line}\n" for line in self.head)
         out = csv.writer(file, lineterminator="\n")
         out.writerow(COLUMNS)
@@ -65,21 +70,21 @@ class Figures:
                 instructions = self.instructions[cell].get(whose, "")
                 out.writerows([run, *cell, whose, time, instructions] for run, time in of_runs.items())
 
-    def tables(self):
+    def tables(self) -> list[str]:
         return list(dict.fromkeys(cell[0] for cell in self.times))
 
-    def cells(self, table):
+    def cells(self, table: str) -> list[Cell]:
         return [cell for cell in self.times if cell[0] == table]
 
-    def time(self, cell, whose):
+    def time(self, cell: Cell, whose: str) -> float:
         """The median of the runs."""
         return median(self.times[cell][whose].values())
 
-    def ratios(self, cell, rival, whose=HERE):
+    def ratios(self, cell: Cell, rival: str, whose: str = HERE) -> list[float]:
         """The ratio of one time, this crate's, to another's, of each run."""
         here, there = self.times[cell][whose], self.times[cell][rival]
         return [here[run] / there[run] for run in here]
 
-    def ratio(self, cell, rival, whose=HERE):
+    def ratio(self, cell: Cell, rival: str, whose: str = HERE) -> float:
         """The ratio of the medians. It lies between the least and the most of the runs' ratios."""
         return self.time(cell, whose) / self.time(cell, rival)

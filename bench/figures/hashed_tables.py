@@ -3,7 +3,9 @@
 A cell of these figures is as in many_keys.py.
 """
 
-from figures.figures import HERE
+from collections.abc import Callable
+
+from figures.figures import HERE, Cell, Figures
 from figures.many_keys import BYTES, ONE_BY_ONE, cell_of, counts, widths
 from figures.tables import aligned, said
 
@@ -33,29 +35,29 @@ TIMES = [
 ]
 
 
-def cells_of(figures, call):
+def cells_of(figures: Figures, call: str) -> list[Cell]:
     """Those of all tables that have figures of hashed ones."""
     cells = [cell_of(width, call, count) for width in widths(figures) for count in counts(figures)]
     return [cell for cell in cells if cell in figures.times and HASHED in figures.times[cell]]
 
 
-def time_or_ratio(figures, cell, whose):
+def time_or_ratio(figures: Figures, cell: Cell, whose: str) -> str:
     """Nanoseconds, and the ratio of the hashed table's to them."""
     nanos = f"{figures.time(cell, whose):.1f}"
     return nanos if whose == HASHED else f"{nanos}, {said(figures, cell, whose, HASHED)}"
 
 
-def size(figures, cell, whose):
+def size(figures: Figures, cell: Cell, whose: str) -> str:
     return f"{figures.time(cell, whose):.1f}"
 
 
-def name_of(cell):
+def name_of(cell: Cell) -> str:
     """That of its table, with its number of records as it is read."""
     table, _, count = cell
     return table.replace(f" {count} ", f" {int(count):,} ")
 
 
-def rows(figures, title, call, columns, said_of):
+def rows(figures: Figures, title: str, call: str, columns: dict[str, str], said_of: Callable) -> str:
     """A row for each table, and a column for each whose figures there are."""
     cells = cells_of(figures, call)
     names = [name for name, whose in columns.items() if all(whose in figures.times[cell] for cell in cells)]
@@ -63,7 +65,7 @@ def rows(figures, title, call, columns, said_of):
     return aligned([[title, *names], *lines])
 
 
-def hashed_tables(figures):
+def hashed_tables(figures: Figures) -> str:
     """A table for each call, and one of memory; nothing where there are no figures of hashed tables."""
     if not cells_of(figures, BYTES):
         return ""

@@ -17,7 +17,7 @@ MEAN = "geometric mean"
 CELLS = 'font-size="11" text-anchor="middle"'
 
 
-def color_of(ratio):
+def color_of(ratio: float) -> str:
     """White where both crates take as long."""
     if ratio <= 1:
         return mixed(CARD, FAST, min(1, log(ratio) / log(FASTEST)))
@@ -27,37 +27,37 @@ def color_of(ratio):
 class Grid:
     """Where the cells of a heat map lie: the columns of both kinds of texts."""
 
-    def __init__(self, capacities):
+    def __init__(self, capacities: list[str]) -> None:
         self.columns = [*capacities, "mean"]
         self.width = (WIDTH - LEFT - 10 - GAP) / (2 * len(self.columns))
 
-    def x(self, kind, column):
+    def x(self, kind: str, column: str) -> float:
         return LEFT + KINDS.index(kind) * (len(self.columns) * self.width + GAP) + self.columns.index(column) * self.width
 
-    def y(self, row):
+    def y(self, row: float) -> float:
         return TOP + ROW * row
 
 
-def cell_shapes(grid, row, kind, column, ratio):
+def cell_shapes(grid: Grid, row: float, kind: str, column: str, ratio: float) -> list[str]:
     x, y = grid.x(kind, column), grid.y(row)
     write = bold if column == "mean" else text
     box = rectangle(x + 0.5, y + 0.5, grid.width - 1, ROW - 1, color_of(ratio))
     return [box, write(x + grid.width / 2, y + 14, f"{ratio:.2f}")]
 
 
-def row_shapes(grid, row, name, ratios):
+def row_shapes(grid: Grid, row: float, name: str, ratios: dict[str, dict[str, float]]) -> list[str]:
     """`ratios` are by kind and column."""
     shapes = [(bold if name == MEAN else text)(LEFT - 8, grid.y(row) + 14, name, "end")]
     cells = [(kind, column, ratio) for kind, by_column in ratios.items() for column, ratio in by_column.items()]
     return shapes + group([shape for cell in cells for shape in cell_shapes(grid, row, *cell)], CELLS)
 
 
-def with_means(row):
+def with_means(row: dict[str, dict[str, float]]) -> dict[str, dict[str, float]]:
     """A row with the mean of each kind in its last column."""
     return {kind: {**by_capacity, "mean": geometric(by_capacity.values())} for kind, by_capacity in row.items()}
 
 
-def means_of(rows, capacities):
+def means_of(rows: dict[str, dict[str, dict[str, float]]], capacities: list[str]) -> dict[str, dict[str, float]]:
     """Of each column over all rows that have both kinds of texts, and of all of them."""
     means = {}
     for kind in KINDS:
@@ -67,7 +67,7 @@ def means_of(rows, capacities):
     return means
 
 
-def head_shapes(grid, title):
+def head_shapes(grid: Grid, title: str) -> list[str]:
     shapes = [bold(12, 22, title), grey(12, 42, "blue: this crate is faster; white: as fast; orange: slower")]
     places = [(WIDTH - 10 - 40 * (len(LEGEND) - i), ratio) for i, ratio in enumerate(LEGEND)]
     boxes = [(rectangle(x, 29, 39, 18, color_of(ratio)), text(x + 19.5, 42, f"{ratio:.1f}")) for x, ratio in places]
@@ -80,11 +80,11 @@ def head_shapes(grid, title):
     return shapes
 
 
-def heat_map(rows, capacities, title, description):
+def heat_map(rows: dict[str, dict[str, dict[str, float]]], capacities: list[str], title: str, description: str) -> str:
     """`rows` are ratios by name, kind and capacity; the slowest comes first, and last the mean of those with both kinds."""
     grid = Grid(capacities)
 
-    def slowness(name):
+    def slowness(name: str) -> float:
         return geometric(rows[name]["full"].values())
 
     names = sorted(rows, key=slowness, reverse=True)

@@ -1,6 +1,6 @@
 """The table and the picture of bench/cargo: the crate for Cargo beside the Rust crate, both inlined, for two processors."""
 
-from figures.figures import THERE
+from figures.figures import THERE, Figures
 from figures.heat_map import heat_map, means_of
 from figures.tables import aligned, geometric, type_table
 
@@ -14,7 +14,7 @@ LOOK_UPS = "Look-ups"
 CAPACITIES = ["3", "4", "8", "12", "16", "24", "32", "64"]
 
 
-def ratios_of(figures, table):
+def ratios_of(figures: Figures, table: str) -> dict[str, dict[str, float]]:
     """By call and capacity."""
     found = {}
     for cell in figures.cells(table):
@@ -22,13 +22,13 @@ def ratios_of(figures, table):
     return found
 
 
-def rows_of_kind(figures, one_at_a_time):
+def rows_of_kind(figures: Figures, one_at_a_time: int) -> dict[str, dict[str, dict[str, float]]]:
     """Ratios by call, kind of texts and capacity."""
     of_kinds = {kind: ratios_of(figures, tables[one_at_a_time]) for kind, tables in TABLES.items()}
     return {call: {kind: of_kinds[kind][call] for kind in TABLES} for call in of_kinds["full"]}
 
 
-def slowest_of(rows, call):
+def slowest_of(rows: dict[str, dict[str, dict[str, dict[str, float]]]], call: str) -> str:
     """Of all processors and kinds of texts."""
     cells = [
         (ratio, capacity) for of in rows.values() for by_capacity in of[call].values() for capacity, ratio in by_capacity.items()
@@ -37,7 +37,7 @@ def slowest_of(rows, call):
     return f"{ratio:.2f} at {capacity}"
 
 
-def inlined_table(all_figures):
+def inlined_table(all_figures: dict[str, Figures]) -> str:
     """A row for each call of lists and of one value: its means over all capacities, by processor and kind of texts, and the
     slowest of its cells. `all_figures` are by processor."""
     columns = [(processor, kind) for processor in all_figures for kind in TABLES]
@@ -52,24 +52,24 @@ def inlined_table(all_figures):
     return aligned(lines)
 
 
-def look_ups(figures):
+def look_ups(figures: Figures) -> str:
     """Both sizes of table, one below the other."""
     tables = [table for table in figures.tables() if table.startswith(LOOK_UPS)]
     return "\n\n".join(f"{table}\n\n{type_table(figures, figures.cells(table))}" for table in tables)
 
 
-def cargo_rows(figures):
+def cargo_rows(figures: Figures) -> dict[str, dict[str, dict[str, float]]]:
     """Lists and single values, by call, kind of texts and capacity."""
     alone = {f"{call}{ONE_AT_A_TIME}": row for call, row in rows_of_kind(figures, 1).items()}
     return {**rows_of_kind(figures, 0), **alone}
 
 
-def cargo_picture(figures):
+def cargo_picture(figures: Figures) -> str:
     title = "Crate for Cargo: time of each call divided by the Rust crate's, by capacity"
     return heat_map(cargo_rows(figures), CAPACITIES, title, cargo_description(figures))
 
 
-def cargo_description(figures):
+def cargo_description(figures: Figures) -> str:
     """The means, in one sentence for those who don't see the picture."""
     means = means_of(cargo_rows(figures), CAPACITIES)
     return (

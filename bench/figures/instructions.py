@@ -4,11 +4,12 @@ instructions a value, without what the call costs with no round.
 """
 
 import sys
+from collections.abc import Iterable, Iterator
 
 NAMED = "desc: Trigger: Client Request: "
 
 
-def counts(lines):
+def counts(lines: Iterable[str]) -> Iterator[tuple[str, int]]:
     """The name and the instructions of each count that the program named."""
     name = None
     for line in lines:
@@ -21,7 +22,7 @@ def counts(lines):
             name = None
 
 
-def main():
+def main() -> None:
     idle = 0
     for name, count in counts(sys.stdin):
         place, values, rounds = name.rsplit("|", 2)

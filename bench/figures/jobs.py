@@ -1,7 +1,7 @@
 """Whole jobs, by bench/run: their table and their picture."""
 
 from figures.drawing import BLUE, FAINT, ORANGE, WIDTH, bold, rectangle, svg, text
-from figures.figures import HERE, START, THERE
+from figures.figures import HERE, START, THERE, Cell, Figures
 from figures.tables import aligned, said
 
 NAMES = {START: "this crate at the start", HERE: "this crate now", THERE: "a Rust program over the Rust crate"}
@@ -11,11 +11,11 @@ LEFT, TOP, BAR, JOB = 110, 66, 16, 64
 TITLE = "Seconds of whole jobs"
 
 
-def seconds(figures, cell, whose):
+def seconds(figures: Figures, cell: Cell, whose: str) -> float:
     return figures.time(cell, whose) / SECOND
 
 
-def jobs_table(figures):
+def jobs_table(figures: Figures) -> str:
     """The medians of all turns in seconds, and the ratios of this crate's to the others."""
     lines = [["seconds", "start", "now", "now / start", "Rust program", "now / Rust program"]]
     for cell in figures.times:
@@ -24,7 +24,7 @@ def jobs_table(figures):
     return aligned(lines)
 
 
-def bars(figures, cell, top, longest):
+def bars(figures: Figures, cell: Cell, top: int, longest: float) -> list[str]:
     shapes = [bold(LEFT - 10, top + 1.5 * BAR + 3, cell[1], "end")]
     for i, whose in enumerate(NAMES):
         taken = seconds(figures, cell, whose)
@@ -35,7 +35,7 @@ def bars(figures, cell, top, longest):
     return shapes
 
 
-def jobs_picture(figures):
+def jobs_picture(figures: Figures) -> str:
     longest = max(seconds(figures, cell, whose) for cell in figures.times for whose in NAMES)
     shapes, x = [bold(12, 22, TITLE)], 12
     for whose, name in NAMES.items():
@@ -44,7 +44,7 @@ def jobs_picture(figures):
     for i, cell in enumerate(figures.times):
         shapes += bars(figures, cell, TOP + JOB * i, longest)
 
-    def said_of(cell):
+    def said_of(cell: Cell) -> str:
         return f"{cell[1]}: {', '.join(f'{seconds(figures, cell, whose):.2f}' for whose in NAMES)}"
 
     description = f"At the start, now, and by a Rust program. {'; '.join(map(said_of, figures.times))} seconds."

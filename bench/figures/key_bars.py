@@ -3,7 +3,7 @@
 from math import ceil
 
 from figures.drawing import BLUE, ORANGE, PALE_BLUE, PALE_ORANGE, bold, grey, rectangle, svg, text
-from figures.figures import HERE, THERE
+from figures.figures import HERE, THERE, Cell, Figures
 from figures.tables import types_of
 
 CALLS = [
@@ -18,14 +18,14 @@ TOP, LABELS, PANEL = 96, 168, 228
 TITLE = "Nanoseconds a call with keys of 2 to 8 letters, by type of key"
 
 
-def color_of(whose):
+def color_of(whose: str) -> str:
     is_rattle = whose == HERE or whose.startswith(KITS)
     if whose in (HERE, THERE):
         return BLUE if is_rattle else ORANGE
     return PALE_BLUE if is_rattle else PALE_ORANGE
 
 
-def bars(figures, cell, types, left, top):
+def bars(figures: Figures, cell: Cell, types: list[str], left: int, top: int) -> list[str]:
     longest = max(figures.time(cell, whose) for whose in types)
     shapes = [bold(left, top - 8, cell[1])]
     for i, whose in enumerate(types):
@@ -37,11 +37,11 @@ def bars(figures, cell, types, left, top):
     return shapes
 
 
-def labels(types, top):
+def labels(types: list[str], top: int) -> list[str]:
     return [text(LABELS - 8, top + BAR * i + 10.5, NAMES.get(kind, kind), "end", SMALL) for i, kind in enumerate(types)]
 
 
-def legend():
+def legend() -> list[str]:
     pale = "Full colour: both kinds of TinyAsciiStr. Pale: other types. Each panel has its own scale."
     shapes = [bold(12, 22, TITLE), grey(12, 62, pale)]
     for x, color, name in [
@@ -52,7 +52,7 @@ def legend():
     return shapes
 
 
-def keys_picture(figures):
+def keys_picture(figures: Figures) -> str:
     cells = {cell[1]: cell for cell in figures.times}
     types = types_of(figures, [cells["sort"]])
     height = BAR * len(types) + 36
@@ -63,7 +63,7 @@ def keys_picture(figures):
             shapes += labels(types, top)
         shapes += bars(figures, cells[call], types, LABELS + PANEL * (i % 3), top)
 
-    def nanos(call):
+    def nanos(call: str) -> str:
         return f"{call}: {figures.time(cells[call], HERE):.0f} and {figures.time(cells[call], THERE):.0f}"
 
     description = f"This crate's values and the Rust crate's. {'; '.join(map(nanos, CALLS))} ns."

@@ -2,6 +2,7 @@
 
 from textwrap import fill
 
+from figures.figures import Figures
 from figures.tables import aligned
 
 COLUMNS = ["date", "commit", "programs beside"]
@@ -11,22 +12,22 @@ LEFT_OUT = ["noise, third-fastest round over the fastest", "third least time of 
 LONGEST = 12
 
 
-def shortened(name, value):
+def shortened(name: str, value: str) -> str:
     """A commit by its first digits."""
     digits, comma, rest = value.partition(",")
     return digits[:LONGEST] + comma + rest if name == "commit" else value.removesuffix(" on average")
 
 
-def heads_of(all_figures):
+def heads_of(all_figures: dict[str, Figures]) -> dict[str, dict[str, str]]:
     """By file, what stands behind each name."""
 
-    def parted(line):
+    def parted(line: str) -> tuple[str, str]:
         return line.partition(": ")[::2]
 
     return {f"{name}.csv": dict(map(parted, figures.head)) for name, figures in all_figures.items()}
 
 
-def machine(all_figures):
+def machine(all_figures: dict[str, Figures]) -> str:
     heads = heads_of(all_figures)
     files_of = {}
     for file, head in heads.items():

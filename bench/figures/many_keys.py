@@ -6,7 +6,7 @@ A cell of these figures is a table, as '8 bytes, 1000 records', an order of the 
 from math import ceil, floor, log10
 
 from figures.drawing import BLUE, GREEN, ORANGE, PURPLE, bold, dot, line, polyline, svg, text
-from figures.figures import HERE
+from figures.figures import HERE, Cell, Figures
 from figures.tables import aligned, said
 
 TITLE = "Nanoseconds for a key among many, by the number of records"
@@ -25,41 +25,41 @@ LINES = [
 PANEL, PANEL_HEIGHT, PANEL_TOP = 420, 210, 62
 
 
-def widths(figures):
+def widths(figures: Figures) -> list[str]:
     """The bytes of records, each once."""
     return list(dict.fromkeys(table.split()[0] for table in figures.tables()))
 
 
-def counts(figures):
+def counts(figures: Figures) -> list[str]:
     return sorted({cell[2] for cell in figures.times}, key=int)
 
 
-def cell_of(width, order, count):
+def cell_of(width: str, order: str, count: str) -> Cell:
     return f"{width} bytes, {count} records", order, count
 
 
-def orders(figures):
+def orders(figures: Figures) -> list[str]:
     """Those of keys that are looked up both in bulk and one by one."""
     both = [cell[1] for cell, times in figures.times.items() if HERE in times and ONE_BY_ONE in times]
     return list(dict.fromkeys(both))
 
 
-def in_bulk(figures, cell):
+def in_bulk(figures: Figures, cell: Cell) -> str:
     """Nanoseconds for a key, and their ratio to those one by one."""
     return f"{figures.time(cell, HERE):.1f}, {said(figures, cell, ONE_BY_ONE)}"
 
 
-def width_table(figures, width):
+def width_table(figures: Figures, width: str) -> str:
     """A row for each order of keys, and what others take for keys by chance that are there, and hold."""
     numbers = counts(figures)
     lines = [[f"{width} bytes, keys in bulk", *(f"{int(number):,}" for number in numbers)]]
     for order in orders(figures):
         lines.append([order, *(in_bulk(figures, cell_of(width, order, number)) for number in numbers)])
 
-    def nanos(whose):
+    def nanos(whose: str) -> list[str]:
         return [f"{figures.time(cell_of(width, BY_CHANCE, number), whose):.1f}" for number in numbers]
 
-    def held(whose):
+    def held(whose: str) -> list[str]:
         return [f"{figures.time(cell_of(width, BYTES, number), whose):.0f}" for number in numbers]
 
     lines += [[f"{whose}, by chance, there", *nanos(whose)] for whose in RIVALS]
@@ -67,7 +67,7 @@ def width_table(figures, width):
     return aligned(lines)
 
 
-def many_keys_tables(figures):
+def many_keys_tables(figures: Figures) -> str:
     """A table for each number of bytes."""
     return "\n\n".join(width_table(figures, width) for width in widths(figures))
 
@@ -75,19 +75,19 @@ def many_keys_tables(figures):
 class Panel:
     """Nanoseconds for a key by the number of records, both by their logarithms."""
 
-    def __init__(self, left, top, all_counts, decades):
+    def __init__(self, left: int, top: int, all_counts: list[str], decades: tuple[int, int]) -> None:
         self.left, self.top, self.counts, self.decades = left + 40, top, all_counts, decades
         self.right, self.bottom = left + PANEL - 20, top + PANEL_HEIGHT - 62
 
-    def x(self, count):
+    def x(self, count: str) -> float:
         least, most = log10(int(self.counts[0])), log10(int(self.counts[-1]))
         return self.left + 12 + (self.right - self.left - 24) * (log10(int(count)) - least) / (most - least)
 
-    def y(self, nanos):
+    def y(self, nanos: float) -> float:
         least, most = self.decades
         return self.bottom - (self.bottom - self.top) * (log10(nanos) - least) / (most - least)
 
-    def axes(self):
+    def axes(self) -> list[str]:
         shapes = []
         for decade in range(self.decades[0], self.decades[1] + 1):
             y = self.y(10.0**decade)
@@ -96,7 +96,7 @@ class Panel:
         return shapes + [text(self.x(count), self.bottom + 16, names.get(count, count), "middle") for count in self.counts]
 
 
-def panel_shapes(figures, width, panel):
+def panel_shapes(figures: Figures, width: str, panel: Panel) -> list[str]:
     shapes = [bold(panel.left, panel.top - 12, f"records of {width} bytes"), *panel.axes()]
     for name, whose, order, color in LINES:
         times = {count: figures.time(cell_of(width, order, count), whose) for count in panel.counts}
@@ -106,7 +106,7 @@ def panel_shapes(figures, width, panel):
     return shapes
 
 
-def legend():
+def legend() -> list[str]:
     shapes = [text(12, 20, "Nanoseconds a key, by the number of records")]
     x = 300
     for name, _, _, color in LINES:
@@ -115,7 +115,7 @@ def legend():
     return shapes
 
 
-def sentence(figures, width):
+def sentence(figures: Figures, width: str) -> str:
     parts = []
     for count in (counts(figures)[0], counts(figures)[-1]):
         said_of = [f"{name} {figures.time(cell_of(width, order, count), whose):.0f}" for name, whose, order, _ in LINES]
@@ -123,11 +123,11 @@ def sentence(figures, width):
     return f"Records of {width} bytes: {'; '.join(parts)}."
 
 
-def many_keys_description(figures):
+def many_keys_description(figures: Figures) -> str:
     return "Keys by chance that are there, and keys in order. " + " ".join(sentence(figures, width) for width in widths(figures))
 
 
-def many_keys_picture(figures):
+def many_keys_picture(figures: Figures) -> str:
     """A panel for each number of bytes."""
     all_times = [figures.time(cell_of(width, order, count), whose)
                  for width in widths(figures) for _, whose, order, _ in LINES for count in counts(figures)]  # fmt: skip

@@ -1,19 +1,20 @@
 """The tables of bench/types, keys, loops, lines and c."""
 
 import re
+from collections.abc import Iterable
 
-from figures.figures import HERE, THERE
+from figures.figures import HERE, THERE, Cell, Figures
 from figures.tables import TYPES, aligned, bounded_ratio, type_cell, type_table, types_of
 
 
-def by_call(cells):
+def by_call(cells: Iterable[Cell]) -> dict[str, list[Cell]]:
     calls = {}
     for cell in cells:
         calls.setdefault(cell[1], []).append(cell)
     return calls
 
 
-def types(figures):
+def types(figures: Figures) -> str:
     """A row for each call, and in a cell the ratios to a type at all four capacities."""
     rivals = [kind for kind in types_of(figures, figures.times) if kind != HERE]
     capacities = [re.search(r"\d+", table)[0] for table in figures.tables()]
@@ -24,17 +25,17 @@ def types(figures):
     return aligned(lines)
 
 
-def size_or_ratio(figures, cell, rival):
+def size_or_ratio(figures: Figures, cell: Cell, rival: str) -> str:
     is_size = cell[1].startswith("bytes")
     return type_cell(cell, rival, figures) if is_size else bounded_ratio(figures, cell, rival)
 
 
-def all_cells(figures):
+def all_cells(figures: Figures) -> str:
     """A row for each call, whatever table it is of."""
     return type_table(figures, list(figures.times))
 
 
-def loops(figures):
+def loops(figures: Figures) -> str:
     """Look-ups in a row; parts and maps beside std; questions, each of codes that are read and of codes that were."""
     look_ups, parts, codes = (figures.cells(table) for table in figures.tables())
     nanos = [type_cell(cell, HERE, figures) for cell in look_ups]
@@ -51,11 +52,11 @@ def loops(figures):
     return "\n\n".join([of_here, type_table(figures, parts), aligned(rows)])
 
 
-def lines(figures):
+def lines(figures: Figures) -> str:
     """Megabytes a second, by the median, the slowest and the fastest turn."""
     [cell] = figures.times
 
-    def speed(nanos):
+    def speed(nanos: float) -> str:
         return f"{1000 / nanos:.0f}"
 
     rows = [["MB/s", "median", "slowest", "fastest"]]

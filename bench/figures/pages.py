@@ -1,11 +1,12 @@
 """The blocks of a page that are made of figures: behind `<!-- bench/report NAME -->`, up to `<!-- end -->`."""
 
 import re
+from collections.abc import Callable
 from textwrap import fill
 
 from figures.call_tables import beside_others, calls_description, full_and_mixed, in_a_row, lists_and_failing, slower, table
 from figures.capacities import capacities_description
-from figures.figures import THERE
+from figures.figures import THERE, Figures
 from figures.hashed_tables import hashed_tables
 from figures.inlined import cargo_description, inlined_table, look_ups
 from figures.jobs import jobs_table
@@ -14,10 +15,12 @@ from figures.many_keys import TITLE as MANY_KEYS, many_keys_description, many_ke
 from figures.other_tables import all_cells, lines, loops, types
 from figures.ratios import FAILING, mean_of, slowest_of
 
+# What makes a block of all figures and the folder of the pictures.
+Block = Callable[[dict[str, Figures], str], str]
 BLOCK = re.compile(r"(<!-- bench/report (.+?) -->\n).*?(<!-- end -->\n)", re.DOTALL)
 
 
-def headline(all_figures, _folder):
+def headline(all_figures: dict[str, Figures], _folder: str) -> str:
     """The means over all rows, whole jobs, and the slowest row, in a sentence."""
     calls, jobs = all_figures["calls"], all_figures["jobs"]
     ratios = [jobs.ratio(cell, THERE) for cell in jobs.times]
@@ -32,31 +35,31 @@ def headline(all_figures, _folder):
     return fill(said, 120) + "\n"
 
 
-def picture(name, alternative):
+def picture(name: str, alternative: Callable) -> Block:
     """`alternative` makes the text for those who don't see it, of all figures."""
     return lambda all_figures, folder: f"![{alternative(all_figures)}]({folder}/{name})\n"
 
 
-def fenced(file, make, *more):
+def fenced(file: str, make: Callable, *more: str) -> Block:
     """A table of one file's figures."""
     return lambda all_figures, _folder: f"```text\n{make(all_figures[file], *more)}\n```\n"
 
 
-def fenced_if_any(file, make):
+def fenced_if_any(file: str, make: Callable) -> Block:
     """A table of one file's figures, or nothing if the file has none of them."""
 
-    def block(all_figures, _folder):
+    def block(all_figures: dict[str, Figures], _folder: str) -> str:
         made = make(all_figures[file])
         return f"```text\n{made}\n```\n" if made else ""
 
     return block
 
 
-def fenced_of_all(make):
+def fenced_of_all(make: Callable) -> Block:
     return lambda all_figures, _folder: f"```text\n{make(all_figures)}\n```\n"
 
 
-def inlined(all_figures):
+def inlined(all_figures: dict[str, Figures]) -> str:
     return inlined_table({"x86-64": all_figures["cargo"], "v2": all_figures["cargo-v2"]})
 
 
@@ -93,11 +96,11 @@ BLOCKS = {
 }
 
 
-def filled(page, all_figures, folder):
+def filled(page: str, all_figures: dict[str, Figures], folder: str) -> tuple[str, list[str]]:
     """The page with its blocks made anew, and their names. What has no such name stays."""
     found = []
 
-    def block(match):
+    def block(match: re.Match) -> str:
         name = match[2]
         found.append(name)
         return match[1] + BLOCKS[name](all_figures, folder) + match[3] if name in BLOCKS else match[0]

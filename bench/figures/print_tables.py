@@ -1,16 +1,19 @@
 """Prints tables of a driver's figures for drivers/measure, and writes them as CSV."""
 
 import argparse
+from argparse import Namespace
 from statistics import mean, median
 
-from figures.figures import THERE, Figures
+from figures.figures import THERE, Cell, Figures
 from figures.tables import cells_of_table, geometric, ratio_table, ratios_by_column, rows_of, type_table
 
 # The tables beside others than the original, each with whose calls it has.
 BESIDE = {"Beside tinystr 0.3.2": "0.3.2", "Beside vectors written by hand": "by hand"}
 
 
-def print_ratios(title, rows, columns, figures, rival, options):
+def print_ratios(
+    title: str, rows: dict[str, dict[str, Cell]], columns: list[str], figures: Figures, rival: str, options: Namespace
+) -> None:
     if not rows:
         return
     print(f"\n{title}\n\n{ratio_table(rows, columns, figures, rival, options.times, bool(options.instructions))}")
@@ -18,7 +21,7 @@ def print_ratios(title, rows, columns, figures, rival, options):
     print(f"Geometric mean of all: {geometric(sum(ratios, [])):.2f}")
 
 
-def print_all_ratios(figures, options):
+def print_all_ratios(figures: Figures, options: Namespace) -> None:
     for table in figures.tables():
         cells = cells_of_table(figures, table)
         print_ratios(table, *rows_of(cells, lambda cell: cell[2]), figures, THERE, options)
@@ -27,12 +30,12 @@ def print_all_ratios(figures, options):
         print_ratios(title, *rows_of(cells, lambda cell: f"{cell[2]} {cell[0].split()[0].lower()}"), figures, rival, options)
 
 
-def print_types(figures):
+def print_types(figures: Figures) -> None:
     for table in figures.tables():
         print(f"\n{table}\n\n{type_table(figures, figures.cells(table))}")
 
 
-def noise(figures):
+def noise(figures: Figures) -> list[str]:
     """How steady the times were; nothing where the driver doesn't tell."""
     if not figures.steady:
         return []
@@ -44,12 +47,12 @@ def noise(figures):
     ]
 
 
-def is_busy(figures):
+def is_busy(figures: Figures) -> bool:
     others, medians, _ = zip(*figures.steady)
     return mean(others) > 0.1 or median(medians) > 0.02
 
 
-def read_figures(options):
+def read_figures(options: Namespace) -> Figures:
     figures = Figures()
     with open(options.figures) as file:
         figures.read_times(file)
@@ -61,7 +64,7 @@ def read_figures(options):
     return figures
 
 
-def main():
+def main() -> None:
     parser = argparse.ArgumentParser()
     parser.add_argument("head")
     parser.add_argument("figures")

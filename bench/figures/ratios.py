@@ -1,6 +1,6 @@
 """The ratios of bench/calls and bench/cargo by call and capacity, gathered from their tables."""
 
-from figures.figures import THERE
+from figures.figures import THERE, Cell, Figures
 from figures.tables import geometric
 
 # The tables with all capacities, each with the texts that its calls were given.
@@ -21,7 +21,7 @@ FAILING = "question failing at byte 1, slowest"
 SLOWER = 1.05
 
 
-def cells_of_kind(figures, kind):
+def cells_of_kind(figures: Figures, kind: str) -> dict[str, dict[str, Cell]]:
     """By call and capacity. Of a call in two tables the first counts."""
     found = {}
     for cell in [cell for table in KINDS if KINDS[table] == kind for cell in figures.cells(table)]:
@@ -29,7 +29,7 @@ def cells_of_kind(figures, kind):
     return found
 
 
-def ratios_of_kind(figures, kind):
+def ratios_of_kind(figures: Figures, kind: str) -> dict[str, dict[str, float]]:
     """By call and capacity; of questions that fail the slowest."""
     rows = {
         call: {capacity: figures.ratio(cell, THERE) for capacity, cell in cells.items()}
@@ -41,13 +41,13 @@ def ratios_of_kind(figures, kind):
     return {FAILING: {capacity: max(row[capacity] for row in rows.values()) for capacity in capacities}}
 
 
-def mean_of(figures, kind, capacities=None):
+def mean_of(figures: Figures, kind: str, capacities: list[str] | None = None) -> float:
     """Over each row of a kind once, at some capacities or at all."""
     rows = ratios_of_kind(figures, kind).values()
     return geometric([ratio for row in rows for capacity, ratio in row.items() if not capacities or capacity in capacities])
 
 
-def slowest_of(figures):
+def slowest_of(figures: Figures) -> tuple[float, str, str, str]:
     """The largest ratio of all rows, with its call, its capacity, and its kind of texts."""
     kinds = dict.fromkeys(KINDS.values())
     rows = [(call, kind, row) for kind in kinds for call, row in ratios_of_kind(figures, kind).items()]

@@ -1,10 +1,11 @@
 """Tables of figures as text: columns are capacities, or types."""
 
+from collections.abc import Callable, Iterable
 from itertools import zip_longest
 from math import exp, log
 from statistics import mean
 
-from figures.figures import HERE, THERE
+from figures.figures import HERE, THERE, Cell, Figures
 
 TYPES = {HERE: "this crate", THERE: "tinystr 0.8.5"}
 
@@ -13,25 +14,25 @@ RESOLUTION = 0.05
 LEAST_RATIO = 0.01
 
 
-def aligned(lines):
+def aligned(lines: list[list[str]]) -> str:
     """The lines with their cells in columns, the first from the left and the others from the right."""
     widths = [max(map(len, column)) for column in zip_longest(*lines, fillvalue="")]
 
-    def cells(line):
+    def cells(line: list[str]) -> list[str]:
         return [line[0].ljust(widths[0]), *(cell.rjust(width) for cell, width in zip(line[1:], widths[1:]))]
 
     return "\n".join("  ".join(cells(line)).rstrip() for line in lines)
 
 
-def said_time(nanos):
+def said_time(nanos: float) -> str:
     return f"{nanos:.2f}" if nanos >= RESOLUTION else f"< {RESOLUTION}"
 
 
-def said_ratio(ratio):
+def said_ratio(ratio: float) -> str:
     return f"{ratio:.2f}" if ratio >= LEAST_RATIO else f"< {LEAST_RATIO}"
 
 
-def bounded_ratio(figures, cell, rival):
+def bounded_ratio(figures: Figures, cell: Cell, rival: str) -> str:
     """The ratio, or a bound where one of the times says no more than that it is short."""
     here, there = figures.time(cell, HERE), figures.time(cell, rival)
     if min(here, there) >= RESOLUTION:
@@ -41,7 +42,7 @@ def bounded_ratio(figures, cell, rival):
     return f"< {max(LEAST_RATIO, RESOLUTION / there):.2f}" if there >= RESOLUTION else "-"
 
 
-def spread(figures, cell, rival, whose=HERE):
+def spread(figures: Figures, cell: Cell, rival: str, whose: str = HERE) -> tuple[float, float] | None:
     """The least and the most ratio of the runs where they are more than a tenth apart, and two digits show it."""
     ratios = figures.ratios(cell, rival, whose)
     least, most = min(ratios), max(ratios)
@@ -49,25 +50,25 @@ def spread(figures, cell, rival, whose=HERE):
     return (least, most) if ratio >= 2 * LEAST_RATIO and most - least > ratio / 10 else None
 
 
-def in_brackets(ends):
+def in_brackets(ends: tuple[float, float] | None) -> str:
     return f" ({ends[0]:.2f}-{ends[1]:.2f})" if ends else ""
 
 
-def said(figures, cell, rival, whose=HERE):
+def said(figures: Figures, cell: Cell, rival: str, whose: str = HERE) -> str:
     """The ratio, and its spread where there is one."""
     return said_ratio(figures.ratio(cell, rival, whose)) + in_brackets(spread(figures, cell, rival, whose))
 
 
-def marked(figures, cell, rival=THERE):
+def marked(figures: Figures, cell: Cell, rival: str = THERE) -> str:
     """The ratio, with a mark in front where there is a spread."""
     return ("~" if spread(figures, cell, rival) else " ") + said_ratio(figures.ratio(cell, rival))
 
 
-def geometric(ratios):
+def geometric(ratios: Iterable[float]) -> float:
     return exp(mean(log(ratio) for ratio in ratios))
 
 
-def rows_of(cells, column_of):
+def rows_of(cells: list[Cell], column_of: Callable) -> tuple[dict[str, dict[str, Cell]], list[str]]:
     """The cells by their call and column, and the columns."""
     rows = {}
     for cell in cells:
@@ -75,11 +76,11 @@ def rows_of(cells, column_of):
     return rows, list(dict.fromkeys(column_of(cell) for cell in cells))
 
 
-def cells_of_table(figures, table, rival=THERE):
+def cells_of_table(figures: Figures, table: str, rival: str = THERE) -> list[Cell]:
     return [cell for cell in figures.cells(table) if rival in figures.times[cell]]
 
 
-def cell_lines(cell, rival, figures, times, instructions):
+def cell_lines(cell: Cell | None, rival: str, figures: Figures, times: bool, instructions: bool) -> list[str]:
     """What stands in a cell: the ratio, and below it what is wanted of both crates."""
     if cell is None:
         return [""] * (1 + times + instructions)
@@ -91,12 +92,19 @@ def cell_lines(cell, rival, figures, times, instructions):
     return [said(figures, cell, rival), *(f"{here:.2f} / {there:.2f}" for here, there in pairs)]
 
 
-def ratios_by_column(rows, columns, figures, rival):
+def ratios_by_column(rows: dict[str, dict[str, Cell]], columns: list[str], figures: Figures, rival: str) -> list[list[float]]:
     """Of each column the ratios of its cells."""
     return [[figures.ratio(cells[column], rival) for cells in rows.values() if column in cells] for column in columns]
 
 
-def ratio_table(rows, columns, figures, rival=THERE, times=False, instructions=False):
+def ratio_table(
+    rows: dict[str, dict[str, Cell]],
+    columns: list[str],
+    figures: Figures,
+    rival: str = THERE,
+    times: bool = False,
+    instructions: bool = False,
+) -> str:
     """Rows are of a call, and have cells by their columns."""
     lines = [["call", *columns]]
     for call, cells in rows.items():
@@ -107,7 +115,7 @@ def ratio_table(rows, columns, figures, rival=THERE, times=False, instructions=F
     return aligned([*lines, ["geometric mean", *means]])
 
 
-def type_cell(cell, whose, figures):
+def type_cell(cell: Cell, whose: str, figures: Figures) -> str:
     """Bytes, or nanoseconds and the ratio of this crate's time to them, if it has one."""
     if whose not in figures.times[cell]:
         return ""
@@ -120,11 +128,11 @@ def type_cell(cell, whose, figures):
     return f"{said_time(time)}, {bounded_ratio(figures, cell, whose)}{in_brackets(ends)}"
 
 
-def types_of(figures, cells):
+def types_of(figures: Figures, cells: Iterable[Cell]) -> list[str]:
     return list(dict.fromkeys(whose for cell in cells for whose in figures.times[cell]))
 
 
-def type_table(figures, cells):
+def type_table(figures: Figures, cells: list[Cell]) -> str:
     """A row for each cell, and a column for each type."""
     types = types_of(figures, cells)
     lines = [["nanoseconds, ratio", *(TYPES.get(kind, kind) for kind in types)]]

@@ -4,7 +4,10 @@ that they end with."""
 import os
 import subprocess
 import time
+from argparse import ArgumentParser
+from collections.abc import Iterable
 from pathlib import Path
+from typing import Any
 
 from figures.figures import Figures
 from figures.tables import type_table
@@ -13,34 +16,34 @@ from lib import commands
 BENCH = Path(__file__).resolve().parent.parent
 
 
-def parser_of(name, document):
+def parser_of(name: str, document: str) -> ArgumentParser:
     """A parser of options that tells a bench's document as it stands, and takes --csv."""
     parser = commands.parser_of(document, f"bench/{name}")
     parser.add_argument("--csv", metavar="FILE", help="keep all figures")
     return parser
 
 
-def said_by(*words, **more):
+def said_by(*words: object, **more: Any) -> str:
     """What a command prints; where it fails, so does this."""
     words = [str(word) for word in words]
     return subprocess.run(words, stdout=subprocess.PIPE, text=True, check=True, **more).stdout
 
 
-def new_figures():
+def new_figures() -> Figures:
     """Figures with what they are taken by."""
     figures = Figures()
     figures.head = said_by(BENCH / "figures/head").splitlines()
     return figures
 
 
-def busy_seconds():
+def busy_seconds() -> float:
     """The seconds that all programs took of all processors, since the machine began."""
     words = Path("/proc/stat").read_text().split("\n", 1)[0].split()[1:]
     user, nice, system, _idle, _waiting, interrupt, soft_interrupt = map(int, words[:7])
     return (user + nice + system + interrupt + soft_interrupt) / os.sysconf("SC_CLK_TCK")
 
 
-def own_seconds():
+def own_seconds() -> float:
     """Those that this program took, with the programs that it started and that have ended."""
     return sum(os.times()[:4])
 
@@ -48,27 +51,27 @@ def own_seconds():
 class Load:
     """Counts how many programs ran beside, on average over what is done `with` it."""
 
-    def __init__(self):
+    def __init__(self) -> None:
         self.wall = self.others = 0.0
 
-    def __enter__(self):
+    def __enter__(self) -> None:
         self.begin = time.monotonic(), busy_seconds() - own_seconds()
 
-    def __exit__(self, *_):
+    def __exit__(self, *_: object) -> None:
         wall, others = self.begin
         self.wall += time.monotonic() - wall
         self.others += busy_seconds() - own_seconds() - others
 
-    def note(self):
+    def note(self) -> str:
         return f"programs beside: {max(self.others / self.wall, 0):.2f} on average"
 
 
-def add_lines(figures, run, lines):
+def add_lines(figures: Figures, run: int, lines: Iterable[str]) -> None:
     """Adds lines TABLE|CALL|COLUMN|WHOSE|NANOSECONDS."""
     figures.read_times(f"{run}|0|{line}" for line in lines)
 
 
-def keep(figures, load, csv):
+def keep(figures: Figures, load: Load, csv: str | None) -> None:
     """Tells how busy the machine was, and writes the CSV where one is wanted."""
     figures.head.append(load.note())
     if csv:
@@ -76,7 +79,7 @@ def keep(figures, load, csv):
             figures.write_csv(file)
 
 
-def finish(figures, load, csv):
+def finish(figures: Figures, load: Load, csv: str | None) -> None:
     """Prints the head and the tables, and keeps them."""
     keep(figures, load, csv)
     print("\n".join(figures.head))

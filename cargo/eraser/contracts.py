@@ -4,7 +4,7 @@ import re
 
 from eraser import Stopped
 from eraser.ghosts import EDGE, PART
-from eraser.requires import STANDS_FOR, Unsafe
+from eraser.requires import STANDS_FOR, Panics, Unsafe
 from lib.rattle import line_of
 
 CLAUSES = re.compile(f"(?:{EDGE}[^{EDGE}]*{EDGE})+")
@@ -16,10 +16,10 @@ ABOVE = re.compile(r"(?:^ *(?://|#\[)[^\n]*\n)*\Z", re.M)
 class Contracts:
     """Places the contracts of the files, and tells which entries of the table were used."""
 
-    def __init__(self):
+    def __init__(self) -> None:
         self.used = set()
 
-    def place(self, text, file, is_private):
+    def place(self, text: str, file: str, is_private: bool) -> str:
         """Moves the clauses of each function of a file into its comment. In a private module no function is public."""
         for found in reversed(list(CLAUSES.finditer(text))):
             if CLOSURE.search(text[: found.start()]):
@@ -32,7 +32,7 @@ class Contracts:
             text = self.place_one(text, found, heads[-1], file, is_private)
         return text
 
-    def place_one(self, text, found, head, file, is_private):
+    def place_one(self, text: str, found: re.Match, head: re.Match, file: str, is_private: bool) -> str:
         clauses = [clause.split(PART) for clause in found.group().strip(EDGE).split(EDGE * 2)]
         is_public = head[2] == "pub " and not is_private
         stands = [self.stand(file, condition) for kind, _, condition in clauses if kind == "requires" and is_public]
@@ -52,24 +52,24 @@ class Contracts:
         behind = re.sub(r"\A\s*\{", " {" + "".join(checks), text[found.end() :])
         return text[:start] + "\n".join([*comments, *attributes, signature]) + behind
 
-    def stand(self, file, condition):
+    def stand(self, file: str, condition: str) -> Panics | Unsafe:
         """What stands for a condition of a public function."""
         if (file, condition) not in STANDS_FOR:
             raise Stopped(f"{file}: nothing stands for what a public function requires: {condition}")
         self.used.add((file, condition))
         return STANDS_FOR[file, condition]
 
-    def finish(self):
+    def finish(self) -> None:
         for file, condition in STANDS_FOR.keys() - self.used:
             raise Stopped(f"{file}: no public function requires {condition}")
 
 
-def is_open(between):
+def is_open(between: str) -> bool:
     """Whether a function's head isn't over between its name and a place: no body and no item has begun since."""
     return not re.search(r"[;{}]", re.sub(r"\[[^\]]*\]|\{\w+\}", "", between))
 
 
-def as_comment(clauses, stands, is_doc, is_behind_text):
+def as_comment(clauses: list[list[str]], stands: list[Panics | Unsafe], is_doc: bool, is_behind_text: bool) -> list[str]:
     """The lines that tell a contract, and when a public function panics or is safe to call."""
     lines = [f"{kind} {label + ' ' if label else ''}{{ {condition} }}" for kind, label, condition in clauses]
     if not is_doc:

@@ -44,7 +44,7 @@ IN_RUST = [
 ]
 
 
-def in_rust(body, file):
+def in_rust(body: str, file: str) -> str:
     for old, new in IN_RUST:
         body = re.sub(old, new, body)
     if left := re.search(r"\brt\b.*", body):
@@ -52,7 +52,7 @@ def in_rust(body, file):
     return body
 
 
-def uses(body, own):
+def uses(body: str, own: str) -> list[str]:
     """The lines that an example needs for its names. The crate calls itself `own`."""
     code = re.sub(r'"(?:\\.|[^"\\])*"', "", body)
     lines = []
@@ -65,10 +65,10 @@ def uses(body, own):
     return lines
 
 
-def with_doc_tests(text, file):
+def with_doc_tests(text: str, file: str) -> str:
     """The text with each example as a doc test, which begins with the names that it uses."""
 
-    def doc_test(found):
+    def doc_test(found: re.Match) -> str:
         indent, body = found[1], in_rust(found[2], file)
         front = "".join(f"{indent}/// {line}\n" for line in uses(body, "tinystr"))
         end = f"{indent}/// # Ok::<(), Box<dyn std::error::Error>>(())\n" if "?" in re.sub(r'"[^"]*"|b\'\?\'', "", body) else ""
@@ -77,10 +77,10 @@ def with_doc_tests(text, file):
     return EXAMPLE.sub(doc_test, text)
 
 
-def without_examples(text, file, tests):
+def without_examples(text: str, file: str, tests: list[tuple[str, str]]) -> str:
     """The text of a private module with its examples as words, each of which goes to a list of tests."""
 
-    def kept(found):
+    def kept(found: re.Match) -> str:
         body = in_rust("".join(f"{line.strip()[4:]}\n" for line in found[2].splitlines()), file)
         tests.append((re.sub(r"\W", "_", file.removesuffix(".rt").partition("/")[2]), body))
         shown = "".join(f"{found[1]}/// {line}".rstrip() + "\n" for line in body.splitlines())
@@ -89,7 +89,7 @@ def without_examples(text, file, tests):
     return EXAMPLE.sub(kept, text)
 
 
-def module_of_tests(tests):
+def module_of_tests(tests: list[tuple[str, str]]) -> str:
     """The examples of a private module, each as a test."""
     functions = []
     for number, (name, body) in enumerate(tests, 1):

@@ -26,15 +26,15 @@ READ = [
 class Fields:
     """Turns the literals and the reads of the files, and says whether the function that makes each text was there."""
 
-    def __init__(self):
+    def __init__(self) -> None:
         self.is_made = False
 
-    def turn(self, text, file):
+    def turn(self, text: str, file: str) -> str:
         if not FILES.fullmatch(file):
             return text
         return with_reads(self.with_literals(text, file))
 
-    def with_literals(self, text, file):
+    def with_literals(self, text: str, file: str) -> str:
         """Each literal of a text as a call of the function that makes all, and the one of this function as unsafe."""
         for found in reversed(list(LITERAL.finditer(code_of(text)))):
             tokens = Tokens(text[found.end() :])
@@ -51,12 +51,12 @@ class Fields:
             text = text[: found.start()] + made + rest
         return text
 
-    def finish(self):
+    def finish(self) -> None:
         if not self.is_made:
             raise Stopped(f"{MAKER[0]}: `{MAKER[1]}` doesn't make one text of `bytes`")
 
 
-def function_at(text, at, file):
+def function_at(text: str, at: int, file: str) -> str:
     """The name of the function around a place."""
     names = re.findall(r"\bfn (\w+)", code_of(text)[:at])
     if not names:
@@ -64,12 +64,12 @@ def function_at(text, at, file):
     return names[-1]
 
 
-def with_reads(text):
+def with_reads(text: str) -> str:
     made = [piece if kind in ("comment", "string") else read_by_call(piece) for kind, piece in pieces(text)]
     return "".join(made)
 
 
-def read_by_call(code):
+def read_by_call(code: str) -> str:
     for old, new in READ:
         code = re.sub(old, new, code)
     return code

@@ -6,7 +6,7 @@ from lib.rattle import Tokens, clause_at, end_of_tactic
 EDGE, PART = "\0", "\1"
 
 
-def without_ghosts(text):
+def without_ghosts(text: str) -> str:
     """Leaves out `ghost` items and `#[tactic]`, with their lines, and makes marks of `requires` and `ensures`."""
     tokens, kept, at = Tokens(text), [], 0
     while at < len(tokens):
@@ -27,7 +27,7 @@ def without_ghosts(text):
     return "".join(kept)
 
 
-def drop_line(tokens, kept, end):
+def drop_line(tokens: Tokens, kept: list[str], end: int) -> int:
     """Takes off the indentation in front of an item that is left out, and the end of its line behind it."""
     if kept and kept[-1].isspace():
         space = kept.pop()

@@ -32,7 +32,7 @@ ABOVE = r"((?:^ *(?://|#\[)[^\n]*\n)*)"
 KIT_IMPL = r"^impl\b[^{]*?\b(?:" + "|".join(KIT_TRAITS) + r")(?:<\w+>)? for "
 
 
-def without_items(text, file):
+def without_items(text: str, file: str) -> str:
     """Leaves out the implementations of the kit's traits, and the items that the table names, with their comments."""
     for head in LEFT_OUT.get(file, {}):
         text, count = without_item(text, f"^{re.escape(head)}\\b")
@@ -41,7 +41,7 @@ def without_items(text, file):
     return without_item(text, KIT_IMPL)[0]
 
 
-def without_item(text, head):
+def without_item(text: str, head: str) -> tuple[str, int]:
     """Leaves out each item that begins so, and tells how many there were."""
     count = 0
     while found := re.search(ABOVE + head, text, re.M):
@@ -53,7 +53,7 @@ def without_item(text, head):
     return text, count
 
 
-def with_derives(text, file):
+def with_derives(text: str, file: str) -> str:
     """Takes off the derives that Rust doesn't have, and writes out what they make."""
     text = re.sub(r"#\[derive\(([^)]*)\)\]\n", rust_derives, text)
     for name, traits in DERIVED_TOO.get(file, {}).items():
@@ -64,7 +64,7 @@ def with_derives(text, file):
     return with_ordered_subtag(with_error_texts(text, file), file)
 
 
-def rust_derives(found):
+def rust_derives(found: re.Match) -> str:
     """The derives that Rust has too: there is no `Drop` to derive, and `Error` is written out."""
     left = [derived for derived in found[1].split(", ") if derived not in ("Drop", "Error")]
     return f"#[derive({', '.join(left)})]\n" if left else ""
@@ -73,7 +73,7 @@ def rust_derives(found):
 ERROR_TEXT = re.compile(r' *#\[error\((".*?")\)\]\n( *)(\w+)( \{\n(?:.*\n)*?\2\})?')
 
 
-def with_error_texts(text, file):
+def with_error_texts(text: str, file: str) -> str:
     """`thiserror`'s texts, as an implementation of `Display` and of `Error`."""
     arms = []
     for message, _, variant, fields in ERROR_TEXT.findall(text):
@@ -112,7 +112,7 @@ DERIVED = {
 }
 
 
-def with_ordered_subtag(text, file):
+def with_ordered_subtag(text: str, file: str) -> str:
     """`derive_where` of a struct with one field and a `PhantomData`: Rust's own derives would ask them of the kind."""
     found = WHERE.search(text)
     if not found:

@@ -49,24 +49,24 @@ SIGNATURE = r"(?:[^{};\[]|\[[^\]]*\])"
 FUNCTION = re.compile(rf"^( *)pub (?:const )?(?:unsafe )?fn \w+{SIGNATURE}*? -> (?P<result>{SIGNATURE}*?) \{{", re.M)
 
 
-def with_paths(text, crate):
+def with_paths(text: str, crate: str) -> str:
     """The paths of the code, with `crate::` and the other crates' names as modules of the one crate."""
     made = [piece if kind in ("comment", "string") else with_modules(piece, crate) for kind, piece in pieces(text)]
     return "".join(made)
 
 
-def with_modules(code, crate):
+def with_modules(code: str, crate: str) -> str:
     code = re.sub(r"\bcrate::", path_of(crate), code)
     for other in MODULES:
         code = re.sub(rf"(?<![\w:]){other}::", path_of(other), code)
     return code
 
 
-def path_of(crate):
+def path_of(crate: str) -> str:
     return f"crate::{MODULES[crate]}::" if MODULES[crate] else "crate::"
 
 
-def with_signatures(text, file, is_private):
+def with_signatures(text: str, file: str, is_private: bool) -> str:
     """Functions as Rust's callers have them: `const` and `unsafe` where they can or must be, and `#[must_use]`."""
     for function, times in Counter(CONST.get(file, [])).items():
         text, count = re.subn(rf"(pub(?:\(crate\))? )((?:unsafe )?fn {re.escape(function)})", r"\1const \2", text)
@@ -78,7 +78,7 @@ def with_signatures(text, file, is_private):
     return text if is_private else FUNCTION.sub(must_use, text)
 
 
-def must_use(found):
+def must_use(found: re.Match) -> str:
     """The function with `#[must_use]`, where it gives something that Rust doesn't ask to be used already."""
     is_told = found["result"].startswith(("Result<", "[Result<")) or "&mut " in found[0]
     return found[0] if is_told else f"{found[1]}#[must_use]\n{found[0]}"

@@ -21,7 +21,7 @@ IMPL = re.compile(r"^impl(?:<[^>\n]*>)? TinyAsciiStr<\w+> \{\n(?:.*\n)*?\}\n", r
 METHOD = re.compile(r"^    pub (?:const )?(?:unsafe )?fn (\w+)", re.M)
 
 
-def stop_at_names_of_str(text, file):
+def stop_at_names_of_str(text: str, file: str) -> None:
     """Stops at a public function of the type that has the name of one of `str`, and isn't the original's."""
     for block in IMPL.finditer(text):
         for name in METHOD.findall(block[0]):

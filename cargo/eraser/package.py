@@ -1,6 +1,7 @@
 """The package: which sources go into it, each through all steps, and what is written by hand beside them."""
 
 import re
+from collections.abc import Iterator
 from pathlib import Path
 
 from eraser import Stopped
@@ -29,7 +30,7 @@ LINK = re.compile(r"\[([^\]]*)\]\((?!http|#)[^)]*\)")
 class Package:
     """The files of the package, by their paths in it."""
 
-    def __init__(self, top, by_hand):
+    def __init__(self, top: Path, by_hand: Path) -> None:
         self.top = top
         self.by_hand = by_hand
         self.contracts = Contracts()
@@ -37,7 +38,7 @@ class Package:
         self.fields = Fields()
         self.tests = []
 
-    def files(self):
+    def files(self) -> dict[str, str]:
         """All files: those that are made, those by hand, and the copies of what stands elsewhere in the repository."""
         made = {}
         left_out = set(LEFT_OUT)
@@ -65,7 +66,7 @@ class Package:
         made["DEFINITIONS.md"] = LINK.sub(r"\1", read(self.top / "docs/DEFINITIONS.md"))
         return made
 
-    def rust_of(self, text, crate, file):
+    def rust_of(self, text: str, crate: str, file: str) -> str:
         """A source as Rust."""
         is_private = crate in PRIVATE
         if line := unmatched_bracket(text):
@@ -81,7 +82,7 @@ class Package:
         return tidy(text)
 
 
-def sources(crate):
+def sources(crate: Path) -> Iterator[tuple[str, Path]]:
     """The sources of a crate, each as CRATE/FILE with its path."""
     found = sorted(path for path in (crate / "src").rglob("*") if path.is_file())
     if not found:
@@ -92,14 +93,14 @@ def sources(crate):
         yield f"{crate.name}/{path.relative_to(crate / 'src')}", path
 
 
-def read(path):
+def read(path: Path) -> str:
     try:
         return path.read_text(encoding="utf-8")
     except (OSError, UnicodeDecodeError) as why:
         raise Stopped(f"{path}: can't be read: {why}") from None
 
 
-def place_of(file):
+def place_of(file: str) -> str:
     """Where the Rust of a source stands in the package."""
     crate, _, inner = file.partition("/")
     inner = Path(inner).with_suffix(".rs")
@@ -109,7 +110,7 @@ def place_of(file):
     return str(Path("src") / module / inner)
 
 
-def tidy(text):
+def tidy(text: str) -> str:
     """Without the empty lines that what is left out leaves."""
     text = re.sub(r"[ \t]+\n", "\n", text)
     text = re.sub(r"\n{3,}", "\n\n", text)

@@ -21,7 +21,7 @@ class Unsafe:
     condition: str
 
 
-def asserted(condition, when, message):
+def asserted(condition: str, when: str, message: str) -> Panics:
     return Panics(when, f'assert!({condition}, "{message}");')
 
 

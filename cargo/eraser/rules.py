@@ -323,10 +323,10 @@ LEFT = re.compile(
 class Rules:
     """Applies the rules, and tells which fitted."""
 
-    def __init__(self):
+    def __init__(self) -> None:
         self.used = set()
 
-    def apply(self, text, file):
+    def apply(self, text: str, file: str) -> str:
         """The text of a file by its own rules, and then by those of all files."""
         for rule in IN_FILE.get(file, []):
             count = text.count(rule.old)
@@ -340,13 +340,13 @@ class Rules:
                 self.used.add(rule.old)
         return text
 
-    def finish(self):
+    def finish(self) -> None:
         for name in [*IN_FILE, *(rule.old for rule in EVERYWHERE)]:
             if name not in self.used:
                 raise Stopped(f"a rule fits nothing: {name}")
 
 
-def stop_at_what_is_left(text, file):
+def stop_at_what_is_left(text: str, file: str) -> None:
     """Stops where a file that is made has a word of Rattle or of the kit in its code."""
     code = code_of(text)
     for number, line in enumerate(code.splitlines(), 1):

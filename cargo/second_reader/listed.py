@@ -8,6 +8,7 @@ begins with eight spaces. One line names the function that makes each text.
 
 import re
 from dataclasses import dataclass, field
+from pathlib import Path
 
 from second_reader.texts import Unreadable, read
 
@@ -59,14 +60,14 @@ class Listed:
     entries: list = field(default_factory=list)
     stands: dict = field(default_factory=dict)
     private: dict = field(default_factory=dict)
-    maker: Maker = None
+    maker: Maker | None = None
 
 
-def tokens_of(text):
+def tokens_of(text: str) -> list[str]:
     return read("the list", text).tokens
 
 
-def paragraphs(path):
+def paragraphs(path: Path) -> list[list]:
     """Lines with their numbers; those that eight spaces begin are part of the line above."""
     found = []
     for number, line in enumerate(path.read_text(encoding="utf-8").splitlines(), 1):
@@ -77,7 +78,7 @@ def paragraphs(path):
     return found
 
 
-def read_list(path):
+def read_list(path: Path) -> Listed:
     listed, open_entry, open_requires = Listed(), None, None
     for number, line in paragraphs(path):
         if entry := re.fullmatch(ENTRY.pattern, line, re.S):

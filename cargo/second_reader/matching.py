@@ -1,11 +1,15 @@
 """Where the tokens of an entry stand in a text, and what becomes of them."""
 
+from collections.abc import Iterator
 from difflib import SequenceMatcher
+
+from second_reader.listed import Entry
+from second_reader.texts import Text
 
 HOLE = "…"
 
 
-def match(tokens, at, pattern):
+def match(tokens: list[str], at: int, pattern: list[str]) -> tuple[int, list[list[str]]] | None:
     """The place behind a pattern at a place, and what stands in its holes; None where it doesn't stand there."""
     for number, wanted in enumerate(pattern):
         if wanted == HOLE:
@@ -19,7 +23,7 @@ def match(tokens, at, pattern):
     return at, []
 
 
-def hole_ends(tokens, at):
+def hole_ends(tokens: list[str], at: int) -> Iterator[int]:
     """Where a hole may end: in no bracket that opens in it, and before a brace, a semicolon or a bracket that closes."""
     depth = 0
     while at < len(tokens):
@@ -31,7 +35,7 @@ def hole_ends(tokens, at):
         at += 1
 
 
-def replaced(text, entry):
+def replaced(text: Text, entry: Entry) -> None:
     """The tokens and their lines with each place of an entry turned; counts them in the entry."""
     tokens, lines, at = [], [], 0
     while at < len(text.tokens):
@@ -52,13 +56,13 @@ def replaced(text, entry):
     text.tokens, text.lines = tokens, lines
 
 
-def differences(proved, made, most=8):
+def differences(proved: Text, made: Text, most: int = 8) -> str | None:
     """What differs between two lists of tokens, in words, with what stands around it; None where nothing does."""
     if proved.tokens == made.tokens:
         return None
     said = [f"{proved.name} and {made.name} differ in what isn't listed:"]
 
-    def around(text, start, end):
+    def around(text: Text, start: int, end: int) -> str:
         parts = text.tokens[max(start - 3, 0) : start], [">>"], text.tokens[start:end], ["<<"], text.tokens[end : end + 3]
         return f"    {' '.join(sum(parts, []))}"
 

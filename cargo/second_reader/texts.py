@@ -2,6 +2,7 @@
 of the eraser."""
 
 import re
+from collections.abc import Iterable
 from dataclasses import dataclass
 
 TOKEN = re.compile(
@@ -28,7 +29,7 @@ class Text:
     lines: list
     comments: dict
 
-    def behind(self, at):
+    def behind(self, at: int) -> int:
         """The place behind the bracket that closes the one at a place."""
         depth = 0
         for place in range(at, len(self.tokens)):
@@ -37,13 +38,13 @@ class Text:
                 return place + 1
         raise Unreadable(f"{self.name}:{self.lines[at]}: nothing closes this bracket")
 
-    def next_of(self, at, marks):
+    def next_of(self, at: int, marks: str | Iterable[str]) -> int:
         """The next of some marks that stands in no bracket."""
         while self.tokens[at] not in marks:
             at = self.behind(at) if self.tokens[at] in OPENING else at + 1
         return at
 
-    def said_above(self, at):
+    def said_above(self, at: int) -> str:
         """The comments above an item's first token, between which attributes may stand."""
         line, said = self.lines[at] - 1, ""
         first = {line: token for token, line in zip(reversed(self.tokens), reversed(self.lines))}
@@ -53,7 +54,7 @@ class Text:
         return said
 
 
-def read(name, text):
+def read(name: str, text: str) -> Text:
     tokens, lines, comments, line, at = [], [], {}, 1, 0
     for found in TOKEN.finditer(text):
         line += text.count("\n", at, found.start())
@@ -74,7 +75,7 @@ class Clause:
     said: str
 
 
-def without_ghosts(text):
+def without_ghosts(text: Text) -> tuple[Text, dict[int, list[Clause]]]:
     """A proved source without ghost items, contracts and tactics, and the clauses by the place where they stood."""
     kept, lines, clauses, at = [], [], {}, 0
     tokens = text.tokens
@@ -108,7 +109,7 @@ class Function:
     end: int
 
 
-def functions(text):
+def functions(text: Text) -> list[Function]:
     """All functions that have a body, in their order."""
     tokens, found, traits = text.tokens, [], []
     for at, token in enumerate(tokens):

@@ -3,13 +3,14 @@ crates.txt, and HANDLES. It reads the crates as they stand in the checkout, and 
 
 import re
 import shutil
+from pathlib import Path
 
 from lib.sources import TOP, below
 
 READ_BY_RT = ("src", "specs", "proofs")
 
 
-def copy_all(folder):
+def copy_all(folder: Path) -> None:
     """Copies what `rt` reads of all crates, but for what was proved of them."""
     shutil.copy(TOP / "HANDLES", folder / "HANDLES")
     shutil.copy(TOP / "crates.txt", folder / "crates.txt")
@@ -21,7 +22,7 @@ def copy_all(folder):
                 shutil.copytree(crate / part, to / part, symlinks=True, copy_function=shutil.copy, dirs_exist_ok=True)
 
 
-def copy_with_proofs(folder, crates):
+def copy_with_proofs(folder: Path, crates: list[str]) -> None:
     """Copies the whole folders of some crates and of all that they stand on, with what was proved and when."""
     names = {lower for crate in crates for lower in below(crate)} | set(crates)
     shutil.copy(TOP / "HANDLES", folder / "HANDLES")
@@ -32,7 +33,7 @@ def copy_with_proofs(folder, crates):
         shutil.copytree(TOP / "crates" / name, folder / "crates" / name, symlinks=True, dirs_exist_ok=True)
 
 
-def add_crate(folder, name, uses, file, text):
+def add_crate(folder: Path, name: str, uses: list[str], file: str, text: str) -> Path:
     """Adds a crate of one file to a copy, and returns its folder."""
     crate = folder / "crates" / name
     (crate / "src").mkdir(parents=True, exist_ok=True)

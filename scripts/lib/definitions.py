@@ -3,6 +3,7 @@ are made of. It reads the CALLING.md of each library, the exports for C, the lin
 nothing."""
 
 import re
+from collections.abc import Iterable
 from dataclasses import dataclass, field
 
 from lib.declarations import CRATES, LIBRARIES, lines_for_the_prover, text_of
@@ -29,12 +30,12 @@ class Definition:
     file: str
     lines: list = field(default_factory=list)
 
-    def is_among(self, words, crate):
+    def is_among(self, words: set[str], crate: str) -> bool:
         """Whether words of a crate name it: it is of that crate, or of one below."""
         return self.name in words and self.crate in (crate, *below(crate))
 
 
-def definitions(crate):
+def definitions(crate: str) -> list[Definition]:
     """The public definitions of a crate, in the order of its files."""
     found = []
     folder = CRATES / crate / "specs"
@@ -49,11 +50,11 @@ def definitions(crate):
     return found
 
 
-def words_of(lines):
+def words_of(lines: Iterable[str]) -> set[str]:
     return {word for line in lines for word in WORD.findall(NO_WORD.sub(" ", line))}
 
 
-def of_contracts():
+def of_contracts() -> tuple[list[Definition], list[Definition]]:
     """The definitions that public contracts name, and those that they are made of, themselves among them."""
     every = [definition for crate in CONTRACTS for definition in definitions(crate)]
     named = []

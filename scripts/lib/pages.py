@@ -20,7 +20,7 @@ class Fence:
     text: str
 
 
-def anchor_of(heading):
+def anchor_of(heading: str) -> str:
     """The anchor of a heading: its small letters, digits, hyphens and underscores, and a hyphen for each space."""
     words = re.sub(r"\]\([^)]*\)", "", heading).lower()
     return re.sub(r"[^a-z0-9 _-]", "", words).replace(" ", "-")
@@ -29,7 +29,7 @@ def anchor_of(heading):
 class Page:
     """A page: all its lines, its fences in their order, and its prose, the lines that stand in no fence."""
 
-    def __init__(self, path):
+    def __init__(self, path: Path) -> None:
         self.path = path
         self.lines = path.read_text(encoding="utf-8").splitlines()
         self.fences, self.prose, self.anchors = [], [], set()
@@ -49,24 +49,24 @@ class Page:
                 if match := re.match(r"#+ +(.*)", line):
                     self.anchors.add(self.new_anchor(match[1]))
 
-    def new_anchor(self, heading):
+    def new_anchor(self, heading: str) -> str:
         """The anchor of a heading, with a number behind what was there before."""
         anchor = anchor_of(heading)
         # (a third heading of a name gets the number 2)
         numbered = (f"{anchor}-{number}" for number in range(1, len(self.anchors) + 1))
         return next((name for name in (anchor, *numbered) if name not in self.anchors))
 
-    def fence(self, kind, number=1, heading=None):
+    def fence(self, kind: str, number: int = 1, heading: str | None = None) -> str:
         """What the fence of a kind and a number holds, of all or of those below a heading; empty where there is none."""
         found = [fence.text for fence in self.fences if fence.kind == kind and heading in (None, fence.heading)]
         return found[number - 1] if number <= len(found) else ""
 
-    def links(self):
+    def links(self) -> list[str]:
         """Where the links of the page lead, in their order."""
         return [target for line in self.lines for target in re.findall(r"\]\(([^)]+)\)", line)]
 
 
-def main():
+def main() -> bool:
     parser = argparse.ArgumentParser(description=__doc__)
     parser.add_argument("page", metavar="PAGE", type=Path)
     parser.add_argument("kind", metavar="KIND")

@@ -1,9 +1,11 @@
 """Reads crates.txt, the texts of a crate, and what of a source a wrong body can turn. It prints nothing."""
 
 import re
+from collections.abc import Iterator
 from dataclasses import dataclass
 from pathlib import Path
 
+from lib import rattle
 from lib.rattle import items_of, line_start
 
 TOP = Path(__file__).resolve().parents[2]
@@ -24,10 +26,10 @@ class Item:
     end: int
     code: int
 
-    def key(self):
+    def key(self) -> tuple[str, str, str]:
         return self.file, self.block, self.name
 
-    def is_named_by(self, path):
+    def is_named_by(self, path: str) -> bool:
         """Whether the prover's path, as `padded::words::ask` or `code_unit::U8CodeUnit::code`, is that of this function."""
         *before, name = path.split("::")
         if self.is_constant or name != self.name:
@@ -45,12 +47,12 @@ class Item:
         return of.startswith(owner + trait) if trait else of.partition("+")[0] == owner
 
 
-def items(file, text):
+def items(file: str, text: str) -> list[Item]:
     """The functions with a body, the laws, and the constants, of a source."""
     return list(items_among(items_of(text), file, ""))
 
 
-def items_among(found, file, block):
+def items_among(found: list[rattle.Item], file: str, block: str) -> Iterator[Item]:
     """Those among some items of a source, and in these; `block` is the head of the impl or trait that has them."""
     for item in found:
         start, end = line_start(item.source, item.start), item.end
@@ -65,14 +67,14 @@ def items_among(found, file, block):
             yield Item(file, block, item.name, False, start, end, end)
 
 
-def texts_of(crate):
+def texts_of(crate: str) -> dict[str, str]:
     """The texts of a crate that a check reads, by their paths in its folder."""
     folder = TOP / "crates" / crate
     files = [path for part in ("src", "specs", "proofs") for path in sorted((folder / part).rglob("*")) if path.is_file()]
     return {str(path.relative_to(folder)): path.read_text(encoding="utf-8") for path in files}
 
 
-def libraries():
+def libraries() -> dict[str, list[str]]:
     """The libraries of the repository that each crate uses, by its name, from the lowest crate up."""
     found = {}
     for line in (TOP / "crates.txt").read_text(encoding="utf-8").splitlines():
@@ -82,7 +84,7 @@ def libraries():
     return found
 
 
-def below(crate):
+def below(crate: str) -> list[str]:
     """The libraries of the repository that a crate stands on, each after those that it uses."""
     uses, found = libraries(), []
     for used in uses[crate]:
@@ -90,7 +92,7 @@ def below(crate):
     return found
 
 
-def arms(texts):
+def arms(texts: dict[str, str]) -> list[tuple[str, int, tuple[int, int], str]]:
     """The arms of each match on a width, a question or a case: file, line, where the arm stands, and its first line."""
     found = []
     for file, text in texts.items():

@@ -2,35 +2,36 @@
 for checks in bash."""
 
 import sys
+from typing import NoReturn
 
 
 class Tally:
     """How much passed, and how much failed."""
 
-    def __init__(self):
+    def __init__(self) -> None:
         self.passed = self.failed = 0
 
-    def count(self, is_so):
+    def count(self, is_so: object) -> None:
         """Counts whether something is so."""
         self.passed, self.failed = self.passed + bool(is_so), self.failed + (not is_so)
 
-    def says(self, complaint, is_so):
+    def says(self, complaint: object, is_so: object) -> None:
         """Counts whether something is so, and complains where it isn't."""
         self.count(is_so)
         if not is_so:
             print(complaint)
 
-    def complains(self, complaint):
+    def complains(self, complaint: object) -> None:
         """Counts a failure for a complaint, and a pass where there is none."""
         self.says(complaint, not complaint)
 
-    def close(self):
+    def close(self) -> NoReturn:
         """Ends the check: it fails where something is wrong, and where it looked at nothing."""
         print(f"{self.passed} passed, {self.failed} failed")
         sys.exit(self.failed > 0 or not self.passed)
 
 
-def stop(complaint):
+def stop(complaint: object) -> NoReturn:
     """Ends a check that can't go on."""
     tally = Tally()
     tally.complains(complaint)

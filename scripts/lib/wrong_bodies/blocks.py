@@ -6,6 +6,7 @@ otherwise is Unreadable, by its name and its line.
 
 import re
 import threading
+from pathlib import Path
 
 from lib.sources import TOP
 from lib.wrong_bodies.edits import KINDS, Edit, Unreadable
@@ -20,7 +21,7 @@ PAIR = re.compile(r"old: (.+)\nnew: ?(.*)\n")
 WRITING = threading.Lock()
 
 
-def blocks_of(path):
+def blocks_of(path: Path) -> list[tuple[int, str]]:
     """The texts of the blocks of a file, each with the number of its first line."""
     found, number = [], 1
     for block in path.read_text(encoding="utf-8").removesuffix("\n").split("\n\n"):
@@ -29,7 +30,7 @@ def blocks_of(path):
     return found
 
 
-def edits_of(path, file):
+def edits_of(path: Path, file: str) -> list[Edit]:
     """The edits of a file of blocks, which change a source."""
     found = []
     for number, block in blocks_of(path):
@@ -42,12 +43,12 @@ def edits_of(path, file):
     return found
 
 
-def has_wrong_bodies(crate):
+def has_wrong_bodies(crate: str) -> bool:
     """Whether a crate has wrong bodies."""
     return (TOP / "crates" / crate / "wrong-bodies").is_dir()
 
 
-def read_blocks(crate):
+def read_blocks(crate: str) -> list[Edit]:
     """The wrong bodies and controls of a crate, by the order of their files and of the blocks in each."""
     folder = TOP / "crates" / crate
     if not has_wrong_bodies(crate):
@@ -66,7 +67,7 @@ def read_blocks(crate):
     return named_once(found)
 
 
-def named_once(edits):
+def named_once(edits: list[Edit]) -> list[Edit]:
     """The edits, of which no two have one name."""
     seen = set()
     for edit in edits:
@@ -76,7 +77,7 @@ def named_once(edits):
     return edits
 
 
-def write_goal(edit, function, goal):
+def write_goal(edit: Edit, function: str, goal: str) -> None:
     """Writes the goal that refuses an edit into its block, where that stands."""
     with WRITING:
         blocks = [block for _, block in blocks_of(edit.path)]

@@ -1,10 +1,11 @@
 """A wrong body, or a control beside it: what it changes in a source, and which goal has to be open then. It prints
 nothing, and is Unreadable where it can't be applied."""
 
+from collections.abc import Iterable
 from dataclasses import dataclass, field
 from pathlib import Path
 
-from lib.sources import items
+from lib.sources import Item, items
 
 # What the check of an edit has to show of its goal: the body breaks it; none is open; it is open for another reason.
 KINDS = ("refused", "neutral", "disturbed")
@@ -14,7 +15,7 @@ class Unreadable(Exception):
     """What is wrong with an edit, in words for whoever wrote it."""
 
 
-def is_clause(goal):
+def is_clause(goal: str) -> bool:
     """Whether a goal is a clause of the function's own contract: what it ensures where it returns."""
     return goal.startswith("returns")
 
@@ -35,28 +36,28 @@ class Edit:
     pairs: list = field(default_factory=list)
 
     @property
-    def is_control(self):
+    def is_control(self) -> bool:
         """Whether it is no wrong body, but tells whether the check that tries it can be trusted."""
         return self.kind != "refused"
 
-    def target(self, texts):
+    def target(self, texts: dict[str, str]) -> Item | None:
         """What it turns: the function that it names, or the only one or constant in which its first old text stands."""
         text, old = texts[self.file], self.pairs[0][0]
         inside = [item for item in items(self.file, text) if old in text[item.start : item.end]]
         named = [item for item in inside if item.is_named_by(self.function)]
         return named[0] if named else inside[0] if len(inside) == 1 else None
 
-    def turns_contract(self, item, texts):
+    def turns_contract(self, item: Item, texts: dict[str, str]) -> bool:
         """Whether it turns what a law with a body says, which its callers see."""
         head = texts[self.file][item.start : item.code]
         return item.code < item.end and any(old in head for old, _ in self.pairs)
 
-    def place(self, texts):
+    def place(self, texts: dict[str, str]) -> tuple[int, str]:
         """Where it stands among its source's edits: by what it turns, and then by its name."""
         target = self.target(texts)
         return target.start if target else texts[self.file].find(self.pairs[0][0]), self.name
 
-    def names_what_it_turns(self, target, texts):
+    def names_what_it_turns(self, target: Item | None, texts: dict[str, str]) -> bool:
         """Whether the function that it names is its target or, where that is a constant, is there: a function of the
         crate, or a file of its lemmas."""
         if not self.function or not target:
@@ -68,7 +69,7 @@ class Edit:
         sources = [(file, text) for file, text in texts.items() if file.startswith("src/")]
         return any(item.is_named_by(self.function) for file, text in sources for item in items(file, text))
 
-    def changes(self, texts, target):
+    def changes(self, texts: dict[str, str], target: Item | None) -> list[tuple[int, int, str]]:
         """What it changes in its source: where each old text begins and ends, and the new one. Each old text stands once
         in its target's body or, where it has none, in the file."""
         text, found = texts[self.file], []
@@ -82,7 +83,7 @@ class Edit:
         return found
 
 
-def applied(edits, texts):
+def applied(edits: Iterable[Edit], texts: dict[str, str]) -> dict[str, str]:
     """The texts of the crate, by file, with some edits, of which no two change the same place."""
     changed, changes = dict(texts), {}
     for edit in edits:

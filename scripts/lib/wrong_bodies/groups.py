@@ -6,10 +6,13 @@ constant or of what a law with a body says reaches what names these too. One tha
 function's body, is alone. Groups of several have neutral and disturbed edits as controls.
 """
 
+from collections.abc import Iterable
 from dataclasses import dataclass
 
-from lib.wrong_bodies.edits import Unreadable, applied
+from lib.sources import Item
+from lib.wrong_bodies.edits import Edit, Unreadable, applied
 from lib.wrong_bodies.reach import reach_of
+from lib.wrong_bodies.searches import Search
 
 
 @dataclass(frozen=True)
@@ -20,32 +23,32 @@ class Group:
     reached: tuple
 
     @property
-    def bodies(self):
+    def bodies(self) -> list[Edit]:
         """Its wrong bodies."""
         return [edit for edit in self.edits if not edit.is_control]
 
     @property
-    def name(self):
+    def name(self) -> str:
         """That of its first wrong body, or of the control that is alone."""
         return (self.bodies or self.edits)[0].name
 
-    def texts(self, texts):
+    def texts(self, texts: dict[str, str]) -> dict[str, str]:
         """The texts of the crate, by file, with the edits applied."""
         return applied(self.edits, texts)
 
-    def names(self, search):
+    def names(self, search: Search) -> bool:
         """Whether a search is of a goal that a wrong body of it names, or of a function with a neutral body in it."""
         return any(
             edit.function == search.function and (edit.goal == search.goal and not edit.is_control or edit.kind == "neutral")
             for edit in self.edits
         )
 
-    def of(self, bodies):
+    def of(self, bodies: list[Edit]) -> "Group":
         """The group of some of its wrong bodies, and its controls."""
         kept = [(edit, reach) for edit, reach in zip(self.edits, self.reached) if edit in bodies or edit.is_control]
         return Group(*zip(*kept))
 
-    def parts(self, disturbed):
+    def parts(self, disturbed: Iterable[Edit]) -> "list[Group]":
         """Smaller groups, to try again: the disturbed wrong bodies without the others or, where all are disturbed or a
         control is, a half of them each. A single one has no parts."""
         left = [body for body in self.bodies if body in disturbed] or self.bodies
@@ -55,7 +58,7 @@ class Group:
         return [self.of(left[:half]), self.of(left[half:])] if len(left) > 1 else []
 
 
-def groups_of(edits, texts, only=()):
+def groups_of(edits: list[Edit], texts: dict[str, str], only: Iterable[str] = ()) -> list[Group]:
     """The groups of a crate's edits or, where some are named, of these without controls."""
     if not only:
         return grouped([edit for edit in edits if not edit.is_control], [edit for edit in edits if edit.is_control], texts)
@@ -64,7 +67,7 @@ def groups_of(edits, texts, only=()):
     return grouped([edit for edit in edits if edit.name in only], [], texts)
 
 
-def grouped(edits, controls, texts):
+def grouped(edits: list[Edit], controls: list[Edit], texts: dict[str, str]) -> list[Group]:
     """The groups of a crate's wrong bodies and controls: two that reach one part of a function are in two groups."""
     reached = {edit.name: reach_of(edit, target_of(edit, texts), texts) for edit in [*edits, *controls]}
     alone = [edit for edit in edits if reached[edit.name] is None]
@@ -81,7 +84,7 @@ def grouped(edits, controls, texts):
     return groups + [Group((edit,), (None,)) for edit in alone]
 
 
-def controls_of(number, controls):
+def controls_of(number: int, controls: list[Edit]) -> list[Edit]:
     """The controls of a group: a half of all for each of the first two, and then one, by turns, since each stands in the
     way of the edits of its function."""
     if number < 2 or not controls:
@@ -89,7 +92,7 @@ def controls_of(number, controls):
     return [controls[number % len(controls)]]
 
 
-def target_of(edit, texts):
+def target_of(edit: Edit, texts: dict[str, str]) -> Item | None:
     """What an edit turns, where it can be applied and names that."""
     item = edit.target(texts)
     edit.changes(texts, item)

@@ -9,8 +9,9 @@ import re
 from dataclasses import dataclass
 
 from lib.wrong_bodies.edits import Edit
+from lib.wrong_bodies.groups import Group
 from lib.wrong_bodies.reach import own_of
-from lib.wrong_bodies.refusals import refusals
+from lib.wrong_bodies.refusals import Refusal, refusals
 
 UNCOMPILED = re.compile(r"(?:\./)?src/\S+: error\[.*")
 
@@ -25,7 +26,11 @@ class Verdict:
     is_disturbed: bool = False
 
 
-def judged(edit, own):
+# The verdicts on the edits of a group, and what else is wrong, a line each.
+Judged = tuple[list[Verdict], list[str]]
+
+
+def judged(edit: Edit, own: list[Refusal]) -> Verdict:
     """The verdict on an edit, by the goals of its function that are open."""
     is_disturbed = any(refusal.names_what_is_gone for refusal in own)
     if edit.kind == "neutral":
@@ -44,7 +49,7 @@ def judged(edit, own):
     return Verdict(edit, False, f"IS TO BE {edit.kind.upper()}, is {line}", is_disturbed or is_behind)
 
 
-def judge(group, output):
+def judge(group: Group, output: str) -> tuple[list[Verdict], list[str]]:
     """The verdicts on the edits of a checked group, and what else is wrong, a line each."""
     found, place = refusals(output), f"the group of {group.name}"
     if not re.search(r"^logic=(proved |not-proved)", output, re.M):

@@ -7,6 +7,8 @@ import os
 from pathlib import Path
 
 from lib.sources import TOP, below, libraries, texts_of
+from lib.wrong_bodies.groups import Group
+from lib.wrong_bodies.judging import Verdict
 
 FOLDER = Path(os.environ.get("XDG_CACHE_HOME") or Path.home() / ".cache") / "wrong-bodies"
 
@@ -14,7 +16,7 @@ FOLDER = Path(os.environ.get("XDG_CACHE_HOME") or Path.home() / ".cache") / "wro
 class Kept:
     """What passed of a crate's groups."""
 
-    def __init__(self, crate, version):
+    def __init__(self, crate: str, version: str) -> None:
         scripts = [
             *(TOP / f"scripts/lib/{name}.py" for name in ("rattle", "sources")),
             *sorted((TOP / "scripts/lib/wrong_bodies").glob("*.py")),
@@ -23,16 +25,16 @@ class Kept:
         crates = [(name, uses[name], sorted(texts_of(name).items())) for name in [*below(crate), crate]]
         self.read = repr((version, [path.read_text(encoding="utf-8") for path in scripts], crates))
 
-    def path(self, group):
+    def path(self, group: Group) -> Path:
         edits = repr([(edit.file, edit.text) for edit in group.edits])
         return FOLDER / hashlib.sha256((self.read + edits).encode()).hexdigest()
 
-    def lines(self, group):
+    def lines(self, group: Group) -> list[tuple[str, str]] | None:
         """The lines of a group that passed, each with its edit's name; None where it didn't."""
         path = self.path(group)
         return json.loads(path.read_text(encoding="utf-8")) if path.is_file() else None
 
-    def keep(self, group, verdicts):
+    def keep(self, group: Group, verdicts: list[Verdict]) -> None:
         """Keeps the lines of a group that passed."""
         FOLDER.mkdir(parents=True, exist_ok=True)
         lines = json.dumps([(verdict.edit.name, verdict.said) for verdict in verdicts])

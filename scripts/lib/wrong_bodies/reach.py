@@ -2,10 +2,13 @@
 reads the texts of a crate, and prints nothing."""
 
 import re
+from collections.abc import Iterable, Iterator
 from dataclasses import dataclass
 from os.path import commonprefix
 
 from lib.sources import Item, items
+from lib.wrong_bodies.edits import Edit
+from lib.wrong_bodies.refusals import Refusal
 
 COMMENT_OR_IMPORT = re.compile(r"^ *(?://.*$|(?:pub )?use [^;]*;)", re.M)
 PROOF = re.compile(r"proofs/(.+?)(?:/(?:Answers|Invariants|Proof))?\.antt")
@@ -18,16 +21,16 @@ class Part:
     function: Item
     arm: str = ""
 
-    def has(self, path, goal):
+    def has(self, path: str, goal: str) -> bool:
         """Whether a goal of a function, as the prover names them, is one of its own: of an arm, that names it."""
         is_own = not self.arm or re.search(rf"-in-{self.arm}(?!\w)", goal)
         return bool(is_own) and self.function.is_named_by(path)
 
-    def may_open(self, path, goal):
+    def may_open(self, path: str, goal: str) -> bool:
         """Whether an edit of it may open a goal: one of its own or, since not all of an arm name it, one of no return."""
         return self.has(path, goal) or not goal.startswith("returns") and self.function.is_named_by(path)
 
-    def meets(self, other):
+    def meets(self, other: "Part") -> bool:
         """Whether the two share a goal of their own."""
         return self.function == other.function and (not self.arm or not other.arm or self.arm == other.arm)
 
@@ -39,23 +42,23 @@ class Reach:
     parts: frozenset
     files: frozenset = frozenset()
 
-    def holds(self, path, goal=""):
+    def holds(self, path: str, goal: str = "") -> bool:
         """Whether a goal of a function, or a file of lemmas, as the prover names it, is reached."""
         return path in self.files or any(part.may_open(path, goal) for part in self.parts)
 
-    def meets(self, other):
+    def meets(self, other: "Reach") -> bool:
         """Whether two edits reach one goal or file."""
         if any(one.meets(another) for one in self.parts for another in other.parts):
             return True
         return any(map(other.holds, self.files)) or any(map(self.holds, other.files))
 
 
-def own_of(reach, refusals):
+def own_of(reach: Reach | None, refusals: list[Refusal]) -> list[Refusal]:
     """The refusals that an edit may have caused: those of what it reaches, or all where that isn't known."""
     return [refusal for refusal in refusals if reach is None or reach.holds(refusal.function, refusal.goal)]
 
 
-def reach_of(edit, item, texts):
+def reach_of(edit: Edit, item: Item | None, texts: dict[str, str]) -> Reach | None:
     """What an edit of an item reaches; None where it turns no function's body, or reaches a contract or a constant."""
     if not item:
         return None
@@ -80,20 +83,20 @@ def reach_of(edit, item, texts):
     return Reach(widened(parts, edit), frozenset(files_that_cite(cited, texts)))
 
 
-def widened(parts, edit):
+def widened(parts: frozenset[Part], edit: Edit) -> frozenset[Part]:
     """The parts, or the whole functions where the goal that the edit names is in none."""
     is_inside = any(part.has(edit.function, edit.goal) for part in parts)
     return parts if is_inside else frozenset(Part(part.function) for part in parts)
 
 
-def parts_at(function, text, places):
+def parts_at(function: Item, text: str, places: Iterable[int]) -> frozenset[Part]:
     """The parts of a function in which some places of its source stand: the whole where one is in no arm."""
     arms = list(last_arms(function, text))
     found = {next((name for name, start, end in arms if start <= place < end), "") for place in places}
     return frozenset(Part(function, arm) for arm in ([""] if "" in found else found))
 
 
-def last_arms(function, text):
+def last_arms(function: Item, text: str) -> Iterator[tuple[str, int, int]]:
     """The arms of the match in which a function's body ends: the name of each, as the prover has it, and where what stands
     behind its pattern begins and ends."""
     lines = text[function.code : function.end].split("\n")
@@ -109,7 +112,7 @@ def last_arms(function, text):
         yield arm[1], starts[at] + arm.end(), starts[end]
 
 
-def items_that_name(name, file, text):
+def items_that_name(name: re.Pattern, file: str, text: str) -> Iterator[Item | None]:
     """The functions and constants of a source that name something, and None where a contract does."""
     inside = items(file, text)
     yield from (item for item in inside if name.search(text[item.start : item.end]))
@@ -120,7 +123,7 @@ def items_that_name(name, file, text):
         yield None
 
 
-def files_that_cite(cited, texts):
+def files_that_cite(cited: re.Pattern, texts: dict[str, str]) -> set[str]:
     """The files of proofs that cite something, and those that import them in turn."""
     proofs = {PROOF.fullmatch(file)[1].replace("/", "::"): text for file, text in texts.items() if PROOF.fullmatch(file)}
     found, new = set(), {file for file, text in proofs.items() if cited.search(text)}

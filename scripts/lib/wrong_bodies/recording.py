@@ -2,11 +2,12 @@
 
 from lib.wrong_bodies.blocks import write_goal
 from lib.wrong_bodies.edits import is_clause
+from lib.wrong_bodies.groups import Group
 from lib.wrong_bodies.reach import own_of
 from lib.wrong_bodies.refusals import refusals
 
 
-def record(group, output):
+def record(group: Group, output: str) -> None:
     """Writes the goal that refuses each wrong body of a checked group, a clause before any other. A clause that stands
     there is left, and so is another goal with a line 'elsewhere'."""
     open_goals = [refusal for refusal in refusals(output) if not refusal.names_what_is_gone]

@@ -24,12 +24,12 @@ class Refusal:
     names_what_is_gone: bool = False
 
     @property
-    def is_of_a_step(self):
+    def is_of_a_step(self) -> bool:
         """Whether it asks that a value made on the way is one that its type allows. All behind it rests on that."""
         return re.match(r"invariant_of-(?!result|self)", self.goal) is not None
 
 
-def refusals(output):
+def refusals(output: str) -> list[Refusal]:
     """The goals that a check left open, each with its function."""
     found, waiting, stated = [], [], {}
     # the prover wraps a long line, and indents what follows

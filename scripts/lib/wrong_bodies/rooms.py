@@ -7,24 +7,25 @@ import shutil
 import subprocess
 import sys
 import threading
+from pathlib import Path
 
 from lib.copies import READ_BY_RT, copy_all
 from lib.sources import below
 from lib.wrong_bodies.refusals import refusals
-from lib.wrong_bodies.searches import with_searches
+from lib.wrong_bodies.searches import Search, with_searches
 
 
 class Room:
     """A copy of the crates in a new folder, below which groups are checked."""
 
-    def __init__(self, folder):
+    def __init__(self, folder: Path) -> None:
         self.folder, self.lock = folder, threading.Lock()
         self.seconds, self.tried = {}, {}
         self.base = folder / "base"
         self.base.mkdir()
         copy_all(self.base)
 
-    def check(self, crate, top, *first):
+    def check(self, crate: str, top: Path, *first: str) -> str:
         """Checks a crate below a folder, by a command with some first words, and returns what is said."""
         words = [*first, "rt", "check", "--jobs", "1"]
         how = {"cwd": top / "crates" / crate, "stdin": subprocess.DEVNULL, "stderr": subprocess.STDOUT}
@@ -37,14 +38,14 @@ class Room:
             self.seconds[crate] = self.seconds.get(crate, 0) + used.ru_utime + used.ru_stime
         return output
 
-    def begin(self, crate):
+    def begin(self, crate: str) -> None:
         """Checks the crate as it stands, and keeps what the groups begin with."""
         output = self.check(crate, self.base)
         if not re.search(r"^logic=proved ", output, re.M):
             sys.exit(f"{crate} isn't proved as it stands:\n" + "\n".join(output.splitlines()[-20:]))
         linked(self.base / "crates" / crate / "out/incremental", self.folder / "seeds" / crate)
 
-    def proved(self, crate, searches, texts):
+    def proved(self, crate: str, searches: set[Search], texts: dict[str, str]) -> set[Search]:
         """Those of some searches that prove their goals in the crate as it stands."""
         output = self.try_group(crate, "searches", with_searches(crate, searches, texts), is_waited_for=True)
         if not re.search(r"^logic=(proved |not-proved)", output, re.M):
@@ -54,7 +55,7 @@ class Room:
         unread = re.findall(r"^(?:\./)?(proofs/\S+/Answers\.antt):\d+:\d+: error: (?!`)", output, re.M)
         return {search for search in searches if (search.function, search.goal) not in is_open and search.file not in unread}
 
-    def try_group(self, crate, number, texts, is_waited_for=False):
+    def try_group(self, crate: str, number: int | str, texts: dict[str, str], is_waited_for: bool = False) -> str:
         """Checks a copy of the crate with these texts, on what other programs leave free of the processors where nothing
         waits for it."""
         top = self.folder / f"{crate}-{number}"
@@ -81,10 +82,10 @@ class Room:
         return output
 
 
-def linked(folder, to):
+def linked(folder: Path, to: Path) -> None:
     """Copies a folder: what was proved, which a check replaces and never writes into, by links."""
 
-    def copy(one, other):
+    def copy(one: str, other: str) -> None:
         (os.link if one.endswith((".oantt", ".a")) else shutil.copy2)(one, other)
 
     shutil.copytree(folder, to, symlinks=True, copy_function=copy)

@@ -5,18 +5,19 @@ A group in which one edit may have disturbed another is tried again in parts, do
 
 import itertools
 import subprocess
+from argparse import Namespace
 from concurrent.futures import Future, ThreadPoolExecutor
 from dataclasses import dataclass
 from pathlib import Path
 
 from lib.sources import texts_of
 from lib.wrong_bodies.blocks import read_blocks
-from lib.wrong_bodies.groups import groups_of
-from lib.wrong_bodies.judging import judge
+from lib.wrong_bodies.groups import Group, groups_of
+from lib.wrong_bodies.judging import Judged, Verdict, judge
 from lib.wrong_bodies.keeping import Kept
 from lib.wrong_bodies.recording import record
 from lib.wrong_bodies.rooms import Room
-from lib.wrong_bodies.searches import searches_of, with_searches
+from lib.wrong_bodies.searches import Search, searches_of, with_searches
 
 
 @dataclass
@@ -24,10 +25,10 @@ class Trial:
     """A group of a crate: what an earlier run kept of it, or the check that is under way."""
 
     crate: str
-    kept: list = None
-    check: Future = None
+    kept: list[tuple[str, str]] | None = None
+    check: Future[Judged] | None = None
 
-    def lines(self):
+    def lines(self) -> tuple[list[tuple[str, bool, str]], list[str]]:
         """Of each edit its name, whether it is as it has to be, and a line that says so; and what else is wrong."""
         if self.kept is not None:
             return [(name, True, said) for name, said in self.kept], []
@@ -39,18 +40,18 @@ class Run:
     """One run: in a folder that is empty yet, as the words of the command say. Where it ends early, checks that wait don't
     begin."""
 
-    def __init__(self, folder, given):
+    def __init__(self, folder: str, given: Namespace) -> None:
         self.folder, self.given, self.room = Path(folder), given, None
         self.pool = ThreadPoolExecutor(given.jobs)
         self.version = subprocess.run(["rt", "version"], capture_output=True, text=True, check=True).stdout
 
-    def __enter__(self):
+    def __enter__(self) -> "Run":
         return self
 
-    def __exit__(self, *_):
+    def __exit__(self, *_: object) -> None:
         self.pool.shutdown(cancel_futures=True)
 
-    def trials(self, crate, only):
+    def trials(self, crate: str, only: list[str]) -> list[Trial]:
         """Begins the trials of a crate, or of those of its edits that are named."""
         texts, edits = texts_of(crate), read_blocks(crate)
         groups, kept = groups_of(edits, texts, only), Kept(crate, self.version)
@@ -70,7 +71,9 @@ class Run:
         checks = {number: self.pool.submit(self.check, crate, number, groups[number], *args) for number in left}
         return [Trial(crate, line, checks.get(number)) for number, line in enumerate(lines)]
 
-    def check(self, crate, number, group, texts, kept, searches):
+    def check(
+        self, crate: str, number: int | str, group: Group, texts: dict[str, str], kept: Kept, searches: set[Search]
+    ) -> Judged:
         """Checks a group, with short searches for the goals that it names, and its parts where it is disturbed. What
         passes is kept."""
         named = filter(group.names, searches)
@@ -89,13 +92,13 @@ class Run:
             kept.keep(group, verdicts)
         return verdicts, wrong
 
-    def said_of(self, crate):
+    def said_of(self, crate: str) -> str:
         """How many checks a crate's groups took in this run, and the processor time of these and of the first one."""
         tried, seconds = (self.room.tried, self.room.seconds) if self.room else ({}, {})
         return f"{tried.get(crate, 0)} checks in this run, {seconds.get(crate, 0):.0f} processor seconds"
 
 
-def together(verdicts, tried):
+def together(verdicts: list[Verdict], tried: list[Judged]) -> Judged:
     """The verdicts of a group, and what else is wrong, once its parts were tried again: of each edit the last, and of
     one in two parts the one that isn't well."""
     last = {}

@@ -3,9 +3,11 @@ to prove it, each longer than the one before, and then tells how an answer would
 goal gets an answer that tries the first two ways. It prints nothing."""
 
 import re
+from collections.abc import Iterable
 from dataclasses import dataclass
 
-from lib.sources import items
+from lib.sources import Item, items
+from lib.wrong_bodies.edits import Edit
 
 # Imports for each search, and those with which a goal is told by its operators.
 WORDS = ["use Rattle.std.proofs.Common as common", "use Rattle.std.proofs.lemmas.Grind as grinding"]
@@ -28,11 +30,11 @@ class Search:
     lemmas: tuple
 
     @property
-    def file(self):
+    def file(self) -> str:
         """The file with the answers of the function's goals."""
         return f"proofs/{self.function.replace('::', '/')}/Answers.antt"
 
-    def added(self, crate, answers):
+    def added(self, crate: str, answers: str) -> str:
         """What is in its file, if that is there, with the search as one more answer."""
         modules = dict.fromkeys(module_of(lemma, crate) for lemma in self.lemmas)
         names = {module: f"lemmas_{at}" for at, module in enumerate(modules)}
@@ -46,13 +48,13 @@ class Search:
         return f"{head}{answers}\npub {self.goal} : goal.{self.goal}\n{self.goal} {given} = first_of ({tried})\n"
 
 
-def module_of(lemma, crate):
+def module_of(lemma: str, crate: str) -> str:
     """The module of a lemma, as its path in an attribute names it."""
     library, *inside, _ = lemma.split("::")
     return ".".join(["Rattle", crate if library == "crate" else library, *inside])
 
 
-def searches_of(edits, texts):
+def searches_of(edits: list[Edit], texts: dict[str, str]) -> set[Search]:
     """A search for each goal that wrong bodies name and no file of proofs answers; none for those of files of lemmas."""
     sources = [(items(file, text), text) for file, text in texts.items() if file.startswith("src/")]
     found = set()
@@ -65,7 +67,7 @@ def searches_of(edits, texts):
     return found
 
 
-def search_of(edit, function, text):
+def search_of(edit: Edit, function: Item, text: str) -> Search:
     """The search for the goal that an edit names, of a function of a source with this text."""
     at = text.rfind(f"fn {function.name}", 0, function.code)
     using = USING.search(ABOVE.search(text[: text.rfind("\n", 0, at) + 1])[0])
@@ -73,7 +75,7 @@ def search_of(edit, function, text):
     return Search(edit.function, edit.goal, is_generic, tuple(using[1].split(", ")) if using else ())
 
 
-def with_searches(crate, searches, texts):
+def with_searches(crate: str, searches: Iterable[Search], texts: dict[str, str]) -> dict[str, str]:
     """The texts of a crate, by file, with some searches."""
     changed = dict(texts)
     for search in sorted(searches, key=lambda search: (search.function, search.goal)):
