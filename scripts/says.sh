@@ -1,7 +1,8 @@
 # shellcheck shell=bash
 # For checks in bash, which source it under `set -euo pipefail`: counts what is so, prints a line 'NAME: yes' or 'NAME: no' of
 # each, and closes with the line 'N passed, M failed' (as scripts/lib/tally.py does in Python). A check that ends before it
-# closes has failed, and says so. It makes the folder $room, which goes away where the check ends.
+# closes has failed, and says so. It takes no words. It makes the folder $room, which goes away where the check ends.
+[ $# -eq 0 ] || { echo "usage: $0" >&2; exit 2; }
 room=$(mktemp -d)
 passed=0
 failed=0
