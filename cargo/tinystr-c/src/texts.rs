@@ -69,12 +69,12 @@ pub fn read(input: &[u8], out: &mut [u8]) -> TinystrResult {
 /// ```
 #[inline]
 pub fn ask(text: &[u8], question: u32) -> TinystrResult {
-    match read_padded(text) {
-        Ok(read) => match question_of(question) {
-            Some(asked) => yes_or_no(read.ask(asked)),
-            None => answer(BAD_ARGUMENT, question as usize),
+    match question_of(question) {
+        Some(asked) => match read_padded(text) {
+            Ok(read) => yes_or_no(read.ask(asked)),
+            Err(refused) => refused,
         },
-        Err(refused) => refused,
+        None => answer(BAD_ARGUMENT, question as usize),
     }
 }
 
@@ -88,15 +88,15 @@ pub fn ask(text: &[u8], question: u32) -> TinystrResult {
 /// ```
 #[inline]
 pub fn change_case(text: &mut [u8], case: u32) -> TinystrResult {
-    match read_padded(text) {
-        Ok(read) => match case_of(case) {
-            Some(wanted) => {
+    match case_of(case) {
+        Some(wanted) => match read_padded(text) {
+            Ok(read) => {
                 put(&read.in_case(wanted), text);
                 answer(OK, read.len())
             }
-            None => answer(BAD_ARGUMENT, case as usize),
+            Err(refused) => refused,
         },
-        Err(refused) => refused,
+        None => answer(BAD_ARGUMENT, case as usize),
     }
 }
 
