@@ -1,7 +1,7 @@
-/* compare FIRST SECOND CALLS [SEED]: whether two shared objects answer generated calls alike. Each call gets any bytes, or bytes
- * near those that it accepts, of 0 to 300, beside pages that can't be read; the results and all bytes that a call may write
- * are compared. It prints a line for each function, with how many calls differ, and the first that does. It fails where one
- * differs, and where a code of a function was never returned. */
+/* compare FIRST SECOND CALLS [SEED]: whether two shared objects answer generated calls alike. Each call gets 0 to 300 bytes, at
+ * random or near those that it accepts, beside pages that can't be read, and NULL for some of no bytes. The results are
+ * compared, and all bytes that a call may write. It prints a line for each function, with how many calls differ, and the first
+ * that does. It fails where one differs, and where a function doesn't return exactly the codes that the header lists. */
 #define _DEFAULT_SOURCE
 #include <dlfcn.h>
 #include <stdio.h>
@@ -11,7 +11,7 @@
 #include <tinystr.h>
 #include <unistd.h>
 
-enum { MOST = 300, MOST_RESULTS = 160, POOL = 24 };
+enum { MOST = 300, MOST_RESULTS = MOST / 2 + 2, POOL = 24 };
 
 struct library {
     uint32_t (*version)(void);
@@ -101,16 +101,22 @@ static size_t any_text(uint8_t *out, size_t len) {
     return len;
 }
 
+/* Adds a separator and a subtag. */
+static size_t with_subtag(uint8_t *out, size_t len, const char *subtag) {
+    size_t k;
+    out[len++] = one_in(2) ? '-' : '_';
+    for (k = 0; subtag[k]; k++) out[len++] = (uint8_t)subtag[k];
+    return len;
+}
+
 /* A language identifier, or almost one. */
 static size_t any_langid(uint8_t *out) {
-    static const char *const regions[] = {"us", "TW", "419", "De", "0a", "12"};
     static const char *const scripts[] = {"latn", "HANT", "Cyrl", "lat", "latin"};
-    size_t len, k, letters = 2 + below(7);
-    const char *part;
-    for (k = 0; k < letters; k++) out[k] = (uint8_t)("abcxyzABCXYZ"[below(12)]);
-    len = letters;
-    if (one_in(2)) out[len++] = one_in(2) ? '-' : '_', part = scripts[below(5)], memcpy(out + len, part, strlen(part)), len += strlen(part);
-    if (one_in(2)) out[len++] = one_in(2) ? '-' : '_', part = regions[below(6)], memcpy(out + len, part, strlen(part)), len += strlen(part);
+    static const char *const regions[] = {"us", "TW", "419", "De", "0a", "12"};
+    size_t len, letters = 2 + below(7);
+    for (len = 0; len < letters; len++) out[len] = (uint8_t)("abcxyzABCXYZ"[below(12)]);
+    if (one_in(2)) len = with_subtag(out, len, scripts[below(5)]);
+    if (one_in(2)) len = with_subtag(out, len, regions[below(6)]);
     while (one_in(4)) spoil(out, len);
     if (one_in(8)) out[len++] = near_text(0);
     return len;
@@ -122,15 +128,15 @@ static size_t any_capacity(void) {
     static const size_t capacities[] = {2, 3, 4, 8, 16};
     return one_in(24) ? (one_in(2) ? below(20) : (size_t)any()) : capacities[below(5)];
 }
-static size_t width_of(size_t capacity) { return capacity == 0 || capacity > 16 ? 3 : capacity; }
+static size_t width_of(size_t capacity) { return capacity < 2 || capacity > 16 ? 3 : capacity; }
 
 static size_t sorted_width;
 static int compare_records(const void *a, const void *b) { return memcmp(a, b, sorted_width); }
 
-/* Records, which rise or don't; of all letters, or of few so that some are near each other. */
+/* Records, sorted or not; of all letters, or of few so that some are near each other. */
 static size_t any_records(uint8_t *out, size_t capacity) {
-    size_t n = width_of(capacity), count = below(one_in(3) ? MOST / n + 1 : 20 < MOST / n ? 20 : MOST / n), len = count * n, k, kept = 0;
-    size_t kind = one_in(6) ? below(2) : 2 + below(2);
+    size_t n = width_of(capacity), most = MOST / n, count = below(one_in(3) || most < 20 ? most + 1 : 20), len = count * n;
+    size_t kind = one_in(6) ? below(2) : 2 + below(2), k, kept = 0;
     for (k = 0; k < len; k++) out[k] = kind == 0 && one_in(3) ? 0 : near_text(kind);
     for (k = 0; k < count; k++) {
         size_t end = one_in(2) ? n : below(n + 1);
@@ -140,7 +146,10 @@ static size_t any_records(uint8_t *out, size_t capacity) {
         sorted_width = n;
         qsort(out, count, n, compare_records);
         for (k = 0; k < count; k++)
-            if (kept == 0 || memcmp(out + (kept - 1) * n, out + k * n, n)) memmove(out + kept++ * n, out + k * n, n);
+            if (kept == 0 || memcmp(out + (kept - 1) * n, out + k * n, n)) {
+                memmove(out + kept * n, out + k * n, n);
+                kept++;
+            }
         len = kept * n;
     }
     if (one_in(5)) spoil(out, len);
@@ -158,6 +167,16 @@ static size_t any_key(uint8_t *out, const uint8_t *table, size_t len, size_t cap
     if (one_in(4)) spoil(out, k);
     if (one_in(20)) out[k++] = near_text(0);
     return k;
+}
+
+/* Fewer than twenty keys as records, of which most are records of a table. */
+static size_t any_keys(uint8_t *out, const uint8_t *table, size_t len, size_t capacity) {
+    size_t n = width_of(capacity), count = below(20 < MOST / n ? 20 : MOST / n), k;
+    for (k = 0; k < count; k++) {
+        if (len < n || one_in(4)) any_text(out + k * n, n);
+        else memcpy(out + k * n, table + below(len / n) * n, n);
+    }
+    return count * n;
 }
 
 /* ---- hashed tables, of which some are made by trying seeds */
@@ -211,9 +230,23 @@ static size_t any_hashed(uint8_t *out, size_t *capacity, size_t *records) {
 
 static uint8_t buffer[2][2 * MOST];
 
-enum function { VERSION, LANGID, READ, ASK, CHANGE_CASE, TABLE_CHECK, SORTED_CHECK, SORTED_SEARCH, SORTED_SEARCH_EACH, SORTED_PREFIX,
-                MAP_CHECK, HASHED_CHECK, HASHED_SEARCH, FUNCTIONS };
-/* Their names, and a bit for each code that they return. */
+enum function {
+    VERSION,
+    LANGID,
+    READ,
+    ASK,
+    CHANGE_CASE,
+    TABLE_CHECK,
+    SORTED_CHECK,
+    SORTED_SEARCH,
+    SORTED_SEARCH_EACH,
+    SORTED_PREFIX,
+    MAP_CHECK,
+    HASHED_CHECK,
+    HASHED_SEARCH,
+    FUNCTIONS
+};
+/* Their names, and a bit for each code that the header lists. */
 static const struct {
     const char *name;
     unsigned codes;
@@ -246,18 +279,11 @@ static struct call any_call(enum function function) {
     } else if (function != VERSION) {
         it.first_len = any_records(buffer[0], it.number);
         if (function == SORTED_SEARCH_EACH) {
-            size_t n = width_of(it.number), k, count = below(20);
+            size_t count;
             if (one_in(3)) it.second_len = any_records(buffer[1], it.number);
-            else {
-                for (k = 0; k < count; k++) {
-                    memset(buffer[1] + k * n, 0, n);
-                    if (it.first_len < n || one_in(4)) any_text(buffer[1] + k * n, n);
-                    else memcpy(buffer[1] + k * n, buffer[0] + below(it.first_len / n) * n, n);
-                }
-                it.second_len = count * n > MOST ? MOST / n * n : count * n;
-            }
-            it.out_len = one_in(8) ? below(it.second_len / n + 1) : it.second_len / n + below(3);
-            if (it.out_len > MOST_RESULTS) it.out_len = MOST_RESULTS;
+            else it.second_len = any_keys(buffer[1], buffer[0], it.first_len, it.number);
+            count = it.second_len / width_of(it.number);
+            it.out_len = one_in(8) ? below(count + 1) : count + below(3);
         } else if (function == MAP_CHECK) {
             it.size = one_in(12) ? below(10) : (size_t)1 << below(4);
             it.second_len = it.first_len / width_of(it.number) * it.size;
@@ -333,8 +359,8 @@ static void show(const struct call *it, const struct answer *a, const struct ans
     show_bytes("first", it->first, it->first_len);
     show_bytes("second", it->second, it->second_len);
     printf("    capacity %zu, size %zu, choice %lu, room %zu\n", it->number, it->size, (unsigned long)it->choice, it->out_len);
-    printf("    code %lu and %lu, numbers %zu %zu and %zu %zu\n", (unsigned long)a->code, (unsigned long)b->code, a->first, a->second,
-           b->first, b->second);
+    printf("    code %lu and %lu", (unsigned long)a->code, (unsigned long)b->code);
+    printf(", numbers %zu %zu and %zu %zu\n", a->first, a->second, b->first, b->second);
 }
 
 /* ---- the libraries */
