@@ -6,14 +6,13 @@ from eraser import Stopped
 from eraser.contracts import Contracts
 from eraser.ghosts import without_ghosts
 from eraser.package import read, sources, tidy
-from eraser.rules import stop_at_what_is_left
+from eraser.rules import Rule, Rules, stop_at_what_is_left
 from eraser.text import unmatched_bracket
 
 CRATE = "tinystr_c"
 # The file of the exports, whose functions are public.
 EXPORTS = f"{CRATE}/lib.rt"
-# The crates as modules of the one that the package depends on. No caller reaches those of the words' crate, but the type has
-# the names that are used here.
+OF_CRATES = "the crates are modules of the package that this one depends on, which has the words' names at its root"
 MODULES = {
     "tinystr_words": "proved",
     "tinystr": "proved",
@@ -21,8 +20,8 @@ MODULES = {
     "tinystr_packed": "proved::packed",
     "tinystr_hashed": "proved::hashed",
 }
-# `ParseError` may get more faults in another package's eyes, so its last one is matched by `_`.
-LAST_FAULT = "ParseError::NonAscii =>"
+OPEN = "another package has to expect more faults of `ParseError`, so `_` matches its last one"
+IN_FILE = {f"{CRATE}/answer.rt": [Rule("ParseError::NonAscii =>", "_ =>", OPEN, 2)]}
 EXPORT = re.compile(r'pub extern "C" fn (\w+)\(([^()]*)\) -> (\w+)([^{]*)\{\n')
 # A slice in C: its pointer, and the function of `slices.rs` that makes the slice of that and a length.
 SLICES = {
@@ -45,6 +44,7 @@ class CLibrary:
     def __init__(self, top, by_hand):
         self.top = top
         self.by_hand = by_hand
+        self.rules = Rules(IN_FILE, [Rule(rf"(?<![\w:]){crate}::", f"{module}::", OF_CRATES) for crate, module in MODULES.items()])
 
     def files(self):
         """All files: those that are made, those by hand, and the copies of what is elsewhere in the repository."""
@@ -52,6 +52,7 @@ class CLibrary:
         for file, path in sources(self.top / "crates" / CRATE):
             inner = file.removeprefix(f"{CRATE}/").removesuffix(".rt")
             made[f"src/{inner}.rs"] = self.rust_of(read(path), file)
+        self.rules.finish()
         made["src/lib.rs"] = read(self.by_hand / FRONT) + made["src/lib.rs"].partition("\n\n")[2]
         for path in sorted(it for it in self.by_hand.rglob("*") if it.is_file()):
             inner = path.relative_to(self.by_hand)
@@ -68,11 +69,9 @@ class CLibrary:
         if line := unmatched_bracket(text):
             raise Stopped(f"{file}:{line}: a bracket has no partner")
         text = Contracts().place(without_ghosts(text), file, file != EXPORTS)
-        for crate, module in MODULES.items():
-            text = re.sub(rf"(?<![\w:]){crate}::", f"{module}::", text)
+        text = self.rules.apply(text, file)
         if file == EXPORTS:
             text = with_exports(text)
-        text = text.replace(LAST_FAULT, "_ =>")
         stop_at_what_is_left(text, file)
         return tidy(text)
 
