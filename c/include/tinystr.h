@@ -3,11 +3,14 @@
  * Each function has a contract, in crates/tinystr_c of the repository, and is proved to keep it on all bytes and numbers. No
  * function allocates, keeps anything between calls, calls back, or fails but by the code that it returns.
  *
+ * Pointers
+ *   A `void *` and the number after it are bytes: a `char *` serves, and a `uint8_t *`. Where the number is 0, the
+ *   pointer may be NULL, as that of an empty std::string_view or std::vector: these are no bytes, or no results.
+ *
  * What the caller owes, and no call tests
- *   - A pointer and the number of bytes after it name bytes of one object, which may be read; those of `out`, and of
- *     the `text` of tinystr_change_case, may be written too. The number is at most SSIZE_MAX. A pointer to results and
- *     the number after it name this number of results, in at most SSIZE_MAX bytes.
- *   - A pointer isn't NULL, not even where the number is 0.
+ *   - A pointer and the number of bytes after it, which isn't 0, name bytes of one object, which may be read; those of
+ *     `out`, and of the `text` of tinystr_change_case, may be written too. The number is at most SSIZE_MAX. A pointer to
+ *     results and the number after it name this number of results, in at most SSIZE_MAX bytes.
  *   - No byte that a call may write is a byte that another argument names: `out` overlaps no input.
  *   - While the call runs, no other thread writes these bytes, or reads those that the call may write. Then any calls may
  *     run at once, in signal handlers too.
@@ -15,8 +18,13 @@
  * there is none, which may be wrong.
  *
  * Order of checks
- *   Each function below lists OK first, and NOT_FOUND if it may return it: it returns one of these if no check fails.
- *   Then it lists the codes of its checks, in their order, and returns that of the first check that fails.
+ *   One order serves all functions, and a function returns the code of the first check that fails:
+ *     1. the numbers that choose, in the order of the parameters: BAD_ARGUMENT. These are a capacity (that of tinystr_read
+ *        is `out_len`), a size of values, a question and a case.
+ *     2. the bytes, in the order of the parameters. Of each, their number is checked first, then the bytes, then the order
+ *        or the places of the texts. Unchecked bytes, as those in which a text is searched, pass.
+ *     3. the room: NO_ROOM.
+ *   Each function below lists OK first, and NOT_FOUND if it may return it, and then the codes of its checks in this order.
  *   NUL and NON_ASCII are one check. It finds the first byte that is above 127, or is a character after a NUL. The code
  *   is NON_ASCII if this byte is above 127, and NUL otherwise. If there is no such byte, but a NUL at the end, the bytes
  *   are a padded text, and the code is NUL if the function accepts only a text.
@@ -110,7 +118,7 @@ uint32_t tinystr_version(void);
  *   INVALID_SUBTAG
  *   NO_ROOM            value: the length of the text, which is above `out_len`.
  * With any code but OK, `out` is as it was. */
-tinystr_result tinystr_langid(const uint8_t *input, size_t input_len, uint8_t *out, size_t out_len);
+tinystr_result tinystr_langid(const void *input, size_t input_len, void *out, size_t out_len);
 
 /* Reads a text of at most `out_len` bytes, and writes it padded. `out_len` is the capacity, of at most 16.
  *   OK                 value: the length of the text.
@@ -118,22 +126,22 @@ tinystr_result tinystr_langid(const uint8_t *input, size_t input_len, uint8_t *o
  *   TOO_LONG
  *   NUL, NON_ASCII
  * With any code but OK, `out` is as it was. */
-tinystr_result tinystr_read(const uint8_t *input, size_t input_len, uint8_t *out, size_t out_len);
+tinystr_result tinystr_read(const void *input, size_t input_len, void *out, size_t out_len);
 
 /* Asks a text of at most 16 bytes, padded or not, a question.
  *   OK                 value: 1 for yes, 0 for no.
+ *   BAD_ARGUMENT       value: the question, which is no number of tinystr_question.
  *   BAD_ARGUMENT       value: `text_len`, which is above 16.
- *   NUL, NON_ASCII     The bytes aren't a padded text.
- *   BAD_ARGUMENT       value: the question, which is no number of tinystr_question. */
-tinystr_result tinystr_ask(const uint8_t *text, size_t text_len, uint32_t question);
+ *   NUL, NON_ASCII     The bytes aren't a padded text. */
+tinystr_result tinystr_ask(const void *text, size_t text_len, uint32_t question);
 
 /* Changes the case of a text of at most 16 bytes, padded or not, in place.
  *   OK                 value: the length of the text.
+ *   BAD_ARGUMENT       value: the case, which is no number of tinystr_case.
  *   BAD_ARGUMENT       value: `text_len`, which is above 16.
  *   NUL, NON_ASCII     The bytes aren't a padded text.
- *   BAD_ARGUMENT       value: the case, which is no number of tinystr_case.
  * With any code but OK, the bytes are as they were. */
-tinystr_result tinystr_change_case(uint8_t *text, size_t text_len, uint32_t letter_case);
+tinystr_result tinystr_change_case(void *text, size_t text_len, uint32_t letter_case);
 
 /* ---- Records. A capacity is 2, 3, 4, 8 or 16. Each function below checks this first. At any other capacity the code is
  * BAD_ARGUMENT, and the value of a tinystr_result is the capacity. */
@@ -142,11 +150,11 @@ tinystr_result tinystr_change_case(uint8_t *text, size_t text_len, uint32_t lett
  *   OK                 value: how many.
  *   BAD_LENGTH         value: `bytes_len`.
  *   NUL, NON_ASCII     value: the index of the first record that isn't a padded text. */
-tinystr_result tinystr_table_check(const uint8_t *bytes, size_t bytes_len, size_t capacity);
+tinystr_result tinystr_table_check(const void *bytes, size_t bytes_len, size_t capacity);
 
 /* Whether the bytes are records, and strictly ascending. The codes are those of tinystr_table_check, and after them
  *   NOT_RISING         value: the index of the first record that isn't above the one before it. */
-tinystr_result tinystr_sorted_check(const uint8_t *bytes, size_t bytes_len, size_t capacity);
+tinystr_result tinystr_sorted_check(const void *bytes, size_t bytes_len, size_t capacity);
 
 /* Searches a text, without NULs after it, in strictly ascending records. The records aren't checked again: of any other
  * bytes it returns OK with the index of some record, or NOT_FOUND with an index from 0 to the number of records.
@@ -154,8 +162,8 @@ tinystr_result tinystr_sorted_check(const uint8_t *bytes, size_t bytes_len, size
  *   NOT_FOUND          value: the index at which it is to be inserted.
  *   TOO_LONG           The key has more than `capacity` bytes.
  *   NUL, NON_ASCII     The key isn't a text. */
-tinystr_result tinystr_sorted_search(const uint8_t *bytes, size_t bytes_len, size_t capacity,
-                                     const uint8_t *key, size_t key_len);
+tinystr_result tinystr_sorted_search(const void *bytes, size_t bytes_len, size_t capacity,
+                                     const void *key, size_t key_len);
 
 /* Searches each of some keys in strictly ascending records. The keys are records of the same capacity, in any order,
  * and are checked. The records aren't checked again. For many keys among many records this takes less time than a
@@ -168,8 +176,8 @@ tinystr_result tinystr_sorted_search(const uint8_t *bytes, size_t bytes_len, siz
  *   NUL, NON_ASCII     value: the index of the first key that isn't a padded text.
  *   NO_ROOM            value: how many keys, which is above `out_len`.
  * With any code but OK, `out` is as it was; with OK, so are the results after those of the keys. */
-tinystr_result tinystr_sorted_search_each(const uint8_t *bytes, size_t bytes_len, size_t capacity,
-                                          const uint8_t *keys, size_t keys_len,
+tinystr_result tinystr_sorted_search_each(const void *bytes, size_t bytes_len, size_t capacity,
+                                          const void *keys, size_t keys_len,
                                           tinystr_result *out, size_t out_len);
 
 /* Finds the texts that begin with a text, in strictly ascending records. The records aren't checked again: of any other
@@ -178,8 +186,8 @@ tinystr_result tinystr_sorted_search_each(const uint8_t *bytes, size_t bytes_len
  *   TOO_LONG           The beginning has more than `capacity` bytes.
  *   NUL, NON_ASCII     The beginning isn't a text.
  * With any code but OK, start and count are 0. */
-tinystr_range tinystr_sorted_prefix(const uint8_t *bytes, size_t bytes_len, size_t capacity,
-                                    const uint8_t *beginning, size_t beginning_len);
+tinystr_range tinystr_sorted_prefix(const void *bytes, size_t bytes_len, size_t capacity,
+                                    const void *beginning, size_t beginning_len);
 
 /* Whether the keys are strictly ascending records, and the values are `value_size` bytes for each of them: 1, 2, 4 or
  * 8. The value of the key at an index, which tinystr_sorted_search finds, is at `values + index * value_size`.
@@ -187,8 +195,8 @@ tinystr_range tinystr_sorted_prefix(const uint8_t *bytes, size_t bytes_len, size
  *   BAD_ARGUMENT       value: `value_size`, which is none of these sizes.
  *   BAD_LENGTH, NUL, NON_ASCII, NOT_RISING   Of the keys, as tinystr_sorted_check returns.
  *   BAD_VALUES         value: `values_len`. */
-tinystr_result tinystr_map_check(const uint8_t *keys, size_t keys_len, size_t capacity,
-                                 const uint8_t *values, size_t values_len, size_t value_size);
+tinystr_result tinystr_map_check(const void *keys, size_t keys_len, size_t capacity,
+                                 const void *values, size_t values_len, size_t value_size);
 
 /* ---- Hashed tables: records in the order of a hash, so that a text is compared with one record. The bytes are a version
  * of 4 bytes, which is 1; the number of displacements, of 4; a seed, of 8; the displacements, of 4 each; and the records.
@@ -204,7 +212,7 @@ tinystr_result tinystr_map_check(const uint8_t *keys, size_t keys_len, size_t ca
  *   BAD_LENGTH         value: the number of bytes after the displacements.
  *   NUL, NON_ASCII     value: the index of the first record that isn't a padded text.
  *   MISPLACED          value: the index of the first text that isn't at its place. */
-tinystr_result tinystr_hashed_check(const uint8_t *bytes, size_t bytes_len, size_t capacity);
+tinystr_result tinystr_hashed_check(const void *bytes, size_t bytes_len, size_t capacity);
 
 /* Searches a text, without NULs after it, in a hashed table. The bytes aren't checked again: for any others it returns OK
  * with the index of some record, or NOT_FOUND.
@@ -212,8 +220,8 @@ tinystr_result tinystr_hashed_check(const uint8_t *bytes, size_t bytes_len, size
  *   NOT_FOUND          value: 0.
  *   TOO_LONG           The key has more than `capacity` bytes.
  *   NUL, NON_ASCII     The key isn't a text. */
-tinystr_result tinystr_hashed_search(const uint8_t *bytes, size_t bytes_len, size_t capacity,
-                                     const uint8_t *key, size_t key_len);
+tinystr_result tinystr_hashed_search(const void *bytes, size_t bytes_len, size_t capacity,
+                                     const void *key, size_t key_len);
 
 #ifdef __cplusplus
 }

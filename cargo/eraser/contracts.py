@@ -8,7 +8,7 @@ from eraser.requires import STANDS_FOR, Panics, Unsafe
 from lib.rattle import line_of
 
 CLAUSES = re.compile(f"(?:{EDGE}[^{EDGE}]*{EDGE})+")
-HEAD = re.compile(r"^( *)(pub(?:\(crate\))? )?(?:const )?fn \w+", re.M)
+HEAD = re.compile(r"^( *)(pub(?:\(crate\))? )?(?:const )?(?:extern \"C\" )?fn \w+", re.M)
 CLOSURE = re.compile(r"\|[^|\n]*\|(?: -> [\w&\[\]<>]+)?\Z")
 ABOVE = re.compile(r"(?:^ *(?://|#\[)[^\n]*\n)*\Z", re.M)
 

@@ -323,25 +323,27 @@ LEFT = re.compile(
 class Rules:
     """Applies the rules, and tells which fitted."""
 
-    def __init__(self) -> None:
+    def __init__(self, in_file: dict[str, list[Rule]] | None = None, everywhere: list[Rule] | None = None) -> None:
+        self.in_file = IN_FILE if in_file is None else in_file
+        self.everywhere = EVERYWHERE if everywhere is None else everywhere
         self.used = set()
 
     def apply(self, text: str, file: str) -> str:
         """The text of a file by its own rules, and then by those of all files."""
-        for rule in IN_FILE.get(file, []):
+        for rule in self.in_file.get(file, []):
             count = text.count(rule.old)
             if count != rule.times:
                 raise Stopped(f"{file}: a rule's text stands {count} times, and not {rule.times}: {rule.old!r}")
             text = text.replace(rule.old, rule.new)
         self.used.add(file)
-        for rule in EVERYWHERE:
+        for rule in self.everywhere:
             text, count = re.subn(rule.old, rule.new, text, flags=re.M)
             if count:
                 self.used.add(rule.old)
         return text
 
     def finish(self) -> None:
-        for name in [*IN_FILE, *(rule.old for rule in EVERYWHERE)]:
+        for name in [*self.in_file, *(rule.old for rule in self.everywhere)]:
             if name not in self.used:
                 raise Stopped(f"a rule fits nothing: {name}")
 

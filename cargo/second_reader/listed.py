@@ -3,7 +3,7 @@
 An entry of the text is a line 'once: OLD', 'N times: OLD' or 'wherever: OLD' (once or more), or 'N times in FILE: OLD' and
 so on, and below it '    becomes NEW' or '    goes'. What is new alone is 'once added in FILE: NEW', with no line below. `…`
 in OLD is any text without `;` or a brace of its own, and is in NEW in the same order. Where OLD or NEW has more lines, each
-begins with eight spaces. One line names the function that makes each text.
+begins with eight spaces. One line of the list of tinystr-proved names the function that makes each text.
 """
 
 import re
@@ -55,6 +55,7 @@ class Maker:
 
 @dataclass
 class Listed:
+    name: str
     left_out: list = field(default_factory=list)
     by_hand: list = field(default_factory=list)
     entries: list = field(default_factory=list)
@@ -79,7 +80,7 @@ def paragraphs(path: Path) -> list[list]:
 
 
 def read_list(path: Path) -> Listed:
-    listed, open_entry, open_requires = Listed(), None, None
+    listed, open_entry, open_requires = Listed(path.name), None, None
     for number, line in paragraphs(path):
         if entry := re.fullmatch(ENTRY.pattern, line, re.S):
             count = None if line.startswith("wherever") else int(entry["count"] or 1)
@@ -112,6 +113,4 @@ def read_list(path: Path) -> Listed:
             open_requires = None
         elif open_entry or open_requires:
             raise Unreadable(f"{path.name}:{number}: what becomes of the line above isn't said")
-    if listed.maker is None:
-        raise Unreadable(f"{path.name}: it doesn't say which function makes texts")
     return listed

@@ -12,13 +12,6 @@ namespace {
 
 constexpr std::size_t capacity = 3;
 
-// A view of no bytes may hold a null pointer, which the library doesn't take.
-const std::uint8_t *bytes(std::string_view s) {
-    return reinterpret_cast<const std::uint8_t *>(s.empty() ? "" : s.data());
-}
-
-std::uint8_t *bytes(std::string &s) { return reinterpret_cast<std::uint8_t *>(s.data()); }
-
 std::string read_file(const char *path) {
     std::ifstream file(path, std::ios::binary);
     return {std::istreambuf_iterator<char>(file), {}};
@@ -28,29 +21,29 @@ std::string until_nul(const std::string &s) { return s.substr(0, s.find('\0')); 
 
 tinystr_result about(std::string_view word, std::string_view table, std::string_view hashed) {
     std::string text(TINYSTR_LANGID_ROOM, '\0'), code(capacity, '\0');
-    tinystr_result r = tinystr_langid(bytes(word), word.size(), bytes(text), text.size());
+    tinystr_result r = tinystr_langid(word.data(), word.size(), text.data(), text.size());
     std::cout << word << ": langid " << r.code << ' ' << r.value << " [" << until_nul(text) << ']';
-    r = tinystr_read(bytes(word), word.size(), bytes(code), code.size());
-    if (r.code == TINYSTR_OK) r = tinystr_change_case(bytes(code), code.size(), TINYSTR_UPPER);
+    r = tinystr_read(word.data(), word.size(), code.data(), code.size());
+    if (r.code == TINYSTR_OK) r = tinystr_change_case(code.data(), code.size(), TINYSTR_UPPER);
     std::cout << ", upper " << r.code << ' ' << r.value << " [" << until_nul(code) << ']';
-    const bool is_alphabetic = r.code == TINYSTR_OK && tinystr_ask(bytes(code), code.size(), TINYSTR_ALPHABETIC).value;
-    r = tinystr_sorted_search(bytes(table), table.size(), capacity, bytes(word), word.size());
-    const tinystr_range found = tinystr_sorted_prefix(bytes(table), table.size(), capacity, bytes(word), word.size());
-    const tinystr_result place = tinystr_hashed_search(bytes(hashed), hashed.size(), capacity, bytes(word), word.size());
+    const bool is_alphabetic = r.code == TINYSTR_OK && tinystr_ask(code.data(), code.size(), TINYSTR_ALPHABETIC).value;
+    r = tinystr_sorted_search(table.data(), table.size(), capacity, word.data(), word.size());
+    const tinystr_range found = tinystr_sorted_prefix(table.data(), table.size(), capacity, word.data(), word.size());
+    const tinystr_result place = tinystr_hashed_search(hashed.data(), hashed.size(), capacity, word.data(), word.size());
     std::cout << ", alphabetic " << is_alphabetic << ", search " << r.code << ' ' << r.value << ", prefix " << found.code << ' '
               << found.start << ' ' << found.count << ", hashed " << place.code << ' ' << place.value << '\n';
     return r;
 }
 
 void check(const char *name, std::string_view hashed) {
-    const tinystr_result r = tinystr_hashed_check(bytes(hashed), hashed.size(), capacity);
+    const tinystr_result r = tinystr_hashed_check(hashed.data(), hashed.size(), capacity);
     std::cout << name << ' ' << r.code << ' ' << r.value << '\n';
 }
 
 // Searches all keys by one call. Of each it answers as one for it alone.
 bool all_at_once(std::string_view keys, const std::vector<tinystr_result> &alone, std::string_view table) {
     std::vector<tinystr_result> out(alone.size() + 1);
-    const tinystr_result r = tinystr_sorted_search_each(bytes(table), table.size(), capacity, bytes(keys), keys.size(), out.data(), out.size());
+    const tinystr_result r = tinystr_sorted_search_each(table.data(), table.size(), capacity, keys.data(), keys.size(), out.data(), out.size());
     std::size_t found = 0;
     for (std::size_t k = 0; k < alone.size(); k++) {
         if (out[k].code != alone[k].code || out[k].value != alone[k].value) return false;
@@ -65,7 +58,7 @@ bool all_at_once(std::string_view keys, const std::vector<tinystr_result> &alone
 int main(int argc, char **argv) {
     if (argc < 4) return 2;
     const std::string table = read_file(argv[2]), hashed = read_file(argv[3]);
-    const tinystr_result r = tinystr_sorted_check(bytes(std::string_view(table)), table.size(), capacity);
+    const tinystr_result r = tinystr_sorted_check(table.data(), table.size(), capacity);
     if (r.code != TINYSTR_OK) return 1;
     std::cout << "records " << r.value << '\n';
     check("hashed", hashed);

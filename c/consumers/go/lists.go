@@ -18,14 +18,12 @@ import (
 
 const capacity = 3
 
-// An empty slice may have no pointer, which the library doesn't take.
-var none [1]byte
-
-func pointer(b []byte) *C.uint8_t {
+// An empty slice has no first byte: nil serves for it.
+func pointer(b []byte) unsafe.Pointer {
 	if len(b) == 0 {
-		b = none[:]
+		return nil
 	}
-	return (*C.uint8_t)(unsafe.Pointer(&b[0]))
+	return unsafe.Pointer(&b[0])
 }
 
 func size(b []byte) C.size_t { return C.size_t(len(b)) }

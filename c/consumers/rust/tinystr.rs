@@ -32,7 +32,7 @@ unsafe extern "C" {
     fn tinystr_hashed_search(bytes: *const u8, bytes_len: usize, capacity: usize, key: *const u8, key_len: usize) -> TinystrResult;
 }
 
-// SAFETY of each block: a slice names bytes or results that may be read, or written and named by nothing else, and isn't null.
+// SAFETY of each block: a slice names bytes or results that may be read, or written and named by nothing else.
 
 pub fn langid(input: &[u8], out: &mut [u8]) -> TinystrResult {
     unsafe { tinystr_langid(input.as_ptr(), input.len(), out.as_mut_ptr(), out.len()) }

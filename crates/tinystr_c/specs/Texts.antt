@@ -58,7 +58,7 @@ question_of k =
 abbrev pub case_of : ℕ → Option Case
 case_of k = if k == 0 then Some Lower else (if k == 1 then Some Title else (if k == 2 then Some Upper else None))
 
--- the text, or the answer where there is none, whatever the question or the case is
+-- the text, or the answer where there is none
 abbrev pub padded_read : List ℕ → Result (List ℕ) TinystrResult
 padded_read bytes =
     if nat_lt 16 (length bytes)
@@ -68,26 +68,28 @@ padded_read bytes =
 abbrev pub yes_or_no : Bool → TinystrResult
 yes_or_no b = if b then answer OK 1 else answer OK 0
 
-abbrev pub asked : Result (List ℕ) TinystrResult → Option Question → ℕ → TinystrResult
-asked (Err r) q k = r
-asked (Ok t) None k = answer BAD_ARGUMENT k
-asked (Ok t) (Some q) k = yes_or_no (ask_question q t)
+-- the question is checked before the text
+abbrev pub asked : Option Question → Result (List ℕ) TinystrResult → ℕ → TinystrResult
+asked None r k = answer BAD_ARGUMENT k
+asked (Some q) (Err r) k = r
+asked (Some q) (Ok t) k = yes_or_no (ask_question q t)
 
 abbrev pub ask_answer : List ℕ → ℕ → TinystrResult
-ask_answer bytes k = asked (padded_read bytes) (question_of k) k
+ask_answer bytes k = asked (question_of k) (padded_read bytes) k
 
-abbrev pub changed : Result (List ℕ) TinystrResult → Option Case → ℕ → TinystrResult
-changed (Err r) c k = r
-changed (Ok t) None k = answer BAD_ARGUMENT k
-changed (Ok t) (Some c) k = answer OK (length t)
+-- the case is checked before the text
+abbrev pub changed : Option Case → Result (List ℕ) TinystrResult → ℕ → TinystrResult
+changed None r k = answer BAD_ARGUMENT k
+changed (Some c) (Err r) k = r
+changed (Some c) (Ok t) k = answer OK (length t)
 
 abbrev pub case_answer : List ℕ → ℕ → TinystrResult
-case_answer bytes k = changed (padded_read bytes) (case_of k) k
+case_answer bytes k = changed (case_of k) (padded_read bytes) k
 
-abbrev pub changed_bytes : Result (List ℕ) TinystrResult → Option Case → List ℕ → List ℕ
-changed_bytes (Err r) c old = old
-changed_bytes (Ok t) None old = old
-changed_bytes (Ok t) (Some c) old = pad (in_case c t) (length old)
+abbrev pub changed_bytes : Option Case → Result (List ℕ) TinystrResult → List ℕ → List ℕ
+changed_bytes None r old = old
+changed_bytes (Some c) (Err r) old = old
+changed_bytes (Some c) (Ok t) old = pad (in_case c t) (length old)
 
 abbrev pub case_bytes : List ℕ → ℕ → List ℕ
-case_bytes old k = changed_bytes (padded_read old) (case_of k) old
+case_bytes old k = changed_bytes (case_of k) (padded_read old) old

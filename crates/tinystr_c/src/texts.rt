@@ -61,12 +61,12 @@ pub fn read(input: &[u8], out: &mut [u8]) -> TinystrResult
 pub fn ask(text: &[u8], question: u32) -> TinystrResult
     ensures { result ≡ ask_answer text.now question }
 {
-    match read_padded(text) {
-        Ok(read) => match question_of(question) {
-            Some(asked) => yes_or_no(read.ask(asked)),
-            None => answer(BAD_ARGUMENT, question as usize),
+    match question_of(question) {
+        Some(asked) => match read_padded(text) {
+            Ok(read) => yes_or_no(read.ask(asked)),
+            Err(refused) => refused,
         },
-        Err(refused) => refused,
+        None => answer(BAD_ARGUMENT, question as usize),
     }
 }
 
@@ -76,15 +76,15 @@ pub fn change_case(text: &mut [u8], case: u32) -> TinystrResult
     ensures answer { result ≡ case_answer text.old case }
     ensures bytes { text.new ≡ case_bytes text.old case }
 {
-    match read_padded(text) {
-        Ok(read) => match case_of(case) {
-            Some(wanted) => {
+    match case_of(case) {
+        Some(wanted) => match read_padded(text) {
+            Ok(read) => {
                 put(&read.in_case(wanted), text);
                 answer(OK, read.len())
             }
-            None => answer(BAD_ARGUMENT, case as usize),
+            Err(refused) => refused,
         },
-        Err(refused) => refused,
+        None => answer(BAD_ARGUMENT, case as usize),
     }
 }
 

@@ -1,0 +1,112 @@
+"""The package of the C library: what its sources go through, and how its exports take slices as C passes them."""
+
+import re
+
+from eraser import Stopped
+from eraser.contracts import Contracts
+from eraser.ghosts import without_ghosts
+from eraser.package import read, sources, tidy
+from eraser.rules import Rule, Rules, stop_at_what_is_left
+from lib.rattle import unmatched_bracket
+
+CRATE = "tinystr_c"
+# The file of the exports, whose functions are public.
+EXPORTS = f"{CRATE}/lib.rt"
+OF_CRATES = "the crates are modules of the package that this one depends on, which has the words' names at its root"
+MODULES = {
+    "tinystr_words": "proved",
+    "tinystr": "proved",
+    "subtags": "proved::subtags",
+    "tinystr_packed": "proved::packed",
+    "tinystr_hashed": "proved::hashed",
+}
+OPEN = "another package has to expect more faults of `ParseError`, so `_` matches its last one"
+IN_FILE = {f"{CRATE}/answer.rt": [Rule("ParseError::NonAscii =>", "_ =>", OPEN, 2)]}
+EXPORT = re.compile(r'pub extern "C" fn (\w+)\(([^()]*)\) -> (\w+)([^{]*)\{\n')
+# A slice in C: its pointer, and the function of `slices.rs` that makes the slice of that and a length.
+SLICES = {
+    "&[u8]": ("*const u8", "slice"),
+    "&mut [u8]": ("*mut u8", "slice_mut"),
+    "&mut [TinystrResult]": ("*mut TinystrResult", "slice_mut"),
+}
+SAFETY = """///
+/// # Safety
+///
+/// The caller has to keep what `tinystr.h` says that it owes.
+"""
+# The crate's first lines, by hand, which take the place of those of its source.
+FRONT = "lib.rs"
+
+
+class CLibrary:
+    """The files of the package, by their paths in it."""
+
+    def __init__(self, top, by_hand):
+        self.top = top
+        self.by_hand = by_hand
+        self.rules = Rules(
+            IN_FILE, [Rule(rf"(?<![\w:]){crate}::", f"{module}::", OF_CRATES) for crate, module in MODULES.items()]
+        )
+
+    def files(self):
+        """All files: those that are made, those by hand, and the copies of what is elsewhere in the repository."""
+        made = {}
+        for file, path in sources(self.top / "crates" / CRATE):
+            inner = file.removeprefix(f"{CRATE}/").removesuffix(".rt")
+            made[f"src/{inner}.rs"] = self.rust_of(read(path), file)
+        self.rules.finish()
+        made["src/lib.rs"] = read(self.by_hand / FRONT) + made["src/lib.rs"].partition("\n\n")[2]
+        for path in sorted(it for it in self.by_hand.rglob("*") if it.is_file()):
+            inner = path.relative_to(self.by_hand)
+            if inner.parts[0] == "package":
+                made[str(inner.relative_to("package"))] = read(path)
+            elif str(inner) != FRONT:
+                made[f"src/{inner}"] = read(path)
+        made["LICENSE"] = read(self.top / "LICENSE")
+        made["include/tinystr.h"] = read(self.top / "c/include/tinystr.h")
+        return made
+
+    def rust_of(self, text, file):
+        """A source as Rust."""
+        if line := unmatched_bracket(text):
+            raise Stopped(f"{file}:{line}: a bracket has no partner")
+        text = Contracts().place(without_ghosts(text), file, file != EXPORTS)
+        text = self.rules.apply(text, file)
+        if file == EXPORTS:
+            text = with_exports(text)
+        stop_at_what_is_left(text, file)
+        return tidy(text)
+
+
+def with_exports(text):
+    """Each export with a pointer and a length for each slice, of which its body begins by making the slice."""
+    text, count = EXPORT.subn(export, text)
+    if count == 0 or text.count("no_mangle") != count:
+        raise Stopped(f"{EXPORTS}: {text.count('no_mangle')} exports, and {count} of a form that is known")
+    return text.replace("#[unsafe(no_mangle)]\npub unsafe", SAFETY + "#[unsafe(no_mangle)]\npub unsafe")
+
+
+def export(found):
+    name, parameters, result, between = found.groups()
+    if between.strip():
+        raise Stopped(f"{EXPORTS}: {name}: {between.strip()} before the body")
+    pairs = [it.strip().split(": ") for it in parameters.split(",") if it.strip()]
+    slices = [(it, SLICES[kind][1]) for it, kind in pairs if kind in SLICES]
+    taken = [part for it, kind in pairs for part in taken_as(name, it, kind)]
+    if not slices:
+        return f'pub extern "C" fn {name}({", ".join(taken)}) -> {result} {{\n'
+    made = "".join(
+        "    // SAFETY: the caller keeps what `tinystr.h` says that it owes.\n"
+        f"    let {it} = unsafe {{ slices::{function}({it}, {it}_len) }};\n"
+        for it, function in slices
+    )
+    lines = "".join(f"    {it},\n" for it in taken)
+    return f'pub unsafe extern "C" fn {name}(\n{lines}) -> {result} {{\n{made}'
+
+
+def taken_as(name, parameter, kind):
+    if kind in SLICES:
+        return [f"{parameter}: {SLICES[kind][0]}", f"{parameter}_len: usize"]
+    if kind not in ("u32", "usize"):
+        raise Stopped(f"{EXPORTS}: {name}: no form in C for `{kind}`")
+    return [f"{parameter}: {kind}"]

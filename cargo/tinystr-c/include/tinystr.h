@@ -1,0 +1,230 @@
+/* tinystr.h: short ASCII codes, language identifiers, and packed tables and maps of codes.
+ *
+ * Each function has a contract, in crates/tinystr_c of the repository, and is proved to keep it on all bytes and numbers. No
+ * function allocates, keeps anything between calls, calls back, or fails but by the code that it returns.
+ *
+ * Pointers
+ *   A `void *` and the number after it are bytes: a `char *` serves, and a `uint8_t *`. Where the number is 0, the
+ *   pointer may be NULL, as that of an empty std::string_view or std::vector: these are no bytes, or no results.
+ *
+ * What the caller owes, and no call tests
+ *   - A pointer and the number of bytes after it, which isn't 0, name bytes of one object, which may be read; those of
+ *     `out`, and of the `text` of tinystr_change_case, may be written too. The number is at most SSIZE_MAX. A pointer to
+ *     results and the number after it name this number of results, in at most SSIZE_MAX bytes.
+ *   - No byte that a call may write is a byte that another argument names: `out` overlaps no input.
+ *   - While the call runs, no other thread writes these bytes, or reads those that the call may write. Then any calls may
+ *     run at once, in signal handlers too.
+ * A table that was never checked, or was changed since, breaks nothing: a search returns a place inside it, or that
+ * there is none, which may be wrong.
+ *
+ * Order of checks
+ *   One order serves all functions, and a function returns the code of the first check that fails:
+ *     1. the numbers that choose, in the order of the parameters: BAD_ARGUMENT. These are a capacity (that of tinystr_read
+ *        is `out_len`), a size of values, a question and a case.
+ *     2. the bytes, in the order of the parameters. Of each, their number is checked first, then the bytes, then the order
+ *        or the places of the texts. Unchecked bytes, as those in which a text is searched, pass.
+ *     3. the room: NO_ROOM.
+ *   Each function below lists OK first, and NOT_FOUND if it may return it, and then the codes of its checks in this order.
+ *   NUL and NON_ASCII are one check. It finds the first byte that is above 127, or is a character after a NUL. The code
+ *   is NON_ASCII if this byte is above 127, and NUL otherwise. If there is no such byte, but a NUL at the end, the bytes
+ *   are a padded text, and the code is NUL if the function accepts only a text.
+ *
+ * Words
+ *   text          bytes from 1 to 127, none or more
+ *   padded text   a text, and then NULs up to a capacity: `char code[4]` holds "EUR\0", "GB\0\0" and "euro"
+ *   records       padded texts of one capacity, one after another, with nothing between: "EURGB\0JPY" at capacity 3
+ *   strictly ascending   each text of the records is above the one before it, in the order of memcmp
+ *
+ * SPDX-License-Identifier: Unicode-3.0
+ */
+#ifndef TINYSTR_H
+#define TINYSTR_H
+
+#include <stddef.h>
+#include <stdint.h>
+
+#ifdef __cplusplus
+extern "C" {
+#endif
+
+/* Of this header: 10,000 times the first number, 100 times the second, and the third. 200 is 0.2.0. */
+#define TINYSTR_VERSION 200
+
+/* The codes. A later version keeps their numbers, as it keeps those of the questions and cases. */
+enum tinystr_code {
+    TINYSTR_OK = 0,
+    TINYSTR_TOO_LONG = 1,           /* more bytes than the capacity */
+    TINYSTR_NUL = 2,                /* a NUL in a text, or in front of a character in a padded text */
+    TINYSTR_NON_ASCII = 3,          /* a byte above 127 */
+    TINYSTR_INVALID_LANGUAGE = 4,   /* the first subtag isn't a language */
+    TINYSTR_INVALID_SUBTAG = 5,     /* the first subtag is one, and a later one isn't accepted */
+    TINYSTR_NO_ROOM = 6,            /* `out` is too short */
+    TINYSTR_BAD_ARGUMENT = 7,       /* there is no such capacity, size, question or case */
+    TINYSTR_BAD_LENGTH = 8,         /* the capacity doesn't divide the number of bytes */
+    TINYSTR_NOT_RISING = 9,         /* a text isn't above the one before it */
+    TINYSTR_BAD_VALUES = 10,        /* the values aren't one for each key */
+    TINYSTR_NOT_FOUND = 11,         /* the text is none of the records' */
+    TINYSTR_BAD_HEADER = 12,        /* fewer bytes than the header of a hashed table has */
+    TINYSTR_BAD_VERSION = 13,       /* the version of a hashed table isn't 1 */
+    TINYSTR_BAD_DISPLACEMENTS = 14, /* fewer bytes than the displacements of a hashed table have */
+    TINYSTR_MISPLACED = 15          /* a text of a hashed table isn't at its place */
+};
+
+/* The questions of tinystr_ask. Each is true of the empty text. */
+enum tinystr_question {
+    TINYSTR_ALPHABETIC = 0,           /* each byte is a letter */
+    TINYSTR_ALPHANUMERIC = 1,         /* a letter or a digit */
+    TINYSTR_NUMERIC = 2,              /* a digit */
+    TINYSTR_LOWERCASE = 3,            /* no byte is an uppercase letter */
+    TINYSTR_TITLECASE = 4,            /* the first isn't a lowercase letter, and no later one is an uppercase letter */
+    TINYSTR_UPPERCASE = 5,            /* no byte is a lowercase letter */
+    TINYSTR_ALPHABETIC_LOWERCASE = 6, /* each is a lowercase letter */
+    TINYSTR_ALPHABETIC_TITLECASE = 7, /* the first is an uppercase letter, and each later one a lowercase letter */
+    TINYSTR_ALPHABETIC_UPPERCASE = 8  /* each is an uppercase letter */
+};
+
+/* The cases of tinystr_change_case. */
+enum tinystr_case {
+    TINYSTR_LOWER = 0,
+    TINYSTR_TITLE = 1, /* the first byte in uppercase, each later one in lowercase */
+    TINYSTR_UPPER = 2
+};
+
+/* A code, and a number: 0, or what the function says. If a text is rejected, it is the number of bytes with TOO_LONG,
+ * the index of the first NUL with NUL, and that of the first byte above 127 with NON_ASCII. */
+typedef struct tinystr_result {
+    size_t value;
+    uint32_t code;
+} tinystr_result;
+
+/* `count` records from record `start` on. */
+typedef struct tinystr_range {
+    size_t start;
+    size_t count;
+    uint32_t code;
+} tinystr_range;
+
+/* The version of the library that is linked, as TINYSTR_VERSION. */
+uint32_t tinystr_version(void);
+
+/* Room for each canonical text, and a NUL after it. */
+#define TINYSTR_LANGID_ROOM 18
+
+/* Reads a language identifier: a language of 2, 3 or 5 to 8 letters, and then a script of 4 letters, a region of 2
+ * letters or 3 digits, both or neither, in any case, with `-` or `_` between. Writes its canonical text, as zh-Hant-TW,
+ * and NULs up to the end of `out`. Nothing is looked up in a registry.
+ *   OK                 value: the length of the text, at most 17. Where `out` is longer, it is a C string.
+ *   INVALID_LANGUAGE
+ *   INVALID_SUBTAG
+ *   NO_ROOM            value: the length of the text, which is above `out_len`.
+ * With any code but OK, `out` is as it was. */
+tinystr_result tinystr_langid(const void *input, size_t input_len, void *out, size_t out_len);
+
+/* Reads a text of at most `out_len` bytes, and writes it padded. `out_len` is the capacity, of at most 16.
+ *   OK                 value: the length of the text.
+ *   BAD_ARGUMENT       value: `out_len`, which is above 16.
+ *   TOO_LONG
+ *   NUL, NON_ASCII
+ * With any code but OK, `out` is as it was. */
+tinystr_result tinystr_read(const void *input, size_t input_len, void *out, size_t out_len);
+
+/* Asks a text of at most 16 bytes, padded or not, a question.
+ *   OK                 value: 1 for yes, 0 for no.
+ *   BAD_ARGUMENT       value: the question, which is no number of tinystr_question.
+ *   BAD_ARGUMENT       value: `text_len`, which is above 16.
+ *   NUL, NON_ASCII     The bytes aren't a padded text. */
+tinystr_result tinystr_ask(const void *text, size_t text_len, uint32_t question);
+
+/* Changes the case of a text of at most 16 bytes, padded or not, in place.
+ *   OK                 value: the length of the text.
+ *   BAD_ARGUMENT       value: the case, which is no number of tinystr_case.
+ *   BAD_ARGUMENT       value: `text_len`, which is above 16.
+ *   NUL, NON_ASCII     The bytes aren't a padded text.
+ * With any code but OK, the bytes are as they were. */
+tinystr_result tinystr_change_case(void *text, size_t text_len, uint32_t letter_case);
+
+/* ---- Records. A capacity is 2, 3, 4, 8 or 16. Each function below checks this first. At any other capacity the code is
+ * BAD_ARGUMENT, and the value of a tinystr_result is the capacity. */
+
+/* Whether the bytes are records.
+ *   OK                 value: how many.
+ *   BAD_LENGTH         value: `bytes_len`.
+ *   NUL, NON_ASCII     value: the index of the first record that isn't a padded text. */
+tinystr_result tinystr_table_check(const void *bytes, size_t bytes_len, size_t capacity);
+
+/* Whether the bytes are records, and strictly ascending. The codes are those of tinystr_table_check, and after them
+ *   NOT_RISING         value: the index of the first record that isn't above the one before it. */
+tinystr_result tinystr_sorted_check(const void *bytes, size_t bytes_len, size_t capacity);
+
+/* Searches a text, without NULs after it, in strictly ascending records. The records aren't checked again: of any other
+ * bytes it returns OK with the index of some record, or NOT_FOUND with an index from 0 to the number of records.
+ *   OK                 value: its index.
+ *   NOT_FOUND          value: the index at which it is to be inserted.
+ *   TOO_LONG           The key has more than `capacity` bytes.
+ *   NUL, NON_ASCII     The key isn't a text. */
+tinystr_result tinystr_sorted_search(const void *bytes, size_t bytes_len, size_t capacity,
+                                     const void *key, size_t key_len);
+
+/* Searches each of some keys in strictly ascending records. The keys are records of the same capacity, in any order,
+ * and are checked. The records aren't checked again. For many keys among many records this takes less time than a
+ * search for each.
+ *   OK                 value: how many keys. `out` begins with a result for each key. Of strictly ascending records it
+ *                      is the result of tinystr_sorted_search: OK with the key's index, or NOT_FOUND with the index at
+ *                      which the key is to be inserted. Of any other bytes it is a place inside them too, which may
+ *                      differ from the one that tinystr_sorted_search returns.
+ *   BAD_LENGTH         value: `keys_len`.
+ *   NUL, NON_ASCII     value: the index of the first key that isn't a padded text.
+ *   NO_ROOM            value: how many keys, which is above `out_len`.
+ * With any code but OK, `out` is as it was; with OK, so are the results after those of the keys. */
+tinystr_result tinystr_sorted_search_each(const void *bytes, size_t bytes_len, size_t capacity,
+                                          const void *keys, size_t keys_len,
+                                          tinystr_result *out, size_t out_len);
+
+/* Finds the texts that begin with a text, in strictly ascending records. The records aren't checked again: of any other
+ * bytes it returns a range inside them, which may be the wrong one.
+ *   OK                 start: the index of the first, or at which `beginning` is to be inserted. count: how many.
+ *   TOO_LONG           The beginning has more than `capacity` bytes.
+ *   NUL, NON_ASCII     The beginning isn't a text.
+ * With any code but OK, start and count are 0. */
+tinystr_range tinystr_sorted_prefix(const void *bytes, size_t bytes_len, size_t capacity,
+                                    const void *beginning, size_t beginning_len);
+
+/* Whether the keys are strictly ascending records, and the values are `value_size` bytes for each of them: 1, 2, 4 or
+ * 8. The value of the key at an index, which tinystr_sorted_search finds, is at `values + index * value_size`.
+ *   OK                 value: how many keys.
+ *   BAD_ARGUMENT       value: `value_size`, which is none of these sizes.
+ *   BAD_LENGTH, NUL, NON_ASCII, NOT_RISING   Of the keys, as tinystr_sorted_check returns.
+ *   BAD_VALUES         value: `values_len`. */
+tinystr_result tinystr_map_check(const void *keys, size_t keys_len, size_t capacity,
+                                 const void *values, size_t values_len, size_t value_size);
+
+/* ---- Hashed tables: records in the order of a hash, so that a text is compared with one record. The bytes are a version
+ * of 4 bytes, which is 1; the number of displacements, of 4; a seed, of 8; the displacements, of 4 each; and the records.
+ * All numbers are little-endian. A text's place is its index among the records; it is computed from the text, the seed
+ * and one displacement. The repository's crates/tinystr_hashed has the table of this layout (`HashedTable`), defines the
+ * place (`place_of`), and makes the bytes (`pack_hashed`). */
+
+/* Whether the bytes are a hashed table.
+ *   OK                 value: how many texts.
+ *   BAD_HEADER         value: `bytes_len`, which is below 16.
+ *   BAD_VERSION        value: the version, which isn't 1.
+ *   BAD_DISPLACEMENTS  value: the number of displacements, which have more bytes than follow the header.
+ *   BAD_LENGTH         value: the number of bytes after the displacements.
+ *   NUL, NON_ASCII     value: the index of the first record that isn't a padded text.
+ *   MISPLACED          value: the index of the first text that isn't at its place. */
+tinystr_result tinystr_hashed_check(const void *bytes, size_t bytes_len, size_t capacity);
+
+/* Searches a text, without NULs after it, in a hashed table. The bytes aren't checked again: for any others it returns OK
+ * with the index of some record, or NOT_FOUND.
+ *   OK                 value: its index.
+ *   NOT_FOUND          value: 0.
+ *   TOO_LONG           The key has more than `capacity` bytes.
+ *   NUL, NON_ASCII     The key isn't a text. */
+tinystr_result tinystr_hashed_search(const void *bytes, size_t bytes_len, size_t capacity,
+                                     const void *key, size_t key_len);
+
+#ifdef __cplusplus
+}
+#endif
+
+#endif

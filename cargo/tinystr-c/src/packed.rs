@@ -1,0 +1,128 @@
+//! Packed records and maps.
+
+use crate::answer::{
+    TinystrRange, TinystrResult, answer, fault_answer, fault_code, map_answer, no_range,
+    records_answer, search_answer,
+};
+use crate::numbers::{BAD_ARGUMENT, NOT_RISING, OK};
+use proved::TinyAsciiStr;
+use proved::packed::{PackedMap, SortedTable, Table, in_place};
+
+/// Calls a function at one of the capacities of records, or gives another value.
+#[macro_export]
+macro_rules! at_capacity {
+    ($capacity:expr, $call:ident, $other:expr, $($argument:expr),*) => {
+        match $capacity {
+            2 => $call::<2>($($argument),*),
+            3 => $call::<3>($($argument),*),
+            4 => $call::<4>($($argument),*),
+            8 => $call::<8>($($argument),*),
+            16 => $call::<16>($($argument),*),
+            _ => $other,
+        }
+    };
+}
+
+/// The number of packed records, or why the bytes aren't packed records.
+///
+/// # Contract
+///
+/// ```text
+/// requires { 0 < N }
+/// ensures { ChecksTable result bytes.now N }
+/// ```
+pub fn table_check<const N: usize>(bytes: &[u8]) -> TinystrResult {
+    match TinyAsciiStr::<N>::validate_bytes(bytes) {
+        Ok(()) => answer(OK, bytes.len() / N),
+        Err(fault) => records_answer(fault),
+    }
+}
+
+/// The number of packed records that are strictly ascending, or why the bytes aren't such records.
+///
+/// # Contract
+///
+/// ```text
+/// requires { 0 < N }
+/// ensures { ChecksSorted result bytes.now N }
+/// ```
+pub fn sorted_check<const N: usize>(bytes: &[u8]) -> TinystrResult {
+    match Table::<N>::new(bytes) {
+        Ok(table) => match SortedTable::new(table) {
+            Ok(_) => answer(OK, bytes.len() / N),
+            Err(fault) => answer(NOT_RISING, fault.index),
+        },
+        Err(fault) => records_answer(fault),
+    }
+}
+
+/// The index of a key among packed records that are strictly ascending, or the index at which it belongs. Of any other
+/// bytes it is a place inside them.
+///
+/// # Contract
+///
+/// ```text
+/// requires above { 0 < N }
+/// requires below { N ≤ 16 }
+/// ensures { Searches result bytes.now key.now N }
+/// ```
+pub fn sorted_search<const N: usize>(bytes: &[u8], key: &[u8]) -> TinystrResult {
+    match TinyAsciiStr::<N>::try_from_utf8(key) {
+        Ok(text) => search_answer(in_place::search(bytes, &text)),
+        Err(fault) => fault_answer(fault, key),
+    }
+}
+
+/// The range of the texts with a prefix, among packed records that are strictly ascending. Of any other bytes it is a
+/// range inside them.
+///
+/// # Contract
+///
+/// ```text
+/// requires above { 0 < N }
+/// requires below { N ≤ 16 }
+/// ensures { FindsPrefix result bytes.now beginning.now N }
+/// ```
+pub fn sorted_prefix<const N: usize>(bytes: &[u8], beginning: &[u8]) -> TinystrRange {
+    match TinyAsciiStr::<N>::try_from_utf8(beginning) {
+        Ok(text) => {
+            let (start, count) = in_place::with_prefix(bytes, &text);
+            TinystrRange {
+                start,
+                count,
+                code: OK,
+            }
+        }
+        Err(fault) => no_range(fault_code(fault)),
+    }
+}
+
+/// The number of entries of a packed map, or why the bytes aren't one, at one of the sizes of values.
+///
+/// # Contract
+///
+/// ```text
+/// requires { 0 < N }
+/// ensures argument { ¬ IsValueSize value_size → result ≡ answer BAD_ARGUMENT value_size }
+/// ensures checked { IsValueSize value_size → ChecksMap result keys.now values.now N value_size }
+/// ```
+pub fn map_check<const N: usize>(keys: &[u8], values: &[u8], value_size: usize) -> TinystrResult {
+    match value_size {
+        1 => map_check_of::<N, 1>(keys, values),
+        2 => map_check_of::<N, 2>(keys, values),
+        4 => map_check_of::<N, 4>(keys, values),
+        8 => map_check_of::<N, 8>(keys, values),
+        _ => answer(BAD_ARGUMENT, value_size),
+    }
+}
+
+// Proved:
+//     requires keys { 0 < N }
+//     requires values { 0 < M }
+//     ensures { ChecksMap result keys.now values.now N M }
+fn map_check_of<const N: usize, const M: usize>(keys: &[u8], values: &[u8]) -> TinystrResult {
+    match PackedMap::<N, M>::new(keys, values) {
+        Ok(_) => answer(OK, keys.len() / N),
+        Err(fault) => map_answer(fault),
+    }
+}
