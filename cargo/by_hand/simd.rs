@@ -1,6 +1,6 @@
-//! The part of `std::simd` that the proved sources use, for stable Rust. Lanes are an array, which LLVM keeps in a vector.
-//! The calls on sixteen bytes are `machine`'s on x86-64 with SSE2, an instruction or two each, and else `portable`'s. Written by
-//! hand; `tests` has each call at all bytes that a lane can hold.
+//! The part of `std::simd` that the proved sources use, for stable Rust. Lanes are an array, which LLVM keeps in registers.
+//! The calls on sixteen bytes are `machine`'s on x86-64 with SSE2, an instruction or two each, and else `portable`'s, in words of
+//! 64 bits. Written by hand; `tests` has each call at all bytes that a lane can hold.
 #![allow(non_camel_case_types)]
 
 use core::ops::{Add, BitAnd, BitOr, BitXor, Not, Shr, Sub};
@@ -8,7 +8,7 @@ use core::ops::{Add, BitAnd, BitOr, BitXor, Not, Shr, Sub};
 // (a target without an operating system may have no vectors)
 #[cfg(all(target_arch = "x86_64", target_feature = "sse2", not(portable_lanes)))]
 mod machine;
-// on x86-64 its shuffle alone is called, where there is no SSSE3
+// on x86-64 its shuffle alone is called, where there is no SSSE3, and what `IS_PORTABLE` leaves out
 #[allow(dead_code)]
 mod portable;
 #[cfg(test)]
@@ -16,6 +16,10 @@ mod tests;
 
 #[cfg(any(portable_lanes, not(all(target_arch = "x86_64", target_feature = "sse2"))))]
 use portable as machine;
+pub use portable::text_len;
+
+/// Whether the calls on sixteen bytes are `portable`'s. A few functions then have a shorter form in words of 64 bits.
+pub const IS_PORTABLE: bool = cfg!(any(portable_lanes, not(all(target_arch = "x86_64", target_feature = "sse2"))));
 
 /// `L` numbers, the lowest lane first.
 #[derive(Clone, Copy, Debug)]
@@ -196,12 +200,21 @@ impl u8x16 {
     pub fn swizzle_dyn(self, places: Self) -> Self {
         Lanes(machine::shuffle(self.0, places.0))
     }
+
+    /// Each lane from 1 to 127, and the other in the place of the rest.
+    #[inline(always)]
+    pub fn characters_or(self, other: Self) -> Self {
+        Lanes(portable::characters_or(self.0, other.0))
+    }
 }
 
 // All lanes at once.
 impl PartialEq for u8x16 {
     #[inline(always)]
     fn eq(&self, other: &Self) -> bool {
+        if IS_PORTABLE {
+            return u128::from_le_bytes(self.0) == u128::from_le_bytes(other.0);
+        }
         self.simd_eq(*other).to_bitmask() == 0xffff
     }
 }

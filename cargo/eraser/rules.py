@@ -52,6 +52,7 @@ TWIN_MAKES = "`constants.rs` makes one at compile time"
 HINTED = "the compiler is given a hint that the text is no error and not `None`, which share its bytes"
 BELOW_128 = "a type that knows that each byte is below 128 leaves room for `None`"
 OF_BYTES = "the derived equality of a text is that of its bytes, and the proved one is theirs"
+IN_WORDS = "without vectors a form in words of 64 bits takes fewer steps"
 NAMED_AS_STR = "`Deref` to `str` has this name, and the original's callers use that"
 
 IN_FILE = {
@@ -303,6 +304,24 @@ IN_FILE = {
             IN_CONSTANTS,
         ),
         Rule("put(&mut resized[..], bytes)", "put(&mut resized, bytes)", IN_CONSTANTS),
+    ],
+    "tinystr_words/padded/words.rt": [
+        Rule(
+            "    let mut rest = bytes;\n    let mut sum",
+            "    if crate::simd::IS_PORTABLE {\n        return crate::simd::text_len(bytes);\n    }\n"
+            "    let mut rest = bytes;\n    let mut sum",
+            IN_WORDS,
+        ),
+    ],
+    "tinystr_words/padded/replacing.rt": [
+        Rule(
+            "    let are_characters = (given",
+            "    if IS_PORTABLE {\n"
+            "        return given.characters_or(replacements(replacement, bytes.len()));\n"
+            "    }\n"
+            "    let are_characters = (given",
+            IN_WORDS,
+        ),
     ],
     "tinystr_words/padded/concatenation.rt": [
         Rule(

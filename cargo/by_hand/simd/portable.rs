@@ -1,30 +1,63 @@
-//! The calls on sixteen bytes in plain Rust, for any processor.
+//! The calls on sixteen bytes in two words of 64 bits, for any processor: each is a few steps on all bytes of a word. A sum of
+//! the low seven bits of bytes leaves their high bits for what it carries, so no byte carries into the next.
 
+const LOW_BITS: u64 = 0x7f7f_7f7f_7f7f_7f7f;
+const HIGH_BITS: u64 = !LOW_BITS;
+const ONES: u64 = 0x0101_0101_0101_0101;
+
+/// The first eight bytes and the last, in each word the first byte lowest.
 #[inline(always)]
-fn zip(a: [u8; 16], b: [u8; 16], op: impl Fn(u8, u8) -> u8) -> [u8; 16] {
-    core::array::from_fn(|i| op(a[i], b[i]))
+fn words(bytes: [u8; 16]) -> [u64; 2] {
+    let number = u128::from_le_bytes(bytes);
+    [number as u64, (number >> 64) as u64]
 }
 
 #[inline(always)]
-fn truth(is_true: bool) -> u8 {
-    if is_true { 255 } else { 0 }
+fn bytes([low, high]: [u64; 2]) -> [u8; 16] {
+    (u128::from(low) | u128::from(high) << 64).to_le_bytes()
+}
+
+#[inline(always)]
+fn zip(a: [u8; 16], b: [u8; 16], op: impl Fn(u64, u64) -> u64) -> [u8; 16] {
+    let ([a, b], [c, d]) = (words(a), words(b));
+    bytes([op(a, c), op(b, d)])
+}
+
+/// In each byte 255 where its high bit is set, else 0.
+#[inline(always)]
+fn truths(word: u64) -> u64 {
+    let ones = word >> 7 & ONES;
+    (ones << 8).wrapping_sub(ones)
+}
+
+/// In each byte the high bit where the low seven bits aren't 0, and these seven changed.
+#[inline(always)]
+fn nonzero_low_bits(word: u64) -> u64 {
+    (word & LOW_BITS) + LOW_BITS
+}
+
+/// In each byte the low seven bits of the difference, and the high bit where the first byte's low seven bits are at least the
+/// second's.
+#[inline(always)]
+fn low_difference(a: u64, b: u64) -> u64 {
+    (a | HIGH_BITS) - (b & LOW_BITS)
 }
 
 /// In each lane 255 where the bytes are equal, else 0.
 #[inline(always)]
 pub fn equal(a: [u8; 16], b: [u8; 16]) -> [u8; 16] {
-    zip(a, b, |a, b| truth(a == b))
+    zip(a, b, |a, b| truths(!(nonzero_low_bits(a ^ b) | (a ^ b))))
 }
 
 /// In each lane 255 where the first byte is less, else 0.
 #[inline(always)]
 pub fn less(a: [u8; 16], b: [u8; 16]) -> [u8; 16] {
-    zip(a, b, |a, b| truth(a < b))
+    zip(a, b, |a, b| truths(!a & b | !(a ^ b) & !low_difference(a, b)))
 }
 
 #[inline(always)]
 pub fn sub(a: [u8; 16], b: [u8; 16]) -> [u8; 16] {
-    zip(a, b, u8::wrapping_sub)
+    zip(a, b, |a, b| low_difference(a, b) ^ !(a ^ b) & HIGH_BITS)
 }
 
 #[inline(always)]
@@ -40,35 +73,80 @@ pub fn bitor(a: [u8; 16], b: [u8; 16]) -> [u8; 16] {
 /// In each lane the one byte where the mask has 255, and the other where it has 0.
 #[inline(always)]
 pub fn select(mask: [u8; 16], one: [u8; 16], other: [u8; 16]) -> [u8; 16] {
-    bitor(bitand(mask, one), zip(mask, other, |truth, other| !truth & other))
+    bitor(bitand(mask, one), zip(mask, other, |truths, other| !truths & other))
 }
 
 /// Of each lane of a mask a bit, the lowest lane's lowest.
 #[inline(always)]
 pub fn bits(mask: [u8; 16]) -> u64 {
-    mask.iter().enumerate().fold(0, |bits, (i, truth)| bits | u64::from(truth & 1) << i)
+    // each byte has the bit of its place, and the product has their sum in the highest byte
+    let of_eight = |truths: u64| (truths & 0x8040_2010_0804_0201).wrapping_mul(ONES) >> 56;
+    let [low, high] = words(mask);
+    of_eight(low) | of_eight(high) << 8
 }
 
 /// The bytes of numbers, of each the low one first.
 #[inline(always)]
 pub fn bytes_of(units: [u16; 8]) -> [u8; 16] {
-    core::array::from_fn(|i| units[i / 2].to_le_bytes()[i % 2])
+    let [a, b, c, d, e, f, g, h] = units.map(u64::from);
+    bytes([a | b << 16 | c << 32 | d << 48, e | f << 16 | g << 32 | h << 48])
 }
 
 /// The bytes at even places.
 #[inline(always)]
 pub fn even(a: [u8; 16]) -> [u8; 8] {
-    core::array::from_fn(|i| a[2 * i])
+    let of_eight = |word: u64| {
+        let bytes = word & 0x00ff_00ff_00ff_00ff;
+        let pairs = (bytes | bytes >> 8) & 0x0000_ffff_0000_ffff;
+        (pairs | pairs >> 16) & 0xffff_ffff
+    };
+    let [low, high] = words(a);
+    (of_eight(low) | of_eight(high) << 32).to_le_bytes()
 }
 
-/// The bytes from the second on, and behind them the first of the others.
+/// The bytes from the second on, and after them the first of the others.
 #[inline(always)]
 pub fn next(a: [u8; 16], b: [u8; 16]) -> [u8; 16] {
-    core::array::from_fn(|i| if i < 15 { a[i + 1] } else { b[0] })
+    let ([low, high], [following, _]) = (words(a), words(b));
+    bytes([low >> 8 | high << 56, high >> 8 | following << 56])
 }
 
 /// The byte at each place, or 0 past the last.
 #[inline(always)]
 pub fn shuffle(a: [u8; 16], places: [u8; 16]) -> [u8; 16] {
     places.map(|place| if place < 16 { a[usize::from(place % 16)] } else { 0 })
+}
+
+/// The length of a text with NULs after it.
+#[inline(always)]
+pub fn text_len(bytes: &[u8]) -> usize {
+    let ones = |word: u64| nonzero_low_bits(word) >> 7 & ONES;
+    let mut len = 0;
+    // a byte has room for the sum of so many
+    for part in bytes.chunks(240) {
+        let (words, rest) = part.as_chunks();
+        let mut sum = ones(last_bytes(part, rest.len()));
+        for word in words {
+            sum += ones(u64::from_le_bytes(*word));
+        }
+        len += (sum.wrapping_mul(ONES) >> 56) as usize;
+    }
+    len
+}
+
+/// The last bytes, fewer than eight, with zeros after them.
+#[inline(always)]
+fn last_bytes(bytes: &[u8], count: usize) -> u64 {
+    if let Some(last) = bytes.last_chunk() {
+        return u64::from_le_bytes(*last) >> (8 * (7 - count)) >> 8;
+    }
+    let mut last = [0; 8];
+    last[..count].copy_from_slice(bytes);
+    u64::from_le_bytes(last)
+}
+
+/// In each lane the first byte where it is from 1 to 127, else the other.
+#[inline(always)]
+pub fn characters_or(a: [u8; 16], b: [u8; 16]) -> [u8; 16] {
+    zip(a, b, |a, b| b ^ (a ^ b) & truths(nonzero_low_bits(a) & !a))
 }

@@ -139,6 +139,37 @@ fn even_and_next() {
     });
 }
 
+/// The length of each text, in arrays of sizes on both sides of those that are summed at once, and of sixteen bytes by the bits
+/// of its NULs too.
+#[test]
+fn lengths() {
+    for size in (0..=40).chain(236..=250).chain(476..=484) {
+        for len in 0..=size {
+            for (first, step) in [(0, 1), (0, 0), (63, 0), (126, 0), (len, 37)] {
+                let text: Vec<u8> = (0..size).map(|i| if i < len { 1 + ((first + i * step) % 127) as u8 } else { 0 }).collect();
+                assert_eq!(text_len(&text), len);
+                if size == 16 {
+                    let nuls = u8x16::from_slice(&text).simd_eq(u8x16::splat(0)).to_bitmask();
+                    assert_eq!((nuls | 1 << 16).trailing_zeros() as usize, len);
+                }
+            }
+        }
+    }
+    for byte in 1..=127 {
+        assert_eq!([text_len(&[byte; 40]), text_len(&[byte; 7])], [40, 7]);
+    }
+}
+
+/// The characters of a vector and others in the place of the rest: in words and by comparisons.
+#[test]
+fn characters() {
+    each_pair(|a, b| {
+        let wanted = core::array::from_fn(|i| if (1..=127).contains(&a[i]) { a[i] } else { b[i] });
+        let are_characters = (Lanes(a) - Lanes([1; 16])).simd_lt(Lanes([127; 16]));
+        assert_eq!([Lanes(a).characters_or(Lanes(b)).0, are_characters.select(Lanes(a), Lanes(b)).0], [wanted; 2]);
+    });
+}
+
 #[test]
 fn numbers() {
     let mut state = 88172645463325252u64;

@@ -28,6 +28,9 @@ pub(crate) fn lossy_word<const N: usize>(bytes: &[u8], replacement: u8) -> [u8; 
 #[inline(always)]
 fn lossy_lanes(bytes: &[u8], replacement: u8) -> u8x16 {
     let given = lanes(<u128 as Word<16>>::load(bytes));
+    if IS_PORTABLE {
+        return given.characters_or(replacements(replacement, bytes.len()));
+    }
     let are_characters = (given - u8x16::splat(1)).simd_lt(u8x16::splat(CHARACTERS));
     are_characters.select(given, replacements(replacement, bytes.len()))
 }

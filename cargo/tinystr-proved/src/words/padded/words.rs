@@ -23,6 +23,9 @@ fn split_word(bytes: &[u8]) -> Option<(Aligned16, &[u8])> {
 /// ```
 #[inline(always)]
 pub(crate) fn len(bytes: &[u8]) -> usize {
+    if crate::simd::IS_PORTABLE {
+        return crate::simd::text_len(bytes);
+    }
     let mut rest = bytes;
     let mut sum = 0;
     while let Some((word, after)) = split_word(rest) {
