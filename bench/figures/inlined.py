@@ -76,3 +76,29 @@ def cargo_description(figures: Figures) -> str:
         f"Geometric means: {means['full']['mean']:.2f} on texts that fill their capacity, {means['mixed']['mean']:.2f} on texts"
         " of all lengths. Below 1 is faster than the Rust crate."
     )
+
+
+def cargo_headline(figures: Figures, of_v2: Figures) -> str:
+    """The means over lists and over single values, and the slowest cell for both processors, in three items."""
+    lists, alone = ({kind: mean_of_kind(rows_of_kind(figures, one), kind) for kind in TABLES} for one in (0, 1))
+    ratio, call, capacity = max(slowest_cell(figures), slowest_cell(of_v2))
+    return (
+        f"- A call, made over a list, takes {lists['full']:.2f} of the Rust crate's time on texts that fill their capacity, and"
+        f" {lists['mixed']:.2f} on texts of all lengths.\n"
+        f"- A call of one value takes {alone['full']:.2f} and {alone['mixed']:.2f}. (These are geometric means.)\n"
+        f"- The worst case, `{call}` at capacity {capacity}, takes {ratio:.1f} times as long.\n"
+    )
+
+
+def mean_of_kind(rows: dict[str, dict[str, dict[str, float]]], kind: str) -> float:
+    return geometric([ratio for of in rows.values() for ratio in of[kind].values()])
+
+
+def slowest_cell(figures: Figures) -> tuple[float, str, str]:
+    """The largest ratio, with its call and its capacity."""
+    return max(
+        (ratio, call, capacity)
+        for call, kinds in cargo_rows(figures).items()
+        for row in kinds.values()
+        for capacity, ratio in row.items()
+    )

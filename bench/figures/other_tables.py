@@ -6,6 +6,8 @@ from collections.abc import Iterable
 from figures.figures import HERE, THERE, Cell, Figures
 from figures.tables import TYPES, aligned, bounded_ratio, type_cell, type_table, types_of
 
+ICU = "ICU's uloc_canonicalize"
+
 
 def by_call(cells: Iterable[Cell]) -> dict[str, list[Cell]]:
     calls = {}
@@ -64,3 +66,19 @@ def lines(figures: Figures) -> str:
         name = "the line program" if whose == HERE else whose
         rows.append([name, *map(speed, (figures.time(cell, whose), max(turns.values()), min(turns.values())))])
     return aligned(rows)
+
+
+def c_headline(figures: Figures) -> str:
+    """The C library beside what a C programmer has, in three items."""
+    ratios = {
+        (cell[1].partition(",")[0], whose): figures.ratio(cell, whose) for cell in figures.times for whose in figures.times[cell]
+    }
+    sorted_search, each = (
+        ratios[call, "bsearch with memcmp"] for call in ("tinystr_sorted_search", "tinystr_sorted_search_each")
+    )
+    return (
+        f"- `tinystr_sorted_search` takes {sorted_search:.2f} of the time of `bsearch` with `memcmp`.\n"
+        f"- `tinystr_sorted_search_each` takes {each:.2f} of that time for a key.\n"
+        f"- The worst case, `tinystr_langid`, takes {ratios['tinystr_langid', 'by hand']:.2f} of the time of a reader by hand in"
+        f" C, and {ratios['tinystr_langid', ICU]:.2f} of that of ICU's `uloc_canonicalize`.\n"
+    )

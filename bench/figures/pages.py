@@ -8,11 +8,11 @@ from figures.call_tables import beside_others, calls_description, full_and_mixed
 from figures.capacities import capacities_description
 from figures.figures import THERE, Figures
 from figures.hashed_tables import hashed_tables
-from figures.inlined import cargo_description, inlined_table, look_ups
+from figures.inlined import cargo_description, cargo_headline, inlined_table, look_ups
 from figures.jobs import jobs_table
 from figures.machine import machine
 from figures.many_keys import TITLE as MANY_KEYS, many_keys_description, many_keys_tables
-from figures.other_tables import all_cells, lines, loops, types
+from figures.other_tables import all_cells, c_headline, lines, loops, types
 from figures.ratios import FAILING, mean_of, slowest_of
 
 # What makes a block of all figures and the folder of the pictures.
@@ -20,19 +20,25 @@ Block = Callable[[dict[str, Figures], str], str]
 BLOCK = re.compile(r"(<!-- bench/report (.+?) -->\n).*?(<!-- end -->\n)", re.DOTALL)
 
 
-def headline(all_figures: dict[str, Figures], _folder: str) -> str:
-    """The means over all rows, whole jobs, and the slowest row, in a sentence."""
+def headline(all_figures: dict[str, Figures]) -> str:
+    """The means over all rows, whole jobs, and the slowest row, in three items."""
     calls, jobs = all_figures["calls"], all_figures["jobs"]
     ratios = [jobs.ratio(cell, THERE) for cell in jobs.times]
     ratio, call, capacity, kind = slowest_of(calls)
     slowest = "a question that fails at its first byte" if call == FAILING else f"`{call.partition(',')[0]}` of {kind} texts"
-    said = (
-        f"A call takes {mean_of(calls, 'full'):.2f} of the Rust crate's time on texts that fill their capacity and"
-        f" {mean_of(calls, 'mixed'):.2f} on texts of all lengths, as geometric means; a whole job takes {min(ratios):.2f} to"
-        f" {max(ratios):.2f} of the time of a Rust program that does the same; and the slowest call, {slowest}, takes"
-        f" {ratio:.1f} times as long at capacity {capacity}."
+    return (
+        f"- A call takes {mean_of(calls, 'full'):.2f} of the Rust crate's time on texts that fill their capacity, and"
+        f" {mean_of(calls, 'mixed'):.2f} on texts of all lengths. (These are geometric means.)\n"
+        f"- A whole job takes {min(ratios):.2f} to {max(ratios):.2f} of the time of a Rust program that does the same.\n"
+        f"- The worst case, {slowest}, takes {ratio:.1f} times as long at capacity {capacity}.\n"
     )
-    return fill(said, 120) + "\n"
+
+
+def filled_lines(make: Callable) -> Block:
+    """The items of a form's file of figures, in lines of at most 120 characters."""
+    return lambda all_figures, _folder: "".join(
+        fill(item, 120, subsequent_indent="  ") + "\n" for item in make(all_figures).splitlines()
+    )
 
 
 def picture(name: str, alternative: Callable) -> Block:
@@ -64,7 +70,9 @@ def inlined(all_figures: dict[str, Figures]) -> str:
 
 
 BLOCKS = {
-    "headline": headline,
+    "headline": filled_lines(headline),
+    "headline of Cargo": filled_lines(lambda them: cargo_headline(them["cargo"], them["cargo-v2"])),
+    "headline of C": filled_lines(lambda them: c_headline(them["c"])),
     "jobs": fenced("jobs", jobs_table),
     "jobs.svg": picture("jobs.svg", lambda _: "Seconds of whole jobs, at the start, now, and by a Rust program"),
     "calls.svg": picture(
