@@ -1,5 +1,6 @@
 """Reads crates.txt, the texts of a crate, and what of a source a wrong body can turn. It prints nothing."""
 
+import functools
 import re
 from collections.abc import Iterator
 from dataclasses import dataclass
@@ -47,9 +48,11 @@ class Item:
         return of.startswith(owner + trait) if trait else of.partition("+")[0] == owner
 
 
-def items(file: str, text: str) -> list[Item]:
+# (each edit of a source asks for them)
+@functools.cache
+def items(file: str, text: str) -> tuple[Item, ...]:
     """The functions with a body, the laws, and the constants, of a source."""
-    return list(items_among(items_of(text), file, ""))
+    return tuple(items_among(items_of(text), file, ""))
 
 
 def items_among(found: list[rattle.Item], file: str, block: str) -> Iterator[Item]:
