@@ -42,7 +42,7 @@ class Item:
         while (bare := re.sub(r"<[^<>]*>", "", head)) != head:
             head = bare
         trait, _, owner = re.sub(r"\bwhere\b.*|\{$|&(?:'\w+ )?|: .*", "", head).rpartition(" for ")
-        trait, owner = (re.split(r"::", name.strip())[-1].lower() for name in (trait, owner))
+        trait, owner = (re.split(r"::", path.strip())[-1].lower() for path in (trait, owner))
         # a method's module is that of its type, wherever the impl stands
         of = before[-1].lower() if before else ""
         return of.startswith(owner + trait) if trait else of.partition("+")[0] == owner
