@@ -4,7 +4,7 @@ use Rattle.std.specs.List.{position_or_len}
 use Rattle.std.specs.Simd.Lanes.{zip2}
 use Rattle.tinystr_words.specs.Classes.{is_alphabetic, is_digit, is_upper}
 use Rattle.tinystr_words.specs.Case.{raise}
-use Rattle.subtags.specs.Grammar.{is_separator, fold_byte}
+use Rattle.subtags.specs.Grammar.{is_separator, fold_text}
 
 -- the bytes before the first separator
 abbrev pub first_subtag : List ℕ → List ℕ
@@ -26,10 +26,10 @@ pub record IsLike (t v : List ℕ) : Type 0 where
   pub digits : map is_digit v ≡ map is_digit t
   pub separators : map is_separator v ≡ map is_separator t
 
--- a byte in the case of the example's, with '-' for '_'
+-- a folded byte in the case of the example's
 abbrev pub in_case_of_byte : ℕ → ℕ → ℕ
-in_case_of_byte a b = if is_upper a then raise b else fold_byte b
+in_case_of_byte a b = if is_upper a then raise b else b
 
--- bytes in the case of the example's
+-- bytes in the case of the example's, with '-' for '_'
 abbrev pub in_case_of : List ℕ → List ℕ → List ℕ
-in_case_of t v = zip2 in_case_of_byte t v
+in_case_of t v = zip2 in_case_of_byte t (fold_text v)

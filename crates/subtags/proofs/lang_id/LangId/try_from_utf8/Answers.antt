@@ -1,4 +1,4 @@
-use Rattle.std.proofs.Common.{◌≡◌, ◌∙◌, ◌-◌, ◌<◌, ◌≤◌, ℕ, true, false, List, ◌++◌, length, map, take, drop, subst, ap, sym, refl, arith}
+use Rattle.std.proofs.Common.{◌≡◌, ◌∙◌, ◌-◌, ◌<◌, ◌≤◌, ℕ, true, false, List, ◌++◌, Bool, length, map, take, drop, subst, ap, sym, refl, arith}
 use Rattle.std.specs.List.{list_all}
 use Rattle.std.proofs.lemmas.Bool.{false≢true}
 use Rattle.std.proofs.lemmas.List.{take_all}
@@ -9,7 +9,8 @@ use Rattle.subtags.specs.Private.Tails.{IsLike, example, first_subtag, in_case_o
 use Rattle.subtags.proofs.CanonLemmas.{IsCanonical-canonical_text, fold_text-canonical_text}
 use Rattle.subtags.proofs.SplitLemmas.{subtags_at_first_separator}
 use Rattle.subtags.proofs.ReadLemmas.{refused_without_language}
-use Rattle.subtags.proofs.IdentifierLemmas.{first_subtag-letters, letters_read, more_than_language, after_first, tail_read, tail_not_read, length-language, IsStrictText-canonical_text}
+use Rattle.subtags.proofs.IdentifierLemmas.{letters_read, letters_refused, more_than_language, after_first, tail_read, tail_not_read, IsStrictText-canonical_text}
+use Rattle.subtags.proofs.PlaceLemmas.{length-language}
 use Rattle.subtags.proofs.lang_id.LangId.try_from_utf8.Goals as goal
 
 pub returns-in_default : goal.returns-in_default
@@ -18,13 +19,15 @@ returns-in_default c =
     let refused = refused_without_language u (first_subtag u) _ (subtags_at_first_separator u) (sym c.in_default.ensures.accepted) in
     record { accepted = grind arith; text = tt; fold = tt; refusal = sym refused.1; value = rw (refused.0) refl }
 
+-- all are letters
+letters : (u : List ℕ) (b : Bool) → b ≡ true → b ≡ list_all is_alphabetic (take (length u) u) → list_all is_alphabetic u ≡ true
+letters u b is of = ap (list_all is_alphabetic) (sym (take_all (length u) u (omega arith))) ∙ sym of ∙ is
+
 pub returns-then-not-is_language_length : goal.returns-then-not-is_language_length
 returns-then-not-is_language_length c =
     let u = c.args.code_units.now in
-    let letters : list_all is_alphabetic u ≡ true = ap (list_all is_alphabetic) (sym (take_all (length u) u (omega arith))) ∙ sym c.are_letters.ensures ∙ c.if-are_letters.true in
     let wrong : is_language_length (length u) ≡ false = sym c.is_language_length.ensures ∙ c.if-not-is_language_length.true in
-    let h : is_language (first_subtag u) ≡ false = ap is_language (first_subtag-letters u letters) ∙ rw (letters, wrong) refl in
-    let refused = refused_without_language u (first_subtag u) _ (subtags_at_first_separator u) h in
+    let refused = letters_refused u (letters u _ c.if-are_letters.true c.are_letters.ensures) wrong in
     record { accepted = (λ e. absurd (false≢true e), λ e. absurd (false≢true (sym refused.0 ∙ e))); text = tt; fold = tt; refusal = sym refused.1; value = rw (refused.0) refl }
 
 -- what is read of letters alone
