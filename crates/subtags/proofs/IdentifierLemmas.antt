@@ -1,5 +1,5 @@
 -- An identifier is read from its first 17 bytes.
-use Rattle.std.proofs.Common.{inl, inr, min, not, zero, suc, ◌≡◌, ◌+◌, ◌-◌, ◌<◌, ◌≤◌, ◌==◌, ℕ, ◌&&◌, lit<, Bool, true, false, List, [], ◌∷◌, ◌++◌, length, map, take, drop, get_or, None, drop-cons, refl, sym, ap, ◌∙◌, cond, arith}
+use Rattle.std.proofs.Common.{inl, inr, min, not, zero, suc, ◌≡◌, ◌+◌, ◌-◌, ◌<◌, ◌≤◌, ◌==◌, ℕ, ◌&&◌, lit<, Bool, true, false, List, [], ◌∷◌, ◌++◌, length, map, take, drop, get_or, None, drop-cons, subst, refl, sym, ap, ◌∙◌, cond, arith}
 use lib.Lanes.{zip2}
 use Rattle.std.specs.List.{list_all, join_with_byte, position_or_len}
 use Rattle.tinystr_words.specs.Classes.{is_alphabetic, is_alphanumeric}
@@ -12,7 +12,7 @@ use Rattle.tinystr_words.specs.Text.{IsStrictText, IsText, IsTextByte}
 use Rattle.subtags.specs.Grammar.{dash, is_separator, is_language, is_language_length, is_tail, fold_byte, fold_text, subtags_of, is_lang_id, IsLangId, canonical_subtag, canonical_text, canonical_of}
 use Rattle.subtags.specs.declared.error.LangIdError.TheVariants.{InvalidSubtag, InvalidLanguage}
 use Rattle.subtags.specs.Answers.{refusal_of}
-use Rattle.subtags.specs.Private.Tails.{IsLike, example, first_subtag, in_case_of, in_case_of_byte}
+use Rattle.subtags.specs.Private.Tails.{IsLike, HasTail, example, first_subtag, in_case_of, in_case_of_byte}
 use Rattle.subtags.proofs.CanonicalLen.{length-IsCanonical, length-canonical_text}
 use Rattle.subtags.proofs.CanonLemmas.{IsCanonical-canonical_text, is_tail-canonical, plain_subtags}
 use Rattle.subtags.proofs.FoldLemmas.{All-from_list_all, is_language-fold_text, fold_text-fold_text, alphanumeric-fold_text, alphanumeric-from_letters}
@@ -124,23 +124,36 @@ like_folded u a =
     let same = like-fold_text (example (length u - e)) (drop e u) in
     (λ like. rw (a.count, a.folded) at (same.1 like), λ like. same.0 (rw (a.count, a.folded) like))
 
-pub tail_read : (u : List ℕ) (a : AfterFirst u) → is_language (first_subtag u) ≡ true → (let e = length (first_subtag u) in let t = example (length u - e) in
-    IsLike t (drop e u) → IsLangId u × (canonical_text u ≡ map fold_byte (take e u) ++ in_case_of t (drop e u)))
-tail_read u a language like =
+pub tail_read : (u : List ℕ) → (let e = length (first_subtag u) in HasTail e u → IsLangId u × (canonical_text u ≡ map fold_byte (take e u) ++ in_case_of (example (length u - e)) (drop e u)))
+tail_read u h =
+    let a = after_first u h.more in
     let x = fold_text a.rest in
-    let tail : is_tail (subtags_of x) ≡ true = tail_like x (fold_text-fold_text a.rest) ((like_folded u a).0 like) in
-    (rw (a.subtags, is_language-fold_text (first_subtag u), language, tail) refl, rw (a.subtags, a.count, a.folded) ((tail_cased a.rest tail).text (fold_text (first_subtag u)) ∙ ap (λ n. fold_text (take n u) ++ zip2 in_case_of_byte (example (1 + length x)) (dash ∷ x)) (sym (length-first_subtag u))))
+    let first : take (length (first_subtag u)) u ≡ first_subtag u = ap (λ n. take n u) (length-first_subtag u) in
+    let language : is_language (first_subtag u) ≡ true = subst (λ p. is_language p ≡ true) first h.language in
+    let tail : is_tail (subtags_of x) ≡ true = tail_like x (fold_text-fold_text a.rest) ((like_folded u a).0 h.like) in
+    (rw (a.subtags, is_language-fold_text (first_subtag u), language, tail) refl, rw (a.subtags, a.count, a.folded) ((tail_cased a.rest tail).text (fold_text (first_subtag u)) ∙ ap (λ p. fold_text p ++ zip2 in_case_of_byte (example (1 + length x)) (dash ∷ x)) (sym first)))
 
-pub tail_not_read : (u : List ℕ) (a : AfterFirst u) → is_language (first_subtag u) ≡ true → (let e = length (first_subtag u) in
-    (IsLike (example (length u - e)) (drop e u) → ⊥) → (is_lang_id (subtags_of (fold_text u)) ≡ false) × (refusal_of u ≡ InvalidSubtag))
-tail_not_read u a language other =
-    let none : is_tail (subtags_of (fold_text a.rest)) ≡ false = false_from_ne_true (is_tail (subtags_of (fold_text a.rest))) (λ tail. other ((like_folded u a).1 (tail_cased a.rest tail).like)) in
-    rw (a.subtags, is_language-fold_text (first_subtag u), language, none) (refl, refl)
+-- ---- what isn't an identifier
+
+pub refusal_by_language : (u : List ℕ) → refusal_of u ≡ cond (is_language (first_subtag u)) InvalidSubtag InvalidLanguage
+refusal_by_language u = rw (subtags_at_first_separator u, is_language-fold_text (first_subtag u)) refl
+
+pub not_read : (u : List ℕ) → list_all is_alphabetic u ≡ false → (HasTail (length (first_subtag u)) u → ⊥) → (is_lang_id (subtags_of (fold_text u)) ≡ false) × (refusal_of u ≡ cond (is_language (first_subtag u)) InvalidSubtag InvalidLanguage)
+not_read u other none = (false_from_ne_true (is_lang_id (subtags_of (fold_text u))) read, refusal_by_language u) where
+  second : (a b : Bool) → (a && b) ≡ true → b ≡ true
+  second a b h = grind arith
+
+  read : is_lang_id (subtags_of (fold_text u)) ≡ true → ⊥
+  read h =
+      let all : (is_language (fold_text (first_subtag u)) && is_tail (subtags_after u)) ≡ true = rw (subtags_at_first_separator u) at h in
+      let language : is_language (first_subtag u) ≡ true = sym (is_language-fold_text (first_subtag u)) ∙ grind arith in
+      let more = more_than_language u other language in
+      let a = after_first u more in
+      let tail : (is_language (fold_text (first_subtag u)) && is_tail (subtags_of (fold_text a.rest))) ≡ true = rw (a.subtags) at h in
+      let front : take (length (first_subtag u)) u ≡ first_subtag u = ap (λ n. take n u) (length-first_subtag u) in
+      none record { language = ap is_language front ∙ language; more = more; like = (like_folded u a).1 (tail_cased a.rest (second (is_language (fold_text (first_subtag u))) (is_tail (subtags_of (fold_text a.rest))) tail)).like }
 
 -- ---- more bytes than an identifier has
-
-pub refusal_by_language : (u : List ℕ) (is : Bool) → is_language (first_subtag u) ≡ is → refusal_of u ≡ cond is InvalidSubtag InvalidLanguage
-refusal_by_language u is language = rw (subtags_at_first_separator u, is_language-fold_text (first_subtag u), language) refl
 
 pub more_refused : (u : List ℕ) → 17 < length u → canonical_of u ≡ None
 more_refused u more =
