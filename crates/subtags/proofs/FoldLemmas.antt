@@ -13,7 +13,7 @@ use Rattle.subtags.specs.Grammar.{fold_byte, fold_text, is_language, is_script, 
 use Rattle.subtags.specs.Subtags.{IsCanonicalSubtag}
 
 -- where f after g is f at each element, it is so on a list
-pub map-map_absorbed : {X : Type 0} (f g : X → X) → ((x : X) → f (g x) ≡ f x) → (l : List X) → map f (map g l) ≡ map f l
+pub map-map_absorbed : {X Y : Type 0} (f : X → Y) (g : X → X) → ((x : X) → f (g x) ≡ f x) → (l : List X) → map f (map g l) ≡ map f l
 map-map_absorbed f g e l = simp (map-map, e)
 
 -- where each byte passes a test, each has what the test shows
@@ -36,10 +36,10 @@ fold_text-canonical_subtag p =
     let raised = map-map_absorbed fold_byte raise (λ b. grind (arith, nat_tests)) p in
     grind arith
 
-is_alphabetic-fold_byte : (b : ℕ) → is_alphabetic (fold_byte b) ≡ is_alphabetic b
+pub is_alphabetic-fold_byte : (b : ℕ) → is_alphabetic (fold_byte b) ≡ is_alphabetic b
 is_alphabetic-fold_byte b = grind (arith, nat_tests)
 
-is_digit-fold_byte : (b : ℕ) → is_digit (fold_byte b) ≡ is_digit b
+pub is_digit-fold_byte : (b : ℕ) → is_digit (fold_byte b) ≡ is_digit b
 is_digit-fold_byte b = grind (arith, nat_tests)
 
 ruleset fold_steps = (list_all-map, length-map, is_alphabetic-fold_byte, is_digit-fold_byte)
@@ -61,15 +61,18 @@ alphanumeric-fold_text p = simp fold_steps
 pub same_test_from_fold_text : (t : List ℕ → Bool) → ((p : List ℕ) → t (fold_text p) ≡ t p) → (p q : List ℕ) → fold_text p ≡ fold_text q → t p ≡ t q
 same_test_from_fold_text t e p q alike = sym (e p) ∙ ap t alike ∙ e q
 
+alphanumeric-from_class : (t : ℕ → Bool) → ((b : ℕ) → t b ≡ true → is_alphanumeric b ≡ true) → (p : List ℕ) → list_all t p ≡ true → list_all is_alphanumeric p ≡ true
+alphanumeric-from_class t e p h = list_all-from_AllPass is_alphanumeric p (All-from_list_all t (λ b. is_alphanumeric b ≡ true) e p h)
+
+pub alphanumeric-from_letters : (p : List ℕ) → list_all is_alphabetic p ≡ true → list_all is_alphanumeric p ≡ true
+alphanumeric-from_letters = alphanumeric-from_class is_alphabetic (λ b a. grind arith)
+
 -- a language, a script or a region has letters and digits alone
 pub alphanumeric-from_subtag : (p : List ℕ) → (is_language p || is_script p || is_region p) ≡ true → list_all is_alphanumeric p ≡ true
 alphanumeric-from_subtag p h =
-    let letters = weaker is_alphabetic (λ b a. grind arith) in
-    let digits = weaker is_digit (λ b a. grind arith) in
+    let letters = alphanumeric-from_letters p in
+    let digits = alphanumeric-from_class is_digit (λ b a. grind arith) p in
     grind arith
-  where
-    weaker : (t : ℕ → Bool) → ((b : ℕ) → t b ≡ true → is_alphanumeric b ≡ true) → list_all t p ≡ true → list_all is_alphanumeric p ≡ true
-    weaker t e a = list_all-from_AllPass is_alphanumeric p (All-from_list_all t (λ b. is_alphanumeric b ≡ true) e p a)
 
 -- and is a text
 pub IsStrictText-from_subtag : (p : List ℕ) (n : ℕ) → (is_language p || is_script p || is_region p) ≡ true → length p ≤ n → IsStrictText p n

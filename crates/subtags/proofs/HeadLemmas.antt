@@ -1,5 +1,5 @@
 -- The first subtag of an input.
-use Rattle.std.proofs.Common.{◌≡◌, ◌≤◌, ℕ, Bool, not, ◌==◌, true, false, ◌&&◌, List, ◌∷◌, Option, length, take, refl, sym, ap, ◌∙◌, arith}
+use Rattle.std.proofs.Common.{◌≡◌, ◌≤◌, ℕ, Bool, not, ◌==◌, true, false, ◌&&◌, List, length, take, refl, sym, ap, ◌∙◌, arith}
 use Rattle.std.specs.Prelude.{IsTrue}
 use Rattle.std.specs.Bool.{then_some}
 use Rattle.std.specs.Option.{SomeIff, IfSome}
@@ -12,17 +12,11 @@ use Rattle.tinystr_words.specs.Classes.{is_alphabetic}
 use Rattle.tinystr_words.specs.Case.{lowercase}
 use Rattle.subtags.specs.Subtags.{IsCanonicalSubtag}
 use Rattle.subtags.proofs.FoldLemmas.{IsCanonicalSubtag-lowercase}
-use Rattle.subtags.specs.Grammar.{is_separator, is_language, is_language_length, fold_text, subtags_of}
+use Rattle.subtags.specs.Grammar.{is_separator, is_language, is_language_length}
 use Rattle.subtags.specs.Private.Tails.{first_subtag}
-use Rattle.subtags.proofs.ReadingSteps.{rest_after, subtags_of_rest}
-use Rattle.subtags.proofs.SplitLemmas.{subtags_at_first_separator}
 
 pub length-first_subtag : (u : List ℕ) → length (first_subtag u) ≡ position_or_len is_separator u
 length-first_subtag u = omega (arith, length-take (position_or_len is_separator u) u, prefix_len-le-length (λ b. not (is_separator b)) u)
-
--- the subtags are the first, and those after it
-pub subtags_of_rest-first_subtag : (u : List ℕ) (rest : Option (List ℕ)) → rest ≡ rest_after (length (first_subtag u)) u → subtags_of (fold_text u) ≡ fold_text (first_subtag u) ∷ subtags_of_rest rest
-subtags_of_rest-first_subtag u rest is = rw (is, length-first_subtag u) (subtags_at_first_separator u)
 
 -- it is a language where it is letters, and as many as a language has
 pub is_language-first_subtag : (u : List ℕ) (n : ℕ) → n ≡ position_or_len is_separator u → is_language (first_subtag u) ≡ (list_all is_alphabetic (take n u) && is_language_length n)

@@ -1,32 +1,26 @@
 -- An identifier is read from its first 17 bytes.
-use Rattle.std.proofs.Common.{inl, inr, min, not, zero, suc, ◌≡◌, ◌+◌, ◌-◌, ◌<◌, ◌≤◌, ℕ, ◌||◌, lit<, subst, IfSome, Bool, true, false, List, [], ◌∷◌, ◌++◌, length, map, take, drop, get_or, Option, Some, None, append-nil, drop-cons, refl, sym, ap, ap₂, ◌∙◌, cond, arith}
-use Rattle.std.specs.List.{list_all, position_or_len}
-use Rattle.tinystr_words.specs.Classes.{is_alphabetic}
+use Rattle.std.proofs.Common.{inl, inr, min, not, zero, suc, ◌≡◌, ◌+◌, ◌-◌, ◌<◌, ◌≤◌, ◌==◌, ℕ, ◌&&◌, lit<, Bool, true, false, List, [], ◌∷◌, ◌++◌, length, map, take, drop, get_or, None, drop-cons, subst, refl, sym, ap, ◌∙◌, cond, arith}
+use lib.Lanes.{zip2}
+use Rattle.std.specs.List.{list_all, join_with_byte, position_or_len}
+use Rattle.tinystr_words.specs.Classes.{is_alphabetic, is_alphanumeric}
 use Rattle.std.proofs.lemmas.Bool.{cases_lt, false_from_ne_true, false≢true}
 use Rattle.std.proofs.lemmas.Bool.Decides.{nat_tests}
-use Rattle.std.proofs.lemmas.List.{take_all, take-take, length-drop}
+use Rattle.std.proofs.lemmas.List.{take_all, take-take, length-drop, length-map}
 use Rattle.std.proofs.lemmas.List.Elements.{All-append, All-nil, All-cons}
-use Rattle.std.proofs.lemmas.List.Sums.{passes_at_first, position_or_len_is}
-use Rattle.tinystr_words.specs.Case.{lowercase, titlecase, uppercase}
+use Rattle.std.proofs.lemmas.List.Sums.{passes_at_first}
 use Rattle.tinystr_words.specs.Text.{IsStrictText, IsText, IsTextByte}
-use Rattle.subtags.specs.Grammar.{dash, is_separator, is_language, is_language_length, is_script, is_region, fold_byte, fold_text, subtags_of, is_lang_id, IsLangId, canonical_text, canonical_of}
+use Rattle.subtags.specs.Grammar.{dash, is_separator, is_language, is_language_length, is_tail, fold_byte, fold_text, subtags_of, is_lang_id, IsLangId, canonical_subtag, canonical_text, canonical_of}
 use Rattle.subtags.specs.declared.error.LangIdError.TheVariants.{InvalidSubtag, InvalidLanguage}
 use Rattle.subtags.specs.Answers.{refusal_of}
-use Rattle.subtags.specs.Subtags.{IsCanonicalSubtag, language_of, script_of, region_of, after_dash, join_subtags}
-use Rattle.subtags.specs.Private.Tails.{IsLike, example, first_subtag, in_case_of}
-use Rattle.subtags.proofs.ReadingSteps.{rest_after, leading_script}
+use Rattle.subtags.specs.Private.Tails.{IsLike, HasTail, example, first_subtag, in_case_of, in_case_of_byte}
 use Rattle.subtags.proofs.CanonicalLen.{length-IsCanonical, length-canonical_text}
-use Rattle.subtags.proofs.CanonLemmas.{IsCanonical-canonical_text}
-use Rattle.subtags.proofs.FoldLemmas.{All-from_list_all, is_language-fold_text, IsStrictText-from_subtag, fold_text-alphanumeric, alphanumeric-from_subtag}
-use Rattle.subtags.proofs.HeadLemmas.{length-first_subtag, subtags_of_rest-first_subtag}
-use Rattle.subtags.proofs.SplitLemmas.{subtags_at_first_separator}
-use Rattle.subtags.proofs.PlaceLemmas.{InPlace-canonical}
-use Rattle.subtags.proofs.ReadLemmas.{accepted_from_read, refused_without_tail, join_subtags-IsCanonical}
-use Rattle.subtags.proofs.ExampleLemmas.{tail_like, tail_refused}
-
--- a language has at most 8 letters
-pub length-language : (l : List ℕ) → is_language l ≡ true → length l ≤ 8
-length-language l h = grind (arith, nat_tests)
+use Rattle.subtags.proofs.CanonLemmas.{IsCanonical-canonical_text, is_tail-canonical, plain_subtags}
+use Rattle.subtags.proofs.FoldLemmas.{All-from_list_all, is_language-fold_text, fold_text-fold_text, alphanumeric-fold_text, alphanumeric-from_letters}
+use Rattle.subtags.proofs.HeadLemmas.{length-first_subtag}
+use Rattle.subtags.proofs.SplitLemmas.{subtags_after, subtags_at_first_separator, subtags_of-alphanumeric}
+use Rattle.subtags.proofs.PlaceLemmas.{length-language}
+use Rattle.subtags.proofs.ReadLemmas.{refused_without_language}
+use Rattle.subtags.proofs.TailLemmas.{tail_like, tail_cased, like-fold_text}
 
 -- the first that passes, in a front of a list
 first_in_front : (p : ℕ → Bool) (n : ℕ) (xs : List ℕ) → position_or_len p (take n xs) ≡ min n (position_or_len p xs)
@@ -58,101 +52,34 @@ first_subtag-take u =
     ]
 
 -- a canonical text is a text
-text_from_subtag : (p : List ℕ) → (is_language p || is_script p || is_region p) ≡ true → IsText p
-text_from_subtag p h = (IsStrictText-from_subtag p (length p) h (omega arith)).text
-
-IsText-after_dash : (test : List ℕ → Bool) (c : List ℕ → List ℕ) → ((p : List ℕ) → test p ≡ true → IsText p) → (r : Option (List ℕ)) → IfSome r (IsCanonicalSubtag test c) → IsText (after_dash r)
-IsText-after_dash test c text None h = All-nil IsTextByte
-IsText-after_dash test c text (Some p) h = All-cons IsTextByte dash p (lit< tt, lit< tt) (text p h.well_formed)
-
-IsText-join_subtags : (l : List ℕ) (s r : Option (List ℕ)) → IsCanonicalSubtag is_language lowercase l → IfSome s (IsCanonicalSubtag is_script titlecase) → IfSome r (IsCanonicalSubtag is_region uppercase) → IsText (join_subtags l s r)
-IsText-join_subtags l s r language script region =
-    All-append IsTextByte l (after_dash s ++ after_dash r) (text_from_subtag l (grind (arith, language.well_formed)))
-    (All-append IsTextByte (after_dash s) (after_dash r) (IsText-after_dash is_script titlecase (λ p h. text_from_subtag p (grind arith)) s script) (IsText-after_dash is_region uppercase (λ p h. text_from_subtag p (grind arith)) r region))
+IsText-join : (ps : List (List ℕ)) → list_all (list_all is_alphanumeric) ps ≡ true → IsText (join_with_byte dash ps)
+IsText-join [] plain = All-nil IsTextByte
+IsText-join (p ∷ []) plain = All-from_list_all is_alphanumeric IsTextByte (λ b a. grind (arith, nat_tests)) p (grind arith)
+IsText-join (p ∷ q ∷ ps) plain =
+    All-append IsTextByte p (dash ∷ join_with_byte dash (q ∷ ps)) (All-from_list_all is_alphanumeric IsTextByte (λ b a. grind (arith, nat_tests)) p (grind arith))
+    (All-cons IsTextByte dash (join_with_byte dash (q ∷ ps)) (lit< tt, lit< tt) (IsText-join (q ∷ ps) (grind arith)))
 
 pub IsStrictText-canonical_text : (u : List ℕ) → IsLangId u → IsStrictText (canonical_text u) 17
 IsStrictText-canonical_text u h =
-    let t = canonical_text u in
-    let canonical = IsCanonical-canonical_text u h in
-    let place = InPlace-canonical t canonical in
-    let text = IsText-join_subtags (language_of t) (script_of t) (region_of t) place.1 place.2 place.3 in
-    record { text = subst IsText (sym (join_subtags-IsCanonical t canonical)) text; fits = (length-IsCanonical t canonical).1 }
-
--- ---- a language alone
-
--- letters alone are their own first subtag
-pub first_subtag-letters : (u : List ℕ) → list_all is_alphabetic u ≡ true → first_subtag u ≡ u
-first_subtag-letters u letters =
-    let others = All-from_list_all is_alphabetic (λ b. is_separator b ≡ false) (λ b a. grind (arith, nat_tests)) u letters in
-    let end : position_or_len is_separator u ≡ length u = position_or_len_is is_separator u (length u) 0 (omega arith) (λ k below. others k 0 below) (λ more. absurd (omega arith)) in
-    rw end (take_all (length u) u (omega arith))
-
-pub language_read : (u : List ℕ) → is_language (first_subtag u) ≡ true → length (first_subtag u) ≡ length u
-    → IsLangId u × (canonical_text u ≡ map fold_byte u) × (length u ≤ 8)
-language_read u language whole =
-    let all : first_subtag u ≡ u = take_all (position_or_len is_separator u) u (omega (arith, length-first_subtag u, whole)) in
-    let none : rest_after (length (first_subtag u)) u ≡ None = grind (arith, nat_tests) in
-    let split = subtags_of_rest-first_subtag u None (sym none) in
-    let read = accepted_from_read u (first_subtag u) [] None split language refl in
-    let folded = fold_text-alphanumeric (first_subtag u) (alphanumeric-from_subtag (first_subtag u) (grind arith)) in
-    (read.0, sym read.1 ∙ append-nil (lowercase (first_subtag u)) ∙ sym folded ∙ ap fold_text all, omega (arith, length-language (first_subtag u) language, whole))
-
--- ---- a language and a tail
-
--- what follows the first subtag
-pub record AfterFirst (u : List ℕ) : Type 0 where
-  pub separator : ℕ
-  pub rest : List ℕ
-  pub split : drop (length (first_subtag u)) u ≡ separator ∷ rest
-  pub hit : is_separator separator ≡ true
-  pub subtags : subtags_of (fold_text u) ≡ fold_text (first_subtag u) ∷ subtags_of (fold_text rest)
-
-pub after_first : (u : List ℕ) → length (first_subtag u) < length u → AfterFirst u
-after_first u inside =
-    let e = length (first_subtag u) in
-    let at : position_or_len is_separator u ≡ e = sym (length-first_subtag u) in
-    let one : e + 1 ≡ suc e = omega arith in
-    let rest : rest_after e u ≡ Some (drop (e + 1) u) = grind (arith, nat_tests) in
-    record {
-      separator = get_or u e 0;
-      rest = drop (e + 1) u;
-      split = drop-cons u e 0 inside ∙ ap (λ n. get_or u e 0 ∷ drop n u) (sym one);
-      hit = rw at at (passes_at_first is_separator u 0 (omega (arith, at)));
-      subtags = subtags_of_rest-first_subtag u (Some (drop (e + 1) u)) (sym rest);
-    }
-
--- the bytes from the end of the language on are a separator and what follows it
-length-after : (u : List ℕ) (a : AfterFirst u) → length u - length (first_subtag u) ≡ 1 + length a.rest
-length-after u a = omega (arith, length-drop (length (first_subtag u)) u, ap (λ (l : List ℕ). length l) a.split)
-
-pub tail_read : (u : List ℕ) (a : AfterFirst u) → is_language (first_subtag u) ≡ true → (let e = length (first_subtag u) in let t = example (length u - e) in
-    IsLike t (drop e u) → IsLangId u × (canonical_text u ≡ map fold_byte (take e u) ++ in_case_of t (drop e u)))
-tail_read u a language like =
-    let e = length (first_subtag u) in
-    let len = length-after u a in
-    let read = tail_like a.separator a.rest a.hit (rw (len, a.split) at like) in
-    let all = accepted_from_read u (first_subtag u) _ read.region a.subtags language read.last in
-    let folded = fold_text-alphanumeric (first_subtag u) (alphanumeric-from_subtag (first_subtag u) (grind arith)) in
-    let front : first_subtag u ≡ take e u = ap (λ n. take n u) (sym (length-first_subtag u)) in
-    let text : after_dash read.script ++ after_dash read.region ≡ in_case_of (example (length u - e)) (drop e u) = sym read.text ∙ ap₂ (λ n v. in_case_of (example n) v) (sym len) (sym a.split) in
-    let joined : join_subtags (lowercase (first_subtag u)) (leading_script (subtags_of (fold_text a.rest))) read.region ≡ lowercase (first_subtag u) ++ (after_dash read.script ++ after_dash read.region) =
-    ap (λ s. lowercase (first_subtag u) ++ (after_dash s ++ after_dash read.region)) read.leading in
-    (all.0, sym all.1 ∙ joined ∙ ap₂ (λ (x y : List ℕ). x ++ y) (sym folded ∙ ap fold_text front) text)
-
-pub tail_not_read : (u : List ℕ) (a : AfterFirst u) → is_language (first_subtag u) ≡ true → (let e = length (first_subtag u) in
-    (IsLike (example (length u - e)) (drop e u) → ⊥) → (is_lang_id (subtags_of (fold_text u)) ≡ false) × (refusal_of u ≡ InvalidSubtag))
-tail_not_read u a language other =
-    let len = length-after u a in
-    let refused = tail_refused a.separator a.rest a.hit (λ like. other (rw (len, a.split) like)) in
-    refused_without_tail u (first_subtag u) _ InvalidSubtag a.subtags language refused
+    let split = subtags_at_first_separator u in
+    let all : (is_language (fold_text (first_subtag u)) && is_tail (subtags_after u)) ≡ true = rw split at h in
+    let plain = plain_subtags (fold_text (first_subtag u)) (map canonical_subtag (subtags_after u)) (grind arith) (is_tail-canonical (subtags_after u) (grind arith)) in
+    record { text = rw split (IsText-join (fold_text (first_subtag u) ∷ map canonical_subtag (subtags_after u)) plain); fits = (length-IsCanonical (canonical_text u) (IsCanonical-canonical_text u h)).1 }
 
 -- ---- letters alone
 
+letters_alone : (u : List ℕ) → list_all is_alphabetic u ≡ true → subtags_of (fold_text u) ≡ fold_text u ∷ []
+letters_alone u letters = subtags_of-alphanumeric (fold_text u) (alphanumeric-fold_text u ∙ alphanumeric-from_letters u letters)
+
 pub letters_read : (u : List ℕ) → list_all is_alphabetic u ≡ true → is_language_length (length u) ≡ true → IsLangId u × (canonical_text u ≡ map fold_byte u) × (length u ≤ 8)
 letters_read u letters size =
-    let all = first_subtag-letters u letters in
-    let language : is_language (first_subtag u) ≡ true = ap is_language all ∙ rw (letters, size) refl in
-    language_read u language (ap (λ (l : List ℕ). length l) all)
+    let language : is_language u ≡ true = rw (letters, size) refl in
+    (rw (letters_alone u letters, is_language-fold_text u, language) refl, rw (letters_alone u letters) refl, length-language u language)
+
+pub letters_refused : (u : List ℕ) → list_all is_alphabetic u ≡ true → is_language_length (length u) ≡ false → (is_lang_id (subtags_of (fold_text u)) ≡ false) × (refusal_of u ≡ InvalidLanguage)
+letters_refused u letters wrong = refused_without_language u u [] (letters_alone u letters) (rw (letters, wrong) refl)
+
+-- ---- a language and a tail
 
 -- where not all bytes are letters, more follows a language
 pub more_than_language : (u : List ℕ) → list_all is_alphabetic u ≡ false → is_language (first_subtag u) ≡ true → length (first_subtag u) < length u
@@ -164,10 +91,69 @@ more_than_language u other language = elim (cases_lt (length (first_subtag u)) (
       absurd (false≢true (sym other ∙ ap (list_all is_alphabetic) (sym same) ∙ letters))
 ]
 
--- ---- more bytes than an identifier has
+-- what follows the first subtag
+pub record AfterFirst (u : List ℕ) : Type 0 where
+  pub rest : List ℕ
+  pub folded : fold_text (drop (length (first_subtag u)) u) ≡ dash ∷ fold_text rest
+  pub count : length u - length (first_subtag u) ≡ 1 + length (fold_text rest)
+  pub subtags : subtags_of (fold_text u) ≡ fold_text (first_subtag u) ∷ subtags_of (fold_text rest)
 
-pub refusal_by_language : (u : List ℕ) (is : Bool) → is_language (first_subtag u) ≡ is → refusal_of u ≡ cond is InvalidSubtag InvalidLanguage
-refusal_by_language u is language = rw (subtags_at_first_separator u, is_language-fold_text (first_subtag u), language) refl
+pub after_first : (u : List ℕ) → length (first_subtag u) < length u → AfterFirst u
+after_first u inside =
+    let n = position_or_len is_separator u in
+    let at : length (first_subtag u) ≡ n = length-first_subtag u in
+    let hit = passes_at_first is_separator u 0 (omega (arith, at)) in
+    let next : suc n ≡ n + 1 = omega arith in
+    let split : drop (length (first_subtag u)) u ≡ get_or u n 0 ∷ drop (n + 1) u = ap (λ m. drop m u) at ∙ drop-cons u n 0 (omega arith) ∙ ap (λ m. get_or u n 0 ∷ drop m u) next in
+    let more : (n == length u) ≡ false = grind (arith, nat_tests) in
+    record {
+      rest = drop (n + 1) u;
+      folded = ap fold_text split ∙ ap (λ (b : ℕ). b ∷ fold_text (drop (n + 1) u)) (dash_from_separator (get_or u n 0) hit);
+      count = omega (arith, length-drop (n + 1) u, length-map (drop (n + 1) u) fold_byte);
+      subtags = rw more at (subtags_at_first_separator u);
+    }
+  where
+    dash_from_separator : (b : ℕ) → is_separator b ≡ true → fold_byte b ≡ dash
+    dash_from_separator b h = grind (arith, nat_tests)
+
+-- the bytes from the end of the language on are like their example exactly if they are a tail
+like_folded : (u : List ℕ) (a : AfterFirst u) → (let e = length (first_subtag u) in let x = fold_text a.rest in
+    (IsLike (example (length u - e)) (drop e u) → IsLike (example (1 + length x)) (dash ∷ x)) × (IsLike (example (1 + length x)) (dash ∷ x) → IsLike (example (length u - e)) (drop e u)))
+like_folded u a =
+    let e = length (first_subtag u) in
+    let same = like-fold_text (example (length u - e)) (drop e u) in
+    (λ like. rw (a.count, a.folded) at (same.1 like), λ like. same.0 (rw (a.count, a.folded) like))
+
+pub tail_read : (u : List ℕ) → (let e = length (first_subtag u) in HasTail e u → IsLangId u × (canonical_text u ≡ map fold_byte (take e u) ++ in_case_of (example (length u - e)) (drop e u)))
+tail_read u h =
+    let a = after_first u h.more in
+    let x = fold_text a.rest in
+    let first : take (length (first_subtag u)) u ≡ first_subtag u = ap (λ n. take n u) (length-first_subtag u) in
+    let language : is_language (first_subtag u) ≡ true = subst (λ p. is_language p ≡ true) first h.language in
+    let tail : is_tail (subtags_of x) ≡ true = tail_like x (fold_text-fold_text a.rest) ((like_folded u a).0 h.like) in
+    (rw (a.subtags, is_language-fold_text (first_subtag u), language, tail) refl, rw (a.subtags, a.count, a.folded) ((tail_cased a.rest tail).text (fold_text (first_subtag u)) ∙ ap (λ p. fold_text p ++ zip2 in_case_of_byte (example (1 + length x)) (dash ∷ x)) (sym first)))
+
+-- ---- what isn't an identifier
+
+pub refusal_by_language : (u : List ℕ) → refusal_of u ≡ cond (is_language (first_subtag u)) InvalidSubtag InvalidLanguage
+refusal_by_language u = rw (subtags_at_first_separator u, is_language-fold_text (first_subtag u)) refl
+
+pub not_read : (u : List ℕ) → list_all is_alphabetic u ≡ false → (HasTail (length (first_subtag u)) u → ⊥) → (is_lang_id (subtags_of (fold_text u)) ≡ false) × (refusal_of u ≡ cond (is_language (first_subtag u)) InvalidSubtag InvalidLanguage)
+not_read u other none = (false_from_ne_true (is_lang_id (subtags_of (fold_text u))) read, refusal_by_language u) where
+  second : (a b : Bool) → (a && b) ≡ true → b ≡ true
+  second a b h = grind arith
+
+  read : is_lang_id (subtags_of (fold_text u)) ≡ true → ⊥
+  read h =
+      let all : (is_language (fold_text (first_subtag u)) && is_tail (subtags_after u)) ≡ true = rw (subtags_at_first_separator u) at h in
+      let language : is_language (first_subtag u) ≡ true = sym (is_language-fold_text (first_subtag u)) ∙ grind arith in
+      let more = more_than_language u other language in
+      let a = after_first u more in
+      let tail : (is_language (fold_text (first_subtag u)) && is_tail (subtags_of (fold_text a.rest))) ≡ true = rw (a.subtags) at h in
+      let front : take (length (first_subtag u)) u ≡ first_subtag u = ap (λ n. take n u) (length-first_subtag u) in
+      none record { language = ap is_language front ∙ language; more = more; like = (like_folded u a).1 (tail_cased a.rest (second (is_language (fold_text (first_subtag u))) (is_tail (subtags_of (fold_text a.rest))) tail)).like }
+
+-- ---- more bytes than an identifier has
 
 pub more_refused : (u : List ℕ) → 17 < length u → canonical_of u ≡ None
 more_refused u more =

@@ -14,6 +14,7 @@ use Rattle.tinystr_words.proofs.Lanes.{IsBytes, IsBytes-from_Fits}
 use Rattle.tinystr_words.proofs.Texts.{NULS, length-pad, get_or-nuls, IsPaddedText-made, text_of-made}
 use Rattle.subtags.specs.Grammar.{fold_byte}
 use Rattle.subtags.specs.Private.Lanes.{steps_of}
+use Rattle.subtags.proofs.TailLemmas.{length-example}
 use Rattle.subtags.specs.Private.Tails.{example, IsLike, in_case_of_byte, in_case_of}
 
 -- a byte with another taken from it
@@ -23,7 +24,7 @@ less a b = (a + (256 - b)) % 256
 less-none : (b : ℕ) → b < 256 → less (fold_byte b) 0 ≡ fold_byte b
 less-none b small = grind (arith, nat_tests)
 
-less-step : (a b : ℕ) → b < 256 → is_alphabetic b ≡ is_alphabetic a → less (fold_byte b) (cond (is_upper a) 32 0) ≡ in_case_of_byte a b
+less-step : (a b : ℕ) → b < 256 → is_alphabetic b ≡ is_alphabetic a → less (fold_byte b) (cond (is_upper a) 32 0) ≡ in_case_of_byte a (fold_byte b)
 less-step a b small same = grind (arith, nat_tests)
 
 zip2-take : (f : ℕ → ℕ → ℕ) (n : ℕ) (xs ys : List ℕ) → zip2 f (take n xs) (take n ys) ≡ take n (zip2 f xs ys)
@@ -44,7 +45,7 @@ lowered [] (a ∷ t) (b ∷ v) k small smaller same =
 lowered (b ∷ l) t v k small smaller same = ap₂ (λ (x : ℕ) (m : List ℕ). x ∷ m) (less-none b small.0) (lowered l t v k small.1 smaller same)
 
 length-in_case_of : (t v : List ℕ) → length t ≡ length v → length (in_case_of t v) ≡ length v
-length-in_case_of t v same = length-zip2 in_case_of_byte t v same ∙ same
+length-in_case_of t v same = length-zip2 in_case_of_byte t (map fold_byte v) (same ∙ sym (length-map v fold_byte)) ∙ same
 
 -- sixteen of at most 17 bytes, which NULs follow
 first_sixteen : (u : List ℕ) → length u ≤ 17 → pad (take 16 u) 16 ≡ take 16 (u ++ NULS (17 - length u))
@@ -87,15 +88,7 @@ last_digit l v eight nine digits =
     let len : length (map fold_byte l) ≡ 8 = length-map l fold_byte ∙ eight in
     let kept : fold_byte (get_or v 8 0) ≡ get_or v 8 0 = grind (arith, nat_tests) in
     ap (λ n. get_or (map fold_byte l ++ in_case_of t v) n 0) (omega (arith, len)) ∙ get_or-append-add (map fold_byte l) (in_case_of t v) 8 0
-    ∙ get_or-zip2 f t v 8 0 0 0 (omega arith) (omega (arith, nine)) ∙ kept
-
--- no example has more than nine bytes
-pub length-example : (n : ℕ) → length (example n) ≤ 9
-length-example n = grind (arith, nat_tests)
-
--- and none is longer than what is like it
-pub length-of_like : (n : ℕ) (v : List ℕ) → IsLike (example n) v → length v ≤ 9
-length-of_like n v like = omega (arith, length-example n, length-map v is_alphabetic, length-map (example n) is_alphabetic, ap (λ (m : List Bool). length m) like.letters)
+    ∙ get_or-zip2 f t (map fold_byte v) 8 0 0 0 (omega arith) (omega (arith, nine, length-map v fold_byte)) ∙ ap (λ b. f 57 b) (get_or-map fold_byte v 8 0) ∙ kept
 
 -- sixteen lanes and the 17th byte are the text and NULs after it
 pub with_last : (u : List ℕ) (e : ℕ) (lanes : List ℕ) → e ≤ 8 → e < length u → length u ≤ 17 → IsLike (example (length u - e)) (drop e u)

@@ -1,4 +1,3 @@
-pub mod ReadingSteps
 pub mod MaskLemmas
 pub mod LaneClasses
 pub mod FoldLemmas
@@ -6,7 +5,6 @@ pub mod SplitLemmas
 pub mod CanonLemmas
 pub mod ReadLemmas
 pub mod TailLemmas
-pub mod ExampleLemmas
 pub mod LaneTexts
 pub mod JoinLemmas
 pub mod PlaceLemmas

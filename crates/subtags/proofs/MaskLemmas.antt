@@ -1,18 +1,17 @@
 -- Bits that say which bytes pass a test.
-use Rattle.std.proofs.Common.{◌≡◌, ◌+◌, ◌*◌, ◌/◌, ◌%◌, ◌^◌, ◌<◌, ◌≤◌, ℕ, zero, suc, Bool, true, false, not, ◌&&◌, ◌==◌, ◌↔◌, List, [], ◌∷◌, ◌++◌, length, map, take, drop, cond, pow_mono, ap, refl, sym, ◌∙◌, arith}
+use Rattle.std.proofs.Common.{◌≡◌, ◌+◌, ◌-◌, ◌*◌, ◌/◌, ◌%◌, ◌^◌, ◌<◌, ◌≤◌, ℕ, zero, suc, Bool, true, false, not, ◌&&◌, ◌==◌, List, [], ◌∷◌, ◌++◌, length, map, take, drop, cond, pow_mono, ap, ap₂, refl, sym, ◌∙◌, arith}
 use lib.Lanes.{mask_l}
 use lib.Count.{count_trailing_zeros}
 use Rattle.std.specs.List.{list_all, prefix_len, position_or_len}
-use Rattle.std.proofs.Math.Nat.{pow-suc, mul_assoc, mod-eq_of_lt}
+use Rattle.std.proofs.Math.Nat.{pow-suc, mul_assoc, mul-le-mul_right, mod-eq_of_lt}
 use Rattle.std.proofs.Math.Arith.{digits_mod}
 use Rattle.std.proofs.lemmas.Bool.Decides.{nat_tests}
-use Rattle.std.proofs.lemmas.Nat.{div-mul-add}
-use Rattle.std.proofs.lemmas.List.{length-map, length-take, take-map, drop-map, length-append}
+use Rattle.std.proofs.lemmas.Nat.{div-mul-add, pow-add}
+use Rattle.std.proofs.lemmas.List.{length-map, length-take, take-map, drop-map, length-append, length-drop}
 use Rattle.std.proofs.lemmas.Simd.{mask_l-lt, trailing_mask_l}
-use Rattle.std.specs.Prelude.{IsTrue}
 use Rattle.tinystr_words.specs.Classes.{is_alphabetic, is_digit}
 use Rattle.subtags.specs.Grammar.{is_separator}
-use Rattle.subtags.specs.Private.Tails.{IsLike}
+use Rattle.subtags.specs.Private.Tails.{IsLike, classes_of, one_more}
 
 -- the bits of the first bytes, and those of the others
 mask_l-split : (k : ℕ) (ms : List Bool) → k ≤ length ms → mask_l ms ≡ mask_l (drop k ms) * 2 ^ k + mask_l (take k ms)
@@ -93,17 +92,73 @@ mask_l-end p u few =
 pub shifted-one : (n : ℕ) → n ≤ 17 → 1 * 2 ^ n % 2 ^ 64 ≡ 2 ^ n
 shifted-one n few = let most : 2 ^ n ≤ 2 ^ 17 = pow_mono few in ap (λ m. m % 2 ^ 64) (omega arith) ∙ mod-eq_of_lt (omega (arith, most))
 
--- ---- bytes that are like an example
+-- no bit is set where no letter passes
+mask_l-none : (q : ℕ → Bool) → ((b : ℕ) → is_alphabetic b ≡ true → q b ≡ false) → (w : List ℕ) → list_all is_alphabetic w ≡ true → mask_l (map q w) ≡ 0
+mask_l-none q none [] h = refl
+mask_l-none q none (b ∷ w) h = let here = none b (grind arith) in let rest = mask_l-none q none w (grind arith) in rw (here, rest) refl
 
-same_number : (n : ℕ) → (n == n) ≡ true
-same_number n = grind (arith, nat_tests)
+-- ---- bytes in one number, twenty bits for each class
 
--- where the marks are the same, and only there
-pub like_from_masks : (t v : List ℕ) → length v ≡ length t
-    → IsTrue ((mask_l (map is_alphabetic v) == mask_l (map is_alphabetic t)) && ((mask_l (map is_digit v) == mask_l (map is_digit t)) && (mask_l (map is_separator v) == mask_l (map is_separator t)))) ↔ IsLike t v
-like_from_masks t v len =
-    let same : (p : ℕ → Bool) → (mask_l (map p v) == mask_l (map p t)) ≡ true → map p v ≡ map p t =
-    λ p e. mask_l-same (map p v) (map p t) (length-map v p ∙ len ∙ sym (length-map t p)) (grind (arith, nat_tests)) in (
-      λ h. record { letters = same is_alphabetic (grind arith); digits = same is_digit (grind arith); separators = same is_separator (grind arith) },
-      λ like. rw (like.letters, like.digits, like.separators, same_number (mask_l (map is_alphabetic t)), same_number (mask_l (map is_digit t)), same_number (mask_l (map is_separator t))) refl,
+pub mask_l-lt_17 : (p : ℕ → Bool) (u : List ℕ) → length u ≤ 17 → mask_l (map p u) < 2 ^ 17
+mask_l-lt_17 p u few =
+    let some = rw (length-map u p) at (mask_l-lt (map p u)) in
+    let most : 2 ^ length u ≤ 2 ^ 17 = pow_mono few in
+    omega arith
+
+-- shifted bits that still fit
+shifted-le_17 : (p : ℕ → Bool) (t : List ℕ) (e : ℕ) → length t + e ≤ 17 → mask_l (map p t) * 2 ^ e + 2 ^ e ≤ 2 ^ 17
+shifted-le_17 p t e few =
+    let some : mask_l (map p t) + 1 ≤ 2 ^ length t = omega (arith, rw (length-map t p) at (mask_l-lt (map p t))) in
+    let most : 2 ^ (length t + e) ≤ 2 ^ 17 = pow_mono few in
+    let scaled : (mask_l (map p t) + 1) * 2 ^ e ≤ 2 ^ length t * 2 ^ e = mul-le-mul_right (2 ^ e) some in
+    omega (arith, scaled, most, pow-add 2 (length t) e)
+
+-- fields that fit are the same where their sum is
+same_fields : (l d s x y z p : ℕ) → l < 2 ^ 17 → d < 2 ^ 17 → s < 2 ^ 17 → x + p ≤ 2 ^ 17 → y + p ≤ 2 ^ 17 → z + p ≤ 2 ^ 17 → l + d * 2 ^ 20 + s * 2 ^ 40 + 1 ≡ x + p + y * 2 ^ 20 + z * 2 ^ 40 → (l + 1 ≡ x + p) × (d ≡ y) × (s ≡ z)
+same_fields l d s x y z p a b c f g h e = (omega arith, omega arith, omega arith)
+
+-- the shifted number of an example has its shifted fields
+one_more-shifted : (l d s p : ℕ) → (l + d * 2 ^ 20 + s * 2 ^ 40 + 1) * p ≡ l * p + p + d * p * 2 ^ 20 + s * p * 2 ^ 40
+one_more-shifted l d s p = grind arith
+
+-- letters, and then bytes like an example, have the shifted number of the example, and nothing else has it
+pub like_from_number : (t u : List ℕ) (e : ℕ) → e ≤ length u → length u ≤ 17 → (0 < length t → length t + e ≡ length u) → classes_of u + 1 ≡ one_more t * 2 ^ e → (list_all is_alphabetic (take e u) ≡ true) × (e < length u) × IsLike t (drop e u)
+like_from_number [] u e inside few size h = absurd (omega arith)
+like_from_number (a ∷ t) u e inside few size h =
+    let p = 2 ^ e in
+    let y = a ∷ t in
+    let len : length y + e ≡ length u = size (omega arith) in
+    let room : length y + e ≤ 17 = omega arith in
+    let none : 0 ≤ e = omega arith in
+    let one : 2 ^ 0 ≤ 2 ^ e = pow_mono none in
+    let l = mask_l (map is_alphabetic y) in
+    let d = mask_l (map is_digit y) in
+    let s = mask_l (map is_separator y) in
+    let f = same_fields (mask_l (map is_alphabetic u)) (mask_l (map is_digit u)) (mask_l (map is_separator u)) (l * p) (d * p) (s * p) p
+    (mask_l-lt_17 is_alphabetic u few) (mask_l-lt_17 is_digit u few) (mask_l-lt_17 is_separator u few)
+    (shifted-le_17 is_alphabetic y e room) (shifted-le_17 is_digit y e room) (shifted-le_17 is_separator y e room) (h ∙ one_more-shifted l d s p) in
+    let same : (q : ℕ → Bool) (r : ℕ) → r < p → mask_l (map q u) ≡ mask_l (map q y) * p + r → map q (drop e u) ≡ map q y =
+    λ q r small is. mask_l-same (map q (drop e u)) (map q y) (omega (arith, length-map (drop e u) q, length-map y q, length-drop e u))
+    (sym (mask_l-div q e u inside) ∙ ap (λ n. n / p) is ∙ div-mul-add (mask_l (map q y)) p r small) in
+    let letters : mask_l (map is_alphabetic u) ≡ l * p + (p - 1) = omega (arith, f.0) in
+    let all : mask_l (map is_alphabetic u) % p ≡ p - 1 = ap (λ n. n % p) letters ∙ digits_mod l (omega arith) in (
+      sym (letters-in_front is_alphabetic e u inside) ∙ rw all (grind (arith, nat_tests)),
+      omega arith,
+      record {
+        letters = same is_alphabetic (p - 1) (omega arith) letters;
+        digits = same is_digit 0 (omega arith) (omega (arith, f.1));
+        separators = same is_separator 0 (omega arith) (omega (arith, f.2));
+      },
     )
+
+pub number_from_like : (t u : List ℕ) (e : ℕ) → list_all is_alphabetic (take e u) ≡ true → e < length u → IsLike t (drop e u) → classes_of u + 1 ≡ one_more t * 2 ^ e
+number_from_like [] u e letters more like = absurd (omega (arith, length-drop e u, length-map (drop e u) is_alphabetic, ap (λ (l : List Bool). length l) like.letters))
+number_from_like (a ∷ t) u e letters more like =
+    let split : (q : ℕ → Bool) → mask_l (map q u) ≡ mask_l (map q (drop e u)) * 2 ^ e + mask_l (map q (take e u)) =
+    λ q. mask_l-split e (map q u) (omega (arith, length-map u q)) ∙ ap₂ (λ x y. mask_l x * 2 ^ e + mask_l y) (drop-map q e u) (take-map q e u) in
+    let len : length (take e u) ≡ e = omega (arith, length-take e u) in
+    let ones : mask_l (map is_alphabetic (take e u)) + 1 ≡ 2 ^ e = let all = rw (len, letters) at (mask_l-all is_alphabetic (take e u)) in grind (arith, nat_tests) in
+    let no_digits = mask_l-none is_digit (λ b h. grind (arith, nat_tests)) (take e u) letters in
+    let no_separators = mask_l-none is_separator (λ b h. grind (arith, nat_tests)) (take e u) letters in
+    rw (one_more-shifted (mask_l (map is_alphabetic (a ∷ t))) (mask_l (map is_digit (a ∷ t))) (mask_l (map is_separator (a ∷ t))) (2 ^ e))
+    (omega (arith, rw like.letters at (split is_alphabetic), rw like.digits at (split is_digit), rw like.separators at (split is_separator), ones, no_digits, no_separators))

@@ -1,34 +1,42 @@
 -- Where the subtags of a canonical text stand.
-use Rattle.std.proofs.Common.{get_or, ◌≡◌, ◌+◌, ◌-◌, ◌<◌, ◌≤◌, ◌==◌, ℕ, suc, inl, inr, Bool, true, length, List, [], ◌∷◌, ◌++◌, take, drop, Option, None, Some, Ok, refl, sym, ap, ◌∙◌, arith}
+use Rattle.std.proofs.Common.{get_or, ◌≡◌, ◌+◌, ◌-◌, ◌<◌, ◌≤◌, ◌==◌, ℕ, suc, inl, inr, Bool, true, length, List, [], ◌∷◌, ◌++◌, take, drop, Option, None, Some, map, refl, sym, ap, ◌∙◌, arith}
 use Rattle.std.proofs.lemmas.Bool.{cases_lt}
 use Rattle.std.proofs.lemmas.Bool.Decides.{nat_tests}
 use Rattle.std.proofs.lemmas.List.{places, append-nil, take_all, get_or-take, length-append, length-take, take-take}
 use Rattle.std.proofs.lemmas.List.Sums.{position_or_len_is}
 use Rattle.std.proofs.Math.Seq.{drop-append-add, take-append_seam}
-use Rattle.std.specs.List.{position, position_or_len}
+use Rattle.std.specs.List.{find, position, position_or_len}
 use Rattle.std.specs.Option.{IfSome, unwrap_or}
 use Rattle.tinystr_words.specs.Case.{lowercase, titlecase, uppercase}
-use Rattle.subtags.specs.Grammar.{dash, fold_text, subtags_of, is_language, is_script, is_region, IsCanonical}
+use Rattle.subtags.specs.Grammar.{dash, fold_text, subtags_of, is_language, is_script, is_region, canonical_subtag, IsCanonical}
 use Rattle.subtags.specs.Subtags.{IsCanonicalSubtag, language_of, script_of, region_of, after_dash, join_subtags}
-use Rattle.subtags.proofs.ReadingSteps.{leading_script, subtags_after_script, last_region}
 use Rattle.subtags.specs.Private.SubtagPlaces.{language_end, region_start}
-use Rattle.subtags.proofs.FoldLemmas.{alphanumeric-from_subtag, IsCanonicalSubtag-lowercase, IsCanonicalSubtag-titlecase, IsCanonicalSubtag-uppercase}
+use Rattle.subtags.proofs.FoldLemmas.{is_language-fold_text, fold_text-alphanumeric, alphanumeric-from_subtag, IsCanonicalSubtag-lowercase, IsCanonicalSubtag-titlecase, IsCanonicalSubtag-uppercase}
 use Rattle.subtags.proofs.SplitLemmas.{no_dash, subtags_at_first_separator}
-use Rattle.subtags.proofs.ReadLemmas.{read-IsCanonical, join_subtags-IsCanonical}
+use Rattle.subtags.proofs.ReadLemmas.{subtags-IsCanonical, join_subtags-IsCanonical}
+use Rattle.subtags.proofs.CanonLemmas.{is_script-canonical_subtag, is_region-canonical_subtag, no_script-from_region}
 
--- a script that is read is canonical
-IsCanonicalSubtag-leading_script : (ps : List (List ℕ)) → IfSome (leading_script ps) (IsCanonicalSubtag is_script titlecase)
-IsCanonicalSubtag-leading_script [] = tt
-IsCanonicalSubtag-leading_script (p ∷ ps) = let canonical = IsCanonicalSubtag-titlecase p in grind arith
+-- the script of a tail in its case is canonical
+canonical_script : (ps : List (List ℕ)) → IfSome (find is_script (map canonical_subtag ps)) (IsCanonicalSubtag is_script titlecase)
+canonical_script [] = tt
+canonical_script (p ∷ ps) =
+    let one = IsCanonicalSubtag-titlecase p in
+    let same = is_script-canonical_subtag p in
+    let rest = canonical_script ps in
+    grind arith
 
--- a region that is read is canonical
-IsCanonicalSubtag-last_region : (ps : List (List ℕ)) (r : Option (List ℕ)) → last_region ps ≡ Ok r → IfSome r (IsCanonicalSubtag is_region uppercase)
-IsCanonicalSubtag-last_region ps None h = tt
-IsCanonicalSubtag-last_region [] (Some r) h = absurd (grind arith)
-IsCanonicalSubtag-last_region (p ∷ ps) (Some r) h = let canonical = IsCanonicalSubtag-uppercase p in grind arith
+-- and so is its region
+canonical_region : (ps : List (List ℕ)) → IfSome (find is_region (map canonical_subtag ps)) (IsCanonicalSubtag is_region uppercase)
+canonical_region [] = tt
+canonical_region (p ∷ ps) =
+    let one = IsCanonicalSubtag-uppercase p in
+    let same = is_region-canonical_subtag p in
+    let not = no_script-from_region p in
+    let rest = canonical_region ps in
+    grind arith
 
 -- a language has at most 8 letters
-length-language : (l : List ℕ) → is_language l ≡ true → length l ≤ 8
+pub length-language : (l : List ℕ) → is_language l ≡ true → length l ≤ 8
 length-language l h = grind (arith, nat_tests)
 
 -- the first place that passes, or another where none does
@@ -130,10 +138,11 @@ InPlace-split : (t p : List ℕ) (ps : List (List ℕ)) → IsCanonical t → su
     → InPlace t (language_end t) (region_start t) (language_of t) (script_of t) (region_of t)
     × IsCanonicalSubtag is_language lowercase (language_of t) × IfSome (script_of t) (IsCanonicalSubtag is_script titlecase) × IfSome (region_of t) (IsCanonicalSubtag is_region uppercase)
 InPlace-split t p ps h split =
-    let read = read-IsCanonical t p ps h split in
-    let language = rw read.1 at (IsCanonicalSubtag-lowercase p read.0) in
-    let script = rw read.2 at (IsCanonicalSubtag-leading_script ps) in
-    let region = IsCanonicalSubtag-last_region (subtags_after_script ps) (region_of t) read.3 in
+    let of = subtags-IsCanonical t (fold_text p) ps h split in
+    let is : is_language p ≡ true = sym (is_language-fold_text p) ∙ of.0 in
+    let language : IsCanonicalSubtag is_language lowercase (language_of t) = rw (of.2, fold_text-alphanumeric p (alphanumeric-from_subtag p (grind arith))) (IsCanonicalSubtag-lowercase p is) in
+    let script : IfSome (script_of t) (IsCanonicalSubtag is_script titlecase) = rw (of.2) (canonical_script ps) in
+    let region : IfSome (region_of t) (IsCanonicalSubtag is_region uppercase) = rw (of.2) (canonical_region ps) in
     let joined = InPlace-join_subtags (language_of t) (script_of t) (region_of t) language.well_formed script region in
     (rw (← join_subtags-IsCanonical t h) at joined, language, script, region)
 

@@ -1,17 +1,18 @@
 //! The classes of an input's bytes, as bits. That of the first byte is the lowest.
 
-ghost use Rattle.std.specs.Prelude.{◌≡◌, ◌≤◌, length, map, take, drop};
+ghost use Rattle.std.specs.Prelude.{◌≡◌, ◌≤◌, length, map, take};
 ghost use Rattle.std.specs.List.{list_all, position_or_len};
 ghost use Rattle.std.specs.Simd.Lanes.{mask_l};
 ghost use Rattle.tinystr_words.specs.Classes.{is_alphabetic, is_digit};
 ghost use Rattle.subtags.specs.Grammar.{is_separator};
 ghost use Rattle.subtags.specs.Private.Lanes.{IsLoaded};
+ghost use Rattle.subtags.specs.Private.Tails.{classes_of};
 
 use crate::lanes::{digits_of, separators_of};
 use std::simd::prelude::*;
 
 /// Which of some bytes are letters, digits and separators.
-#[derive(Clone, Copy, PartialEq, Eq)]
+#[derive(Clone, Copy)]
 pub(crate) struct Classes {
     pub(crate) letters: u64,
     pub(crate) digits: u64,
@@ -45,23 +46,16 @@ impl Classes {
         (self.separators + (1 << units.len())).trailing_zeros() as usize
     }
 
-    /// Those from a byte on. The bytes are there for the contract.
+    /// All in one number: twenty bits for letters, then twenty for digits, and then separators.
     #[inline(always)]
-    pub(crate) fn from(&self, _units: &[u8], start: usize) -> Self
+    pub(crate) fn packed(&self, _units: &[u8]) -> u64
         requires few { length _units.now ≤ 17 }
-        requires inside { start ≤ length _units.now }
         requires letters { self.now.letters ≡ mask_l (map is_alphabetic _units.now) }
         requires digits { self.now.digits ≡ mask_l (map is_digit _units.now) }
         requires separators { self.now.separators ≡ mask_l (map is_separator _units.now) }
-        ensures letters { result.letters ≡ mask_l (map is_alphabetic (drop start _units.now)) }
-        ensures digits { result.digits ≡ mask_l (map is_digit (drop start _units.now)) }
-        ensures separators { result.separators ≡ mask_l (map is_separator (drop start _units.now)) }
+        ensures { result ≡ classes_of _units.now }
     {
-        Classes {
-            letters: self.letters >> start,
-            digits: self.digits >> start,
-            separators: self.separators >> start,
-        }
+        self.letters + (self.digits << 20) + (self.separators << 40)
     }
 }
 

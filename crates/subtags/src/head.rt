@@ -1,6 +1,6 @@
 //! The language that an input begins with.
 
-ghost use Rattle.std.specs.Prelude.{◌≡◌, ◌≤◌, IfSome, is_some, length, map};
+ghost use Rattle.std.specs.Prelude.{◌≡◌, ◌≤◌, length, map};
 ghost use Rattle.std.specs.Simd.Lanes.{mask_l};
 ghost use Rattle.tinystr_words.specs.Classes.{is_alphabetic};
 ghost use Rattle.subtags.specs.Grammar.{is_separator, is_language};
@@ -9,18 +9,17 @@ ghost use Rattle.subtags.specs.Private.Tails.{first_subtag};
 use crate::classes::{Classes, are_letters};
 use crate::language::is_language_length;
 
-/// The number of letters of the first subtag, if this is a language.
+/// Whether the first subtag is a language.
 #[inline(always)]
-pub(crate) fn language_len(classes: &Classes, units: &[u8]) -> Option<usize>
+pub(crate) fn has_language(classes: &Classes, units: &[u8]) -> bool
     requires few { length units.now ≤ 17 }
     requires letters { classes.now.letters ≡ mask_l (map is_alphabetic units.now) }
     requires separators { classes.now.separators ≡ mask_l (map is_separator units.now) }
-    ensures accepted { is_some result ≡ is_language (first_subtag units.now) }
-    ensures len { IfSome result (λ len. len ≡ length (first_subtag units.now)) }
+    ensures { result ≡ is_language (first_subtag units.now) }
 {
-    let len = classes.first_end(units);
-    if !is_language_length(len) {
-        return None;
+    let end = classes.first_end(units);
+    if !is_language_length(end) {
+        return false;
     }
-    are_letters(classes.letters, units, len).then_some(len)
+    are_letters(classes.letters, units, end)
 }

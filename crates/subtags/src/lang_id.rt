@@ -1,23 +1,27 @@
 //! Language identifiers.
 
-ghost use Rattle.std.specs.Prelude.{◌≡◌, ◌<◌, ◌+◌, ◌≤◌, length, None, ◌∷◌, Some, IsOk, IfOk, IfErr, IfSome, ◌↔◌};
+ghost use Rattle.std.specs.Prelude.{◌≡◌, ◌<◌, ◌+◌, ◌≤◌, length, map, None, ◌∷◌, if◌then◌else◌, Some, IsOk, IfOk, IfErr, IfSome, ◌↔◌};
 ghost use Rattle.std.specs.Fmt.{debug_str, styled_text};
 ghost use Rattle.std.specs.Result.{result_ok};
+ghost use Rattle.std.specs.Simd.Lanes.{mask_l};
+ghost use Rattle.tinystr_words.specs.Classes.{is_alphabetic};
 ghost use Rattle.tinystr_words.specs.Case.{lowercase, titlecase, uppercase};
-ghost use Rattle.subtags.specs.Grammar.{dash, fold_text, is_language, is_script, is_region, IsLangId, IsCanonical, canonical_text, canonical_of};
+ghost use Rattle.subtags.specs.declared.error.LangIdError.TheVariants.{InvalidLanguage, InvalidSubtag};
+ghost use Rattle.subtags.specs.Private.Tails.{first_subtag};
+ghost use Rattle.subtags.specs.Grammar.{dash, fold_text, is_separator, is_language, is_script, is_region, IsLangId, IsCanonical, canonical_text, canonical_of};
 ghost use Rattle.subtags.specs.Subtags.{IsCanonicalSubtag, language_of, script_of, region_of, join_subtags};
 ghost use Rattle.subtags.specs.Answers.{refusal_of, IsLangIdRead};
 
 use crate::classes::{Classes, are_letters};
 use crate::error::LangIdError;
-use crate::head::language_len;
+use crate::head::has_language;
 use crate::lanes::{first_lanes, folded_text, letters_of, text_in_case};
 use crate::language::{Language, is_language_length};
 use crate::places::{has_byte_at, language_end, region_start};
 use crate::region::Region;
 use crate::script::Script;
 use crate::subtag::{Subtag, SubtagKind};
-use crate::tail::is_tail;
+use crate::tail::has_tail;
 use std::convert::{AsSlice, AsStr};
 use std::fmt;
 use std::marker::Model;
@@ -85,11 +89,9 @@ impl LangId {
             });
         }
         let classes = Classes::of(letters, code_units, lanes);
-        let Some(end) = language_len(&classes, code_units) else {
-            return Err(LangIdError::InvalidLanguage);
-        };
-        if !is_tail(classes, code_units, end) {
-            return Err(LangIdError::InvalidSubtag);
+        let end = classes.first_end(code_units);
+        if !has_tail(&classes, code_units, end) {
+            return Err(refusal(&classes, code_units));
         }
         Ok(LangId {
             text: text_in_case(code_units, lanes, end),
@@ -230,7 +232,22 @@ impl fmt::Debug for LangId {
     }
 }
 
-// The error for more bytes than an identifier can have.
+// The error for at most 17 bytes that aren't an identifier.
+#[inline(always)]
+fn refusal(classes: &Classes, units: &[u8]) -> LangIdError
+    requires few { length units.now ≤ 17 }
+    requires letters { classes.now.letters ≡ mask_l (map is_alphabetic units.now) }
+    requires separators { classes.now.separators ≡ mask_l (map is_separator units.now) }
+    ensures { result ≡ (if is_language (first_subtag units.now) then InvalidSubtag else InvalidLanguage) }
+{
+    if has_language(classes, units) {
+        LangIdError::InvalidSubtag
+    } else {
+        LangIdError::InvalidLanguage
+    }
+}
+
+// The error for more.
 #[cold]
 #[inline(never)]
 fn refusal_of_more(units: &[u8]) -> LangIdError
@@ -241,10 +258,7 @@ fn refusal_of_more(units: &[u8]) -> LangIdError
     let front = &units[..MOST];
     let lanes = first_lanes(front);
     let classes = Classes::of(letters_of(front, lanes), front, lanes);
-    match language_len(&classes, front) {
-        Some(_) => LangIdError::InvalidSubtag,
-        None => LangIdError::InvalidLanguage,
-    }
+    refusal(&classes, front)
 }
 
 // The subtags, joined by dashes; and that they are canonical, each by its invariant. The language and one subtag behind it

@@ -2,14 +2,14 @@
 
 use crate::subtags::classes::{Classes, are_letters};
 use crate::subtags::error::LangIdError;
-use crate::subtags::head::language_len;
+use crate::subtags::head::has_language;
 use crate::subtags::lanes::{first_lanes, folded_text, letters_of, text_in_case};
 use crate::subtags::language::{Language, is_language_length};
 use crate::subtags::places::{has_byte_at, language_end, region_start};
 use crate::subtags::region::Region;
 use crate::subtags::script::Script;
 use crate::subtags::subtag::{Subtag, SubtagKind};
-use crate::subtags::tail::is_tail;
+use crate::subtags::tail::has_tail;
 use core::fmt;
 use core::str::FromStr;
 use crate::{TinyAsciiStr, tinystr};
@@ -72,11 +72,9 @@ impl LangId {
             });
         }
         let classes = Classes::of(letters, code_units, lanes);
-        let Some(end) = language_len(&classes, code_units) else {
-            return Err(LangIdError::InvalidLanguage);
-        };
-        if !is_tail(classes, code_units, end) {
-            return Err(LangIdError::InvalidSubtag);
+        let end = classes.first_end(code_units);
+        if !has_tail(&classes, code_units, end) {
+            return Err(refusal(&classes, code_units));
         }
         Ok(LangId {
             text: text_in_case(code_units, lanes, end),
@@ -224,7 +222,22 @@ impl fmt::Debug for LangId {
     }
 }
 
-// The error for more bytes than an identifier can have.
+// The error for at most 17 bytes that aren't an identifier.
+// Proved:
+//     requires few { length units.now ≤ 17 }
+//     requires letters { classes.now.letters ≡ mask_l (map is_alphabetic units.now) }
+//     requires separators { classes.now.separators ≡ mask_l (map is_separator units.now) }
+//     ensures { result ≡ (if is_language (first_subtag units.now) then InvalidSubtag else InvalidLanguage) }
+#[inline(always)]
+fn refusal(classes: &Classes, units: &[u8]) -> LangIdError {
+    if has_language(classes, units) {
+        LangIdError::InvalidSubtag
+    } else {
+        LangIdError::InvalidLanguage
+    }
+}
+
+// The error for more.
 // Proved:
 //     requires { 17 < length units.now }
 //     ensures error { result ≡ refusal_of units.now }
@@ -235,10 +248,7 @@ fn refusal_of_more(units: &[u8]) -> LangIdError {
     let front = &units[..MOST];
     let lanes = first_lanes(front);
     let classes = Classes::of(letters_of(front, lanes), front, lanes);
-    match language_len(&classes, front) {
-        Some(_) => LangIdError::InvalidSubtag,
-        None => LangIdError::InvalidLanguage,
-    }
+    refusal(&classes, front)
 }
 
 // The subtags, joined by dashes; and that they are canonical, each by its invariant. The language and one subtag behind it

@@ -1,47 +1,56 @@
-//! What follows the language of an input: a script, a region, or both, each after a separator.
+//! A language, and what follows it: a script, a region, or both, each after a separator.
 
 use crate::subtags::classes::Classes;
+use crate::subtags::language::is_language_length;
 
-/// Whether the bytes from `end` on have the classes of a script, a region, or both, as the examples have them.
+/// Whether the bytes are a language of `end` letters and then like the example of their length. In the number of the
+/// classes such letters are the lowest bits, all ones, so one more than it is one more than the example's, shifted.
 ///
 /// # Contract
 ///
 /// ```text
 /// requires few { length units.now ≤ 17 }
-/// requires inside { end < length units.now }
-/// requires letters { classes.letters ≡ mask_l (map is_alphabetic units.now) }
-/// requires digits { classes.digits ≡ mask_l (map is_digit units.now) }
-/// requires separators { classes.separators ≡ mask_l (map is_separator units.now) }
-/// ensures { IsTrue result ↔ IsLike (example (length units.now - end)) (drop end units.now) }
+/// requires inside { end ≤ length units.now }
+/// requires letters { classes.now.letters ≡ mask_l (map is_alphabetic units.now) }
+/// requires digits { classes.now.digits ≡ mask_l (map is_digit units.now) }
+/// requires separators { classes.now.separators ≡ mask_l (map is_separator units.now) }
+/// ensures { IsTrue result ↔ HasTail end units.now }
 /// ```
 #[inline(always)]
-pub(crate) fn is_tail(classes: Classes, units: &[u8], end: usize) -> bool {
-    match example(units.len() - end) {
-        Some(wanted) => classes.from(units, end) == wanted,
-        None => false,
+pub(crate) fn has_tail(classes: &Classes, units: &[u8], end: usize) -> bool {
+    if !is_language_length(end) {
+        return false;
     }
+    classes.packed(units) + 1 == one_more(units.len() - end) << end
 }
 
-// The classes of a tail of `len` bytes, as those of `-US`, `-419`, `-Latn`, `-Latn-US` or `-Latn-419`.
+// One more than the classes in one number of `-US`, `-419`, `-Latn`, `-Latn-US` and `-Latn-419`, by their length, and 0 for
+// every other.
+static EXAMPLES: [u64; 18] = [
+    0,
+    0,
+    0,
+    0x00001_00000_00007,
+    0x00001_0000e_00001,
+    0x00001_00000_0001f,
+    0,
+    0,
+    0x00021_00000_000df,
+    0x00021_001c0_0001f,
+    0,
+    0,
+    0,
+    0,
+    0,
+    0,
+    0,
+    0,
+];
+
 // Proved:
-//     ensures letters { IfSome result (λ c. c.letters ≡ mask_l (map is_alphabetic (example len))) }
-//     ensures digits { IfSome result (λ c. c.digits ≡ mask_l (map is_digit (example len))) }
-//     ensures separators { IfSome result (λ c. c.separators ≡ mask_l (map is_separator (example len))) }
-//     ensures len { IfSome result (λ _. length (example len) ≡ len) }
-//     ensures none { IsNone result → example len ≡ [] }
+//     requires { len < 18 }
+//     ensures { result ≡ one_more (example len) }
 #[inline(always)]
-fn example(len: usize) -> Option<Classes> {
-    let (letters, digits, separators) = match len {
-        3 => (0b110, 0, 0b1),
-        4 => (0, 0b1110, 0b1),
-        5 => (0b1_1110, 0, 0b1),
-        8 => (0b1101_1110, 0, 0b10_0001),
-        9 => (0b1_1110, 0b1_1100_0000, 0b10_0001),
-        _ => return None,
-    };
-    Some(Classes {
-        letters,
-        digits,
-        separators,
-    })
+fn one_more(len: usize) -> u64 {
+    EXAMPLES[len]
 }

@@ -1,10 +1,10 @@
 -- The first subtag of an input, and what follows it, by examples. No public contract has one of these words.
-use Rattle.std.specs.Prelude.{◌≡◌, ℕ, ◌==◌, if◌then◌else◌, List, [], map, take, codes}
+use Rattle.std.specs.Prelude.{◌≡◌, ℕ, ◌==◌, ◌<◌, ◌+◌, ◌-◌, ◌*◌, ◌^◌, if◌then◌else◌, IsTrue, List, [], ◌∷◌, length, map, take, drop, codes}
 use Rattle.std.specs.List.{position_or_len}
-use Rattle.std.specs.Simd.Lanes.{zip2}
+use Rattle.std.specs.Simd.Lanes.{mask_l, zip2}
 use Rattle.tinystr_words.specs.Classes.{is_alphabetic, is_digit, is_upper}
 use Rattle.tinystr_words.specs.Case.{raise}
-use Rattle.subtags.specs.Grammar.{is_separator, fold_byte}
+use Rattle.subtags.specs.Grammar.{is_separator, is_language, fold_text}
 
 -- the bytes before the first separator
 abbrev pub first_subtag : List ℕ → List ℕ
@@ -26,10 +26,25 @@ pub record IsLike (t v : List ℕ) : Type 0 where
   pub digits : map is_digit v ≡ map is_digit t
   pub separators : map is_separator v ≡ map is_separator t
 
--- a byte in the case of the example's, with '-' for '_'
-abbrev pub in_case_of_byte : ℕ → ℕ → ℕ
-in_case_of_byte a b = if is_upper a then raise b else fold_byte b
+-- a language of e letters, and such bytes after it
+pub record HasTail (e : ℕ) (u : List ℕ) : Type 0 where
+  pub language : IsTrue (is_language (take e u))
+  pub more : e < length u
+  pub like : IsLike (example (length u - e)) (drop e u)
 
--- bytes in the case of the example's
+-- the classes of bytes in one number: a bit for each letter, twenty bits higher one for each digit, and then separators
+abbrev pub classes_of : List ℕ → ℕ
+classes_of u = mask_l (map is_alphabetic u) + mask_l (map is_digit u) * 2 ^ 20 + mask_l (map is_separator u) * 2 ^ 40
+
+-- one more than that number, or 0 of no bytes
+abbrev pub one_more : List ℕ → ℕ
+one_more [] = 0
+one_more (b ∷ t) = classes_of (b ∷ t) + 1
+
+-- a folded byte in the case of the example's
+abbrev pub in_case_of_byte : ℕ → ℕ → ℕ
+in_case_of_byte a b = if is_upper a then raise b else b
+
+-- bytes in the case of the example's, with '-' for '_'
 abbrev pub in_case_of : List ℕ → List ℕ → List ℕ
-in_case_of t v = zip2 in_case_of_byte t v
+in_case_of t v = zip2 in_case_of_byte t (fold_text v)
