@@ -7,12 +7,11 @@ mod each;
 mod eight;
 pub mod in_place;
 mod map;
-mod number;
 #[cfg(feature = "alloc")]
 mod packing;
+mod prefix;
 mod record;
 mod search;
-mod side_by_side;
 mod sorted;
 #[cfg(feature = "alloc")]
 mod sorting;

@@ -1,10 +1,10 @@
 -- Records are in the order of the numbers that they spell.
-use Rattle.std.proofs.Common.{◌≡◌, ◌≢◌, ℕ, zero, suc, ◌+◌, ◌-◌, ◌*◌, min, ◌<◌, ◌≤◌, List, [], ◌∷◌, length, take, drop, refl, sym, ap, ◌∙◌, arith, nat_lt, inl, inr}
+use Rattle.std.proofs.Common.{◌≡◌, ◌≢◌, ℕ, zero, suc, ◌+◌, ◌-◌, ◌*◌, min, ◌<◌, ◌≤◌, List, [], ◌∷◌, length, take, drop, refl, sym, ap, ◌∙◌, arith, nat_lt, true, inl, inr}
 use Rattle.std.specs.Cmp.Lexicographic.{slice_cmp}
 use Rattle.std.specs.Int.{from_be_bytes, to_be_bytes, w64}
-use Rattle.std.specs.Ordering.{nat_cmp, is_lt, ordering_then}
+use Rattle.std.specs.Ordering.{nat_cmp, is_eq, is_lt, ordering_then}
 use Rattle.std.specs.declared.cmp.Ordering.{Ordering}
-use Rattle.std.specs.declared.cmp.Ordering.TheVariants.{Less}
+use Rattle.std.specs.declared.cmp.Ordering.TheVariants.{Less, Equal, Greater}
 use Rattle.std.proofs.lemmas.Bool.{cases_lt, lt-ltb, ltb-true}
 use Rattle.std.proofs.lemmas.List.{take_all, take-take, length-take, length-drop, places}
 use Rattle.std.proofs.lemmas.Cmp.{nat_cmp_total, nat_list_cmp_total, tied_itself}
@@ -16,6 +16,7 @@ use Rattle.tinystr_packed.specs.Private.Numbers.{number_at, pair_at, IsRecord, A
 use Rattle.tinystr_packed.specs.Rising.{order, text_at}
 use Rattle.tinystr_packed.proofs.Numbers.{number_at-short, number_at-long}
 use Rattle.tinystr_packed.proofs.RisingTexts.{Less-from_is_lt}
+use Rattle.tinystr_words.proofs.Before.{cmp_is_same}
 use Rattle.tinystr_words.proofs.OrderByNumbers.{AllFit, AreBytes, AreBytes-drop, AreBytes-from_type, is_lt-nat_cmp, slice_cmp-first_eight, slice_cmp-numbers}
 use Rattle.tinystr_words.proofs.Copying.{pad-full}
 
@@ -35,6 +36,27 @@ not_below-short xs ys n short x y le less =
     let test = is_lt-short xs ys n short x y in
     let fewer = ltb-true (number_at 0 xs) (number_at 0 ys) (test ∙ rw less refl) in
     absurd (omega (arith, fewer, le))
+
+Equal-from_others : (o : Ordering) → o ≢ Less → o ≢ Greater → o ≡ Equal
+Equal-from_others Less a b = absurd (a refl)
+Equal-from_others Equal a b = refl
+Equal-from_others Greater a b = absurd (b refl)
+
+-- those of one number are the same
+pub same-short : (xs ys : List ℕ) (n : ℕ) → n ≤ 8 → IsRecord n xs → IsRecord n ys → number_at 0 xs ≡ number_at 0 ys → xs ≡ ys
+same-short xs ys n short x y is =
+    let not_below = not_below-short xs ys n short x y (omega (arith, is)) in
+    let not_above = λ (above : order xs ys ≡ Greater). not_below-short ys xs n short y x (omega (arith, is)) (nat_list_cmp_total.antisymm ys xs ∙ rw above refl) in
+    (cmp_is_same xs ys).0 (Equal-from_others (order xs ys) not_below not_above)
+
+Equal-from_is_eq : (o : Ordering) → is_eq o ≡ true → o ≡ Equal
+Equal-from_is_eq Less h = cc
+Equal-from_is_eq Equal h = refl
+Equal-from_is_eq Greater h = cc
+
+-- bytes of one order are the same
+pub is_eq-Decides : (xs ys : List ℕ) → (is_eq (order xs ys) ≡ true → xs ≡ ys) × (xs ≡ ys → is_eq (order xs ys) ≡ true)
+is_eq-Decides xs ys = (λ yes. (cmp_is_same xs ys).0 (Equal-from_is_eq (order xs ys) yes), λ same. rw (same, tied_itself nat_list_cmp_total ys) refl)
 
 -- their numbers tell them apart
 pub Tells-short : (records : List (List ℕ)) (key : List ℕ) (n : ℕ) → n ≤ 8 → AreRisingRecords n records → IsRecord n key → Tells (number_at 0) key records

@@ -4,10 +4,10 @@ use Rattle.std.specs.Cmp.Lexicographic.{slice_cmp}
 use Rattle.std.specs.Ordering.{nat_cmp, is_lt, ordering_index}
 use Rattle.std.specs.declared.cmp.Ordering.{Ordering}
 use Rattle.std.specs.declared.cmp.Ordering.TheVariants.{Less, Equal, Greater}
-use Rattle.std.specs.List.{All, Contains, slice_get}
+use Rattle.std.specs.List.{All, slice_get}
 use Rattle.std.specs.Str.{bytes_eq}
 use Rattle.std.specs.declared.option.Option.TheVariants.{Some}
-use Rattle.std.proofs.lemmas.Option.{slice_get-get_or, slice_get_within, get_or_from_slice_get}
+use Rattle.std.proofs.lemmas.Option.{slice_get-get_or, get_or_from_slice_get}
 use Rattle.std.specs.List.Sorted.{IsSortedBy, IsPartitionedBy, IsPartitionPoint}
 use Rattle.std.proofs.lemmas.Cmp.{nat_list_cmp_total, tied_itself}
 use Rattle.std.proofs.lemmas.List.Sorted.{searchable_from_sorted}
@@ -196,20 +196,6 @@ IsPlaceFor-missed ts key i up h other = record {
       let no_less = rw here at (order-rising ts key i k up behind inside) in
       grind arith;
 }
-
--- the key is none of them
-pub not_contained : (ts : List (List ℕ)) (key : List ℕ) (i : ℕ) → IsPlaceFor key ts i → ¬ Contains ts key
-not_contained ts key i h found =
-    let is : text_at ts found.0 ≡ key = get_or_default ts found.0 [] key found.1 ∙ found.2 in
-    let same : order (text_at ts found.0) key ≡ Equal = rw is (tied_itself nat_list_cmp_total key) in
-    let before = h.below found.0 in
-    let behind = h.above found.0 in
-    let inside = found.1 in
-    grind arith
-
--- a text that is read is one of them
-pub Contains-read : (ts : List (List ℕ)) (key : List ℕ) (i : ℕ) → slice_get ts i ≡ Some key → Contains ts key
-Contains-read ts key i at = (i, slice_get_within ts i key at, get_or_from_slice_get ts i key key at)
 
 -- ---- some of the texts
 

@@ -23,7 +23,7 @@ use Rattle.std.proofs.lemmas.Slice.Eq.{bytes_eq-Decides}
 use Rattle.tinystr_words.proofs.Before.{cmp_is_same}
 use Rattle.tinystr_words.proofs.Found.{text_position-at, text_position-some}
 use Rattle.tinystr_packed.specs.Map.{get}
-use Rattle.tinystr_packed.specs.Rising.{order, text_at, IsRising, IsFirstNotBelow, IsPlaceFor}
+use Rattle.tinystr_packed.specs.Rising.{order, text_at, IsRising, IsFirstNotBelow, IsPlaceFor, IsSearched}
 use Rattle.tinystr_packed.specs.Search.{search_result, value_at}
 use Rattle.tinystr_packed.proofs.PackedMaps.{get-found, get-absent}
 use Rattle.tinystr_packed.proofs.RisingTexts.{IsPlaceFor-missed, Less-from_is_lt, below_from_rising, not_above, order-rising}
@@ -235,3 +235,8 @@ search_result-place ts t i up is =
           let other : e < length ts → text_at ts e ≢ t = λ within same. false≢true (sym (fails_before_first (bytes_eq t) ts e [] (omega arith)) ∙ (bytes_eq-Decides t (text_at ts e)).1 (sym same)) in
           subst (λ (x : ℕ). IsPlaceFor t ts x) missed (IsPlaceFor-missed ts t e up first other))
     ]
+
+-- so it is the index of the text, or else its place
+pub IsSearched-result : (ts : List (List ℕ)) (t : List ℕ) (r : Result ℕ ℕ) → IsRising ts → r ≡ search_result ts t → IsSearched t ts r
+IsSearched-result ts t (Ok i) up is = record { found = search_result-at ts t i (sym is); place = tt; exact = rw (← is) at (IsOk-search_result ts t) }
+IsSearched-result ts t (Err i) up is = record { found = tt; place = search_result-place ts t i up (sym is); exact = rw (← is) at (IsOk-search_result ts t) }

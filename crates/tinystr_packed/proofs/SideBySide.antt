@@ -5,13 +5,13 @@ use Rattle.std.specs.declared.result.Result.{Result}
 use Rattle.std.specs.declared.result.Result.TheVariants.{Ok}
 use Rattle.std.proofs.lemmas.Bool.{cases_lt}
 use Rattle.std.proofs.lemmas.Bool.Decides.{nat_tests}
-use Rattle.std.proofs.lemmas.List.{at_drop_more, get_or-drop, get_or-replicate, get_or-set_other, get_or-set_same, length-drop, length-take, places, take_all}
+use Rattle.std.proofs.lemmas.List.{at_drop_more, get_or-replicate, get_or-set_other, get_or-set_same, length-take, places}
 use Rattle.tinystr_words.specs.Text.{IsPaddedText, IsStrictText, pad}
 use Rattle.tinystr_words.proofs.Texts.{get_or-pad, length-pad}
 use Rattle.tinystr_packed.specs.Private.Numbers.{number_at, pair_at}
 use Rattle.tinystr_packed.specs.Rising.{text_at}
 use Rattle.tinystr_packed.specs.Search.{search_result}
-use Rattle.tinystr_packed.specs.Private.SideBySide.{paired, AreAnswers, AreHalves, AreNumbered, AreReady, AreWithin, DoNotFallInTurn, IsPlaceWithin, ArePlacesWithin}
+use Rattle.tinystr_packed.specs.Private.SideBySide.{paired, AreAnswers, IsPairOfText, IsAnswer, AreNumbered, AreReady, AreWithin, DoNotFallInTurn, IsPlaceWithin, ArePlacesWithin}
 use Rattle.tinystr_packed.proofs.RisingTexts.{ascii-padded}
 
 -- eight bytes of a text spell a number without its highest bit
@@ -75,7 +75,7 @@ so_far-set_both P xs ys m x y inside within before here i below = elim (cases_lt
 
 -- the number of a key
 pub record IsNumberOf (n start : ℕ) (key : List ℕ) (first next : ℕ) : Type 0 where
-  pub halves : AreHalves n first next
+  pub text : IsPairOfText n first next
   pub number : paired first next ≡ pair_at start (pad key n)
   pub strict : IsStrictText key n
 
@@ -87,17 +87,17 @@ ArePlacesWithin-start n s records w i j size end h = record {
 
 -- ---- answers for eight keys
 
--- two answers by turns, for two keys by turns
-pub AreAnswers-by_turns : (texts keys : List (List ℕ)) (r s : Result ℕ ℕ) → ((i : ℕ) → i < 6 → text_at keys (i + 2) ≡ text_at keys i) → r ≡ search_result texts (text_at keys 0) → s ≡ search_result texts (text_at keys 1) → AreAnswers texts keys (r ∷ s ∷ r ∷ s ∷ r ∷ s ∷ r ∷ s ∷ []) 8
-AreAnswers-by_turns texts keys r s turns first second zero within = first
-AreAnswers-by_turns texts keys r s turns first second (suc zero) within = second
-AreAnswers-by_turns texts keys r s turns first second (suc (suc zero)) within = first ∙ ap (search_result texts) (sym (turns 0 (omega arith)))
-AreAnswers-by_turns texts keys r s turns first second (suc (suc (suc zero))) within = second ∙ ap (search_result texts) (sym (turns 1 (omega arith)))
-AreAnswers-by_turns texts keys r s turns first second (suc (suc (suc (suc zero)))) within = first ∙ ap (search_result texts) (sym (turns 2 (omega arith) ∙ turns 0 (omega arith)))
-AreAnswers-by_turns texts keys r s turns first second (suc (suc (suc (suc (suc zero))))) within = second ∙ ap (search_result texts) (sym (turns 3 (omega arith) ∙ turns 1 (omega arith)))
-AreAnswers-by_turns texts keys r s turns first second (suc (suc (suc (suc (suc (suc zero)))))) within = first ∙ ap (search_result texts) (sym (turns 4 (omega arith) ∙ turns 2 (omega arith) ∙ turns 0 (omega arith)))
-AreAnswers-by_turns texts keys r s turns first second (suc (suc (suc (suc (suc (suc (suc zero))))))) within = second ∙ ap (search_result texts) (sym (turns 5 (omega arith) ∙ turns 3 (omega arith) ∙ turns 1 (omega arith)))
-AreAnswers-by_turns texts keys r s turns first second (suc (suc (suc (suc (suc (suc (suc (suc i)))))))) within = absurd (omega arith)
+-- two alternating answers, for two alternating keys
+pub AreAnswers-alternating : (n : ℕ) (records keys : List (List ℕ)) (r s : Result ℕ ℕ) → ((i : ℕ) → i < 6 → text_at keys (i + 2) ≡ text_at keys i) → IsAnswer n (text_at keys 0) records r → IsAnswer n (text_at keys 1) records s → AreAnswers n records keys (r ∷ s ∷ r ∷ s ∷ r ∷ s ∷ r ∷ s ∷ []) 8
+AreAnswers-alternating n records keys r s turns first second zero within = first
+AreAnswers-alternating n records keys r s turns first second (suc zero) within = second
+AreAnswers-alternating n records keys r s turns first second (suc (suc zero)) within = rw (turns 0 (omega arith)) first
+AreAnswers-alternating n records keys r s turns first second (suc (suc (suc zero))) within = rw (turns 1 (omega arith)) second
+AreAnswers-alternating n records keys r s turns first second (suc (suc (suc (suc zero)))) within = rw (turns 2 (omega arith) ∙ turns 0 (omega arith)) first
+AreAnswers-alternating n records keys r s turns first second (suc (suc (suc (suc (suc zero))))) within = rw (turns 3 (omega arith) ∙ turns 1 (omega arith)) second
+AreAnswers-alternating n records keys r s turns first second (suc (suc (suc (suc (suc (suc zero)))))) within = rw (turns 4 (omega arith) ∙ turns 2 (omega arith) ∙ turns 0 (omega arith)) first
+AreAnswers-alternating n records keys r s turns first second (suc (suc (suc (suc (suc (suc (suc zero))))))) within = rw (turns 5 (omega arith) ∙ turns 3 (omega arith) ∙ turns 1 (omega arith)) second
+AreAnswers-alternating n records keys r s turns first second (suc (suc (suc (suc (suc (suc (suc (suc i)))))))) within = absurd (omega arith)
 
 -- the answer that is ready for the next key
 pub AreReady-first : (texts keys : List (List ℕ)) (answers : List (Result ℕ ℕ)) (m n : ℕ) → 0 < n → AreReady texts keys answers m n → get_or answers (8 - n) (Ok 0) ≡ search_result texts (text_at keys m)
@@ -105,19 +105,6 @@ AreReady-first texts keys answers m n some h =
     let a : m + 0 ≡ m = omega arith in
     let b : 8 - n + 0 ≡ 8 - n = omega arith in
     rw (a, b) at (h 0 some)
-
--- and those behind it
-pub AreReady-rest : (texts keys : List (List ℕ)) (answers : List (Result ℕ ℕ)) (m n : ℕ) → 0 < n → n ≤ 8 → AreReady texts keys answers m n → AreReady texts keys answers (m + 1) (n - 1)
-AreReady-rest texts keys answers m n some fits h i less =
-    let a : m + (i + 1) ≡ m + 1 + i = omega arith in
-    let b : 8 - n + (i + 1) ≡ 8 - (n - 1) + i = omega arith in
-    rw (a, b) at (h (i + 1) (omega arith))
-
--- the answers for the keys that are left are those that are ready
-pub AreReady-filled : (texts keys : List (List ℕ)) (answers : List (Result ℕ ℕ)) (m : ℕ) → AreAnswers texts (take (length keys - m) (drop m keys)) answers 8 → AreReady texts keys answers m 8
-AreReady-filled texts keys answers m h i less =
-    let a : 8 - 8 + i ≡ i = omega arith in
-    rw a (rw (take_all (length keys - m) (drop m keys) (omega (arith, length-drop m keys)), get_or-drop m keys i []) at (h i less))
 
 -- the first of the answers that are left
 pub search_result-next : (texts keys : List (List ℕ)) (m : ℕ) (r : Result ℕ ℕ) → m < length keys → r ≡ search_result texts (text_at keys m) → map (search_result texts) (drop m keys) ≡ r ∷ map (search_result texts) (drop (m + 1) keys)

@@ -1,5 +1,5 @@
 -- What a search for a key gives.
-use Rattle.std.specs.Prelude.{ℕ, List, ◌<◌, ◌≤◌, length, map, All, IfOk, IfErr}
+use Rattle.std.specs.Prelude.{ℕ, List}
 use Rattle.std.specs.List.{count_by, position, slice_get}
 use Rattle.std.specs.Option.{ok_or}
 use Rattle.std.specs.Ordering.{is_lt}
@@ -8,8 +8,7 @@ use Rattle.std.specs.declared.option.Option.{Option}
 use Rattle.std.specs.declared.option.Option.TheVariants.{None}
 use Rattle.std.specs.declared.result.Result.{Result}
 use Rattle.std.specs.declared.result.Result.TheVariants.{Ok, Err}
-use Rattle.tinystr_words.specs.Text.{IsPaddedText, text_of}
-use Rattle.tinystr_packed.specs.Rising.{order, IsRising, IsSearched}
+use Rattle.tinystr_packed.specs.Rising.{order}
 
 -- the index of the text that is the key, or else how many texts are below the key
 unfoldable pub search_result : List (List ℕ) → List ℕ → Result ℕ ℕ
@@ -19,9 +18,3 @@ search_result texts key = ok_or (position (bytes_eq key) texts) (count_by (λ t.
 abbrev pub value_at : List (List ℕ) → Result ℕ ℕ → Option (List ℕ)
 value_at values (Ok i) = slice_get values i
 value_at values (Err i) = None
-
--- an answer inside the records and, if these are padded texts of n bytes that rise, that for a key
-pub record IsAnswer (n : ℕ) (key : List ℕ) (records : List (List ℕ)) (r : Result ℕ ℕ) : Type 0 where
-  pub inside : IfOk r (λ index. index < length records)
-  pub bound : IfErr r (λ place. place ≤ length records)
-  pub searched : All (λ raw. IsPaddedText raw n) records → IsRising (map text_of records) → IsSearched key (map text_of records) r

@@ -1,16 +1,18 @@
 //! Searches for many keys.
 
-ghost use Rattle.std.specs.Prelude.{◌≡◌, ◌+◌, ◌<◌, ◌≤◌, ◌-◌, IfNone, IfSome, List, ℕ, drop, length, map};
+ghost use Rattle.std.specs.Prelude.{◌≡◌, ◌+◌, ◌<◌, ◌≤◌, ◌-◌, All, IfNone, IfSome, List, ℕ, drop, length, map};
 ghost use Rattle.std.specs.Iterator.{YieldsFirst, item_count};
-ghost use Rattle.tinystr_packed.specs.Rising.{text_at};
+ghost use Rattle.tinystr_words.specs.Text.{IsPaddedText, text_of};
+ghost use Rattle.tinystr_packed.specs.Rising.{text_at, IsRising};
 ghost use Rattle.tinystr_packed.specs.Search.{search_result};
 
-use crate::eight::search_first_eight;
-use crate::sorted::SortedTable;
+use crate::eight::{SingleBlocks, search_first_eight};
+use crate::search::{answer_at, binary_search, first_not_below_next};
+use std::cmp::Ordering;
 use std::marker::Model;
 use tinystr::TinyAsciiStr;
 
-/// What `SortedTable::binary_search` gives for each of many keys, in their order. A contract sees it as the list of the
+/// What `SortedTable::binary_search` returns for each of many keys, in their order. A contract sees it as the list of the
 /// answers that are left.
 ///
 /// ```rust
@@ -21,73 +23,108 @@ use tinystr::TinyAsciiStr;
 /// ```
 #[derive(Drop)]
 pub struct BinarySearchEach<'a, 'k, const N: usize> {
-    sorted: SortedTable<'a, N>,
+    records: &'a [[u8; N]],
     keys: &'k [TinyAsciiStr<N>],
-    // how many keys have had their answers
+    // how many answers were returned
     given: usize,
-    // the answers for eight keys, of which the last `ready` are those for the next ones
+    // the answers for a block of eight keys, of which the last `ready` are the next ones to return
     answers: [Result<usize, usize>; 8],
     ready: usize,
-    // the answer for the last key that has one, given or ready
+    // the answer for the last key that has one, returned or ready
     last: Result<usize, usize>,
-    alone: u8,
+    single_blocks: SingleBlocks,
 }
 
 impl<'a, 'k, const N: usize> Model for BinarySearchEach<'a, 'k, N> {
-    ghost use Rattle.std.specs.Prelude.{◌^◌, ◌+◌, ◌<◌, ◌≤◌, List, ℕ, drop, length, map};
+    ghost use Rattle.std.specs.Prelude.{◌^◌, ◌+◌, ◌<◌, ◌≤◌, All, List, ℕ, drop, length, map};
     ghost use Rattle.std.specs.declared.result.Result.{Result};
+    ghost use Rattle.tinystr_words.specs.Text.{IsPaddedText, text_of};
+    ghost use Rattle.tinystr_packed.specs.Rising.{IsRising};
     ghost use Rattle.tinystr_packed.specs.Search.{search_result};
     ghost use Rattle.tinystr_packed.specs.Private.SideBySide.{AreReady, IsLast};
 
     ghost Value = { List (Result ℕ ℕ) };
 
-    ghost view = { λ s. map (search_result s.sorted) (drop s.given s.keys.now) };
+    ghost view = { λ s. map (search_result (map text_of s.records.now)) (drop s.given s.keys.now) };
 
     ghost invariant = { λ s. (N < 2 ^ 63) × (s.given ≤ length s.keys.now) × (s.ready ≤ 8)
-        × AreReady s.sorted s.keys.now s.answers s.given s.ready
-        × IsLast s.sorted s.keys.now s.last (s.given + s.ready) };
+        × AreReady (map text_of s.records.now) s.keys.now s.answers s.given s.ready
+        × IsLast (map text_of s.records.now) s.keys.now s.last (s.given + s.ready)
+        × All (λ raw. IsPaddedText raw N) s.records.now × IsRising (map text_of s.records.now) };
 }
 
 impl<'a, 'k, const N: usize> BinarySearchEach<'a, 'k, N> {
-    // All answers are left.
-    pub(crate) fn new(sorted: SortedTable<'a, N>, keys: &'k [TinyAsciiStr<N>]) -> Self
-        ensures { result ≡ map (search_result sorted.entry) keys.now }
+    // The answers for all keys, by records whose texts are strictly ascending.
+    pub(crate) fn new(records: &'a [[u8; N]], keys: &'k [TinyAsciiStr<N>]) -> Self
+        requires padded { All (λ raw. IsPaddedText raw N) records.now }
+        requires rising { IsRising (map text_of records.now) }
+        ensures { result ≡ map (search_result (map text_of records.now)) keys.now }
     {
         BinarySearchEach {
-            sorted,
+            records,
             keys,
             given: 0,
             answers: [Err(0); 8],
             ready: 0,
             last: Err(0),
-            alone: 0,
+            single_blocks: SingleBlocks::NONE,
         }
     }
 }
 
-// The answer for the key at an index, if that for the key before it tells it, or if fewer than eight keys are left.
+// The answer for the key at an index, if it follows from that for the key before it, or if fewer than eight keys are left.
 #[inline(always)]
 fn answer_alone<const N: usize>(
-    sorted: &SortedTable<'_, N>,
+    records: &[[u8; N]],
     keys: &[TinyAsciiStr<N>],
     index: usize,
     last: Result<usize, usize>,
 ) -> Option<Result<usize, usize>>
+    requires padded { All (λ raw. IsPaddedText raw N) records.now }
+    requires rising { IsRising (map text_of records.now) }
     requires inside { index < length keys.now }
-    requires last { 0 < index → last ≡ search_result sorted.now (text_at keys.now (index - 1)) }
-    ensures answer { IfSome result (λ answer. answer ≡ search_result sorted.now (text_at keys.now index)) }
+    requires last { 0 < index → last ≡ search_result (map text_of records.now) (text_at keys.now (index - 1)) }
+    ensures answer { IfSome result (λ answer. answer ≡ search_result (map text_of records.now) (text_at keys.now index)) }
     ensures many { IfNone result (index + 8 ≤ length keys.now) }
 {
     let key = &keys[index];
     if index > 0
-        && let Some(answer) = sorted.answer_behind(&keys[index - 1], last, key)
+        && let Some(answer) = answer_after(records, &keys[index - 1], last, key)
     {
         return Some(answer);
     }
     if keys.len() - index < 8 {
-        return Some(sorted.binary_search(key));
+        return Some(binary_search(records, key));
     }
     None
+}
+
+// The answer for a key, if it follows from that for another key: the same for the same key, and for a key above it the place
+// after that, or a few places more.
+#[inline(always)]
+fn answer_after<const N: usize>(
+    records: &[[u8; N]],
+    before: &TinyAsciiStr<N>,
+    answer: Result<usize, usize>,
+    key: &TinyAsciiStr<N>,
+) -> Option<Result<usize, usize>>
+    requires padded { All (λ raw. IsPaddedText raw N) records.now }
+    requires rising { IsRising (map text_of records.now) }
+    requires answer { answer ≡ search_result (map text_of records.now) before.now }
+    ensures { IfSome result (λ answer. answer ≡ search_result (map text_of records.now) key.now) }
+{
+    match before.cmp(key) {
+        Ordering::Less => {
+            let start = match answer {
+                Ok(index) => index + 1,
+                Err(place) => place,
+            };
+            let place = first_not_below_next(records, key.all_bytes(), start)?;
+            Some(answer_at(records, place, key))
+        }
+        Ordering::Equal => Some(answer),
+        Ordering::Greater => None,
+    }
 }
 
 impl<'a, 'k, const N: usize> Iterator for BinarySearchEach<'a, 'k, N> {
@@ -108,14 +145,20 @@ impl<'a, 'k, const N: usize> Iterator for BinarySearchEach<'a, 'k, N> {
             self.ready -= 1;
             return Some(answer);
         }
-        if let Some(answer) = answer_alone(&self.sorted, self.keys, self.given, self.last) {
+        if let Some(answer) = answer_alone(self.records, self.keys, self.given, self.last) {
             self.given += 1;
             self.last = answer;
             return Some(answer);
         }
         let keys = &self.keys[self.given..];
         let (Ok(near) | Err(near)) = self.last;
-        self.alone = search_first_eight(&self.sorted, keys, near, self.alone, &mut self.answers);
+        self.single_blocks = search_first_eight(
+            self.records,
+            keys,
+            near,
+            self.single_blocks,
+            &mut self.answers,
+        );
         self.given += 1;
         self.ready = 7;
         self.last = self.answers[7];

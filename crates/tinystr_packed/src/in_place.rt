@@ -1,19 +1,17 @@
-//! Searches in the bytes of records that were checked before, and aren't checked again. For any other bytes they answer
-//! with places inside them.
+//! Searches in the bytes of records that were checked before, and aren't checked again. For any other bytes they return
+//! places inside them.
 
-ghost use Rattle.std.specs.Prelude.{◌≡◌, ◌<◌, ◌≤◌, ◌/◌, ◌+◌, List, ℕ, length, map, take, drop, filter, nat_eq, slice_index, slice_index_or, All, IfOk, IfErr, Ok};
+ghost use Rattle.std.specs.Prelude.{◌≡◌, ◌<◌, ◌≤◌, ◌/◌, ◌+◌, List, ℕ, length, take, drop, filter, nat_eq, slice_index_or, IfOk, IfErr, Ok};
 ghost use Rattle.std.specs.List.{starts_with};
-ghost use Rattle.tinystr_words.specs.Text.{IsPaddedText, text_of};
-ghost use Rattle.tinystr_packed.specs.Rising.{text_at, IsRising, ArePackedRising, IsSearched, IsFirstNotBelow};
-ghost use Rattle.tinystr_packed.specs.Search.{IsAnswer};
+ghost use Rattle.tinystr_packed.specs.Rising.{text_at, ArePackedRising, IsSearched, IsFirstNotBelow};
 
-use crate::eight::are_two_by_turns;
-use crate::search::{first_not_below_by_halves, first_not_below_by_number};
-use crate::side_by_side::first_not_below_each_by_number;
+use crate::eight::{answers_of_short, answers_one_by_one};
+use crate::prefix::range_by_fronts;
+use crate::search::{LongRecords, binary_search_whole};
 use tinystr::TinyAsciiStr;
 
-/// The index of a text among packed records whose texts rise, or as the error the index at which it belongs, as
-/// `SortedTable::binary_search` answers. For any other bytes the answer is a place inside them. `N` must be above 0.
+/// The index of a text among packed records whose texts are strictly ascending or, as the error, the index at which it belongs,
+/// as `SortedTable::binary_search` returns them. For any other bytes the result is a place inside them. `N` must be above 0.
 ///
 /// ```rust
 /// assert_eq!(rt; in_place::search(b"CHFEURJPY", &tinystr!(3, "EUR")?), Ok(1));
@@ -29,16 +27,16 @@ pub fn search<const N: usize>(bytes: &[u8], key: &TinyAsciiStr<N>) -> Result<usi
     if bytes.is_empty() {
         return Err(0);
     }
-    search_records(bytes.as_chunks().0, key)
+    binary_search_whole(bytes.as_chunks().0, key)
 }
 
-/// What `search` gives for each of eight keys, among packed records whose texts are strictly ascending. For any other bytes
-/// each answer is a place inside them, which may differ from that of `search`. `N` must be above 0.
+/// What `search` returns for each of eight keys, among packed records whose texts are strictly ascending. For any other bytes
+/// each result is a place inside them, which may differ from that of `search`. `N` must be above 0.
 ///
 /// Among records of at most sixteen bytes the keys are searched for together, so that each search waits for memory while the
 /// others do, unless they are one key or two alternating keys. Keys in order are looked for first in the records after the
-/// index `near`, that of the last answer, say. For packed records whose texts are strictly ascending, `near` changes only the
-/// time. For other bytes it may also change which place inside them is returned.
+/// index `near`, for example that of the last result. For packed records whose texts are strictly ascending, `near` changes
+/// only the time. For other bytes it may also change which place inside them is returned.
 ///
 /// ```rust
 /// let keys = [tinystr!(3, "EUR")?; 8];
@@ -59,15 +57,15 @@ pub fn search_eight<const N: usize>(
         return [Err(0); 8];
     }
     let records = bytes.as_chunks().0;
-    if N > 16 || are_two_by_turns(keys) {
-        search_one_by_one(records, keys)
+    if N > 16 {
+        answers_one_by_one(records, keys, LongRecords::Whole)
     } else {
-        search_side_by_side(records, keys, near)
+        answers_of_short(records, keys, near)
     }
 }
 
-/// The range of the texts with a prefix, among packed records whose texts rise: the index of the first, or the index at
-/// which such a text belongs, and their number. For any other bytes the answer is a range inside them. `N` must be
+/// The range of the texts with a prefix, among packed records whose texts are strictly ascending: the index of the first, or
+/// the index at which such a text belongs, and their number. For any other bytes the result is a range inside them. `N` must be
 /// above 0.
 ///
 /// ```rust
@@ -83,105 +81,5 @@ pub fn with_prefix<const N: usize>(bytes: &[u8], beginning: &TinyAsciiStr<N>) ->
     if bytes.is_empty() {
         return (0, 0);
     }
-    range_with_prefix(bytes.as_chunks().0, beginning)
-}
-
-fn search_records<const N: usize>(
-    records: &[[u8; N]],
-    key: &TinyAsciiStr<N>,
-) -> Result<usize, usize>
-    ensures { IsAnswer N key.now records.now result }
-{
-    answer_at(records, first_not_below(records, key), key)
-}
-
-// One search after another.
-#[inline(always)]
-fn search_one_by_one<const N: usize>(
-    records: &[[u8; N]],
-    keys: &[TinyAsciiStr<N>; 8],
-) -> [Result<usize, usize>; 8]
-    ensures { (i : ℕ) → i < 8 → IsAnswer N (text_at keys.now i) records.now (slice_index_or result i (Ok 0)) }
-{
-    let mut answers = [Err(0); 8];
-    for lane in 0..8usize {
-        answers[lane] = search_records(records, &keys[lane]);
-    }
-    answers
-}
-
-// The searches together.
-#[inline(always)]
-fn search_side_by_side<const N: usize>(
-    records: &[[u8; N]],
-    keys: &[TinyAsciiStr<N>; 8],
-    near: usize,
-) -> [Result<usize, usize>; 8]
-    requires { N ≤ 16 }
-    ensures { (i : ℕ) → i < 8 → IsAnswer N (text_at keys.now i) records.now (slice_index_or result i (Ok 0)) }
-{
-    let places = first_not_below_each_by_number(records, keys, near);
-    let mut answers = [Err(0); 8];
-    for lane in 0..8usize {
-        answers[lane] = answer_at(records, places[lane], &keys[lane]);
-    }
-    answers
-}
-
-// The answer of a search for a key that ends at a place.
-#[inline(always)]
-fn answer_at<const N: usize>(
-    records: &[[u8; N]],
-    place: usize,
-    key: &TinyAsciiStr<N>,
-) -> Result<usize, usize>
-    requires bound { place ≤ length records.now }
-    requires place { All (λ raw. IsPaddedText raw N) records.now → IsRising (map text_of records.now) →
-        IsFirstNotBelow key.now (map text_of records.now) place }
-    ensures { IsAnswer N key.now records.now result }
-{
-    let Some(raw) = records.get(place) else {
-        return Err(place);
-    };
-    if raw == key.all_bytes() {
-        Ok(place)
-    } else {
-        Err(place)
-    }
-}
-
-fn range_with_prefix<const N: usize>(
-    records: &[[u8; N]],
-    beginning: &TinyAsciiStr<N>,
-) -> (usize, usize)
-    ensures bound { result.0 + result.1 ≤ length records.now }
-    ensures start { All (λ raw. IsPaddedText raw N) records.now → IsRising (map text_of records.now) →
-        IsFirstNotBelow beginning.now (map text_of records.now) result.0 }
-    ensures range { All (λ raw. IsPaddedText raw N) records.now → IsRising (map text_of records.now) →
-        take result.1 (drop result.0 (map text_of records.now))
-        ≡ filter (λ t. starts_with nat_eq t beginning.now) (map text_of records.now) }
-{
-    let start = first_not_below(records, beginning);
-    let (_, rest) = records.split_at(start);
-    let beginning = beginning.as_utf8();
-    let len = rest.partition_point(
-        |raw| -> bool
-            ensures { result ≡ starts_with nat_eq raw.now beginning.entry.now }
-        { raw[..].starts_with(beginning) },
-    );
-    (start, len)
-}
-
-// The index of the first record that isn't below a key, or the number of records.
-#[inline(always)]
-fn first_not_below<const N: usize>(records: &[[u8; N]], key: &TinyAsciiStr<N>) -> usize
-    ensures bound { result ≤ length records.now }
-    ensures place { All (λ raw. IsPaddedText raw N) records.now → IsRising (map text_of records.now) →
-        IsFirstNotBelow key.now (map text_of records.now) result }
-{
-    let key = key.all_bytes();
-    if N <= 16 {
-        return first_not_below_by_number(records, key);
-    }
-    first_not_below_by_halves(records, key)
+    range_by_fronts(bytes.as_chunks().0, beginning)
 }

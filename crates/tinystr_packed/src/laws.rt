@@ -76,6 +76,7 @@ pub fn tests_decide()
 {}
 
 /// The texts of a sorted table fit in `N` bytes and rise.
+#[inline]
 pub fn sorted_texts<const N: usize>(sorted: &SortedTable<'_, N>)
     ensures strict { All (λ t. IsStrictText t N) sorted.now }
     ensures rising { IsRising sorted.now }

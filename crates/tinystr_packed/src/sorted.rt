@@ -1,25 +1,24 @@
-//! Tables whose texts rise, and the search in them.
+//! Tables whose texts are strictly ascending, and the search in them.
 
-ghost use Rattle.std.specs.Prelude.{◌≡◌, ◌<◌, ◌≤◌, ◌-◌, ◌^◌, ◌↔◌, ℕ, List, IsOk, IsSome, IsTrue, IfOk, IfErr, IfSome, Some, Contains, drop, filter, length, map, nat_eq, slice_get, slice_index, take};
+ghost use Rattle.std.specs.Prelude.{◌≡◌, ◌<◌, ◌≤◌, ◌-◌, ◌^◌, ◌↔◌, ℕ, List, IsOk, IsSome, IsTrue, IfOk, IfErr, IfSome, Some, Contains, drop, filter, length, map, nat_eq, slice_get, take};
 ghost use Rattle.std.specs.List.{starts_with};
 ghost use Rattle.std.specs.Result.{result_ok};
-ghost use Rattle.tinystr_words.specs.Text.{IsStrictText};
 ghost use Rattle.tinystr_packed.specs.Reading.{sorted_of, sorted_table_of};
-ghost use Rattle.tinystr_packed.specs.Rising.{text_at, IsRising, ArePackedRising, IsFirstFall, IsPlaceFor, IsFirstNotBelow, IsPrefixRange};
+ghost use Rattle.tinystr_packed.specs.Rising.{IsRising, ArePackedRising, IsFirstFall, IsPlaceFor, IsPrefixRange};
 ghost use Rattle.tinystr_packed.specs.Search.{search_result};
 ghost use Rattle.tinystr_packed.specs.Sorting.{RefusesSorted};
 
 use crate::each::BinarySearchEach;
-use crate::search::{count_with_prefix, first_not_below, first_not_below_next};
-use crate::side_by_side::first_not_below_each;
+use crate::laws;
+use crate::prefix::count_with_prefix;
+use crate::search::{self, first_not_below};
 use crate::table::Table;
-use std::cmp::Ordering;
 use std::marker::Model;
 use std::ops::Range;
 use tinystr::TinyAsciiStr;
 use tinystr::ule::UleError;
 
-/// A table whose texts rise, each above the one before it. A contract sees it as the list of its texts.
+/// A table whose texts are strictly ascending. A contract sees it as the list of its texts.
 ///
 /// ```rust
 /// let codes = SortedTable::new(Table::<3>::new(b"CHFEURJPYUSD").unwrap()).unwrap();
@@ -130,14 +129,15 @@ impl<'a, const N: usize> SortedTable<'a, N> {
         ensures rising { IsRising self.now }
         ensures answer { result ≡ search_result self.now key.now }
     {
-        self.answer_at(self.first_not_below(key), key)
+        search::binary_search(self.table.records(), key)
     }
 
-    /// What `binary_search` gives for each of many keys, in their order.
+    /// What `binary_search` returns for each of many keys, in their order.
     ///
-    /// A key that repeats, or that belongs right behind the last one, needs no search. Else eight keys at a time are searched
-    /// for, so that each search waits for memory while the others do. Eight keys that rise are looked for a little behind the
-    /// last one first. Two keys by turns take a search for each of these, and fewer than eight are searched for one by one.
+    /// A key that repeats, or whose place is next to the last one, needs no search. Other keys are searched for eight at a
+    /// time, so that each search waits for memory while the others do. Eight keys in order are looked for first in the records
+    /// after the last place. Of two alternating keys each is searched for once, and fewer than eight keys are searched for one
+    /// by one.
     ///
     /// ```rust
     /// let codes = SortedTable::new(Table::<3>::new(b"CHFEURJPYUSD").unwrap()).unwrap();
@@ -151,7 +151,7 @@ impl<'a, const N: usize> SortedTable<'a, N> {
         ensures answers { result ≡ map (search_result self.now) keys.now }
         ensures rising { IsRising self.now }
     {
-        BinarySearchEach::new(self.copied(), keys)
+        BinarySearchEach::new(self.table.records(), keys)
     }
 
     /// The index of a text of any capacity, or `None` if the table doesn't have it. Both capacities must be below 2^63.
@@ -167,8 +167,7 @@ impl<'a, const N: usize> SortedTable<'a, N> {
         ensures found { IfSome result (λ index. slice_get self.now index ≡ Some key.now) }
         ensures exact { IsSome result ↔ Contains self.now key.now }
     {
-        // Its contract says that no text is longer than `N` bytes.
-        let _ = self.table.len();
+        laws::sorted_texts(self);
         let key = key.try_resize()?;
         self.binary_search(&key).ok()
     }
@@ -209,84 +208,11 @@ impl<'a, const N: usize> SortedTable<'a, N> {
     pub(crate) fn prefix_range(&self, beginning: &TinyAsciiStr<N>) -> Range<usize>
         ensures { IsPrefixRange beginning.now self.now result.start result.end }
     {
-        let start = self.first_not_below(beginning);
-        let (_, rest) = self.table.records().split_at(start);
+        tinystr::laws::fits(beginning);
+        let records = self.table.records();
+        let start = first_not_below(records, beginning.all_bytes());
+        let (_, rest) = records.split_at(start);
         let len = count_with_prefix(rest, beginning);
         start..start + len
-    }
-
-    // The same table.
-    #[inline(always)]
-    fn copied(&self) -> SortedTable<'a, N>
-        ensures { result ≡ self.now }
-    {
-        SortedTable {
-            table: self.table.copied(),
-        }
-    }
-
-    // What a search gives that ends at a place.
-    #[inline(always)]
-    pub(crate) fn answer_at(&self, place: usize, key: &TinyAsciiStr<N>) -> Result<usize, usize>
-        requires { IsFirstNotBelow key.now self.now place }
-        ensures found { IfOk result (λ index. slice_get self.now index ≡ Some key.now) }
-        ensures place { IfErr result (λ place. IsPlaceFor key.now self.now place) }
-        ensures exact { IsOk result ↔ Contains self.now key.now }
-        ensures answer { result ≡ search_result self.now key.now }
-        ensures rising { IsRising self.now }
-    {
-        if self.table.has_text_at(place, key) {
-            Ok(place)
-        } else {
-            Err(place)
-        }
-    }
-
-    // The answer for a key, if that for the key before it tells it: the same for the same key, and for one above it the place
-    // behind, or a little behind that.
-    #[inline(always)]
-    pub(crate) fn answer_behind(
-        &self,
-        before: &TinyAsciiStr<N>,
-        answer: Result<usize, usize>,
-        key: &TinyAsciiStr<N>,
-    ) -> Option<Result<usize, usize>>
-        requires { answer ≡ search_result self.now before.now }
-        ensures { IfSome result (λ answer. answer ≡ search_result self.now key.now) }
-    {
-        let records = self.table.records();
-        match before.cmp(key) {
-            Ordering::Less => {
-                let start = match answer {
-                    Ok(index) => index + 1,
-                    Err(place) => place,
-                };
-                let place = first_not_below_next(records, key.all_bytes(), start)?;
-                Some(self.answer_at(place, key))
-            }
-            Ordering::Equal => Some(answer),
-            Ordering::Greater => None,
-        }
-    }
-
-    // The places of the first eight keys, and whether one of them was searched for by itself.
-    #[inline(always)]
-    pub(crate) fn first_not_below_each(
-        &self,
-        keys: &[TinyAsciiStr<N>],
-        near: usize,
-    ) -> ([usize; 8], bool)
-        requires { 8 ≤ length keys.now }
-        ensures { (i : ℕ) → i < 8 → IsFirstNotBelow (text_at keys.now i) self.now (slice_index result.0 i) }
-    {
-        first_not_below_each(self.table.records(), keys, near)
-    }
-
-    // The index of the first text that isn't below a key, or the number of texts.
-    fn first_not_below(&self, key: &TinyAsciiStr<N>) -> usize
-        ensures place { IsFirstNotBelow key.now self.now result }
-        ensures strict { IsStrictText key.now N }
-    {
-        first_not_below(self.table.records(), key.all_bytes())
     }
 }

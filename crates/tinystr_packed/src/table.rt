@@ -10,7 +10,7 @@ ghost use Rattle.tinystr.specs.Records.{RefusesRecords};
 ghost use Rattle.tinystr_packed.specs.Reading.{table_of};
 ghost use Rattle.tinystr_packed.specs.Rising.{IsRising, IsFirstFall};
 
-use crate::record::{holds_same_text, is_below};
+use crate::record::is_below;
 use std::marker::Model;
 use std::ops::Range;
 use tinystr::TinyAsciiStr;
@@ -164,27 +164,6 @@ impl<'a, const N: usize> Table<'a, N> {
             before = raw;
         }
         None
-    }
-
-    // Whether a text stands at an index. It is compared in place: a copy would be stored first, and its loads would wait for
-    // that.
-    #[inline(always)]
-    pub(crate) fn has_text_at(&self, index: usize, text: &TinyAsciiStr<N>) -> bool
-        ensures { IsTrue result ↔ (slice_get self.now index ≡ Some text.now) }
-    {
-        match self.records.get(index) {
-            Some(raw) => holds_same_text(raw, text.all_bytes()),
-            None => false,
-        }
-    }
-
-    // The same table.
-    #[inline(always)]
-    pub(crate) fn copied(&self) -> Table<'a, N>
-        ensures { result ≡ self.now }
-    {
-        let all = self.records;
-        Table { records: all }
     }
 
     /// The records themselves: each text, padded with NULs to `N` bytes.

@@ -1,10 +1,10 @@
-//! The order of records, which is that of their texts.
+//! Two records compared: by all their bytes, and by the numbers that some of their bytes spell.
 
 use core::cmp::Ordering;
 use crate::words::padded;
 
 /// Whether a record is below another, which must be equally long.
-// At most eight bytes are compared as one number, so that no branch is taken within a record.
+// Speed: at most eight bytes are compared as one number, so that no branch is taken within a record.
 ///
 /// # Contract
 ///
@@ -34,27 +34,34 @@ pub(crate) fn compare(left: &[u8], right: &[u8]) -> Ordering {
     padded::compare(left, right)
 }
 
-/// Whether two records hold the same text.
+/// Whether two records are the same bytes.
+// Speed: at most sixteen are compared as one number, without a branch.
 ///
 /// # Contract
 ///
 /// ```text
-/// requires left { IsPaddedText left.now N }
-/// requires right { IsPaddedText right.now N }
-/// ensures { result ≡ bytes_eq (text_of left.now) (text_of right.now) }
+/// ensures { Spec.IsRecord N left.now → Spec.IsRecord N right.now → (IsTrue result ↔ (left.now ≡ right.now)) }
 /// ```
 #[inline(always)]
-pub(crate) fn holds_same_text<const N: usize>(left: &[u8; N], right: &[u8; N]) -> bool {
-    padded::equals(left, right)
+pub(crate) fn are_same<const N: usize>(left: &[u8; N], right: &[u8; N]) -> bool {
+    if N <= 8 {
+        return number_at(left, 0) == number_at(right, 0);
+    }
+    if N <= 16 {
+        let left = <u128 as Number<N>>::at(left, 0);
+        return left == <u128 as Number<N>>::at(right, 0);
+    }
+    compare(&left[..], &right[..]).is_eq()
 }
 
-/// The number of eight bytes of a record from `start` on, or of all of a record of at most eight.
+/// The number of eight bytes of a record from `start` on, the first the most significant, or of all bytes of a record of at
+/// most eight.
 ///
 /// # Contract
 ///
 /// ```text
 /// requires { start ≤ N - 8 }
-/// ensures { result ≡ number_at start raw.now }
+/// ensures { result ≡ Spec.number_at start raw.now }
 /// ```
 #[inline(always)]
 pub(crate) fn number_at<const N: usize>(raw: &[u8; N], start: usize) -> u64 {
@@ -64,4 +71,126 @@ pub(crate) fn number_at<const N: usize>(raw: &[u8; N], start: usize) -> u64 {
     } else {
         padded::number(&bytes[start..start + 8])
     }
+}
+
+/// The number that one search compares: `u64` has eight bytes of a record, and `u128` sixteen.
+pub(crate) trait Number<const N: usize>: Copy {
+    /// That of a record from `start` on.
+    ///
+    /// # Contract
+    ///
+    /// ```text
+    /// requires { start ≤ N - 8 }
+    /// ensures { value result ≡ spelled start raw.now }
+    /// ```
+    fn at(raw: &[u8; N], start: usize) -> Self;
+
+    /// Whether it is below another.
+    ///
+    /// # Contract
+    ///
+    /// ```text
+    /// ensures { result ≡ nat_lt (value self) (value other) }
+    /// ```
+    fn is_below(self, other: Self) -> bool;
+
+    /// Whether both are the same number.
+    ///
+    /// # Contract
+    ///
+    /// ```text
+    /// ensures { result ≡ nat_eq (value self) (value other) }
+    /// ```
+    fn is_same(self, other: Self) -> bool;
+}
+
+impl<const N: usize> Number<N> for u64 {
+    #[inline(always)]
+    fn at(raw: &[u8; N], start: usize) -> u64 {
+        number_at(raw, start)
+    }
+
+    #[inline(always)]
+    fn is_below(self, other: u64) -> bool {
+        self < other
+    }
+
+    #[inline(always)]
+    fn is_same(self, other: u64) -> bool {
+        self == other
+    }
+}
+
+impl<const N: usize> Number<N> for u128 {
+    #[inline(always)]
+    fn at(raw: &[u8; N], start: usize) -> u128 {
+        let Pair { first, next } = Pair::at(raw, start);
+        u128::from(first) * (1 << 64) + u128::from(next)
+    }
+
+    #[inline(always)]
+    fn is_below(self, other: u128) -> bool {
+        self < other
+    }
+
+    #[inline(always)]
+    fn is_same(self, other: u128) -> bool {
+        self == other
+    }
+}
+
+/// The number of sixteen bytes as two numbers: that of eight bytes, and that of the next eight, or of the record's last eight
+/// if fewer follow. A padded text has a pair whose two numbers are below 2^63.
+#[derive(Clone, Copy)]
+pub(crate) struct Pair {
+    pub(crate) first: u64,
+    pub(crate) next: u64,
+}
+
+impl Pair {
+    /// That of a record from `start` on.
+    ///
+    /// # Contract
+    ///
+    /// ```text
+    /// requires { start ≤ N - 8 }
+    /// ensures text { IsPaddedText raw.now N → IsPairOfText N result.first result.next }
+    /// ensures first { result.first ≡ Spec.number_at start raw.now }
+    /// ensures number { paired result.first result.next ≡ Spec.pair_at start raw.now }
+    /// ```
+    #[inline(always)]
+    pub(crate) fn at<const N: usize>(raw: &[u8; N], start: usize) -> Pair {
+        let next = (start + 8).min(N.saturating_sub(8));
+        Pair {
+            first: number_at(raw, start),
+            next: number_at(raw, next),
+        }
+    }
+}
+
+/// 1 if the pair of one text is below that of another, else 0.
+///
+/// # Contract
+///
+/// ```text
+/// ensures bound { result ≤ 1 }
+/// ensures bit { IsPairOfText N pair.first pair.next → IsPairOfText N other.first other.next → result ≡ cond (nat_lt (paired pair.first pair.next) (paired other.first other.next)) 1 0 }
+/// ```
+#[inline(always)]
+pub(crate) fn bit_below<const N: usize>(pair: Pair, other: Pair) -> u64 {
+    if N <= 8 {
+        borrow(pair.first, other.first, 0)
+    } else {
+        borrow(pair.first, other.first, borrow(pair.next, other.next, 0))
+    }
+}
+
+// 1 if a number is below the sum of another and `more`, else 0.
+// Speed: it is the highest bit of the difference, since a comparison would be compiled to a branch.
+// Proved:
+//     ensures bound { result ≤ 1 }
+//     ensures bit { number < 2 ^ 63 → other < 2 ^ 63 → more ≤ 1 → result ≡ cond (nat_lt number (other + more)) 1 0 }
+#[inline(always)]
+fn borrow(number: u64, other: u64, more: u64) -> u64 {
+    number.wrapping_sub(other).wrapping_sub(more) >> 63
 }

@@ -1,15 +1,14 @@
-//! Tables whose texts rise, and the search in them.
+//! Tables whose texts are strictly ascending, and the search in them.
 
 use crate::packed::each::BinarySearchEach;
-use crate::packed::search::{count_with_prefix, first_not_below, first_not_below_next};
-use crate::packed::side_by_side::first_not_below_each;
+use crate::packed::prefix::count_with_prefix;
+use crate::packed::search::{self, first_not_below};
 use crate::packed::table::Table;
-use core::cmp::Ordering;
 use core::ops::Range;
 use crate::TinyAsciiStr;
 use crate::ule::UleError;
 
-/// A table whose texts rise, each above the one before it. A contract sees it as the list of its texts.
+/// A table whose texts are strictly ascending. A contract sees it as the list of its texts.
 ///
 /// ```
 /// use tinystr::tinystr;
@@ -143,14 +142,15 @@ impl<'a, const N: usize> SortedTable<'a, N> {
     /// ensures answer { result ≡ search_result self.now key.now }
     /// ```
     pub fn binary_search(&self, key: &TinyAsciiStr<N>) -> Result<usize, usize> {
-        self.answer_at(self.first_not_below(key), key)
+        search::binary_search(self.table.records(), key)
     }
 
-    /// What `binary_search` gives for each of many keys, in their order.
+    /// What `binary_search` returns for each of many keys, in their order.
     ///
-    /// A key that repeats, or that belongs right behind the last one, needs no search. Else eight keys at a time are searched
-    /// for, so that each search waits for memory while the others do. Eight keys that rise are looked for a little behind the
-    /// last one first. Two keys by turns take a search for each of these, and fewer than eight are searched for one by one.
+    /// A key that repeats, or whose place is next to the last one, needs no search. Other keys are searched for eight at a
+    /// time, so that each search waits for memory while the others do. Eight keys in order are looked for first in the records
+    /// after the last place. Of two alternating keys each is searched for once, and fewer than eight keys are searched for one
+    /// by one.
     ///
     /// ```
     /// use tinystr::tinystr;
@@ -172,7 +172,7 @@ impl<'a, const N: usize> SortedTable<'a, N> {
     /// ```
     #[must_use]
     pub fn binary_search_each<'k>(&self, keys: &'k [TinyAsciiStr<N>]) -> BinarySearchEach<'a, 'k, N> {
-        BinarySearchEach::new(self.copied(), keys)
+        BinarySearchEach::new(self.table.records(), keys)
     }
 
     /// The index of a text of any capacity, or `None` if the table doesn't have it. Both capacities must be below 2^63.
@@ -202,8 +202,6 @@ impl<'a, const N: usize> SortedTable<'a, N> {
     pub fn find_text<const M: usize>(&self, key: &TinyAsciiStr<M>) -> Option<usize> {
         assert!(N <= isize::MAX as usize, "no array is so long");
         assert!(M <= isize::MAX as usize, "no array is so long");
-        // Its contract says that no text is longer than `N` bytes.
-        let _ = self.table.len();
         let key = key.try_resize()?;
         self.binary_search(&key).ok()
     }
@@ -257,84 +255,10 @@ impl<'a, const N: usize> SortedTable<'a, N> {
     // Proved:
     //     ensures { IsPrefixRange beginning.now self.now result.start result.end }
     pub(crate) fn prefix_range(&self, beginning: &TinyAsciiStr<N>) -> Range<usize> {
-        let start = self.first_not_below(beginning);
-        let (_, rest) = self.table.records().split_at(start);
+        let records = self.table.records();
+        let start = first_not_below(records, beginning.all_bytes());
+        let (_, rest) = records.split_at(start);
         let len = count_with_prefix(rest, beginning);
         start..start + len
-    }
-
-    // The same table.
-    // Proved:
-    //     ensures { result ≡ self.now }
-    #[inline(always)]
-    fn copied(&self) -> SortedTable<'a, N> {
-        SortedTable {
-            table: self.table.copied(),
-        }
-    }
-
-    // What a search gives that ends at a place.
-    // Proved:
-    //     requires { IsFirstNotBelow key.now self.now place }
-    //     ensures found { IfOk result (λ index. slice_get self.now index ≡ Some key.now) }
-    //     ensures place { IfErr result (λ place. IsPlaceFor key.now self.now place) }
-    //     ensures exact { IsOk result ↔ Contains self.now key.now }
-    //     ensures answer { result ≡ search_result self.now key.now }
-    //     ensures rising { IsRising self.now }
-    #[inline(always)]
-    pub(crate) fn answer_at(&self, place: usize, key: &TinyAsciiStr<N>) -> Result<usize, usize> {
-        if self.table.has_text_at(place, key) {
-            Ok(place)
-        } else {
-            Err(place)
-        }
-    }
-
-    // The answer for a key, if that for the key before it tells it: the same for the same key, and for one above it the place
-    // behind, or a little behind that.
-    // Proved:
-    //     requires { answer ≡ search_result self.now before.now }
-    //     ensures { IfSome result (λ answer. answer ≡ search_result self.now key.now) }
-    #[inline(always)]
-    pub(crate) fn answer_behind(
-        &self,
-        before: &TinyAsciiStr<N>,
-        answer: Result<usize, usize>,
-        key: &TinyAsciiStr<N>,
-    ) -> Option<Result<usize, usize>> {
-        let records = self.table.records();
-        match before.cmp(key) {
-            Ordering::Less => {
-                let start = match answer {
-                    Ok(index) => index + 1,
-                    Err(place) => place,
-                };
-                let place = first_not_below_next(records, key.all_bytes(), start)?;
-                Some(self.answer_at(place, key))
-            }
-            Ordering::Equal => Some(answer),
-            Ordering::Greater => None,
-        }
-    }
-
-    // The places of the first eight keys, and whether one of them was searched for by itself.
-    // Proved:
-    //     requires { 8 ≤ length keys.now }
-    //     ensures { (i : ℕ) → i < 8 → IsFirstNotBelow (text_at keys.now i) self.now (slice_index result.0 i) }
-    #[inline(always)]
-    pub(crate) fn first_not_below_each(
-        &self,
-        keys: &[TinyAsciiStr<N>],
-        near: usize,
-    ) -> ([usize; 8], bool) {
-        first_not_below_each(self.table.records(), keys, near)
-    }
-
-    // The index of the first text that isn't below a key, or the number of texts.
-    // Proved:
-    //     ensures place { IsFirstNotBelow key.now self.now result }
-    //     ensures strict { IsStrictText key.now N }
-    fn first_not_below(&self, key: &TinyAsciiStr<N>) -> usize {
-        first_not_below(self.table.records(), key.all_bytes())
     }
 }

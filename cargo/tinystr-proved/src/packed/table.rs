@@ -1,6 +1,6 @@
 //! Tables of packed records, and the iterator over their texts.
 
-use crate::packed::record::{holds_same_text, is_below};
+use crate::packed::record::is_below;
 use core::ops::Range;
 use crate::TinyAsciiStr;
 use crate::ule::UleError;
@@ -208,27 +208,6 @@ impl<'a, const N: usize> Table<'a, N> {
             before = raw;
         }
         None
-    }
-
-    // Whether a text stands at an index. It is compared in place: a copy would be stored first, and its loads would wait for
-    // that.
-    // Proved:
-    //     ensures { IsTrue result ↔ (slice_get self.now index ≡ Some text.now) }
-    #[inline(always)]
-    pub(crate) fn has_text_at(&self, index: usize, text: &TinyAsciiStr<N>) -> bool {
-        match self.records.get(index) {
-            Some(raw) => holds_same_text(raw, text.all_bytes()),
-            None => false,
-        }
-    }
-
-    // The same table.
-    // Proved:
-    //     ensures { result ≡ self.now }
-    #[inline(always)]
-    pub(crate) fn copied(&self) -> Table<'a, N> {
-        let all = self.records;
-        Table { records: all }
     }
 
     /// The records themselves: each text, padded with NULs to `N` bytes.

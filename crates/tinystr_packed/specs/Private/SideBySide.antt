@@ -1,25 +1,25 @@
--- Searches side by side, for numbers of two halves.
-use Rattle.std.specs.Prelude.{◌≡◌, ℕ, ◌+◌, ◌-◌, ◌*◌, ◌^◌, ◌<◌, ◌≤◌, List, length, slice_index, slice_index_or, All}
+-- Eight searches at a time, by pairs of numbers.
+use Rattle.std.specs.Prelude.{◌≡◌, ℕ, ◌+◌, ◌-◌, ◌*◌, ◌^◌, ◌<◌, ◌≤◌, List, length, map, slice_index, slice_index_or, All, IfOk, IfErr}
 use Rattle.std.specs.declared.result.Result.{Result}
 use Rattle.std.specs.declared.result.Result.TheVariants.{Ok}
-use Rattle.tinystr_words.specs.Text.{IsPaddedText}
+use Rattle.tinystr_words.specs.Text.{IsPaddedText, text_of}
 use Rattle.tinystr_packed.specs.Private.Numbers.{pair_at}
-use Rattle.tinystr_packed.specs.Rising.{text_at}
+use Rattle.tinystr_packed.specs.Rising.{text_at, IsRising}
 use Rattle.tinystr_packed.specs.Search.{search_result}
 
--- the number of two halves
+-- the number of a pair
 abbrev pub paired : ℕ → ℕ → ℕ
 paired first next = first * 2 ^ 64 + next
 
--- halves as texts of n bytes have them: neither has its highest bit, and where there are at most eight bytes, both are all
-pub record AreHalves (n first next : ℕ) : Type 0 where
+-- a pair as a text of n bytes has it: neither number has its highest bit and, of at most eight bytes, both are the same
+pub record IsPairOfText (n first next : ℕ) : Type 0 where
   pub first_fits : first < 2 ^ 63
   pub next_fits : next < 2 ^ 63
   pub short : n ≤ 8 → first ≡ next
 
 -- eight of them
-pub record AreAllHalves (n : ℕ) (first next : List ℕ) : Type 0 where
-  pub each : (i : ℕ) → i < 8 → AreHalves n (slice_index first i) (slice_index next i)
+pub record ArePairsOfTexts (n : ℕ) (first next : List ℕ) : Type 0 where
+  pub each : (i : ℕ) → i < 8 → IsPairOfText n (slice_index first i) (slice_index next i)
 
 -- one of them
 abbrev pub wanted : List ℕ → List ℕ → ℕ → ℕ
@@ -53,9 +53,15 @@ pub record AreWithin (n start : ℕ) (records : List (List ℕ)) (w : ℕ → �
 pub record ArePlacesWithin (n start : ℕ) (records : List (List ℕ)) (w : ℕ → ℕ) (places : List ℕ) (size : ℕ) : Type 0 where
   pub each : (i : ℕ) → i < 8 → IsPlaceWithin n start records (w i) (slice_index places i) (slice_index places i + size)
 
--- the first n of eight answers are those for the first keys
-abbrev pub AreAnswers : List (List ℕ) → List (List ℕ) → List (Result ℕ ℕ) → ℕ → Type 0
-AreAnswers texts keys answers n = (i : ℕ) → i < n → slice_index_or answers i (Ok 0) ≡ search_result texts (text_at keys i)
+-- an answer inside the records and, if these are padded texts of n bytes that rise, that for a key
+pub record IsAnswer (n : ℕ) (key : List ℕ) (records : List (List ℕ)) (r : Result ℕ ℕ) : Type 0 where
+  pub inside : IfOk r (λ index. index < length records)
+  pub bound : IfErr r (λ place. place ≤ length records)
+  pub answer : All (λ raw. IsPaddedText raw n) records → IsRising (map text_of records) → r ≡ search_result (map text_of records) key
+
+-- the first m of eight answers are those for the first keys
+abbrev pub AreAnswers : ℕ → List (List ℕ) → List (List ℕ) → List (Result ℕ ℕ) → ℕ → Type 0
+AreAnswers n records keys answers m = (i : ℕ) → i < m → IsAnswer n (text_at keys i) records (slice_index_or answers i (Ok 0))
 
 -- an answer is that for the key before m, if there is one
 abbrev pub IsLast : List (List ℕ) → List (List ℕ) → Result ℕ ℕ → ℕ → Type 0

@@ -1,20 +1,29 @@
-use Rattle.std.proofs.Common.{◌≡◌, ◌∙◌, [], ap, arith, ℕ}
+use Rattle.std.proofs.Common.{◌∙◌, [], arith, rules, ℕ}
 use Rattle.std.proofs.lemmas.List.{get_or_default, length-set}
 use Rattle.std.specs.declared.result.Result.{Result}
 use Rattle.std.specs.declared.result.Result.TheVariants.{Ok}
 use Rattle.tinystr_packed.specs.Rising.{text_at}
-use Rattle.tinystr_packed.specs.Search.{search_result}
+use Rattle.tinystr_packed.specs.Private.SideBySide.{IsAnswer}
 use Rattle.tinystr_packed.proofs.SideBySide.{so_far-set}
 use Rattle.tinystr_packed.proofs.eight.answers_at.Goals as goal
 
+pub answer_at-requires : goal.answer_at-requires
+answer_at-requires g c =
+    let keys = c.args.keys.now in
+    let lane = c.loop-lane.lane in
+    let here = c.index-keys-lane.is ∙ get_or_default keys lane c.index-keys-lane.result [] (omega (arith, c.requires.eight)) in (
+      search rules,
+      (search rules, (c.requires.bound lane (omega arith), λ padded up. rw here (c.requires.places padded up lane (omega arith)))),
+    )
+
 pub loop-lane-preserved : goal.loop-lane-preserved
 loop-lane-preserved g c =
-    let texts = c.args.sorted.now in
     let keys = c.args.keys.now in
+    let records = c.args.records.now in
     let answers = c.loop-lane.answers in
     let lane = c.loop-lane.lane in
     let here = c.index-keys-lane.is ∙ get_or_default keys lane c.index-keys-lane.result [] (omega (arith, c.requires.eight)) in
     record {
       long = length-set answers lane c.answer_at.result ∙ c.loop-lane.invariant.long;
-      each = so_far-set (Ok 0) (λ (i : ℕ) (answer : Result ℕ ℕ). answer ≡ search_result texts (text_at keys i)) answers lane c.answer_at.result (omega (arith, c.loop-lane.invariant.long)) c.loop-lane.invariant.each (c.answer_at.ensures.answer ∙ ap (search_result texts) here);
+      each = so_far-set (Ok 0) (λ (i : ℕ) (answer : Result ℕ ℕ). IsAnswer g.row.N (text_at keys i) records answer) answers lane c.answer_at.result (omega (arith, c.loop-lane.invariant.long)) c.loop-lane.invariant.each (rw here at c.answer_at.ensures);
     }

@@ -5,5 +5,5 @@ use Rattle.tinystr_packed.proofs.eight.answers_one_by_one.Given as goal
 abbrev pub invariant-loop-lane : goal.invariant-loop-lane
 invariant-loop-lane g l = record {
   long : length l.answers ≡ 8;
-  each : AreAnswers l.sorted l.keys l.answers l.lane;
+  each : AreAnswers g.row.N l.records l.keys l.answers l.lane;
 }

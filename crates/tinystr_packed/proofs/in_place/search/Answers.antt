@@ -1,5 +1,6 @@
 use Rattle.std.proofs.Common.{◌≡◌, length, rules}
 use Rattle.tinystr_packed.proofs.InPlace.{records_are, none_from_empty, IsSearched-none}
+use Rattle.tinystr_packed.proofs.Searches.{IsSearched-result}
 use Rattle.tinystr_packed.proofs.in_place.search.Goals as goal
 
 pub returns-then-is_empty-clause-searched : goal.returns-then-is_empty-clause-searched
@@ -11,4 +12,4 @@ returns-then-is_empty-clause-searched g c = λ texts h.
 pub returns-clause-searched : goal.returns-clause-searched
 returns-clause-searched g c = λ texts h.
     let are = records_are c.args.bytes.now c.as_chunks.result.0.now texts g.row.N c.requires h c.as_chunks.ensures.front c.as_chunks.ensures.front_len in
-    rw are.1 at (c.search_records.ensures.searched are.0 (rw are.1 h.rising))
+    IsSearched-result texts c.args.key.now c.binary_search_whole.result h.rising (rw are.1 at (c.binary_search_whole.ensures.answer are.0 (rw are.1 h.rising)))

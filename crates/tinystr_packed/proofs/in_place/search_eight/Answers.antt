@@ -1,9 +1,11 @@
 use Rattle.std.proofs.Common.{◌≡◌, ℕ, length, rules}
+use Rattle.std.specs.List.{slice_index_or}
 use Rattle.std.specs.declared.result.Result.{Result}
 use Rattle.std.specs.declared.result.Result.TheVariants.{Ok, Err}
 use Rattle.std.proofs.lemmas.List.{get_or-replicate}
 use Rattle.tinystr_packed.specs.Rising.{text_at}
 use Rattle.tinystr_packed.proofs.InPlace.{records_are, none_from_empty, IsSearched-none}
+use Rattle.tinystr_packed.proofs.Searches.{IsSearched-result}
 use Rattle.tinystr_packed.proofs.in_place.search_eight.Goals as goal
 
 pub returns-then-is_empty-clause-searched : goal.returns-then-is_empty-clause-searched
@@ -12,12 +14,12 @@ returns-then-is_empty-clause-searched g c = λ texts h i lane.
     let none = none_from_empty texts c.args.bytes.now g.row.N c.requires empty h in
     rw (none, get_or-replicate {A = Result ℕ ℕ} 8 i (Err 0) (Ok 0) lane) (IsSearched-none (text_at c.args.keys.now i))
 
-pub returns-then-are_two_by_turns-clause-searched : goal.returns-then-are_two_by_turns-clause-searched
-returns-then-are_two_by_turns-clause-searched g c = λ texts h i lane.
+pub returns-then-this-gt16-clause-searched : goal.returns-then-this-gt16-clause-searched
+returns-then-this-gt16-clause-searched g c = λ texts h i lane.
     let are = records_are c.args.bytes.now c.as_chunks.result.0.now texts g.row.N c.requires h c.as_chunks.ensures.front c.as_chunks.ensures.front_len in
-    rw are.1 at ((c.search_one_by_one.ensures i lane).searched are.0 (rw are.1 h.rising))
+    IsSearched-result texts (text_at c.args.keys.now i) (slice_index_or c.answers_one_by_one.result i (Ok 0)) h.rising (rw are.1 at ((c.answers_one_by_one.ensures i lane).answer are.0 (rw are.1 h.rising)))
 
-pub returns-else-are_two_by_turns-clause-searched : goal.returns-else-are_two_by_turns-clause-searched
-returns-else-are_two_by_turns-clause-searched g c = λ texts h i lane.
+pub returns-else-this-gt16-clause-searched : goal.returns-else-this-gt16-clause-searched
+returns-else-this-gt16-clause-searched g c = λ texts h i lane.
     let are = records_are c.args.bytes.now c.as_chunks.result.0.now texts g.row.N c.requires h c.as_chunks.ensures.front c.as_chunks.ensures.front_len in
-    rw are.1 at ((c.search_side_by_side.ensures i lane).searched are.0 (rw are.1 h.rising))
+    IsSearched-result texts (text_at c.args.keys.now i) (slice_index_or c.answers_of_short.result i (Ok 0)) h.rising (rw are.1 at ((c.answers_of_short.ensures i lane).answer are.0 (rw are.1 h.rising)))

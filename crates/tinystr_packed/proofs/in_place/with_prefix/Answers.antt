@@ -11,7 +11,7 @@ returns-then-is_empty-clause-range g c = λ texts h.
 pub returns-clause-range : goal.returns-clause-range
 returns-clause-range g c = λ texts h.
     let are = records_are c.args.bytes.now c.as_chunks.result.0.now texts g.row.N c.requires h c.as_chunks.ensures.front c.as_chunks.ensures.front_len in
-    rw are.1 at (c.range_with_prefix.ensures.range are.0 (rw are.1 h.rising))
+    rw are.1 at (c.range_by_fronts.ensures.range are.0 (rw are.1 h.rising))
 
 pub returns-then-is_empty-clause-start : goal.returns-then-is_empty-clause-start
 returns-then-is_empty-clause-start g c = λ texts h.
@@ -22,4 +22,4 @@ returns-then-is_empty-clause-start g c = λ texts h.
 pub returns-clause-start : goal.returns-clause-start
 returns-clause-start g c = λ texts h.
     let are = records_are c.args.bytes.now c.as_chunks.result.0.now texts g.row.N c.requires h c.as_chunks.ensures.front c.as_chunks.ensures.front_len in
-    rw are.1 at (c.range_with_prefix.ensures.start are.0 (rw are.1 h.rising))
+    rw are.1 at (c.range_by_fronts.ensures.start are.0 (rw are.1 h.rising))

@@ -1,17 +1,14 @@
-use Rattle.std.proofs.Common.{rules}
 use Rattle.tinystr_packed.proofs.RecordOrder.{AreToldApart-long, AreToldApart-long_pair}
 use Rattle.tinystr_packed.proofs.RisingTexts.{IsFirstNotBelowWithin-all}
 use Rattle.tinystr_packed.proofs.search.first_not_below_of_many.Goals as goal
 
-pub first_not_below_within-requires : goal.first_not_below_within-requires
-first_not_below_within-requires g c =
+pub returns-clause-place : goal.returns-clause-place
+returns-clause-place g c up one =
     let records = c.args.records.now in
     let key = c.args.key.now in
     let start = c.shared_len-start.result in
     let fits = c.shared_len-start.ensures.bound in
-    let alike = c.shared_len-start.ensures.alike in
-    let eight = AreToldApart-long records key g.row.N start c.requires.long fits c.requires.records c.requires.key alike in
-    let sixteen = AreToldApart-long_pair records key g.row.N start c.requires.long fits c.requires.records c.requires.key alike in (
-      search rules,
-      (c.requires.records, c.narrow-range-2.ensures.within sixteen (c.narrow-range.ensures.within eight (IsFirstNotBelowWithin-all records key))),
-    )
+    let alike = c.shared_len-start.ensures.alike up one in
+    let eight = AreToldApart-long records key g.row.N start c.requires fits up one alike in
+    let sixteen = AreToldApart-long_pair records key g.row.N start c.requires fits up one alike in
+    c.first_not_below_within.ensures.place up.rising (c.narrow-range-2.ensures.within sixteen (c.narrow-range.ensures.within eight (IsFirstNotBelowWithin-all records key)))

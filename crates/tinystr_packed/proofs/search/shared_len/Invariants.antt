@@ -1,10 +1,11 @@
 use Rattle.std.proofs.Common.{◌≡◌, ◌-◌, take}
+use Rattle.tinystr_packed.specs.Private.Numbers.{IsRecord, AreRisingRecords}
 use Rattle.tinystr_packed.proofs.search.shared_len.Given as goal
 
 abbrev pub invariant-loop-len : goal.invariant-loop-len
 invariant-loop-len g l = record {
-  first : take l.len l.first ≡ take l.len l.key;
-  last : take l.len l.last ≡ take l.len l.key;
+  first : AreRisingRecords g.row.N l.records → IsRecord g.row.N l.key → take l.len l.first ≡ take l.len l.key;
+  last : AreRisingRecords g.row.N l.records → IsRecord g.row.N l.key → take l.len l.last ≡ take l.len l.key;
 }
 
 abbrev pub decreases-loop-len : goal.decreases-loop-len

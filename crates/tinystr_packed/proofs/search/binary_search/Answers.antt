@@ -1,0 +1,16 @@
+use Rattle.std.proofs.Common.{rules}
+use Rattle.tinystr_packed.proofs.RisingTexts.{IsRecord-padded}
+use Rattle.tinystr_packed.proofs.search.binary_search.Goals as goal
+
+pub answer_at-requires : goal.answer_at-requires
+answer_at-requires g c =
+    let key = c.all_bytes.ensures in (
+      search rules,
+      (
+        search rules,
+        (
+          c.first_not_below-place.ensures.bound,
+          λ padded up. rw key.bytes at (c.first_not_below-place.ensures.place up (IsRecord-padded c.all_bytes.result.now g.row.N key.padded)),
+        ),
+      ),
+    )
