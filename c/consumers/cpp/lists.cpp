@@ -40,6 +40,15 @@ void check(const char *name, std::string_view hashed) {
     std::cout << name << ' ' << r.code << ' ' << r.value << '\n';
 }
 
+// What is empty may have a null pointer.
+bool are_empty_accepted() {
+    const std::string_view view;
+    const std::vector<char> table;
+    return tinystr_ask(view.data(), view.size(), TINYSTR_NUMERIC).value == 1
+        && tinystr_sorted_check(table.data(), table.size(), capacity).code == TINYSTR_OK
+        && tinystr_sorted_search(table.data(), table.size(), capacity, view.data(), view.size()).code == TINYSTR_NOT_FOUND;
+}
+
 // Searches all keys by one call. Of each it answers as one for it alone.
 bool all_at_once(std::string_view keys, const std::vector<tinystr_result> &alone, std::string_view table) {
     std::vector<tinystr_result> out(alone.size() + 1);
@@ -57,6 +66,7 @@ bool all_at_once(std::string_view keys, const std::vector<tinystr_result> &alone
 
 int main(int argc, char **argv) {
     if (argc < 4) return 2;
+    if (!are_empty_accepted()) return 1;
     const std::string table = read_file(argv[2]), hashed = read_file(argv[3]);
     const tinystr_result r = tinystr_sorted_check(table.data(), table.size(), capacity);
     if (r.code != TINYSTR_OK) return 1;
