@@ -8,7 +8,7 @@ use Rattle.std.proofs.lemmas.List.{length-map, length-take, take_all, drop_all, 
 use Rattle.std.proofs.lemmas.Simd.{bitmask_splat, splat_is_map, zip2_splat, zip2-map, tops_compared, map-map, mask_l-lt, mask_l-mod}
 use Rattle.tinystr_words.specs.Classes.{is_alphabetic, is_digit}
 use Rattle.tinystr_words.specs.Text.{pad}
-use Rattle.tinystr_words.proofs.Lanes.{below_at}
+use Rattle.tinystr_words.proofs.Words.Lanes.{below_at}
 use Rattle.tinystr_words.proofs.Texts.{NULS}
 use Rattle.subtags.proofs.MaskLemmas.{mask_l-last}
 use Rattle.subtags.specs.Grammar.{fold_byte, is_separator}

@@ -10,7 +10,7 @@ use Rattle.std.proofs.lemmas.List.{take_all, drop_all, length-append, length-tak
 use Rattle.std.proofs.lemmas.Simd.{length-zip2, get_or-zip2, below_from_Fits, chunk-fits}
 use Rattle.tinystr_words.specs.Classes.{is_alphabetic, is_digit, is_upper}
 use Rattle.tinystr_words.specs.Text.{IsPaddedText, IsText, pad, text_of}
-use Rattle.tinystr_words.proofs.Lanes.{IsBytes, IsBytes-from_Fits}
+use Rattle.tinystr_words.proofs.Words.Lanes.{IsBytes, IsBytes-from_Fits}
 use Rattle.tinystr_words.proofs.Texts.{NULS, length-pad, get_or-nuls, IsPaddedText-made, text_of-made}
 use Rattle.subtags.specs.Grammar.{fold_byte}
 use Rattle.subtags.specs.Private.Lanes.{steps_of}

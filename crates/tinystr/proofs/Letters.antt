@@ -12,9 +12,9 @@ use Rattle.tinystr_words.specs.Classes.{is_alphabetic, is_lower}
 use Rattle.tinystr_words.specs.Case.{lower, lowercase}
 use Rattle.tinystr_words.specs.Text.{pad, IsTextByte, IsStrictText}
 use Rattle.tinystr_words.specs.Words.{word, lanes_of}
-use Rattle.tinystr_words.proofs.Lanes.{IsBytes, below_at}
+use Rattle.tinystr_words.proofs.Words.Lanes.{IsBytes, below_at}
 use Rattle.tinystr_words.proofs.Texts.{NULS, length-pad}
-use Rattle.tinystr_words.proofs.WordAsNumber.{lanes_of-word, word-nuls}
+use Rattle.tinystr_words.proofs.Words.Numbers.{lanes_of-word, word-nuls}
 
 -- a byte with another taken from it
 abbrev pub less : ℕ → ℕ → ℕ

@@ -101,7 +101,7 @@ impl<const N: usize> TinyAsciiStr<N> {
     /// assert_eq!(rt; rest, b"EUR".as_slice());
     /// assert_eq!(rt; TinyAsciiStr::<4>::read_bytes(b"EUR").unwrap_err(), BytesReadError::Length { expected: 4 });
     /// ```
-    #[tactic(auto, using(tinystr_words::proofs::ByteForms::byte_reading))]
+    #[tactic(auto, using(tinystr_words::proofs::Reading::ByteForms::byte_reading))]
     pub fn read_bytes(input: &[u8]) -> Result<(Self, &[u8]), BytesReadError>
         ensures accepted { IsOk result ↔ (byte_fault N input.now ≡ None) }
         ensures padded { IfOk result (λ _. IsPaddedText (take N input.now) N) }
@@ -161,7 +161,7 @@ impl<const N: usize> UnvalidatedTinyAsciiStr<N> {
 // The fault at the first of `expected` positions that has one. Bytes are read in order, so the end of the input is a
 // fault where it comes, and a byte above 127 behind a NUL is `Null`. `ascii::strict::find_fault` gives the first fault
 // of code units that were counted before, and has `NonAscii` before `ContainsNull`.
-#[tactic(auto, using(tinystr_words::proofs::ByteForms::byte_pass))]
+#[tactic(auto, using(tinystr_words::proofs::Reading::ByteForms::byte_pass))]
 fn find_byte_fault(input: &[u8], expected: usize) -> Option<BytesReadError>
     ensures { option_map byte_fault_of result ≡ byte_fault expected input.now }
 {

@@ -7,7 +7,7 @@ use Rattle.std.specs.List.{flat_map}
 use Rattle.std.specs.Result.{IfOk, IfErr}
 use Rattle.std.specs.declared.result.Result.{Result}
 use Rattle.tinystr_words.specs.Text.{IsStrictText, pad}
-use Rattle.tinystr_words.proofs.Packing.{length-joined}
+use Rattle.tinystr_words.proofs.Reading.Records.{length-joined}
 use Rattle.tinystr_packed.specs.Rising.{text_at, ArePackedRising, IsSearched}
 use Rattle.tinystr_packed.proofs.PackedTexts.{packed_injective}
 use Rattle.tinystr_c.specs.Codes.{OK, NO_ROOM, answer, search_answer}

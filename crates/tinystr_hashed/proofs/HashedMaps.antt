@@ -17,7 +17,7 @@ use Rattle.std.proofs.lemmas.Map.Lookups.{exact_bytes}
 use Rattle.std.proofs.lemmas.Map.Made.{IsDistinct-from_AllPairs, keys_of-zip}
 use Rattle.std.proofs.lemmas.Option.{get_or_from_slice_get, slice_get-get_or, slice_get-map, slice_get_within}
 use Rattle.std.proofs.lemmas.Slice.Zip.{seconds-zip}
-use Rattle.tinystr_words.proofs.Packing.{AllStrict, length-first_chunks}
+use Rattle.tinystr_words.proofs.Reading.Records.{AllStrict, length-first_chunks}
 use Rattle.tinystr_packed.specs.Map.{get}
 use Rattle.tinystr_packed.proofs.PackedMaps.{All-first_chunks, flat_map-first_chunks, length-same}
 use Rattle.tinystr_packed.proofs.PackedTexts.{packed, packed_injective}

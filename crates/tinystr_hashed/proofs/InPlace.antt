@@ -7,7 +7,7 @@ use Rattle.std.proofs.Math.Nat.{suc-mul}
 use Rattle.std.proofs.lemmas.Option.{get_or_from_slice_get, slice_get_within}
 use Rattle.tinystr_words.specs.Packed.{IsPacked}
 use Rattle.tinystr_words.specs.Text.{IsPaddedText, pad, text_of}
-use Rattle.tinystr_words.proofs.Packing.{length-joined}
+use Rattle.tinystr_words.proofs.Reading.Records.{length-joined}
 use Rattle.tinystr_packed.proofs.InPlace.{missed_record, no_text_at}
 use Rattle.tinystr_packed.proofs.PackedTexts.{AllPadded-chunks, texts_of-records}
 use Rattle.tinystr_hashed.specs.Reading.{IsHashed, records_in}

@@ -7,8 +7,8 @@ use Rattle.std.proofs.lemmas.Bool.Decides.{Decides-and, Decides-below_and, Decid
 use Rattle.std.proofs.lemmas.List.{get_or-map, length-map}
 use Rattle.tinystr_words.specs.Packed.{IsPacked, is_packed}
 use Rattle.tinystr_words.specs.Text.{IsPaddedText, pad, text_of}
-use Rattle.tinystr_words.proofs.Packing.{AllStrict}
-use Rattle.tinystr_words.proofs.TextsDecided.{is_packed-Decides}
+use Rattle.tinystr_words.proofs.Reading.Records.{AllStrict}
+use Rattle.tinystr_words.proofs.Reading.Decided.{is_packed-Decides}
 use Rattle.tinystr_packed.specs.Reading.{texts_of}
 use Rattle.tinystr_packed.specs.Rising.{text_at}
 use Rattle.tinystr_packed.proofs.PackedTexts.{packed, packed_injective, texts_of-packed}

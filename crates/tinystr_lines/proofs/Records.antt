@@ -5,9 +5,9 @@ use Rattle.std.specs.Fmt.{decimal}
 use Rattle.tinystr_words.specs.Text.{IsPaddedText, is_padded_text}
 use Rattle.tinystr_words.specs.Reading.{fault_in}
 use Rattle.tinystr_words.specs.Packed.{IsPacked, IsFirstBad, record_at}
-use Rattle.tinystr_words.proofs.Packing.{IsPacked-length, IsPacked-record}
-use Rattle.tinystr_words.proofs.Readers.{find-none, find-first}
-use Rattle.tinystr_words.proofs.TextsDecided.{is_padded_text-Decides}
+use Rattle.tinystr_words.proofs.Reading.Records.{IsPacked-length, IsPacked-record}
+use Rattle.tinystr_words.proofs.Reading.OnePass.{find-none, find-first}
+use Rattle.tinystr_words.proofs.Reading.Decided.{is_padded_text-Decides}
 use Rattle.tinystr_lines.specs.Reply.{bad_index_text, fault_text, first_bad_record, records_reply}
 
 -- the test of a record that isn't a padded text, and of one that is

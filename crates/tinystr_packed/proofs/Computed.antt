@@ -9,8 +9,8 @@ use Rattle.std.proofs.Math.Nat.{mul-div_cancel}
 use Rattle.std.proofs.lemmas.Bool.Decides.{Decides-and, Decides-eqb, Decides-like}
 use Rattle.std.proofs.lemmas.Map.Entries.{length-keys_of}
 use Rattle.tinystr_words.specs.Packed.{IsPacked, is_packed, records_of}
-use Rattle.tinystr_words.proofs.Packing.{AllStrict, length-joined}
-use Rattle.tinystr_words.proofs.TextsDecided.{is_packed-Decides}
+use Rattle.tinystr_words.proofs.Reading.Records.{AllStrict, length-joined}
+use Rattle.tinystr_words.proofs.Reading.Decided.{is_packed-Decides}
 use Rattle.tinystr_packed.specs.Map.{ArePacked}
 use Rattle.tinystr_packed.specs.Reading.{are_packed, map_of, sorted_of, table_of, texts_of}
 use Rattle.tinystr_packed.specs.Rising.{IsRising, is_rising, order}

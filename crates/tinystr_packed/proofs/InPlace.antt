@@ -8,7 +8,7 @@ use Rattle.std.proofs.lemmas.Bool.{false≢true}
 use Rattle.std.proofs.lemmas.List.{length-map}
 use Rattle.std.proofs.lemmas.Option.{slice_get-map, slice_get-get_or, slice_get_within, get_or_from_slice_get}
 use Rattle.std.proofs.Math.Nat.{suc-mul}
-use Rattle.tinystr_words.proofs.Packing.{length-joined}
+use Rattle.tinystr_words.proofs.Reading.Records.{length-joined}
 use Rattle.tinystr_words.specs.Packed.{IsPacked}
 use Rattle.tinystr_words.specs.Text.{IsPaddedText, text_of, pad}
 use Rattle.tinystr_packed.proofs.PackedTexts.{AllPadded-chunks, texts_of-records}

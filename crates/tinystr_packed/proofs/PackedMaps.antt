@@ -22,7 +22,7 @@ use Rattle.std.proofs.lemmas.Map.Views.{Contains-keys_from_lookup, IsSome-lookup
 use Rattle.std.proofs.lemmas.Option.{slice_get-get_or, slice_get-map, slice_get_past, get_or_from_slice_get, slice_get_within}
 use Rattle.std.proofs.lemmas.Slice.Zip.{get_or-zip, length-zip, seconds-zip}
 use Rattle.tinystr_words.specs.Text.{IsStrictText, pad}
-use Rattle.tinystr_words.proofs.Packing.{AllStrict, length-first_chunks}
+use Rattle.tinystr_words.proofs.Reading.Records.{AllStrict, length-first_chunks}
 use Rattle.tinystr_packed.proofs.PackedTexts.{packed, packed_injective}
 use Rattle.tinystr_packed.specs.Map.{ArePacked, get}
 use Rattle.tinystr_packed.specs.Rising.{IsRising}

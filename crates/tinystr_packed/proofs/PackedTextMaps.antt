@@ -5,7 +5,7 @@ use Rattle.std.specs.Map.{keys_of, values_of}
 use Rattle.std.proofs.lemmas.Map.Entries.{length-keys_of, length-values_of}
 use Rattle.std.proofs.lemmas.Map.Made.{keys_of-zip}
 use Rattle.std.proofs.lemmas.Slice.Zip.{seconds-zip}
-use Rattle.tinystr_words.proofs.Packing.{AllStrict, length-joined}
+use Rattle.tinystr_words.proofs.Reading.Records.{AllStrict, length-joined}
 use Rattle.tinystr_packed.proofs.MapBytes.{same_entries}
 use Rattle.tinystr_packed.proofs.PackedTexts.{packed, packed_injective}
 use Rattle.tinystr_packed.specs.Rising.{ArePackedRising}

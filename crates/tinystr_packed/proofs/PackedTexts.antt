@@ -10,7 +10,7 @@ use Rattle.std.proofs.Math.Nat.{mul-div_cancel}
 use Rattle.tinystr_words.specs.Text.{IsStrictText, IsPaddedText, text_of, pad}
 use Rattle.tinystr_words.specs.Packed.{IsPacked}
 use Rattle.tinystr_words.proofs.Texts.{length-pad, text_of-pad}
-use Rattle.tinystr_words.proofs.Packing.{AllStrict, length-joined, AllPadded-packed, IsPacked-length}
+use Rattle.tinystr_words.proofs.Reading.Records.{AllStrict, length-joined, AllPadded-packed, IsPacked-length}
 
 abbrev pub packed : ℕ → List (List ℕ) → List ℕ
 packed n ts = flat_map (λ (t : List ℕ). pad t n) ts

@@ -12,7 +12,7 @@ use Rattle.std.proofs.lemmas.List.{get_or-drop, get_or-map, get_or-take, get_or_
 use Rattle.std.proofs.lemmas.List.Elements.{filter-append, All-head, All-tail}
 use Rattle.std.proofs.lemmas.Map.Entries.{length-keys_of}
 use Rattle.tinystr_words.specs.Text.{IsTextByte, IsText, IsStrictText, IsPaddedText, pad, text_of}
-use Rattle.tinystr_words.proofs.Order.{cmp-IsPaddedText}
+use Rattle.tinystr_words.proofs.Order.OfPadded.{cmp-IsPaddedText}
 use Rattle.tinystr_words.proofs.Texts.{NULS, length-pad, text_of-pad, IsPaddedText-pad}
 use Rattle.tinystr_packed.specs.Private.Numbers.{AreRisingRecords, BeginAlike}
 use Rattle.tinystr_packed.specs.Rising.{order, text_at, IsRising, IsFirstNotBelow, IsPrefixRange}

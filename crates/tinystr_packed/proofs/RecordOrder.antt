@@ -16,9 +16,9 @@ use Rattle.tinystr_packed.specs.Private.Numbers.{number_at, pair_at, IsRecord, A
 use Rattle.tinystr_packed.specs.Rising.{order, text_at}
 use Rattle.tinystr_packed.proofs.Numbers.{number_at-short, number_at-long}
 use Rattle.tinystr_packed.proofs.RisingTexts.{Less-from_is_lt}
-use Rattle.tinystr_words.proofs.Before.{cmp_is_same}
-use Rattle.tinystr_words.proofs.OrderByNumbers.{AllFit, AreBytes, AreBytes-drop, AreBytes-from_type, is_lt-nat_cmp, slice_cmp-first_eight, slice_cmp-numbers}
-use Rattle.tinystr_words.proofs.Copying.{pad-full}
+use Rattle.tinystr_words.proofs.Order.OfLists.{cmp_is_same}
+use Rattle.tinystr_words.proofs.Order.ByNumbers.{AllFit, AreBytes, AreBytes-drop, AreBytes-from_type, is_lt-nat_cmp, slice_cmp-first_eight, slice_cmp-numbers}
+use Rattle.tinystr_words.proofs.Pieces.Copying.{pad-full}
 
 -- at most eight bytes are below others where their number is
 pub nat_lt-slice_cmp : (xs ys : List ℕ) (x y : ℕ) → length xs ≡ length ys → length xs ≤ 8 → AllFit xs → AllFit ys

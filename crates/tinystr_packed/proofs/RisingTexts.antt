@@ -18,8 +18,8 @@ use Rattle.std.specs.Prelude.{IsTrue}
 use Rattle.std.proofs.lemmas.Slice.Eq.{bytes_eq-Decides}
 use Rattle.tinystr_words.specs.Text.{IsPaddedText, text_of}
 use Rattle.tinystr_words.proofs.Texts.{get_or-pad, length-pad}
-use Rattle.tinystr_words.proofs.Before.{cmp_is_same}
-use Rattle.tinystr_words.proofs.Order.{cmp-IsPaddedText}
+use Rattle.tinystr_words.proofs.Order.OfLists.{cmp_is_same}
+use Rattle.tinystr_words.proofs.Order.OfPadded.{cmp-IsPaddedText}
 use Rattle.tinystr_packed.specs.Private.Numbers.{IsRecord, AreRisingRecords}
 use Rattle.tinystr_packed.specs.Rising.{order, text_at, IsRising, IsFirstFall, IsPlaceFor, IsFirstNotBelow, IsFirstNotBelowWithin}
 

@@ -20,8 +20,8 @@ use Rattle.std.proofs.lemmas.List.{get_or_default}
 use Rattle.std.proofs.lemmas.List.Sums.{count_by-le-length, sum_by-cons, position_or_len_is, passes_at_first, fails_before_first}
 use Rattle.std.proofs.lemmas.Option.{slice_get-get_or, slice_get_within, get_or_from_slice_get}
 use Rattle.std.proofs.lemmas.Slice.Eq.{bytes_eq-Decides}
-use Rattle.tinystr_words.proofs.Before.{cmp_is_same}
-use Rattle.tinystr_words.proofs.Found.{text_position-at, text_position-some}
+use Rattle.tinystr_words.proofs.Order.OfLists.{cmp_is_same}
+use Rattle.tinystr_words.proofs.Parts.Found.{text_position-at, text_position-some}
 use Rattle.tinystr_packed.specs.Map.{get}
 use Rattle.tinystr_packed.specs.Rising.{order, text_at, IsRising, IsFirstNotBelow, IsPlaceFor, IsSearched}
 use Rattle.tinystr_packed.specs.Search.{search_result, value_at}

@@ -15,7 +15,7 @@ use Rattle.std.proofs.lemmas.Map.Text.{is_eq-slice_cmp}
 use Rattle.std.proofs.lemmas.Slice.Eq.{bytes_eq-Decides}
 use Rattle.tinystr_words.specs.Text.{pad}
 use Rattle.tinystr_packed.proofs.PackedTexts.{packed, packed_injective}
-use Rattle.tinystr_words.proofs.Packing.{AllStrict}
+use Rattle.tinystr_words.proofs.Reading.Records.{AllStrict}
 use Rattle.tinystr_packed.specs.Rising.{ArePackedRising, IsRising}
 use Rattle.tinystr_packed.specs.Sorting.{ArePackedInOrder}
 

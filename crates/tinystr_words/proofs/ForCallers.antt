@@ -28,22 +28,22 @@ use Rattle.tinystr_words.specs.Reading.Fault.{non_ascii}
 use Rattle.tinystr_words.specs.Text.{IsPaddedText, IsStrictText, IsText, IsTextByte, is_padded_text, is_strict_text, is_text_byte, pad, text_of}
 use Rattle.tinystr_words.specs.Words.{lane, word}
 use Rattle.tinystr_words.specs.declared.question.Case.TheVariants.{Title}
-use Rattle.tinystr_words.proofs.Before.{before_not_same, before_one_way, before_or_same, before_padded, cmp_is_before, cmp_is_same}
-use Rattle.tinystr_words.proofs.ByteForms.{byte_fault-first_padded, byte_fault-padded}
-use Rattle.tinystr_words.proofs.CaseFacts.{All-differs, IsStrictText-map, IsStrictText-titlecase, IsText-asked, IsText-list_all, ask-joined, ask-map, ask-titlecase, lowercase-alone, lowercase-titlecase, map-map_same, position-missed, titlecase-alone, titlecase-lowercase, titlecase-twice, titlecase-uppercase, uppercase-alone, uppercase-titlecase}
-use Rattle.tinystr_words.proofs.Found.{All-absent, Contains-joined, before_first-absent, byte_position-none, byte_position-some, split-whole, text_position-at, text_position-distinct, text_position-none, text_position-some}
-use Rattle.tinystr_words.proofs.Fronts.{lowercase-take, take_join_cut, titlecase-take, uppercase-take}
-use Rattle.tinystr_words.proofs.Numerals.{IsDecimalOf-decimal, IsDecimalOf-only, IsText-decimal, length-decimal-le_ten}
-use Rattle.tinystr_words.proofs.Packing.{IsPacked-joined, IsPacked-record, length-joined, text_of-record}
-use Rattle.tinystr_words.proofs.Parts.{IsStrictText-after_first, IsStrictText-before_first, IsStrictText-drop, IsStrictText-slice_split, IsStrictText-take, IsText-joined, ask-joined_texts, map-joined, slice_split-found, slice_split-joined, slice_split-missed}
+use Rattle.tinystr_words.proofs.Order.OfLists.{before_not_same, before_one_way, before_or_same, before_padded, cmp_is_before, cmp_is_same}
+use Rattle.tinystr_words.proofs.Reading.ByteForms.{byte_fault-first_padded, byte_fault-padded}
+use Rattle.tinystr_words.proofs.Cases.Changes.{All-differs, IsStrictText-map, IsStrictText-titlecase, IsText-asked, IsText-list_all, ask-joined, ask-map, ask-titlecase, lowercase-alone, lowercase-titlecase, map-map_same, position-missed, titlecase-alone, titlecase-lowercase, titlecase-twice, titlecase-uppercase, uppercase-alone, uppercase-titlecase}
+use Rattle.tinystr_words.proofs.Parts.Found.{All-absent, Contains-joined, before_first-absent, byte_position-none, byte_position-some, split-whole, text_position-at, text_position-distinct, text_position-none, text_position-some}
+use Rattle.tinystr_words.proofs.Parts.Fronts.{lowercase-take, take_join_cut, titlecase-take, uppercase-take}
+use Rattle.tinystr_words.proofs.Decimals.Shortest.{IsDecimalOf-decimal, IsDecimalOf-only, IsText-decimal, length-decimal-le_ten}
+use Rattle.tinystr_words.proofs.Reading.Records.{IsPacked-joined, IsPacked-record, length-joined, text_of-record}
+use Rattle.tinystr_words.proofs.Parts.Cuts.{IsStrictText-after_first, IsStrictText-before_first, IsStrictText-drop, IsStrictText-slice_split, IsStrictText-take, IsText-joined, ask-joined_texts, map-joined, slice_split-found, slice_split-joined, slice_split-missed}
 use Rattle.tinystr_words.proofs.Printing.{char_count-text, length-padded, padded-before, padded-behind, padded-between, styled-padded, take_chars-text}
-use Rattle.tinystr_words.proofs.Readers.{IsScanned-none, fault_in-fits, first_fault-high}
-use Rattle.tinystr_words.proofs.SameAsStd.{is_alphanumeric-std, lower-std, lowercase-std, raise-std, uppercase-std}
+use Rattle.tinystr_words.proofs.Reading.OnePass.{IsScanned-none, fault_in-fits, first_fault-high}
+use Rattle.tinystr_words.proofs.Cases.SameAsStd.{is_alphanumeric-std, lower-std, lowercase-std, raise-std, uppercase-std}
 use Rattle.tinystr_words.proofs.Texts.{IsAscii-padded, IsPaddedText-pad, after_first-joined, before_first-joined, length-pad, text_of-pad}
 use Rattle.tinystr_words.proofs.Texts as texts
-use Rattle.tinystr_words.proofs.TextsByPieces.{ask-append, ask-same, in_case-append, length-in_case}
-use Rattle.tinystr_words.proofs.TextsDecided.{is_packed-Decides, is_padded_text-Decides, is_strict_text-Decides, is_text_byte-Decides}
-use Rattle.tinystr_words.proofs.WordLaws.{lane_class_is, lane_sum_is, word_length_is}
+use Rattle.tinystr_words.proofs.Pieces.Answers.{ask-append, ask-same, in_case-append, length-in_case}
+use Rattle.tinystr_words.proofs.Reading.Decided.{is_packed-Decides, is_padded_text-Decides, is_strict_text-Decides, is_text_byte-Decides}
+use Rattle.tinystr_words.proofs.Words.Laws.{lane_class_is, lane_sum_is, word_length_is}
 
 -- Of two lists, one comes before the other or they are equal, and padded texts are ordered as their texts.
 pub order_total_one : (t s : List ℕ) → (t ≡ s) ⊎ (IsBefore t s ⊎ IsBefore s t)

@@ -17,7 +17,7 @@ fn find(bytes: &[u8], byte: u8) -> Option<usize>
 /// assert!(rt; parts == Some((b"EUR".as_slice(), b"1=2".as_slice())));
 /// assert!(rt; split_at_byte(b"EUR", b'=').is_none());
 /// ```
-#[tactic(auto, using(crate::proofs::Found::split_bytes))]
+#[tactic(auto, using(crate::proofs::Parts::Found::split_bytes))]
 pub fn split_at_byte(bytes: &[u8], byte: u8) -> Option<(&[u8], &[u8])>
     ensures found { IsSome result ↔ Contains bytes.now byte }
     ensures whole { IfSome result (λ parts. bytes.now ≡ parts.0.now ++ byte ∷ parts.1.now) }

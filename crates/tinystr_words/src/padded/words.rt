@@ -20,7 +20,7 @@ fn split_word(bytes: &[u8]) -> Option<(Aligned16, &[u8])>
 
 /// The length of the text in bytes: the sum over its words.
 #[inline(always)]
-#[tactic(auto, using(crate::proofs::PaddedWords::len_step))]
+#[tactic(auto, using(crate::proofs::Pieces::PaddedWords::len_step))]
 pub(crate) fn len(bytes: &[u8]) -> usize
     requires { IsPadded bytes.now }
     ensures { result ≡ length (text_of bytes.now) }

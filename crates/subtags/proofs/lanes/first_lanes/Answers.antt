@@ -2,7 +2,7 @@ use Rattle.std.proofs.Common.{◌≡◌, ◌%◌, ◌∙◌, ap, sym, map, take,
 use Rattle.std.proofs.lemmas.List.{length-take, take-map}
 use Rattle.std.proofs.lemmas.Simd.{below_from_Fits, chunk-fits}
 use Rattle.tinystr_words.specs.Words.{word, lanes_of}
-use Rattle.tinystr_words.proofs.WordFromPieces.{map-mod_bytes}
+use Rattle.tinystr_words.proofs.Pieces.Word.{map-mod_bytes}
 use Rattle.tinystr.proofs.Letters.{lanes_of-bytes}
 use Rattle.subtags.proofs.LaneClasses.{take-at_most}
 use Rattle.subtags.proofs.lanes.first_lanes.Goals as goal

@@ -1,4 +1,4 @@
-use Rattle.tinystr_words.proofs.Readers.{IsScanned}
+use Rattle.tinystr_words.proofs.Reading.OnePass.{IsScanned}
 use Rattle.tinystr.proofs.forms.find_byte_fault.Given as goal
 
 abbrev pub invariant-loop-byte : goal.invariant-loop-byte

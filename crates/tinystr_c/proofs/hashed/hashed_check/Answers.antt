@@ -1,6 +1,6 @@
 use Rattle.std.proofs.Common.{◌≡◌, ◌/◌, ◌∙◌, length, refl, sym}
 use Rattle.std.proofs.Math.Nat.{mul-div_cancel}
-use Rattle.tinystr_words.proofs.Packing.{length-joined}
+use Rattle.tinystr_words.proofs.Reading.Records.{length-joined}
 use Rattle.tinystr_hashed.specs.Reading.{IsHashed, records_in}
 use Rattle.tinystr_c.proofs.hashed.hashed_check.Goals as goal
 

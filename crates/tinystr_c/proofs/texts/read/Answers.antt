@@ -1,7 +1,7 @@
 use Rattle.std.proofs.Common.{◌≡◌, length, nat_lt, true, false, sym, refl, ◌∙◌, arith}
 use Rattle.std.proofs.lemmas.Bool.Decides.{nat_tests}
-use Rattle.tinystr_words.proofs.Readers.{fault_in-long, fault_in-fits}
-use Rattle.tinystr_words.proofs.TextsDecided.{is_strict_text-Decides}
+use Rattle.tinystr_words.proofs.Reading.OnePass.{fault_in-long, fault_in-fits}
+use Rattle.tinystr_words.proofs.Reading.Decided.{is_strict_text-Decides}
 use Rattle.tinystr_words.specs.Reading.{fault_in}
 use Rattle.tinystr_words.specs.Text.{is_strict_text}
 use Rattle.tinystr_c.proofs.texts.read.Goals as goal

@@ -1,6 +1,6 @@
 use Rattle.std.proofs.Common.{◌≡◌, ◌≤◌, length, nat_lt, true, false, refl, arith, rules}
 use Rattle.std.proofs.lemmas.Bool.Decides.{nat_tests, same_from_decides}
-use Rattle.tinystr_words.proofs.TextsDecided.{is_padded_text-Decides}
+use Rattle.tinystr_words.proofs.Reading.Decided.{is_padded_text-Decides}
 use Rattle.tinystr_words.specs.Text.{is_padded_text, pad}
 use Rattle.tinystr_c.proofs.texts.read_padded.Goals as goal
 

@@ -1,6 +1,6 @@
 use Rattle.std.proofs.Common.{ap, ◌∙◌}
 use Rattle.tinystr_words.specs.Words.{word}
-use Rattle.tinystr_words.proofs.WordFromPieces.{map-mod_bytes}
+use Rattle.tinystr_words.proofs.Pieces.Word.{map-mod_bytes}
 use Rattle.tinystr_hashed.proofs.hashing.number.Goals as goal
 
 pub returns : goal.returns

@@ -1,6 +1,6 @@
 use Rattle.std.proofs.Common.{rules, true, false}
 use Rattle.std.proofs.lemmas.Bool.Decides.{same_from_decides}
-use Rattle.tinystr_words.proofs.TextsDecided.{is_strict_text-Decides}
+use Rattle.tinystr_words.proofs.Reading.Decided.{is_strict_text-Decides}
 use Rattle.tinystr_lines.specs.Reply.{call_reply}
 use Rattle.tinystr_lines.proofs.reply.push_call_reply_at_const.Goals as goal
 

@@ -1,6 +1,6 @@
 use Rattle.std.proofs.Common.{◌≡◌, ◌∙◌, None, Some, position, refl, sym, ◌==◌}
 use Rattle.std.proofs.lemmas.Bool.{false≢true}
-use Rattle.tinystr_words.proofs.Found.{absent-place, byte_position-none, byte_position-some}
+use Rattle.tinystr_words.proofs.Parts.Found.{absent-place, byte_position-none, byte_position-some}
 use Rattle.tinystr_words.proofs.bytes.split_at_byte.Goals as goal
 
 pub returns-in-None-clause-found : goal.returns-in-None-clause-found

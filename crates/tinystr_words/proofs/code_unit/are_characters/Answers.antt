@@ -1,7 +1,7 @@
 use Rattle.std.proofs.Common.{map, get_or, sym, ap, ◌∙◌, ◌≡◌, arith}
 use Rattle.std.proofs.lemmas.List.{get_or-map, length-map, take_all}
 use Rattle.tinystr_words.specs.Text.{IsTextByte}
-use Rattle.tinystr_words.proofs.CodeUnitsByPieces.{All-take-Decides}
+use Rattle.tinystr_words.proofs.Pieces.CodeUnits.{All-take-Decides}
 use Rattle.tinystr_words.proofs.code_unit.are_characters.Goals as goal
 
 pub loop-unit-preserved : goal.loop-unit-preserved

@@ -1,6 +1,6 @@
 use Rattle.std.proofs.Common.{◌≡◌, ◌-◌, length, map, take, drop, ap, ◌∙◌, sym, arith}
 use Rattle.std.proofs.lemmas.List.{length-map, length-drop, take-map, drop-map, take_all}
-use Rattle.tinystr_words.proofs.CodeUnitsByPieces.{IsText-ends-Decides}
+use Rattle.tinystr_words.proofs.Pieces.CodeUnits.{IsText-ends-Decides}
 use Rattle.tinystr_words.proofs.code_unit.is_text_by_ends.Goals as goal
 
 pub returns : goal.returns

@@ -1,6 +1,6 @@
 use Rattle.std.proofs.Common.{◌∙◌, ap}
 use Rattle.tinystr_words.specs.Questions.{in_case}
-use Rattle.tinystr_words.proofs.PaddedWords.{IsPaddedText-in_case}
+use Rattle.tinystr_words.proofs.Pieces.PaddedWords.{IsPaddedText-in_case}
 use Rattle.tinystr.proofs.ascii.TinyAsciiStr.in_case.Goals as goal
 
 pub invariant_of-result : goal.invariant_of-result

@@ -2,7 +2,7 @@ use Rattle.std.proofs.Common.{List, ℕ, ◌≡◌, ◌≤◌, ◌++◌, ◌+◌
 use Rattle.std.proofs.lemmas.List.{length-append, take_all}
 use borrow.Rule.Slice.PartMut.{put_mid}
 use Rattle.tinystr_words.specs.Text.{IsPadded, IsPaddedText, IsText, text_of}
-use Rattle.tinystr_words.proofs.Copying.{IsPadded-appended}
+use Rattle.tinystr_words.proofs.Pieces.Copying.{IsPadded-appended}
 use Rattle.tinystr_words.proofs.Texts.{IsPaddedText-places, length-text_of-le}
 use Rattle.tinystr.proofs.ascii.TinyAsciiStr.put_behind.Goals as goal
 use Rattle.tinystr.proofs.ascii.TinyAsciiStr.put_behind.Goals.{then-this-le16+then-room, else-this-le16}

@@ -1,4 +1,4 @@
-use Rattle.tinystr_words.proofs.Packing.{IsChecked-block}
+use Rattle.tinystr_words.proofs.Reading.Records.{IsChecked-block}
 use Rattle.tinystr.proofs.ascii.TinyAsciiStr.skip_padded.Goals as goal
 
 pub loop-rest-preserved : goal.loop-rest-preserved

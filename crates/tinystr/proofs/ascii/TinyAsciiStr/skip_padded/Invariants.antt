@@ -1,5 +1,5 @@
 use Rattle.std.proofs.Common.{length}
-use Rattle.tinystr_words.proofs.Packing.{IsChecked}
+use Rattle.tinystr_words.proofs.Reading.Records.{IsChecked}
 use Rattle.tinystr.proofs.ascii.TinyAsciiStr.skip_padded.Given as goal
 
 abbrev pub invariant-loop-rest : goal.invariant-loop-rest

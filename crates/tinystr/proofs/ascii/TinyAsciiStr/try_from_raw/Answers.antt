@@ -1,6 +1,6 @@
 use Rattle.tinystr_words.specs.Text.{text_of}
 use Rattle.tinystr_words.specs.Reading.{fault_in}
-use Rattle.tinystr_words.proofs.TextsDecided.{is_padded_text-Decides}
+use Rattle.tinystr_words.proofs.Reading.Decided.{is_padded_text-Decides}
 use Rattle.tinystr.proofs.Errors.{read_is}
 use Rattle.tinystr.proofs.ascii.TinyAsciiStr.try_from_raw.Goals as goal
 

@@ -1,5 +1,5 @@
 use Rattle.std.proofs.lemmas.List.{map-id}
-use Rattle.tinystr_words.proofs.TextsDecided.{is_strict_text-Decides, result_ok-strict_of}
+use Rattle.tinystr_words.proofs.Reading.Decided.{is_strict_text-Decides, result_ok-strict_of}
 use Rattle.tinystr.proofs.Errors.{read_is}
 use Rattle.tinystr.proofs.ascii.TinyAsciiStr.try_from_utf16.Goals as goal
 

@@ -4,7 +4,7 @@ use Rattle.std.proofs.lemmas.Bool.{cases_lt}
 use Rattle.std.proofs.lemmas.Result.{IfErr-at_err, IfErr-weaker}
 use Rattle.std.proofs.Math.Nat.{mod-eq_of_lt}
 use Rattle.tinystr_words.specs.Reading.{fault_in}
-use Rattle.tinystr_words.proofs.Packing.{AreRecords, AllPadded-packed, IsFirstBad-records, IsPacked-length, IsPacked-records, get_or-AreRecords}
+use Rattle.tinystr_words.proofs.Reading.Records.{AreRecords, AllPadded-packed, IsFirstBad-records, IsPacked-length, IsPacked-records, get_or-AreRecords}
 use Rattle.tinystr.specs.Records.{RefusesRecords}
 use Rattle.tinystr.specs.Private.RecordLists.{RefusesOneOf}
 use Rattle.tinystr.specs.declared.ule.UleError.{UleError}

@@ -1,7 +1,7 @@
 use Rattle.std.proofs.Common.{◌∙◌, arith, refl}
 use Rattle.std.proofs.lemmas.List.{length-drop}
 use Rattle.std.proofs.lemmas.Bool.{false≢true}
-use Rattle.tinystr_words.proofs.Packing.{IsChecked-some, IsChecked-more, IsFirstUnpadded-next, IsFirstUnpadded-some, AllPadded-checked, fault_in-next}
+use Rattle.tinystr_words.proofs.Reading.Records.{IsChecked-some, IsChecked-more, IsFirstUnpadded-next, IsFirstUnpadded-some, AllPadded-checked, fault_in-next}
 use Rattle.tinystr.proofs.ascii.TinyAsciiStr.validate_records.Goals as goal
 
 pub loop-raw-init : goal.loop-raw-init

@@ -1,5 +1,5 @@
 use Rattle.std.proofs.Common.{drop}
-use Rattle.tinystr_words.proofs.Packing.{IsChecked}
+use Rattle.tinystr_words.proofs.Reading.Records.{IsChecked}
 use Rattle.tinystr.proofs.ascii.TinyAsciiStr.validate_records.Given as goal
 
 abbrev pub invariant-loop-raw : goal.invariant-loop-raw

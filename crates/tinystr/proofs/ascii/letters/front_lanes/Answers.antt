@@ -2,8 +2,8 @@ use Rattle.std.proofs.Common.{◌≡◌, ◌%◌, ◌∙◌, ap, sym, map, take,
 use Rattle.std.proofs.lemmas.List.{places, same_lists, length-take, take-map}
 use Rattle.std.proofs.lemmas.Simd.{below_from_Fits, chunk-fits}
 use Rattle.tinystr_words.specs.Words.{word, lanes_of}
-use Rattle.tinystr_words.proofs.WordAsNumber.{bytes_low_first_is_lanes}
-use Rattle.tinystr_words.proofs.WordFromPieces.{map-mod_bytes}
+use Rattle.tinystr_words.proofs.Words.Numbers.{bytes_low_first_is_lanes}
+use Rattle.tinystr_words.proofs.Pieces.Word.{map-mod_bytes}
 use Rattle.tinystr.proofs.Letters.{lanes_of-bytes}
 use Rattle.tinystr.proofs.ascii.letters.front_lanes.Goals as goal
 

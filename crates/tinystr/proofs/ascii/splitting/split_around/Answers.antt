@@ -1,6 +1,6 @@
 use Rattle.std.proofs.Common.{◌+◌, ◌∙◌, List, ℕ, ap, take, drop, lit<}
 use Rattle.tinystr_words.proofs.Texts.{IsPaddedText-made, text_of-made}
-use Rattle.tinystr_words.proofs.WordAsNumber.{bytes_low_first_is_lanes}
+use Rattle.tinystr_words.proofs.Words.Numbers.{bytes_low_first_is_lanes}
 use Rattle.tinystr.proofs.EightLanes.{lanes_of-split_around}
 use Rattle.tinystr.proofs.ascii.splitting.split_around.Goals as goal
 

@@ -1,7 +1,7 @@
 use Rattle.std.proofs.Common.{arith}
 use Rattle.std.proofs.lemmas.List.{take_all}
 use Rattle.tinystr_words.specs.Text.{IsPaddedText}
-use Rattle.tinystr_words.proofs.CodeUnitsByPieces.{All-take-Decides}
+use Rattle.tinystr_words.proofs.Pieces.CodeUnits.{All-take-Decides}
 use Rattle.tinystr.proofs.ascii.strict.are_padded.Goals as goal
 
 pub loop-bytes-preserved : goal.loop-bytes-preserved

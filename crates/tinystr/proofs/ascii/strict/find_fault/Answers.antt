@@ -1,6 +1,6 @@
 use Rattle.std.proofs.Common.{◌<◌, length, map, sym, ◌∙◌, ap, arith}
 use Rattle.std.proofs.lemmas.List.{get_or-map, length-map}
-use Rattle.tinystr_words.proofs.Readers.{IsScanned-nul, IsScanned-char}
+use Rattle.tinystr_words.proofs.Reading.OnePass.{IsScanned-nul, IsScanned-char}
 use Rattle.tinystr.proofs.ascii.strict.find_fault.Goals as goal
 use Rattle.tinystr.proofs.ascii.strict.find_fault.Goals.{then-code-eq0, else-code-eq0+else-is_after_nul}
 

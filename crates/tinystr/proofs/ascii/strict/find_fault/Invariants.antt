@@ -1,5 +1,5 @@
 use Rattle.std.proofs.Common.{map}
-use Rattle.tinystr_words.proofs.Readers.{IsScanned}
+use Rattle.tinystr_words.proofs.Reading.OnePass.{IsScanned}
 use Rattle.tinystr.proofs.ascii.strict.find_fault.Given as goal
 
 abbrev pub invariant-loop-unit : goal.invariant-loop-unit

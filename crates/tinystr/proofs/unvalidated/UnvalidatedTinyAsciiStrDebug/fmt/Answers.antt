@@ -1,6 +1,6 @@
 use Rattle.std.proofs.Common.{arith}
 use Rattle.std.proofs.lemmas.Grind.{common_steps}
-use Rattle.tinystr_words.proofs.TextsDecided.{is_padded_text-Decides}
+use Rattle.tinystr_words.proofs.Reading.Decided.{is_padded_text-Decides}
 use Rattle.tinystr.proofs.unvalidated.UnvalidatedTinyAsciiStrDebug.fmt.Goals as goal
 
 pub returns-in-Ok : goal.returns-in-Ok

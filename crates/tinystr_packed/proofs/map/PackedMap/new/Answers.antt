@@ -4,7 +4,7 @@ use Rattle.std.specs.List.{zip}
 use Rattle.tinystr_packed.specs.Rising.{IsRising}
 use Rattle.tinystr_packed.proofs.Computed.{map_of-other}
 use Rattle.tinystr_packed.proofs.PackedTexts.{packed}
-use Rattle.tinystr_words.proofs.Packing.{AllStrict}
+use Rattle.tinystr_words.proofs.Reading.Records.{AllStrict}
 use Rattle.tinystr_packed.proofs.PackedMaps.{ArePacked-new, unsorted-no_entries, unmatched-no_entries}
 use Rattle.tinystr_packed.proofs.map.PackedMap.new.Goals.{then-len-ne0-via-then-len-ne0, then-len-ne0-via-else-len-ne0+then-len-count}
 use Rattle.tinystr_packed.proofs.map.PackedMap.new.Goals as goal

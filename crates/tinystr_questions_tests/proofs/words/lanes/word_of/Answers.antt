@@ -1,4 +1,4 @@
-use Rattle.tinystr_words.proofs.TextInWord.{HoldsText-padded}
+use Rattle.tinystr_words.proofs.Words.Texts.{HoldsText-padded}
 use Rattle.tinystr_questions_tests.proofs.words.lanes.word_of.Goals as goal
 
 pub returns : goal.returns

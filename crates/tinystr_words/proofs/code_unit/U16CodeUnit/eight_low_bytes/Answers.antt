@@ -1,8 +1,8 @@
 use Rattle.std.proofs.Common.{◌%◌, ap, length, map, ◌∙◌, ◌≡◌}
 use Rattle.std.proofs.lemmas.List.{length-map}
 use Rattle.tinystr_words.specs.Words.{lanes_of}
-use Rattle.tinystr_words.proofs.WordAsNumber.{lanes_of-word}
-use Rattle.tinystr_words.proofs.WordFromPieces.{IsBytes-low, every_other-word}
+use Rattle.tinystr_words.proofs.Words.Numbers.{lanes_of-word}
+use Rattle.tinystr_words.proofs.Pieces.Word.{IsBytes-low, every_other-word}
 use Rattle.tinystr_words.proofs.code_unit.U16CodeUnit.eight_low_bytes.Goals as goal
 
 pub returns : goal.returns

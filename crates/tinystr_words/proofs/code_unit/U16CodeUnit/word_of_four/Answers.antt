@@ -1,4 +1,4 @@
-use Rattle.tinystr_words.proofs.WordFromPieces.{every_other-word}
+use Rattle.tinystr_words.proofs.Pieces.Word.{every_other-word}
 use Rattle.tinystr_words.proofs.code_unit.U16CodeUnit.word_of_four.Goals as goal
 
 pub returns : goal.returns

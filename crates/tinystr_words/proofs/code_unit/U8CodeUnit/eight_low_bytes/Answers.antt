@@ -1,5 +1,5 @@
 use Rattle.std.proofs.Common.{sym, ◌∙◌}
-use Rattle.tinystr_words.proofs.WordFromPieces.{map-mod_bytes}
+use Rattle.tinystr_words.proofs.Pieces.Word.{map-mod_bytes}
 use Rattle.tinystr_words.proofs.code_unit.U8CodeUnit.eight_low_bytes.Goals as goal
 
 pub returns : goal.returns

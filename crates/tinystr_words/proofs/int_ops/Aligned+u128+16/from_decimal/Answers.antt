@@ -1,8 +1,8 @@
 use Rattle.std.proofs.Common.{◌≡◌, ◌<◌, ◌^◌, ℕ, arith}
 use Rattle.std.specs.Fmt.{decimal}
 use Rattle.tinystr_words.specs.Words.{word, text_in, HoldsText}
-use Rattle.tinystr_words.proofs.Numerals.{IsText-decimal, length-decimal-le_ten}
-use Rattle.tinystr_words.proofs.TextInWord.{HoldsText-word}
+use Rattle.tinystr_words.proofs.Decimals.Shortest.{IsText-decimal, length-decimal-le_ten}
+use Rattle.tinystr_words.proofs.Words.Texts.{HoldsText-word}
 use Rattle.tinystr_words.proofs.int_ops.Aligned+u128+16.from_decimal.Goals as goal
 
 holds : (n : ℕ) → n < 2 ^ 32 → HoldsText 16 (word (decimal n)) × (text_in 16 (word (decimal n)) ≡ decimal n)

@@ -1,5 +1,5 @@
 use Rattle.std.proofs.Common.{◌∙◌}
-use Rattle.tinystr_words.proofs.TextInWord.{lanes-text_in}
+use Rattle.tinystr_words.proofs.Words.Texts.{lanes-text_in}
 use Rattle.tinystr_words.proofs.int_ops.Aligned+u128+16.to_lanes.Goals as goal
 
 pub returns : goal.returns

@@ -6,10 +6,10 @@ use Rattle.std.specs.Fmt.{decimal}
 use Rattle.tinystr_words.specs.Decimal.{last}
 use Rattle.tinystr_words.specs.Text.{IsTextByte}
 use Rattle.tinystr_words.specs.Words.{word, text_in, HoldsText}
-use Rattle.tinystr_words.proofs.EightDigits.{word-last, eight_digits-room}
-use Rattle.tinystr_words.proofs.Numerals.{IsText-decimal}
-use Rattle.tinystr_words.proofs.TextInWord.{HoldsText-word}
-use Rattle.tinystr_words.proofs.WordAsNumber.{pow_256}
+use Rattle.tinystr_words.proofs.Decimals.EightDigits.{word-last, eight_digits-room}
+use Rattle.tinystr_words.proofs.Decimals.Shortest.{IsText-decimal}
+use Rattle.tinystr_words.proofs.Words.Texts.{HoldsText-word}
+use Rattle.tinystr_words.proofs.Words.Numbers.{pow_256}
 use Rattle.tinystr_words.proofs.int_ops.Aligned+u64+8.from_number.Goals as goal
 use Rattle.tinystr_words.proofs.int_ops.Aligned+u64+8.from_number.Goals.{then-decimal_fits, else-decimal_fits}
 

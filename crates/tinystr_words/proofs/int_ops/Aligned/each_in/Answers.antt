@@ -1,5 +1,5 @@
-use Rattle.tinystr_words.proofs.Formulas.{splat, nat_eq-on}
-use Rattle.tinystr_words.proofs.Kernels.{outside_but_nuls, Asks-outside_but_nuls}
+use Rattle.tinystr_words.proofs.Words.Formulas.{splat, nat_eq-on}
+use Rattle.tinystr_words.proofs.Words.Kernels.{outside_but_nuls, Asks-outside_but_nuls}
 use Rattle.tinystr_words.proofs.int_ops.Aligned.each_in.Goals as goal
 
 pub returns : goal.returns

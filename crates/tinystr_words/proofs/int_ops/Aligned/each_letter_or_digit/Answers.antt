@@ -1,5 +1,5 @@
-use Rattle.tinystr_words.proofs.Formulas.{splat, nat_eq-on}
-use Rattle.tinystr_words.proofs.Kernels.{not_letters_or_digits, Asks-not_letters_or_digits}
+use Rattle.tinystr_words.proofs.Words.Formulas.{splat, nat_eq-on}
+use Rattle.tinystr_words.proofs.Words.Kernels.{not_letters_or_digits, Asks-not_letters_or_digits}
 use Rattle.tinystr_words.proofs.int_ops.Aligned.each_letter_or_digit.Goals as goal
 
 pub returns : goal.returns

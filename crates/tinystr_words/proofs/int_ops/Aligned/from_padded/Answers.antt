@@ -1,4 +1,4 @@
-use Rattle.tinystr_words.proofs.TextInWord.{HoldsText-padded}
+use Rattle.tinystr_words.proofs.Words.Texts.{HoldsText-padded}
 use Rattle.tinystr_words.proofs.int_ops.Aligned.from_padded.Goals as goal
 
 pub invariant_of-result : goal.invariant_of-result

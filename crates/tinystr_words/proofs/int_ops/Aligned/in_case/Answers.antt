@@ -1,5 +1,5 @@
 use Rattle.tinystr_words.specs.declared.question.Case.TheVariants.{Lower, Title, Upper}
-use Rattle.tinystr_words.proofs.TextInWord.{lanes_of-changed}
+use Rattle.tinystr_words.proofs.Words.Texts.{lanes_of-changed}
 use Rattle.tinystr_words.proofs.int_ops.Aligned.in_case.Goals as goal
 use Rattle.tinystr_words.proofs.int_ops.Aligned.in_case.Goals.{in-Lower, in-Title, in-Upper}
 

@@ -1,5 +1,5 @@
-use Rattle.tinystr_words.proofs.Formulas.{splat, nat_eq-on}
-use Rattle.tinystr_words.proofs.Kernels.{inside, Asks-inside}
+use Rattle.tinystr_words.proofs.Words.Formulas.{splat, nat_eq-on}
+use Rattle.tinystr_words.proofs.Words.Kernels.{inside, Asks-inside}
 use Rattle.tinystr_words.proofs.int_ops.Aligned.none_in.Goals as goal
 
 pub returns : goal.returns

@@ -1,6 +1,6 @@
 use Rattle.std.proofs.Common.{◌∙◌}
 use Rattle.tinystr_words.proofs.Texts.{IsPaddedText-made, text_of-made}
-use Rattle.tinystr_words.proofs.TextInWord.{lanes-text_in}
+use Rattle.tinystr_words.proofs.Words.Texts.{lanes-text_in}
 use Rattle.tinystr_words.proofs.int_ops.Aligned.to_bytes.Goals as goal
 
 pub returns : goal.returns

@@ -1,9 +1,9 @@
 use Rattle.std.proofs.Common.{◌∙◌, sym}
 use Rattle.std.proofs.lemmas.Bool.{false≢true}
-use Rattle.tinystr_words.proofs.WordFromPieces.{map-mod_bytes}
-use Rattle.tinystr_words.proofs.Lanes.{IsBytes-from_Fits}
-use Rattle.tinystr_words.proofs.PaddedTest.{is_padded_word-Decides}
-use Rattle.tinystr_words.proofs.TextInWord.{HoldsText-padded}
+use Rattle.tinystr_words.proofs.Pieces.Word.{map-mod_bytes}
+use Rattle.tinystr_words.proofs.Words.Lanes.{IsBytes-from_Fits}
+use Rattle.tinystr_words.proofs.Padding.InWords.{is_padded_word-Decides}
+use Rattle.tinystr_words.proofs.Words.Texts.{HoldsText-padded}
 use Rattle.tinystr_words.proofs.int_ops.Aligned.try_from_padded.Goals as goal
 
 pub invariant_of-result : goal.invariant_of-result

@@ -1,7 +1,7 @@
 use Rattle.std.proofs.Common.{map, arith}
 use Rattle.std.proofs.lemmas.List.{length-map}
-use Rattle.tinystr_words.proofs.WordFromPieces.{map-mod_text}
-use Rattle.tinystr_words.proofs.TextInWord.{HoldsText-word}
+use Rattle.tinystr_words.proofs.Pieces.Word.{map-mod_text}
+use Rattle.tinystr_words.proofs.Words.Texts.{HoldsText-word}
 use Rattle.tinystr_words.proofs.int_ops.Aligned.try_from_text.Goals as goal
 
 pub invariant_of-result : goal.invariant_of-result

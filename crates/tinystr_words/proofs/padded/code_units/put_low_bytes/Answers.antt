@@ -1,6 +1,6 @@
 use Rattle.std.proofs.Common.{◌%◌, ◌+◌, ◌-◌, ◌≡◌, arith, length, map, refl}
 use Rattle.std.proofs.lemmas.List.{length-map}
-use Rattle.tinystr_words.proofs.Copying.{copied_more, copied_whole, piece-of_eight}
+use Rattle.tinystr_words.proofs.Pieces.Copying.{copied_more, copied_whole, piece-of_eight}
 use Rattle.tinystr_words.proofs.padded.code_units.put_low_bytes.Goals as goal
 
 pub loop-end-preserved : goal.loop-end-preserved

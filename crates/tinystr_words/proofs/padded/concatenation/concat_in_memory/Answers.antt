@@ -1,6 +1,6 @@
 use Rattle.std.proofs.Common.{◌≡◌, ◌∙◌, length, sym, subst, rules}
 use Rattle.tinystr_words.specs.Text.{IsPaddedText}
-use Rattle.tinystr_words.proofs.Copying.{IsPaddedText-both_copied}
+use Rattle.tinystr_words.proofs.Pieces.Copying.{IsPaddedText-both_copied}
 use Rattle.tinystr_words.proofs.padded.concatenation.concat_in_memory.Goals as goal
 
 pub returns-then-first_len : goal.returns-then-first_len

@@ -1,4 +1,4 @@
-use Rattle.tinystr_words.proofs.ConcatInVectors.{swz_l-lanes_of_table, SwzOk-lanes_of_table}
+use Rattle.tinystr_words.proofs.Vectors.Concat.{swz_l-lanes_of_table, SwzOk-lanes_of_table}
 use Rattle.tinystr_words.proofs.padded.concatenation.moved.Goals as goal
 
 pub swizzle : goal.swizzle

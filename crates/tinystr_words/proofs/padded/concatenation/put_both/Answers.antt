@@ -1,4 +1,4 @@
-use Rattle.tinystr_words.proofs.Copying.{copied_both}
+use Rattle.tinystr_words.proofs.Pieces.Copying.{copied_both}
 use Rattle.tinystr_words.proofs.padded.concatenation.put_both.Goals as goal
 
 pub returns : goal.returns

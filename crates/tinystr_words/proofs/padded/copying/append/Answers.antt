@@ -1,7 +1,7 @@
 use Rattle.std.proofs.Common.{◌+◌, ◌-◌, ◌∙◌, length, sym, arith, inl, inr}
 use Rattle.std.proofs.lemmas.List.{take_all}
 use borrow.Rule.Slice.PartMut.{same_len_mid}
-use Rattle.tinystr_words.proofs.Copying.{IsPadded-appended}
+use Rattle.tinystr_words.proofs.Pieces.Copying.{IsPadded-appended}
 use Rattle.tinystr_words.proofs.padded.copying.append.Goals as goal
 
 pub returns-then-padded-room : goal.returns-then-padded-room

@@ -1,5 +1,5 @@
 use Rattle.std.proofs.Common.{◌≤◌, ◌+◌, ◌-◌, ◌∙◌, arith}
-use Rattle.tinystr_words.proofs.Copying.{copied_more, copied_all}
+use Rattle.tinystr_words.proofs.Pieces.Copying.{copied_more, copied_all}
 use Rattle.tinystr_words.proofs.padded.copying.put.Goals as goal
 
 pub loop-at-preserved : goal.loop-at-preserved

@@ -1,5 +1,5 @@
 use Rattle.tinystr_words.specs.Text.{IsPadded}
-use Rattle.tinystr_words.proofs.Copying.{pad-copied, IsPaddedText-copied}
+use Rattle.tinystr_words.proofs.Pieces.Copying.{pad-copied, IsPaddedText-copied}
 use Rattle.tinystr_words.proofs.padded.copying.resize.Goals as goal
 
 pub returns : goal.returns

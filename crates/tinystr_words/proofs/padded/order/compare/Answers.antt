@@ -1,5 +1,5 @@
 use Rattle.std.proofs.Common.{◌∙◌, refl, sym, arith}
-use Rattle.tinystr_words.proofs.OrderByNumbers.{slice_cmp-first_eight, slice_cmp-widened, ordering_then-found, ordering_then-rest, AreBytes-drop}
+use Rattle.tinystr_words.proofs.Order.ByNumbers.{slice_cmp-first_eight, slice_cmp-widened, ordering_then-found, ordering_then-rest, AreBytes-drop}
 use Rattle.tinystr_words.proofs.padded.order.compare.Goals as goal
 
 pub returns-then-ne : goal.returns-then-ne

@@ -1,7 +1,7 @@
 use Rattle.std.proofs.Common.{◌≡◌, length}
 use Rattle.std.specs.Cmp.Lexicographic.{slice_cmp}
 use Rattle.std.specs.Ordering.{nat_cmp}
-use Rattle.tinystr_words.proofs.OrderByNumbers.{AreBytes}
+use Rattle.tinystr_words.proofs.Order.ByNumbers.{AreBytes}
 use Rattle.tinystr_words.proofs.padded.order.compare.Given as goal
 
 abbrev pub invariant-loop-left_rest : goal.invariant-loop-left_rest

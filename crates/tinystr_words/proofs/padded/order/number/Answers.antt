@@ -1,4 +1,4 @@
-use Rattle.tinystr_words.proofs.OrderByNumbers.{number-loaded}
+use Rattle.tinystr_words.proofs.Order.ByNumbers.{number-loaded}
 use Rattle.tinystr_words.proofs.padded.order.number.Goals as goal
 
 pub returns : goal.returns

@@ -1,6 +1,6 @@
 use Rattle.std.proofs.Common.{arith, ◌%◌}
 use Rattle.std.proofs.lemmas.List.{drop-map, take-map}
-use Rattle.tinystr_words.proofs.WordFromPieces.{map-mod_bytes, word_cut}
+use Rattle.tinystr_words.proofs.Pieces.Word.{map-mod_bytes, word_cut}
 use Rattle.tinystr_words.proofs.padded.padding.eight_of.Goals as goal
 
 pub returns : goal.returns

@@ -1,8 +1,8 @@
 use Rattle.std.proofs.Common.{arith, ap, ◌∙◌, ◌≡◌, ◌+◌, ◌*◌, ◌^◌}
 use Rattle.tinystr_words.specs.Words.{lanes_of, word}
-use Rattle.tinystr_words.proofs.Lanes.{IsBytes-from_Fits}
-use Rattle.tinystr_words.proofs.WordAsNumber.{lanes_of-word_bytes}
-use Rattle.tinystr_words.proofs.WordFromPieces.{word_cut}
+use Rattle.tinystr_words.proofs.Words.Lanes.{IsBytes-from_Fits}
+use Rattle.tinystr_words.proofs.Words.Numbers.{lanes_of-word_bytes}
+use Rattle.tinystr_words.proofs.Pieces.Word.{word_cut}
 use Rattle.tinystr_words.proofs.padded.padding.sixteen_of.Goals as goal
 
 pub returns : goal.returns

@@ -1,5 +1,5 @@
 use Rattle.std.proofs.Common.{◌∙◌, rules, sym}
-use Rattle.tinystr_words.proofs.PaddedWords.{ask_question-word_passes, ask_question-word_fails}
+use Rattle.tinystr_words.proofs.Pieces.PaddedWords.{ask_question-word_passes, ask_question-word_fails}
 use Rattle.tinystr_words.proofs.padded.words.ask.Goals as goal
 
 pub returns-then-not-ask : goal.returns-then-not-ask

@@ -1,5 +1,5 @@
 use Rattle.std.proofs.Common.{rules, arith}
-use Rattle.tinystr_words.proofs.PaddedWords.{IsPaddedText-first_word, IsFirstWord-split}
+use Rattle.tinystr_words.proofs.Pieces.PaddedWords.{IsPaddedText-first_word, IsFirstWord-split}
 use Rattle.tinystr_words.proofs.padded.words.split_word.Goals as goal
 
 pub from_ascii_bytes-requires : goal.from_ascii_bytes-requires

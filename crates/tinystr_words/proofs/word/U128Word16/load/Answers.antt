@@ -1,5 +1,5 @@
 use Rattle.std.proofs.Common.{arith}
-use Rattle.tinystr_words.proofs.WordFromPieces.{word_from_halves}
+use Rattle.tinystr_words.proofs.Pieces.Word.{word_from_halves}
 use Rattle.tinystr_words.proofs.word.U128Word16.load.Goals as goal
 
 pub returns : goal.returns

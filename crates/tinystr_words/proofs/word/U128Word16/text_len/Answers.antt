@@ -1,5 +1,5 @@
 use Rattle.std.proofs.Common.{arith}
-use Rattle.tinystr_words.proofs.TextInWord.{nuls-text_in, leading_zeros-nuls}
+use Rattle.tinystr_words.proofs.Words.Texts.{nuls-text_in, leading_zeros-nuls}
 use Rattle.tinystr_words.proofs.word.U128Word16.text_len.Goals as goal
 
 pub overflow_sub-result : goal.overflow_sub-result

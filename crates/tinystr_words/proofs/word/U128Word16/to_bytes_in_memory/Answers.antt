@@ -1,5 +1,5 @@
 use Rattle.std.proofs.Common.{◌∙◌}
-use Rattle.tinystr_words.proofs.WordAsNumber.{lanes_of-halves}
+use Rattle.tinystr_words.proofs.Words.Numbers.{lanes_of-halves}
 use Rattle.tinystr_words.proofs.word.U128Word16.to_bytes_in_memory.Goals as goal
 
 pub returns : goal.returns

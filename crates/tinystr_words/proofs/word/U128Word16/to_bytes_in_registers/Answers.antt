@@ -1,5 +1,5 @@
 use Rattle.std.proofs.Common.{◌%◌, ◌/◌, ◌∙◌}
-use Rattle.tinystr_words.proofs.WordAsNumber.{lanes_of-pieces, bytes_low_first_is_lanes}
+use Rattle.tinystr_words.proofs.Words.Numbers.{lanes_of-pieces, bytes_low_first_is_lanes}
 use Rattle.tinystr_words.proofs.word.U128Word16.to_bytes_in_registers.Goals as goal
 
 pub returns : goal.returns

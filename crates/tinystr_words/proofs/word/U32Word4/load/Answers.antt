@@ -1,6 +1,6 @@
 use Rattle.std.proofs.Common.{ℕ, ◌≡◌, ◌-◌, ◌/◌, ◌%◌, length, get_or, map, sym, ap, ◌∙◌, arith}
 use Rattle.std.proofs.lemmas.List.{get_or-map, length-map}
-use Rattle.tinystr_words.proofs.WordFromPieces.{IsBytes-low, word_from_three}
+use Rattle.tinystr_words.proofs.Pieces.Word.{IsBytes-low, word_from_three}
 use Rattle.tinystr_words.proofs.word.U32Word4.load.Goals as goal
 
 pub returns : goal.returns

@@ -1,4 +1,4 @@
-use Rattle.tinystr_words.proofs.TextInWord.{length-text_in}
+use Rattle.tinystr_words.proofs.Words.Texts.{length-text_in}
 use Rattle.tinystr_words.proofs.word.U32Word4.text_len.Goals as goal
 
 pub returns : goal.returns

@@ -1,7 +1,7 @@
 use Rattle.std.proofs.Common.{◌+◌, ◌*◌, arith}
 use Rattle.std.proofs.lemmas.Nat.{leading_top}
-use Rattle.tinystr_words.proofs.LowLanes.{low_room}
-use Rattle.tinystr_words.proofs.TextInWord.{length-text_in-by_top}
+use Rattle.tinystr_words.proofs.Words.LowLanes.{low_room}
+use Rattle.tinystr_words.proofs.Words.Texts.{length-text_in-by_top}
 use Rattle.tinystr_words.proofs.word.U64Word8.text_len.Goals as goal
 
 pub overflow_mul-bits : goal.overflow_mul-bits

@@ -13,11 +13,11 @@ use Rattle.std.specs.Int.{from_be_bytes, from_le_bytes, swap_bytes, to_le_bytes,
 use Rattle.std.proofs.lemmas.Nat.{le_bytes_8}
 use Rattle.std.proofs.Math.Facts.{Fits-lt-pow}
 use Rattle.tinystr_words.specs.Words.{word}
-use Rattle.tinystr_words.proofs.WordAsNumber.{word-nuls}
-use Rattle.tinystr_words.proofs.WordFromPieces.{map-mod_bytes}
+use Rattle.tinystr_words.proofs.Words.Numbers.{word-nuls}
+use Rattle.tinystr_words.proofs.Pieces.Word.{map-mod_bytes}
 use Rattle.tinystr_words.specs.Text.{pad}
 use Rattle.tinystr_words.proofs.Texts.{NULS, get_or-pad, length-pad}
-use Rattle.tinystr_words.proofs.Copying.{pad-full}
+use Rattle.tinystr_words.proofs.Pieces.Copying.{pad-full}
 
 abbrev pub AreBytes : List ℕ → Type 0
 AreBytes xs = (i : ℕ) → get_or xs i 0 < 256

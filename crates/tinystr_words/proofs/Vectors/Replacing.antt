@@ -7,9 +7,9 @@ use Rattle.std.specs.Simd.Lanes.{sel_l, top, zip2}
 use Rattle.tinystr_words.specs.Text.{is_text_byte, pad}
 use Rattle.tinystr_words.specs.Words.{lanes_of, word}
 use Rattle.tinystr_words.specs.Reading.{lossy_byte}
-use Rattle.tinystr_words.proofs.Lanes.{IsBytes}
+use Rattle.tinystr_words.proofs.Words.Lanes.{IsBytes}
 use Rattle.tinystr_words.proofs.Texts.{NULS, length-pad}
-use Rattle.tinystr_words.proofs.WordAsNumber.{lanes_of-word, word-nuls}
+use Rattle.tinystr_words.proofs.Words.Numbers.{lanes_of-word, word-nuls}
 
 -- the first of one byte again and again
 pub pad-take_replicate : (r count : ℕ) → count ≤ 16 → pad (take count (replicate 16 r)) 16 ≡ pad (replicate count r) 16

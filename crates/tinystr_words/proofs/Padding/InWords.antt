@@ -11,11 +11,11 @@ use Rattle.std.proofs.lemmas.Nat.{and_le_r, le_or_l, le_or_r}
 use Rattle.std.proofs.lemmas.Simd.{Each1-replicate}
 use Rattle.tinystr_words.specs.Text.{IsTextByte, IsPadded, text_of}
 use Rattle.tinystr_words.specs.Words.{word, first_then}
-use Rattle.tinystr_words.proofs.Lanes.{below_at, IsBytes, IsBytes-append, word-lt, and_step}
+use Rattle.tinystr_words.proofs.Words.Lanes.{below_at, IsBytes, IsBytes-append, word-lt, and_step}
 use Rattle.tinystr_words.proofs.Texts.{NULS, get_or-text_of, IsPaddedText-drop, IsPaddedText-places, IsPaddedText-take, IsPaddedText-whole}
-use Rattle.tinystr_words.proofs.Copying.{IsPadded-append, IsPadded-nuls}
-use Rattle.tinystr_words.proofs.Formulas.{same_from_nat_eq}
-use Rattle.tinystr_words.proofs.WordAsNumber.{word-nuls}
+use Rattle.tinystr_words.proofs.Pieces.Copying.{IsPadded-append, IsPadded-nuls}
+use Rattle.tinystr_words.proofs.Words.Formulas.{same_from_nat_eq}
+use Rattle.tinystr_words.proofs.Words.Numbers.{word-nuls}
 
 abbrev pub word_of_each : ℕ → ℕ → ℕ
 word_of_each n c = word (first_then n c c)

@@ -9,11 +9,11 @@ use Rattle.std.specs.Simd.Lanes.{chunk, zip2}
 use mir.Val.{zeroes}
 use Rattle.tinystr_words.specs.Text.{IsPadded, IsPaddedText, IsText, IsTextByte, pad, text_of}
 use Rattle.std.proofs.lemmas.List.Elements.{All-append}
-use Rattle.tinystr_words.proofs.Copying.{IsPaddedText-pad_take}
+use Rattle.tinystr_words.proofs.Pieces.Copying.{IsPaddedText-pad_take}
 use Rattle.tinystr_words.proofs.Texts.{IsPaddedText-drop, NULS, get_or-nuls, get_or-pad, length-text_of-le, text_of-drop, text_of-take}
 use Rattle.tinystr_words.specs.Private.Padded.{sixteen_from}
 use Rattle.tinystr_words.specs.declared.padded.concatenation.TheConstants.{TAKEN_LANES}
-use Rattle.tinystr_words.proofs.Lanes.{below_at}
+use Rattle.tinystr_words.proofs.Words.Lanes.{below_at}
 
 get_or-nuls_left : (n : ℕ) (l : List ℕ) (k : ℕ) → k < n → get_or (NULS n ++ l) k 0 ≡ 0
 get_or-nuls_left n l k near = grind (arith, places)

@@ -8,10 +8,10 @@ use Rattle.std.proofs.lemmas.Nat.{and_or_self, div-mul-add, mod-mul-add}
 use Rattle.std.specs.Int.Bits.{or_self, or_add_and}
 use Rattle.tinystr_words.specs.Text.{IsText}
 use Rattle.tinystr_words.specs.Words.{word}
-use Rattle.tinystr_words.proofs.Lanes.{IsBytes, IsBytes-from_Fits, IsBytes-from_IsText, word-lt}
+use Rattle.tinystr_words.proofs.Words.Lanes.{IsBytes, IsBytes-from_Fits, IsBytes-from_IsText, word-lt}
 use Rattle.std.proofs.lemmas.Simd.{Each1-chunk}
 use Rattle.std.proofs.lemmas.Grind.{common_steps}
-use Rattle.tinystr_words.proofs.WordAsNumber.{pow_256}
+use Rattle.tinystr_words.proofs.Words.Numbers.{pow_256}
 
 -- ---- a word, by its halves
 

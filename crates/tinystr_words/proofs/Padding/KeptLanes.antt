@@ -10,7 +10,7 @@ use Rattle.std.proofs.lemmas.Grind.{same_number_lists}
 use Rattle.std.proofs.lemmas.Simd.{Each1-get_or, get_or-zip2, length-zip2}
 use Rattle.tinystr_words.specs.Text.{IsPadded, IsPaddedText, IsTextByte, pad, text_of}
 use Rattle.tinystr_words.specs.declared.padded.first_lanes.TheConstants.{KEPT_LANES}
-use Rattle.tinystr_words.proofs.Lanes.{below_at}
+use Rattle.tinystr_words.proofs.Words.Lanes.{below_at}
 use Rattle.tinystr_words.proofs.Texts.{IsPaddedText-places, get_or-pad, get_or-text_of, length-pad}
 
 KEPT_LANES-at : (k : ℕ) → k < 32 → get_or KEPT_LANES k 0 ≡ cond (nat_lt k 16) 255 0

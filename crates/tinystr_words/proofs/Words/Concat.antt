@@ -11,10 +11,10 @@ use Rattle.std.proofs.lemmas.List.Elements.{All-append, All-take}
 use Rattle.tinystr_words.specs.Text.{IsText, IsTextByte}
 use Rattle.tinystr_words.specs.Words.{word, text_in, HoldsText}
 use Rattle.tinystr_words.proofs.Texts.{take-joined}
-use Rattle.tinystr_words.proofs.WordAsNumber.{word-nuls, pow_256-pos}
-use Rattle.tinystr_words.proofs.Lanes.{IsBytes, IsBytes-from_IsText, word-lt}
-use Rattle.tinystr_words.proofs.WordFromPieces.{word_split}
-use Rattle.tinystr_words.proofs.TextInWord.{HoldsText-word}
+use Rattle.tinystr_words.proofs.Words.Numbers.{word-nuls, pow_256-pos}
+use Rattle.tinystr_words.proofs.Words.Lanes.{IsBytes, IsBytes-from_IsText, word-lt}
+use Rattle.tinystr_words.proofs.Pieces.Word.{word_split}
+use Rattle.tinystr_words.proofs.Words.Texts.{HoldsText-word}
 
 -- the word of two lists joined: that of the second stands above that of the first
 word-append : (t s : List ℕ) → word (t ++ s) ≡ word t + 256 ^ length t * word s

@@ -13,11 +13,11 @@ use Rattle.std.specs.List.{All}
 use Rattle.tinystr_words.specs.Decimal.{last}
 use Rattle.tinystr_words.specs.Text.{IsTextByte, IsText}
 use Rattle.tinystr_words.specs.Words.{word}
-use Rattle.tinystr_words.proofs.Decimals.{word_onto, word_is_onto, word_onto-two_digits, word_onto-one_digit}
-use Rattle.tinystr_words.proofs.Lanes.{IsBytes, IsBytes-from_IsText, word-lt}
-use Rattle.tinystr_words.proofs.Numerals.{IsDigit, IsText-decimal, digits-decimal, no_leading_zero, eight_digits, digits-eight_digits, length-eight_digits, eight_digits-zeros, eight_digits-last}
-use Rattle.tinystr_words.proofs.WordAsNumber.{pow_256}
-use Rattle.tinystr_words.proofs.WordFromPieces.{word_split}
+use Rattle.tinystr_words.proofs.Decimals.Digits.{word_onto, word_is_onto, word_onto-two_digits, word_onto-one_digit}
+use Rattle.tinystr_words.proofs.Words.Lanes.{IsBytes, IsBytes-from_IsText, word-lt}
+use Rattle.tinystr_words.proofs.Decimals.Shortest.{IsDigit, IsText-decimal, digits-decimal, no_leading_zero, eight_digits, digits-eight_digits, length-eight_digits, eight_digits-zeros, eight_digits-last}
+use Rattle.tinystr_words.proofs.Words.Numbers.{pow_256}
+use Rattle.tinystr_words.proofs.Pieces.Word.{word_split}
 
 -- ---- four numbers in lanes of 16 bits
 

@@ -12,7 +12,7 @@ use Rattle.std.proofs.lemmas.Slice.Eq.{bytes_eq-Decides}
 use Rattle.tinystr_words.specs.Text.{IsText, IsTextByte, IsStrictText, IsPaddedText, text_of, pad, is_text_byte, is_strict_text, is_padded_text}
 use Rattle.tinystr_words.specs.Packed.{IsPacked, is_packed, records_of}
 use Rattle.tinystr_words.specs.Reading.{strict_of}
-use Rattle.tinystr_words.proofs.Packing.{AllPadded-packed, AreRecords, IsPacked-length, IsPacked-records, length-first_chunks}
+use Rattle.tinystr_words.proofs.Reading.Records.{AllPadded-packed, AreRecords, IsPacked-length, IsPacked-records, length-first_chunks}
 
 -- of a byte of a text
 pub is_text_byte-Decides : (b : ℕ) → Decides (is_text_byte b) (IsTextByte b)

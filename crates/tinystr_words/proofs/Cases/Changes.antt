@@ -10,7 +10,7 @@ use Rattle.std.specs.List.{All, list_all, position}
 use Rattle.tinystr_words.specs.Classes.{ask, is_not_lower, is_not_upper}
 use Rattle.tinystr_words.specs.Case.{lower, raise, lowercase, titlecase, uppercase}
 use Rattle.tinystr_words.specs.Text.{IsStrictText, IsText, IsTextByte}
-use Rattle.tinystr_words.proofs.TextsByPieces.{ask-same}
+use Rattle.tinystr_words.proofs.Pieces.Answers.{ask-same}
 
 -- ---- done twice
 

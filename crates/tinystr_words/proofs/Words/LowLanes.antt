@@ -4,8 +4,8 @@ use Rattle.std.proofs.Math.Nat.{pow-suc}
 use Rattle.std.proofs.lemmas.Nat.{and_shr, and_mod, and_le_r, or_shr, or_mod, or_lt}
 use Rattle.tinystr_words.specs.Words.{word, lane, first_then, HasLowLanes}
 use Rattle.std.proofs.lemmas.Simd.{Each1-replicate}
-use Rattle.tinystr_words.proofs.Lanes.{Ascii}
-use Rattle.tinystr_words.proofs.WordAsNumber.{div-pow_256, mod-pow_256, pow_256}
+use Rattle.tinystr_words.proofs.Words.Lanes.{Ascii}
+use Rattle.tinystr_words.proofs.Words.Numbers.{div-pow_256, mod-pow_256, pow_256}
 
 -- a word of bytes below 0x80
 pub low_word : (l : List ℕ) → Ascii l → HasLowLanes (word l)

@@ -10,8 +10,8 @@ use Rattle.tinystr_words.specs.Private.Ranges.{is_in, is_not_in}
 use Rattle.tinystr_words.specs.declared.question.Case.{Case}
 use Rattle.tinystr_words.specs.declared.question.Case.TheVariants.{Lower, Title, Upper}
 use Rattle.tinystr_words.specs.declared.kernel.Range.{Range}
-use Rattle.tinystr_words.proofs.Lanes.{everywhere, below_at, conjunction, disjunction, difference, addition}
-use Rattle.tinystr_words.proofs.Formulas.{Formula, itself, splat, lead, join, flip, quarter, Asks, Asks-from_everywhere, Changes, is_safe, same_from_nat_eq}
+use Rattle.tinystr_words.proofs.Words.Lanes.{everywhere, below_at, conjunction, disjunction, difference, addition}
+use Rattle.tinystr_words.proofs.Words.Formulas.{Formula, itself, splat, lead, join, flip, quarter, Asks, Asks-from_everywhere, Changes, is_safe, same_from_nat_eq}
 
 -- the code's ranges
 abbrev pub UPPER : Range

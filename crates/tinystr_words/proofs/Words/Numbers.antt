@@ -11,8 +11,8 @@ use Rattle.tinystr_words.specs.Text.{IsTextByte, IsText, pad}
 use Rattle.tinystr_words.specs.Words.{word, lanes_of}
 use Rattle.tinystr_words.proofs.Texts.{NULS, length-pad}
 use Rattle.std.proofs.lemmas.Simd.{Each1-replicate}
-use Rattle.tinystr_words.proofs.Lanes.{IsBytes, IsBytes-append, IsBytes-from_Ascii}
-use Rattle.tinystr_words.proofs.Formulas.{Ascii-padded}
+use Rattle.tinystr_words.proofs.Words.Lanes.{IsBytes, IsBytes-append, IsBytes-from_Ascii}
+use Rattle.tinystr_words.proofs.Words.Formulas.{Ascii-padded}
 
 -- ---- the bytes of a word
 

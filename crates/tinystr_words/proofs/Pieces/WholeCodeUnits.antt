@@ -10,9 +10,9 @@ use Rattle.tinystr_words.specs.Reading.{lossy, lossy_byte}
 use Rattle.tinystr_words.proofs.Texts.{IsPaddedText-made, NULS, get_or-nuls, get_or-pad, length-pad, text_of-made}
 use Rattle.std.proofs.lemmas.Grind.{same_number_lists}
 use Rattle.std.proofs.lemmas.List.Folds.{map_fixed}
-use Rattle.tinystr_words.proofs.WordFromPieces.{map-mod_text}
+use Rattle.tinystr_words.proofs.Pieces.Word.{map-mod_text}
 use Rattle.tinystr_words.specs.Private.ReadPieces.{IsReadPiece}
-use Rattle.tinystr_words.proofs.Copying.{IsPaddedText-pad_take, pad-full}
+use Rattle.tinystr_words.proofs.Pieces.Copying.{IsPaddedText-pad_take, pad-full}
 use Rattle.std.proofs.lemmas.Bool.Decides.{nat_tests}
 
 abbrev Tested : Bool → List ℕ → ℕ → ℕ → Type 0

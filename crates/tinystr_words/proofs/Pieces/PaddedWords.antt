@@ -5,7 +5,7 @@ use Rattle.tinystr_words.specs.Text.{IsPadded, IsPaddedText, pad, text_of}
 use Rattle.tinystr_words.specs.declared.question.Question.{Question}
 use Rattle.tinystr_words.specs.Questions.{ask_question, in_case, later_case, later_question}
 use Rattle.tinystr_words.proofs.Texts.{IsPaddedText-drop, IsPaddedText-made, IsPaddedText-take, length-text_of-le, take-pad, text_of-drop, text_of-made, text_of-take}
-use Rattle.tinystr_words.proofs.TextsByPieces.{IsText-in_case, ask_question-pieces, in_case-padded, in_case-pieces, length-in_case}
+use Rattle.tinystr_words.proofs.Pieces.Answers.{IsText-in_case, ask_question-pieces, in_case-padded, in_case-pieces, length-in_case}
 use Rattle.tinystr_words.specs.Private.Padded.{IsFirstWord}
 use Rattle.std.proofs.lemmas.Slice.{drop-put_mid, take-put_mid}
 use borrow.Rule.Slice.PartMut.{put_mid}

@@ -14,12 +14,12 @@ use Rattle.tinystr_words.specs.Questions.{in_case}
 use Rattle.tinystr_words.specs.declared.question.Case.{Case}
 use Rattle.tinystr_words.specs.declared.question.Case.TheVariants.{Lower, Title, Upper}
 use Rattle.tinystr_words.proofs.Texts.{NULS, length-pad}
-use Rattle.tinystr_words.proofs.TextsByPieces.{first_change, later_change, length-in_case}
+use Rattle.tinystr_words.proofs.Pieces.Answers.{first_change, later_change, length-in_case}
 use Rattle.std.proofs.Math.Dec.{eqb-suc-zero}
 use Rattle.std.proofs.Math.Bool.{and-true}
 use Rattle.std.proofs.lemmas.Simd.{Each1-replicate}
 use Rattle.std.proofs.lemmas.List.Folds.{list_all-append, list_all-map}
-use Rattle.tinystr_words.proofs.Lanes.{Bytewise, everywhere, true_from_everywhere, Ascii, Bytes, lanes, op-word_lanes, word_not, word_quarter, nat_eq-word_lanes}
+use Rattle.tinystr_words.proofs.Words.Lanes.{Bytewise, everywhere, true_from_everywhere, Ascii, Bytes, lanes, op-word_lanes, word_not, word_quarter, nat_eq-word_lanes}
 
 -- a formula over a word, as `(w + u(0x50)) & H` is `join conjunction (join addition itself (splat 0x50)) (splat 0x80)`
 pub data Formula : Type 0 where

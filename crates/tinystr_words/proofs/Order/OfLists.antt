@@ -10,7 +10,7 @@ use Rattle.tinystr_words.specs.Text.{IsStrictText, pad}
 use Rattle.std.proofs.lemmas.Map.Lookups.{exact_bytes}
 use Rattle.std.proofs.lemmas.Bool.Decides.{nat_tests}
 use Rattle.tinystr_words.specs.Order.{IsLesserAt, IsBefore}
-use Rattle.tinystr_words.proofs.Order.{cmp-pad}
+use Rattle.tinystr_words.proofs.Order.OfPadded.{cmp-pad}
 
 -- a list that compares as less comes before the other
 before_from_less : (t s : List ℕ) → slice_cmp nat_cmp t s ≡ Less → IsBefore t s

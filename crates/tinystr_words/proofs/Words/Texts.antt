@@ -10,16 +10,16 @@ use Rattle.std.proofs.lemmas.List.Elements.{All-head, All-tail, All-drop}
 use Rattle.std.specs.Int.Count.{count_leading_zeros, leading_unique}
 use Rattle.tinystr_words.specs.Text.{IsTextByte, IsText, IsPadded, pad, text_of}
 use Rattle.tinystr_words.specs.Words.{word, lanes_of, text_in, HoldsText}
-use Rattle.tinystr_words.proofs.TextsByPieces.{IsText-in_case, length-in_case}
+use Rattle.tinystr_words.proofs.Pieces.Answers.{IsText-in_case, length-in_case}
 use Rattle.tinystr_words.specs.Questions.{in_case}
 use Rattle.tinystr_words.specs.declared.question.Case.{Case}
 use Rattle.tinystr_words.proofs.Texts.{NULS, text_of-pad, length-text_of-le}
-use Rattle.tinystr_words.proofs.Lanes.{lanes}
-use Rattle.tinystr_words.proofs.Formulas.{on, Ascii-padded, IsSafe-changes, on-text_in, lanes-change}
-use Rattle.tinystr_words.proofs.WordAsNumber.{lanes_of-word_pad, word-nuls, leading_zeros-word, leading_zeros-more}
-use Rattle.tinystr_words.proofs.WordFromPieces.{map-mod_bytes}
-use Rattle.tinystr_words.proofs.LowLanes.{low_word, low_room}
-use Rattle.tinystr_words.proofs.Kernels.{case_change, Changes-case_change}
+use Rattle.tinystr_words.proofs.Words.Lanes.{lanes}
+use Rattle.tinystr_words.proofs.Words.Formulas.{on, Ascii-padded, IsSafe-changes, on-text_in, lanes-change}
+use Rattle.tinystr_words.proofs.Words.Numbers.{lanes_of-word_pad, word-nuls, leading_zeros-word, leading_zeros-more}
+use Rattle.tinystr_words.proofs.Pieces.Word.{map-mod_bytes}
+use Rattle.tinystr_words.proofs.Words.LowLanes.{low_word, low_room}
+use Rattle.tinystr_words.proofs.Words.Kernels.{case_change, Changes-case_change}
 
 -- ---- a word from a padded text
 

@@ -10,7 +10,7 @@ use Rattle.tinystr_words.specs.Reading.{is_faulty}
 use Rattle.tinystr_words.specs.ByteForm.{ByteFault, byte_fault_at, byte_fault}
 use Rattle.tinystr_words.specs.ByteForm.ByteFault.{too_short, null, non_ascii}
 use Rattle.tinystr_words.proofs.Texts.{IsPaddedText-pad, length-pad}
-use Rattle.tinystr_words.proofs.Readers.{IsScanned, find-none, find-first, find-is, first_fault-clean, is_faulty-none, first_fault-padded, IsPaddedText-clean}
+use Rattle.tinystr_words.proofs.Reading.OnePass.{IsScanned, find-none, find-first, find-is, first_fault-clean, is_faulty-none, first_fault-padded, IsPaddedText-clean}
 
 -- ---- the least position with a fault
 
