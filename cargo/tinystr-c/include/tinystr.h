@@ -21,8 +21,8 @@
  *   One order serves all functions, and a function returns the code of the first check that fails:
  *     1. the numbers that choose, in the order of the parameters: BAD_ARGUMENT. These are a capacity (that of tinystr_read
  *        is `out_len`), a size of values, a question and a case.
- *     2. the bytes, in the order of the parameters. Of each, their number is checked first, then the bytes, then the order
- *        or the places of the texts. Unchecked bytes, as those in which a text is searched, pass.
+ *     2. the bytes, in the order of the parameters, and of a hashed table in that of its parts: their number first, then
+ *        the bytes, and then the order or the places of the texts. The records and the hashed table of a search pass.
  *     3. the room: NO_ROOM.
  *   Each function below lists OK first, and NOT_FOUND if it may return it, and then the codes of its checks in this order.
  *   NUL and NON_ASCII are one check. It finds the first byte that is above 127, or is a character after a NUL. The code
