@@ -6,7 +6,7 @@ use crate::answer::{
 };
 use crate::numbers::{BAD_ARGUMENT, NOT_RISING, OK};
 use proved::TinyAsciiStr;
-use proved::packed::{PackedMap, SortedTable, Table, in_place};
+use proved::packed::{PackedMap, SortedError, SortedTable, in_place};
 
 /// Calls a function at one of the capacities of records, or gives another value.
 #[macro_export]
@@ -47,12 +47,10 @@ pub fn table_check<const N: usize>(bytes: &[u8]) -> TinystrResult {
 /// ensures { ChecksSorted result bytes.now N }
 /// ```
 pub fn sorted_check<const N: usize>(bytes: &[u8]) -> TinystrResult {
-    match Table::<N>::new(bytes) {
-        Ok(table) => match SortedTable::new(table) {
-            Ok(_) => answer(OK, bytes.len() / N),
-            Err(fault) => answer(NOT_RISING, fault.index),
-        },
-        Err(fault) => records_answer(fault),
+    match SortedTable::<N>::from_bytes(bytes) {
+        Ok(_) => answer(OK, bytes.len() / N),
+        Err(SortedError::Records(fault)) => records_answer(fault),
+        Err(SortedError::Order(fault)) => answer(NOT_RISING, fault.index),
     }
 }
 

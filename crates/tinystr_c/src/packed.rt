@@ -10,7 +10,7 @@ use crate::answer::{
 };
 use crate::numbers::{BAD_ARGUMENT, NOT_RISING, OK};
 use tinystr::TinyAsciiStr;
-use tinystr_packed::{PackedMap, SortedTable, Table, in_place};
+use tinystr_packed::{PackedMap, SortedError, SortedTable, in_place};
 
 /// Calls a function at one of the capacities of records, or gives another value.
 #[macro_export]
@@ -43,12 +43,10 @@ pub fn sorted_check<const N: usize>(bytes: &[u8]) -> TinystrResult
     requires { 0 < N }
     ensures { ChecksSorted result bytes.now N }
 {
-    match Table::<N>::new(bytes) {
-        Ok(table) => match SortedTable::new(table) {
-            Ok(_) => answer(OK, bytes.len() / N),
-            Err(fault) => answer(NOT_RISING, fault.index),
-        },
-        Err(fault) => records_answer(fault),
+    match SortedTable::<N>::from_bytes(bytes) {
+        Ok(_) => answer(OK, bytes.len() / N),
+        Err(SortedError::Records(fault)) => records_answer(fault),
+        Err(SortedError::Order(fault)) => answer(NOT_RISING, fault.index),
     }
 }
 
