@@ -2,6 +2,7 @@
 
 from figures.figures import THERE, Figures
 from figures.heat_map import heat_map
+from figures.plot import HeatMap
 from figures.ratios import CAPACITIES, FAILING, KINDS, SLOWER, cells_of_kind, mean_of, ratios_of_kind
 from figures.tables import aligned, cells_of_table, geometric, marked, ratio_table, rows_of, said
 
@@ -97,21 +98,11 @@ def in_a_row(figures: Figures, name: str) -> str:
     return aligned([["call", *head, "geometric mean"], ["ratio", *ratios, f"{mean:.2f}"]])
 
 
-def calls_rows(figures: Figures) -> dict[str, dict[str, dict[str, float]]]:
-    """Ratios by call, kind of texts and capacity."""
+def calls_plot(figures: Figures) -> HeatMap:
     full, mixed = ratios_of_kind(figures, "full"), ratios_of_kind(figures, "mixed")
     rows = {call: {"full": full[call], "mixed": mixed[call]} for call in full}
-    return {**rows, FAILING: {"full": ratios_of_kind(figures, "failing")[FAILING]}}
-
-
-def calls_picture(figures: Figures) -> str:
-    title = "Time of each call divided by the Rust crate's, by capacity"
-    return heat_map(calls_rows(figures), CAPACITIES, title, calls_description(figures))
-
-
-def calls_description(figures: Figures) -> str:
-    """The means, in one sentence for those who don't see the picture."""
-    return (
-        f"Geometric means: {mean_of(figures, 'full'):.2f} on texts that fill their capacity,"
-        f" {mean_of(figures, 'mixed'):.2f} on texts of all lengths. Below 1 is faster than the Rust crate."
-    )
+    rows[FAILING] = {"full": ratios_of_kind(figures, "failing")[FAILING]}
+    of_full, of_mixed = mean_of(figures, "full"), mean_of(figures, "mixed")
+    title = f"A call takes {of_full:.2f} of the Rust crate's time on full texts, and {of_mixed:.2f} on mixed ones"
+    note = "The means are without the question that fails, which is the slowest of nine."
+    return heat_map(title, note, CAPACITIES, {"": rows})

@@ -80,6 +80,11 @@ class Figures:
         """The median of the runs."""
         return median(self.times[cell][whose].values())
 
+    def range(self, cell: Cell, whose: str) -> tuple[float, float, float]:
+        """The least time of the runs, their median, and the largest."""
+        runs = self.times[cell][whose].values()
+        return min(runs), median(runs), max(runs)
+
     def ratios(self, cell: Cell, rival: str, whose: str = HERE) -> list[float]:
         """The ratio of one time, this crate's, to another's, of each run."""
         here, there = self.times[cell][whose], self.times[cell][rival]

@@ -1,7 +1,8 @@
 """The table and the picture of bench/cargo: the crate for Cargo beside the Rust crate, both inlined, for two processors."""
 
 from figures.figures import THERE, Figures
-from figures.heat_map import heat_map, means_of
+from figures.heat_map import Rows, heat_map
+from figures.plot import HeatMap
 from figures.tables import aligned, geometric, type_table
 
 # The tables of each kind of texts: of lists, and of one value at a time.
@@ -9,7 +10,7 @@ TABLES = {
     "full": ("Full texts", "Full texts, one at a time"),
     "mixed": ("Mixed texts", "Mixed texts, one at a time"),
 }
-ONE_AT_A_TIME = ", one at a time"
+SUFFIXES = ["", ", one at a time"]
 LOOK_UPS = "Look-ups"
 CAPACITIES = ["3", "4", "8", "12", "16", "24", "32", "64"]
 
@@ -22,13 +23,13 @@ def ratios_of(figures: Figures, table: str) -> dict[str, dict[str, float]]:
     return found
 
 
-def rows_of_kind(figures: Figures, one_at_a_time: int) -> dict[str, dict[str, dict[str, float]]]:
+def rows_of_kind(figures: Figures, one_at_a_time: int) -> Rows:
     """Ratios by call, kind of texts and capacity."""
     of_kinds = {kind: ratios_of(figures, tables[one_at_a_time]) for kind, tables in TABLES.items()}
     return {call: {kind: of_kinds[kind][call] for kind in TABLES} for call in of_kinds["full"]}
 
 
-def slowest_of(rows: dict[str, dict[str, dict[str, dict[str, float]]]], call: str) -> str:
+def slowest_of(rows: dict[str, Rows], call: str) -> str:
     """Of all processors and kinds of texts."""
     cells = [
         (ratio, capacity) for of in rows.values() for by_capacity in of[call].values() for capacity, ratio in by_capacity.items()
@@ -42,7 +43,7 @@ def inlined_table(all_figures: dict[str, Figures]) -> str:
     slowest of its cells. `all_figures` are by processor."""
     columns = [(processor, kind) for processor in all_figures for kind in TABLES]
     lines = [["call", *(f"{processor}, {kind}" for processor, kind in columns), "slowest"]]
-    for one_at_a_time, suffix in ((0, ""), (1, ONE_AT_A_TIME)):
+    for one_at_a_time, suffix in enumerate(SUFFIXES):
         rows = {processor: rows_of_kind(figures, one_at_a_time) for processor, figures in all_figures.items()}
         for call in next(iter(rows.values())):
             means = [f"{geometric(rows[processor][call][kind].values()):.2f}" for processor, kind in columns]
@@ -58,24 +59,18 @@ def look_ups(figures: Figures) -> str:
     return "\n\n".join(f"{table}\n\n{type_table(figures, figures.cells(table))}" for table in tables)
 
 
-def cargo_rows(figures: Figures) -> dict[str, dict[str, dict[str, float]]]:
-    """Lists and single values, by call, kind of texts and capacity."""
-    alone = {f"{call}{ONE_AT_A_TIME}": row for call, row in rows_of_kind(figures, 1).items()}
-    return {**rows_of_kind(figures, 0), **alone}
+def cargo_blocks(figures: Figures) -> dict[str, Rows]:
+    """Lists, and single values, by the suffix of their calls."""
+    return {suffix: rows_of_kind(figures, one_at_a_time) for one_at_a_time, suffix in enumerate(SUFFIXES)}
 
 
-def cargo_picture(figures: Figures) -> str:
-    title = "Crate for Cargo: time of each call divided by the Rust crate's, by capacity"
-    return heat_map(cargo_rows(figures), CAPACITIES, title, cargo_description(figures))
-
-
-def cargo_description(figures: Figures) -> str:
-    """The means, in one sentence for those who don't see the picture."""
-    means = means_of(cargo_rows(figures), CAPACITIES)
-    return (
-        f"Geometric means: {means['full']['mean']:.2f} on texts that fill their capacity, {means['mixed']['mean']:.2f} on texts"
-        " of all lengths. Below 1 is faster than the Rust crate."
-    )
+def cargo_plot(figures: Figures) -> HeatMap:
+    blocks = cargo_blocks(figures)
+    (full, mixed), (full_alone, mixed_alone) = ([mean_of_kind(rows, kind) for kind in TABLES] for rows in blocks.values())
+    title = f"Crate for Cargo: calls over lists take {full:.2f} of the Rust crate's time on full texts, {mixed:.2f} on mixed"
+    note = f"Calls of one value at a time take {full_alone:.2f} on full texts, and {mixed_alone:.2f} on mixed ones. No"
+    note += " question that fails is timed."
+    return heat_map(title, note, CAPACITIES, blocks)
 
 
 def cargo_headline(figures: Figures, of_v2: Figures) -> str:
@@ -90,15 +85,16 @@ def cargo_headline(figures: Figures, of_v2: Figures) -> str:
     )
 
 
-def mean_of_kind(rows: dict[str, dict[str, dict[str, float]]], kind: str) -> float:
+def mean_of_kind(rows: Rows, kind: str) -> float:
     return geometric([ratio for of in rows.values() for ratio in of[kind].values()])
 
 
 def slowest_cell(figures: Figures) -> tuple[float, str, str]:
     """The largest ratio, with its call and its capacity."""
     return max(
-        (ratio, call, capacity)
-        for call, kinds in cargo_rows(figures).items()
+        (ratio, call + suffix, capacity)
+        for suffix, rows in cargo_blocks(figures).items()
+        for call, kinds in rows.items()
         for row in kinds.values()
         for capacity, ratio in row.items()
     )

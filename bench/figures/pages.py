@@ -4,16 +4,19 @@ import re
 from collections.abc import Callable
 from textwrap import fill
 
-from figures.call_tables import beside_others, calls_description, full_and_mixed, in_a_row, lists_and_failing, slower, table
-from figures.capacities import capacities_description
+from figures.call_tables import beside_others, calls_plot, full_and_mixed, in_a_row, lists_and_failing, slower, table
+from figures.capacities import capacities_plot
 from figures.figures import THERE, Figures
 from figures.hashed_tables import hashed_tables
-from figures.inlined import cargo_description, cargo_headline, inlined_table, look_ups
-from figures.jobs import jobs_table
+from figures.inlined import cargo_headline, cargo_plot, inlined_table, look_ups
+from figures.jobs import jobs_plot, jobs_table
+from figures.keys import keys_plot
 from figures.machine import machine
-from figures.many_keys import TITLE as MANY_KEYS, many_keys_description, many_keys_tables
+from figures.many_keys import many_keys_plot, many_keys_tables
 from figures.other_tables import all_cells, c_headline, lines, loops, types
+from figures.plot import Plot
 from figures.ratios import FAILING, mean_of, slowest_of
+from figures.tables import said_range
 
 # What makes a block of all figures and the folder of the pictures.
 Block = Callable[[dict[str, Figures], str], str]
@@ -23,13 +26,12 @@ BLOCK = re.compile(r"(<!-- bench/report (.+?) -->\n).*?(<!-- end -->\n)", re.DOT
 def headline(all_figures: dict[str, Figures]) -> str:
     """The means over all rows, whole jobs, and the slowest row, in three items."""
     calls, jobs = all_figures["calls"], all_figures["jobs"]
-    ratios = [jobs.ratio(cell, THERE) for cell in jobs.times]
     ratio, call, capacity, kind = slowest_of(calls)
     slowest = "a question that fails at its first byte" if call == FAILING else f"`{call.partition(',')[0]}` of {kind} texts"
     return (
         f"- A call takes {mean_of(calls, 'full'):.2f} of the Rust crate's time on texts that fill their capacity, and"
         f" {mean_of(calls, 'mixed'):.2f} on texts of all lengths. (These are geometric means.)\n"
-        f"- A whole job takes {min(ratios):.2f} to {max(ratios):.2f} of the time of a Rust program that does the same.\n"
+        f"- A whole job takes {said_range(jobs, jobs.times, THERE)} of the time of a Rust program that does the same.\n"
         f"- The worst case, {slowest}, takes {ratio:.1f} times as long at capacity {capacity}.\n"
     )
 
@@ -41,9 +43,14 @@ def filled_lines(make: Callable) -> Block:
     )
 
 
-def picture(name: str, alternative: Callable) -> Block:
-    """`alternative` makes the text for those who don't see it, of all figures."""
-    return lambda all_figures, folder: f"![{alternative(all_figures)}]({folder}/{name})\n"
+def plots(all_figures: dict[str, Figures]) -> dict[str, Plot]:
+    """By the names of their files."""
+    return {name: make(all_figures[file]) for name, (file, make) in PLOTS.items()}
+
+
+def picture(name: str) -> Block:
+    file, make = PLOTS[name]
+    return lambda all_figures, folder: f"![{make(all_figures[file]).alt()}]({folder}/{name})\n"
 
 
 def fenced(file: str, make: Callable, *more: str) -> Block:
@@ -69,17 +76,21 @@ def inlined(all_figures: dict[str, Figures]) -> str:
     return inlined_table({"x86-64": all_figures["cargo"], "v2": all_figures["cargo-v2"]})
 
 
+# The pictures, each with its file of figures and what it shows of them.
+PLOTS = {
+    "calls.svg": ("calls", calls_plot),
+    "capacities.svg": ("calls", capacities_plot),
+    "cargo.svg": ("cargo", cargo_plot),
+    "jobs.svg": ("jobs", jobs_plot),
+    "keys.svg": ("keys", keys_plot),
+    "tables.svg": ("tables", many_keys_plot),
+}
 BLOCKS = {
+    **{name: picture(name) for name in PLOTS},
     "headline": filled_lines(headline),
     "headline of Cargo": filled_lines(lambda them: cargo_headline(them["cargo"], them["cargo-v2"])),
     "headline of C": filled_lines(lambda them: c_headline(them["c"])),
     "jobs": fenced("jobs", jobs_table),
-    "jobs.svg": picture("jobs.svg", lambda _: "Seconds of whole jobs, at the start, now, and by a Rust program"),
-    "calls.svg": picture(
-        "calls.svg", lambda them: f"Time of each call beside the Rust crate. {calls_description(them['calls'])}"
-    ),
-    "capacities.svg": picture("capacities.svg", lambda them: capacities_description(them["calls"])),
-    "keys.svg": picture("keys.svg", lambda _: "Nanoseconds of map and sort calls by type of key"),
     "slower": fenced("calls", slower),
     "calls": fenced("calls", full_and_mixed),
     "lists": fenced("calls", lists_and_failing),
@@ -92,13 +103,8 @@ BLOCKS = {
     "lines": fenced("lines", lines),
     "c": fenced("c", all_cells),
     "machine": fenced_of_all(machine),
-    "cargo.svg": picture(
-        "cargo.svg",
-        lambda them: f"Time of each call of the crate for Cargo beside the Rust crate. {cargo_description(them['cargo'])}",
-    ),
     "inlined": fenced_of_all(inlined),
     "look-ups": fenced("cargo", look_ups),
-    "tables.svg": picture("tables.svg", lambda them: f"{MANY_KEYS}. {many_keys_description(them['tables'])}"),
     "many keys": fenced("tables", many_keys_tables),
     "hashed tables": fenced_if_any("tables", hashed_tables),
 }

@@ -59,6 +59,12 @@ def said(figures: Figures, cell: Cell, rival: str, whose: str = HERE) -> str:
     return said_ratio(figures.ratio(cell, rival, whose)) + in_brackets(spread(figures, cell, rival, whose))
 
 
+def said_range(figures: Figures, cells: Iterable[Cell], rival: str, whose: str = HERE) -> str:
+    """The least and the largest ratio of some cells."""
+    ratios = [figures.ratio(cell, rival, whose) for cell in cells]
+    return f"{min(ratios):.2f} to {max(ratios):.2f}"
+
+
 def marked(figures: Figures, cell: Cell, rival: str = THERE) -> str:
     """The ratio, with a mark in front where there is a spread."""
     return ("~" if spread(figures, cell, rival) else " ") + said_ratio(figures.ratio(cell, rival))
