@@ -84,7 +84,8 @@ def many_keys_plot(figures: Figures) -> Lines:
     return Lines(
         title=f"Looked up in bulk, a key of a sorted table takes {range_of(HERE, SLICE)} of the time of slice::binary_search",
         note=f"Random keys that are present. One by one, it takes {range_of(ONE_BY_ONE, SLICE)} of that time, and a"
-        f" key of a hashed table {range_of('hashed', HASH_SET)} of HashSet's. Solid: this crate; dashed: Rust's std.",
+        f" key of a hashed table {range_of('hashed', HASH_SET)} of HashSet's. Solid: this crate; dashed: Rust's std,"
+        " the HashSet with a fast hasher.",
         x_label="records in the table",
         y_label="nanoseconds a key",
         x=[re.sub("000$", "k", re.sub("000000$", "M", count)) for count in counts(figures)],
