@@ -4,7 +4,7 @@ import re
 from collections.abc import Callable
 from textwrap import fill
 
-from figures.call_tables import beside_others, calls_description, full_and_mixed, in_a_row, lists_and_failing, slower, table
+from figures.call_tables import calls_description, in_a_row, lists_and_failing, slower, table
 from figures.capacities import capacities_description
 from figures.figures import THERE, Figures
 from figures.hashed_tables import hashed_tables
@@ -81,9 +81,7 @@ BLOCKS = {
     "capacities.svg": picture("capacities.svg", lambda them: capacities_description(them["calls"])),
     "keys.svg": picture("keys.svg", lambda _: "Nanoseconds of map and sort calls by type of key"),
     "slower": fenced("calls", slower),
-    "calls": fenced("calls", full_and_mixed),
     "lists": fenced("calls", lists_and_failing),
-    "beside others": fenced("calls", beside_others),
     "packed": fenced("calls", table, "Bytes in front of others, and packed records"),
     "identifiers": fenced("calls", in_a_row, "Language identifiers"),
     "types": fenced("types", types),
