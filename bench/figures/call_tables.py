@@ -7,31 +7,6 @@ from figures.ratios import CAPACITIES, FAILING, KINDS, SLOWER, cells_of_kind, me
 from figures.tables import aligned, cells_of_table, geometric, marked, ratio_table, rows_of, said
 
 LISTS = "mixed, each read once"
-PAIR = "full, mixed"
-
-# Whose calls of "Full texts" and "Mixed texts" are timed too, and at which capacities.
-OTHERS = [("0.3.2", "4"), ("0.3.2", "8"), ("0.3.2", "16"), ("by hand", "16")]
-
-
-def marked_pair(figures: Figures, call: str, capacity: str, rival: str = THERE) -> str:
-    """The ratios of full and of mixed texts."""
-    return ", ".join(marked(figures, cells_of_kind(figures, kind)[call][capacity], rival) for kind in ("full", "mixed"))
-
-
-def full_and_mixed(figures: Figures) -> str:
-    """A row for each of the calls over which the means are taken."""
-    lines = [[PAIR, *CAPACITIES, "mean"]]
-
-    def pair(full: float, mixed: float) -> str:
-        return f"{full:.2f},  {mixed:.2f}"
-
-    full, mixed = ratios_of_kind(figures, "full"), ratios_of_kind(figures, "mixed")
-    for call in full:
-        in_order = [marked_pair(figures, call, capacity) for capacity in CAPACITIES]
-        lines.append([call, *in_order, pair(geometric(full[call].values()), geometric(mixed[call].values()))])
-    groups = [*([capacity] for capacity in CAPACITIES), None]
-    means = [pair(mean_of(figures, "full", group), mean_of(figures, "mixed", group)) for group in groups]
-    return aligned([*lines, ["geometric mean", *means]])
 
 
 def lists_and_failing(figures: Figures) -> str:
@@ -73,17 +48,6 @@ def slower(figures: Figures) -> str:
         return [head, *(f"{rows[head][capacity]:.2f}" if capacity in rows[head] else "" for capacity in CAPACITIES)]
 
     return aligned([["call", *CAPACITIES], *map(line, heads)])
-
-
-def beside_others(figures: Figures) -> str:
-    """tinystr 0.3.2, which has three capacities, and vectors by hand, which are of sixteen bytes."""
-    lines = [[PAIR, *(f"{rival} at {capacity}" for rival, capacity in OTHERS)]]
-    for call, cells in cells_of_kind(figures, "full").items():
-        beside = [(rival, capacity, rival in figures.times[cells[capacity]]) for rival, capacity in OTHERS]
-        if any(is_timed for *_, is_timed in beside):
-            pairs = [marked_pair(figures, call, capacity, rival) if is_timed else "" for rival, capacity, is_timed in beside]
-            lines.append([call, *pairs])
-    return aligned(lines)
 
 
 def table(figures: Figures, name: str) -> str:

@@ -4,7 +4,7 @@ import re
 from collections.abc import Callable
 from textwrap import fill
 
-from figures.call_tables import beside_others, calls_plot, full_and_mixed, in_a_row, lists_and_failing, slower, table
+from figures.call_tables import calls_plot, in_a_row, lists_and_failing, slower, table
 from figures.capacities import capacities_plot
 from figures.figures import THERE, Figures
 from figures.hashed_tables import hashed_tables
@@ -92,9 +92,7 @@ BLOCKS = {
     "headline of C": filled_lines(lambda them: c_headline(them["c"])),
     "jobs": fenced("jobs", jobs_table),
     "slower": fenced("calls", slower),
-    "calls": fenced("calls", full_and_mixed),
     "lists": fenced("calls", lists_and_failing),
-    "beside others": fenced("calls", beside_others),
     "packed": fenced("calls", table, "Bytes in front of others, and packed records"),
     "identifiers": fenced("calls", in_a_row, "Language identifiers"),
     "types": fenced("types", types),
