@@ -1,6 +1,6 @@
-/* Preloaded into a program, this refuses one of its allocations: that whose number REFUSED_ALLOCATION has, counting from 1.
-   It reports that in a line on standard error. When the program exits, it reports the most bytes that were in use at one
-   time. */
+/* Preloaded into a program, this makes one of its allocations fail: the one with the number REFUSED_ALLOCATION, counted
+   from 1. It reports that in a line on standard error. When the program exits, it reports the most bytes that were in use
+   at one time. */
 #include <malloc.h>
 #include <stddef.h>
 #include <stdio.h>
@@ -22,7 +22,7 @@ static int is_refused(void) {
     return write(STDERR_FILENO, report, sizeof report - 1) > 0;
 }
 
-/* What is in use after an allocation in place of `old_size` bytes. */
+/* Counts an allocation that replaces `old_size` bytes. */
 static void *counted(void *made, size_t old_size) {
     if (made == NULL) return NULL;
     in_use += malloc_usable_size(made) - old_size;
@@ -32,7 +32,7 @@ static void *counted(void *made, size_t old_size) {
 
 void *malloc(size_t size) { return is_refused() ? NULL : counted(__libc_malloc(size), 0); }
 
-/* None of these is refused, since the program's own allocations are by malloc and realloc. */
+/* None of these fails, since the program's own allocations are by malloc and realloc. */
 void *calloc(size_t count, size_t size) { return counted(__libc_calloc(count, size), 0); }
 
 void *realloc(void *old, size_t size) {

@@ -1,34 +1,34 @@
 # shellcheck shell=bash
-# For checks in bash, which source it under `set -euo pipefail`: counts what is so, prints a line 'NAME: yes' or 'NAME: no' of
+# For checks in bash, which source it under `set -euo pipefail`: counts results, prints a line 'NAME: yes' or 'NAME: no' for
 # each, and closes with the line 'N passed, M failed' (as scripts/lib/tally.py does in Python). A check that ends before it
-# closes has failed, and says so. It takes no words. It makes the folder $room, which goes away where the check ends.
+# closes has failed, and says so. It takes no arguments. The folder $scratch is removed when the check ends.
 [ $# -eq 0 ] || { echo "usage: $0" >&2; exit 2; }
-room=$(mktemp -d)
+scratch=$(mktemp -d)
 passed=0
 failed=0
 is_closed=no
 end() {
-    rm -rf "$room"
-    [ "$is_closed" = yes ] || echo "ended before its end"$'\n'"$passed passed, $((failed + 1)) failed"
+    rm -rf "$scratch"
+    [ "$is_closed" = yes ] || echo "ended before it closed"$'\n'"$passed passed, $((failed + 1)) failed"
 }
 trap end EXIT
 
-# says NAME COMMAND..: counts whether the command succeeds, and shows the end of what it says where it doesn't
+# says NAME COMMAND..: counts whether the command succeeds, and prints the end of its output where it doesn't
 says() {
     local name=$1 said=no
     shift
-    if "$@" > "$room/said" 2>&1; then
+    if "$@" > "$scratch/said" 2>&1; then
         said=yes
         passed=$((passed + 1))
     else
         failed=$((failed + 1))
-        tail -n 40 "$room/said"
+        tail -n 40 "$scratch/said"
     fi
     echo "$name: $said"
 }
 
-# adds NAME LINE STATUS: adds what a part passed and failed, by the line that it closed with; one that passed nothing, or whose
-# status says so, failed
+# adds NAME LINE STATUS: adds the results of a part, by its last line; a part that passed nothing, or whose status isn't 0,
+# failed
 adds() {
     if [[ $2 =~ ^([0-9]+)\ passed,\ ([0-9]+)\ failed$ ]]; then
         passed=$((passed + BASH_REMATCH[1]))
@@ -43,18 +43,18 @@ adds() {
     fi
 }
 
-# counts NAME COMMAND..: adds what a command passed and failed, and shows what it says where something failed
+# counts NAME COMMAND..: adds the results of a command, and prints its output where something failed
 counts() {
     local name=$1 last status=0 before=$failed
     shift
-    "$@" > "$room/said" 2>&1 || status=$?
-    last=$(tail -n 1 "$room/said")
+    "$@" > "$scratch/said" 2>&1 || status=$?
+    last=$(tail -n 1 "$scratch/said")
     adds "$name" "$last" "$status"
-    [ "$failed" -eq "$before" ] || cat "$room/said"
+    [ "$failed" -eq "$before" ] || cat "$scratch/said"
     echo "$name: $last"
 }
 
-# Ends the check, which fails where something isn't so, and where it looked at nothing.
+# Ends the check: it fails where a result is no, and where there is no result.
 close() {
     is_closed=yes
     echo "$passed passed, $failed failed"

@@ -1,1 +1,1 @@
-"""What the scripts share. Folders of commands that are elsewhere reach it by a link with this name."""
+"""The package that the scripts share. Packages named `lib` beside other commands extend their path to it."""

@@ -1,5 +1,5 @@
-"""Copies crates to another folder, so that a check works beside `rt ci`: what `rt` reads of them, with their lines of
-crates.txt, and HANDLES. It reads the crates as they stand in the checkout, and prints nothing."""
+"""Copies crates to another folder, so that a check runs in parallel with `rt ci`: what `rt` reads of them, with their lines of
+crates.txt, and HANDLES. It reads the crates of the checkout, and prints nothing."""
 
 import re
 import shutil
@@ -11,7 +11,7 @@ READ_BY_RT = ("src", "specs", "proofs")
 
 
 def copy_all(folder: Path) -> None:
-    """Copies what `rt` reads of all crates, but for what was proved of them."""
+    """Copies what `rt` reads of all crates, without the results of proofs."""
     shutil.copy(TOP / "HANDLES", folder / "HANDLES")
     shutil.copy(TOP / "crates.txt", folder / "crates.txt")
     for crate in sorted(path for path in (TOP / "crates").iterdir() if path.is_dir()):
@@ -23,7 +23,7 @@ def copy_all(folder: Path) -> None:
 
 
 def copy_with_proofs(folder: Path, crates: list[str]) -> None:
-    """Copies the whole folders of some crates and of all that they stand on, with what was proved and when."""
+    """Copies the whole folders of some crates and of their dependencies, with the results of proofs and their times."""
     names = {lower for crate in crates for lower in below(crate)} | set(crates)
     shutil.copy(TOP / "HANDLES", folder / "HANDLES")
     lines = (TOP / "crates.txt").read_text(encoding="utf-8").splitlines()

@@ -1,5 +1,5 @@
 """Reads what a source, a definition or a proof declares, for scripts that compare it with pages or rules. It prints nothing.
-(sources.py reads bodies, for the edits that turn them.)"""
+(sources.py reads bodies, for the edits that change them.)"""
 
 import re
 import textwrap
@@ -34,28 +34,28 @@ def declarations(path: Path) -> list[Item]:
 
 
 def is_reached(item: Item) -> bool:
-    """Whether callers reach an item of a public module."""
+    """Whether callers can name an item of a public module."""
     is_of_kind = item.kind in ("struct", "enum", "trait", "type", "fn")
     return item.kind in ("impl", "macro_rules") or is_of_kind and item.is_public
 
 
 def public_declarations(library: str) -> Iterator[tuple[str, Item]]:
-    """The items that callers reach, with the path of a function there: of a public module and the modules in it, or handed on
-    by name."""
+    """The items that callers can name, with the path of a function there: of a public module and the modules in it, or
+    reexported by name."""
     folder = CRATES / library / "src"
     root = [item for item in declarations(folder / "lib.rt") if "#[doc(hidden)]" not in item.lines_above]
     uses = [match for item in root if (match := re.match(r"pub use (\w+)::\{?(.*?)\}?;", item.head))]
-    handed_on = {match[1]: match[2].split(", ") for match in uses}
+    reexported = {match[1]: match[2].split(", ") for match in uses}
     for module in [item for item in root if item.kind == "mod" and not item.body]:
         file = folder / f"{module.name}.rt"
         if module.is_public:
             yield from ((f"{file.stem}::", item) for item in declarations(file) if is_reached(item))
-            for room in sorted((folder / module.name).glob("*.rt")):
-                is_public = f"pub mod {room.stem};" in text_of(file).splitlines()
-                found = [item for item in declarations(room) if (is_reached(item) if is_public else item.kind == "impl")]
-                yield from ((f"{room.stem}::", item) for item in found)
-        elif module.name in handed_on:
-            yield from (("", item) for item in declarations(file) if item.name in handed_on[module.name])
+            for submodule in sorted((folder / module.name).glob("*.rt")):
+                is_public = f"pub mod {submodule.stem};" in text_of(file).splitlines()
+                found = [item for item in declarations(submodule) if (is_reached(item) if is_public else item.kind == "impl")]
+                yield from ((f"{submodule.stem}::", item) for item in found)
+        elif module.name in reexported:
+            yield from (("", item) for item in declarations(file) if item.name in reexported[module.name])
 
 
 def first_sentence(item: Item, indent: str) -> list[str]:
@@ -84,14 +84,14 @@ def function_names(path: Path) -> list[str]:
 
 
 def laws(library: str) -> Iterator[tuple[str, dict[str, str]]]:
-    """The clauses of each law that takes no value, by their names: the one that has none is named by nothing."""
+    """The clauses of each law that takes no value, by their names: an unnamed one has an empty name."""
     for law in declarations(CRATES / library / "src/laws.rt"):
         if law.head == f"pub fn {law.name}()":
             yield law.name, {clause.label: clause.condition for clause in law.clauses if clause.kind == "ensures"}
 
 
 def lemmas(path: Path) -> tuple[dict[str, str], dict[str, str]]:
-    """The statement of each public lemma of a proof file by its name, and what each of its public sets holds."""
+    """The statement of each public lemma of a proof file by its name, and the members of each of its public sets."""
     return dict(LEMMA.findall(text_of(path))), dict(SET.findall(text_of(path)))
 
 
@@ -101,7 +101,7 @@ def public_names(path: Path) -> list[str]:
 
 
 def code_lines(path: Path) -> Iterator[tuple[int, str]]:
-    """The lines of a file that are no comments, with their numbers."""
+    """The lines of a file that aren't comments, with their numbers."""
     comment = "--" if path.suffix == ".antt" else "//"
     for number, line in enumerate(text_of(path).splitlines(), 1):
         if not line.lstrip().startswith(comment):

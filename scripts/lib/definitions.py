@@ -1,4 +1,4 @@
-"""Reads which definitions contracts stand on: the words of specs/ that public contracts name, and the words that these
+"""Reads which definitions contracts use: the words of specs/ that public contracts name, and the words that these
 are made of. It reads the CALLING.md of each library, the exports for C, the line program's engine, and specs/. It prints
 nothing."""
 
@@ -9,7 +9,7 @@ from dataclasses import dataclass, field
 from lib.declarations import CRATES, LIBRARIES, lines_for_the_prover, text_of
 from lib.sources import below
 
-# Where the public contracts of a crate stand.
+# The file with the public contracts of a crate.
 CONTRACTS = {
     **{library: CRATES / library / "CALLING.md" for library in LIBRARIES},
     "tinystr_lines": CRATES / "tinystr_lines/src/engine.rt",

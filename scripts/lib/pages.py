@@ -1,6 +1,6 @@
 #!/usr/bin/env -S python3 -B
-"""Reads pages of Markdown: their fences, what stands between these, their anchors and links. As a command it prints what the
-first fence of a kind holds, and fails where a page has none."""
+"""Reads pages of Markdown: their fences, prose, anchors and links. As a command it prints the text of the first fence of a
+kind, and fails where a page has none."""
 
 import argparse
 import re
@@ -11,8 +11,8 @@ from pathlib import Path
 
 @dataclass(frozen=True)
 class Fence:
-    """What stands between two lines of backticks: the word behind the first, the heading above it, and how many lines of
-    the page's prose are above it."""
+    """The text between two lines of backticks: the word after the first, the heading above it, and the number of lines
+    of the page's prose above it."""
 
     kind: str
     heading: str
@@ -27,7 +27,7 @@ def anchor_of(heading: str) -> str:
 
 
 class Page:
-    """A page: all its lines, its fences in their order, and its prose, the lines that stand in no fence."""
+    """A page: all its lines, its fences in their order, and its prose, the lines outside fences."""
 
     def __init__(self, path: Path) -> None:
         self.path = path
@@ -50,19 +50,19 @@ class Page:
                     self.anchors.add(self.new_anchor(match[1]))
 
     def new_anchor(self, heading: str) -> str:
-        """The anchor of a heading, with a number behind what was there before."""
+        """The anchor of a heading, with a number after one that is already there."""
         anchor = anchor_of(heading)
         # (a third heading of a name gets the number 2)
         numbered = (f"{anchor}-{number}" for number in range(1, len(self.anchors) + 1))
         return next((name for name in (anchor, *numbered) if name not in self.anchors))
 
     def fence(self, kind: str, number: int = 1, heading: str | None = None) -> str:
-        """What the fence of a kind and a number holds, of all or of those below a heading; empty where there is none."""
+        """The text of the fence of a kind and a number, of all or of those below a heading; empty where there is none."""
         found = [fence.text for fence in self.fences if fence.kind == kind and heading in (None, fence.heading)]
         return found[number - 1] if number <= len(found) else ""
 
     def links(self) -> list[str]:
-        """Where the links of the page lead, in their order."""
+        """The targets of the page's links, in order."""
         return [target for line in self.lines for target in re.findall(r"\]\(([^)]+)\)", line)]
 
 

@@ -1,4 +1,4 @@
-"""Counts what a check looks at, prints what is wrong with it, and closes with the line 'N passed, M failed'. says.sh does so
+"""Counts the results of a check, prints each fault, and closes with the line 'N passed, M failed'. says.sh does so
 for checks in bash."""
 
 import sys
@@ -6,7 +6,7 @@ from typing import NoReturn
 
 
 class Tally:
-    """How much passed, and how much failed."""
+    """The numbers of results that passed and that failed."""
 
     def __init__(self) -> None:
         self.passed = self.failed = 0
@@ -26,13 +26,13 @@ class Tally:
         self.says(complaint, not complaint)
 
     def close(self) -> NoReturn:
-        """Ends the check: it fails where something is wrong, and where it looked at nothing."""
+        """Ends the check: it fails where a result failed, and where there is no result."""
         print(f"{self.passed} passed, {self.failed} failed")
         sys.exit(self.failed > 0 or not self.passed)
 
 
 def stop(complaint: object) -> NoReturn:
-    """Ends a check that can't go on."""
+    """Ends a check that can't continue."""
     tally = Tally()
     tally.complains(complaint)
     tally.close()

@@ -24,7 +24,7 @@ static uint32_t random_of(uint32_t number) {
     return bits ^ (bits >> 16);
 }
 
-/* A step of 0 stands for random keys. */
+/* A step of 0 means random keys. */
 static void put_keys(size_t capacity, uint32_t step) {
     for (uint32_t key = 0; key < KEYS; key++)
         put_text(keys + key * capacity, capacity, 2 * ((step ? key * step : random_of(key)) % RECORDS));
