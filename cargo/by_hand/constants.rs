@@ -5,7 +5,6 @@ use crate::ascii::TinyAsciiStr;
 use crate::error::ParseError;
 use crate::packed::{NotRising, SortedError, SortedTable, Table};
 use crate::ule::UleError;
-use crate::words::{Case, Question};
 
 // The bytes of code units that are a text of at most `N`, or their fault. NULs behind the text are taken where `$nuls` says so.
 macro_rules! padded {
@@ -177,125 +176,6 @@ impl<const N: usize> TinyAsciiStr<N> {
             at += 1;
         }
         TinyAsciiStr::of_padded(bytes)
-    }
-
-    /// `ask` at compile time. At run time `ask` is faster.
-    #[must_use]
-    pub const fn ask_const(&self, question: Question) -> bool {
-        let text = self.as_utf8_const();
-        let mut at = 0;
-        while at < text.len() {
-            let of_byte = if at == 0 { question } else { question.of_later_words() };
-            if !is_so(text[at], of_byte) {
-                return false;
-            }
-            at += 1;
-        }
-        true
-    }
-
-    /// `in_case` at compile time. At run time `in_case` is faster.
-    #[must_use]
-    pub const fn in_case_const(self, case: Case) -> Self {
-        let mut bytes = *self.all_bytes();
-        let mut at = 0;
-        while at < N {
-            let applied = if at == 0 { case } else { case.of_later_words() };
-            bytes[at] = match applied {
-                Case::Lower => bytes[at].to_ascii_lowercase(),
-                Case::Title | Case::Upper => bytes[at].to_ascii_uppercase(),
-            };
-            at += 1;
-        }
-        Self::of_padded(bytes)
-    }
-}
-
-// What a question says of the first byte of a text.
-const fn is_so(byte: u8, question: Question) -> bool {
-    match question {
-        Question::Alphabetic => byte.is_ascii_alphabetic(),
-        Question::Alphanumeric => byte.is_ascii_alphanumeric(),
-        Question::Numeric => byte.is_ascii_digit(),
-        Question::Lowercase => !byte.is_ascii_uppercase(),
-        Question::Titlecase | Question::Uppercase => !byte.is_ascii_lowercase(),
-        Question::AlphabeticLowercase => byte.is_ascii_lowercase(),
-        Question::AlphabeticTitlecase | Question::AlphabeticUppercase => byte.is_ascii_uppercase(),
-    }
-}
-
-// The twins of the questions and of the changes of case.
-impl<const N: usize> TinyAsciiStr<N> {
-    /// `is_ascii_alphabetic` at compile time. At run time `is_ascii_alphabetic` is faster.
-    #[must_use]
-    pub const fn is_ascii_alphabetic_const(&self) -> bool {
-        self.ask_const(Question::Alphabetic)
-    }
-
-    /// `is_ascii_alphanumeric` at compile time. At run time `is_ascii_alphanumeric` is faster.
-    #[must_use]
-    pub const fn is_ascii_alphanumeric_const(&self) -> bool {
-        self.ask_const(Question::Alphanumeric)
-    }
-
-    /// `is_ascii_numeric` at compile time. At run time `is_ascii_numeric` is faster.
-    #[must_use]
-    pub const fn is_ascii_numeric_const(&self) -> bool {
-        self.ask_const(Question::Numeric)
-    }
-
-    /// `is_ascii_lowercase` at compile time. At run time `is_ascii_lowercase` is faster.
-    #[must_use]
-    pub const fn is_ascii_lowercase_const(&self) -> bool {
-        self.ask_const(Question::Lowercase)
-    }
-
-    /// `is_ascii_titlecase` at compile time. At run time `is_ascii_titlecase` is faster.
-    #[must_use]
-    pub const fn is_ascii_titlecase_const(&self) -> bool {
-        self.ask_const(Question::Titlecase)
-    }
-
-    /// `is_ascii_uppercase` at compile time. At run time `is_ascii_uppercase` is faster.
-    #[must_use]
-    pub const fn is_ascii_uppercase_const(&self) -> bool {
-        self.ask_const(Question::Uppercase)
-    }
-
-    /// `is_ascii_alphabetic_lowercase` at compile time. At run time `is_ascii_alphabetic_lowercase` is faster.
-    #[must_use]
-    pub const fn is_ascii_alphabetic_lowercase_const(&self) -> bool {
-        self.ask_const(Question::AlphabeticLowercase)
-    }
-
-    /// `is_ascii_alphabetic_titlecase` at compile time. At run time `is_ascii_alphabetic_titlecase` is faster.
-    #[must_use]
-    pub const fn is_ascii_alphabetic_titlecase_const(&self) -> bool {
-        self.ask_const(Question::AlphabeticTitlecase)
-    }
-
-    /// `is_ascii_alphabetic_uppercase` at compile time. At run time `is_ascii_alphabetic_uppercase` is faster.
-    #[must_use]
-    pub const fn is_ascii_alphabetic_uppercase_const(&self) -> bool {
-        self.ask_const(Question::AlphabeticUppercase)
-    }
-
-    /// `to_ascii_lowercase` at compile time. At run time `to_ascii_lowercase` is faster.
-    #[must_use]
-    pub const fn to_ascii_lowercase_const(self) -> Self {
-        self.in_case_const(Case::Lower)
-    }
-
-    /// `to_ascii_titlecase` at compile time. At run time `to_ascii_titlecase` is faster.
-    #[must_use]
-    pub const fn to_ascii_titlecase_const(self) -> Self {
-        self.in_case_const(Case::Title)
-    }
-
-    /// `to_ascii_uppercase` at compile time. At run time `to_ascii_uppercase` is faster.
-    #[must_use]
-    pub const fn to_ascii_uppercase_const(self) -> Self {
-        self.in_case_const(Case::Upper)
     }
 }
 

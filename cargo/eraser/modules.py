@@ -36,6 +36,14 @@ CONST = {
     "tinystr_hashed/map.rt": ["len(", "is_empty(", "iter(", "keys(", "values("],
     "tinystr_hashed/table.rt": ["len(", "is_empty(", "table("],
     "tinystr_hashed/text_map.rt": ["len(", "is_empty(", "iter(", "keys(", "values("],
+    "tinystr/ascii/questions.rt": [
+        "ask(",
+        "in_case(",
+        *(f"is_ascii_{word}(" for word in ("alphabetic", "alphanumeric", "numeric", "lowercase", "titlecase", "uppercase")),
+        *(f"is_ascii_alphabetic_{word}case(" for word in ("lower", "title", "upper")),
+        *(f"to_ascii_{word}case(" for word in ("lower", "title", "upper")),
+    ],
+    "tinystr_words/padded.rt": ["width_of("],
     "tinystr_words/padded/copying.rt": ["put(", "resize<"],
     "tinystr_words/question.rt": ["of_later_words(", "of_later_words("],
 }

@@ -4,7 +4,7 @@ import re
 from collections.abc import Iterator
 from pathlib import Path
 
-from eraser import Stopped
+from eraser import Stopped, constants
 from eraser.contracts import Contracts
 from eraser.examples import module_of_tests, with_doc_tests, without_examples
 from eraser.fields import Fields
@@ -51,10 +51,9 @@ class Package:
         for file in left_out:
             raise Stopped(f"{file} is left out, and isn't there")
         self.contracts.finish()
-        self.rules.finish()
         self.fields.finish()
         made["src/words/examples.rs"] = module_of_tests(self.tests)
-        made["src/words.rs"] += "\n#[cfg(test)]\nmod examples;\n"
+        made["src/words.rs"] += "\npub mod in_constants;\n\n#[cfg(test)]\nmod examples;\n"
         made["src/lib.rs"] = read(self.by_hand / FRONT) + made["src/lib.rs"].partition("\n\n")[2]
         for path in sorted(path for path in self.by_hand.rglob("*") if path.is_file()):
             inner = path.relative_to(self.by_hand)
@@ -62,6 +61,8 @@ class Package:
                 made[str(inner.relative_to("package"))] = read(path)
             elif str(inner) != FRONT:
                 made[f"src/{inner}"] = read(path)
+        made[constants.FRAME] = self.rules.apply(constants.with_functions(made[constants.FRAME], made), constants.NAME)
+        self.rules.finish()
         made["LICENSE"] = read(self.top / "LICENSE")
         made["DEFINITIONS.md"] = LINK.sub(r"\1", read(self.top / "docs/DEFINITIONS.md"))
         return made

@@ -48,6 +48,11 @@ WANT_OF_MEMORY = "want of memory ends a program in Rust, and is no error"
 NOT_PROVED_HERE = "in Rust nothing proves a condition at a call"
 AT_ROOT = "so that the documentation tells of it at its root"
 IN_CONSTANTS = "a `const fn` calls no trait, so it has neither an index by a range nor `min`"
+OF_CONSTANTS = "`in_constants.rs` calls it"
+OF_CONST_CALLS = "the same function as constants can call it"
+OF_WIDTHS = "in `in_constants.rs` each width has its own functions"
+# The words of the widths.
+WORDS = ("u32", "u64", "u128")
 TWIN_MAKES = "`constants.rs` makes one at compile time"
 HINTED = "the compiler is given a hint that the text is no error and not `None`, which share its bytes"
 BELOW_128 = "a type that knows that each byte is below 128 leaves room for `None`"
@@ -100,6 +105,11 @@ IN_FILE = {
         Rule("    /// The allocation of the JSON string failed.\n    Memory(AllocError),\n", "", WANT_OF_MEMORY),
         Rule(" It never answers `Memory`.", "", WANT_OF_MEMORY),
         Rule("bytes.to_json(rt.alloc())", "bytes.to_bytes()", "an example of the error without JSON"),
+    ],
+    "tinystr/ascii/questions.rt": [
+        Rule("use crate::words::{Case, Question, padded};", "use crate::words::{Case, Question, in_constants};", OF_CONST_CALLS),
+        Rule("padded::ask(", "in_constants::ask(", OF_CONST_CALLS),
+        Rule("padded::put_in_case(", "in_constants::put_in_case(", OF_CONST_CALLS),
     ],
     "tinystr/ascii/views.rt": [
         Rule("pub fn get(", "pub fn get_byte(", NAMED_AS_STR),
@@ -304,6 +314,91 @@ IN_FILE = {
             IN_CONSTANTS,
         ),
         Rule("put(&mut resized[..], bytes)", "put(&mut resized, bytes)", IN_CONSTANTS),
+    ],
+    "tinystr_words/word.rt": [
+        Rule("const HALF:", "pub(crate) const HALF:", OF_CONSTANTS),
+        *(Rule(f"fn {name}(", f"pub(crate) const fn {name}(", OF_CONSTANTS) for name in ("halves", "joined", "whole")),
+        Rule("u128::from(low) | u128::from(high) << 64", "low as u128 | (high as u128) << 64", IN_CONSTANTS),
+    ],
+    "tinystr_words/in_constants.rt": [
+        Rule("<T: Word<LEN>, const LEN: usize>", "", OF_WIDTHS, 7),
+        # words as a type
+        *(Rule(f"(self, other: {word})", "(self, other: Self)", OF_WIDTHS, 5) for word in WORDS),
+        *(Rule(f"Self) -> {word} {{", "Self) -> Self {", OF_WIDTHS, 4) for word in WORDS),
+        *(Rule(f"(self) -> {word} {{", "(self) -> Self {", OF_WIDTHS, 2) for word in WORDS),
+        *(Rule(f"load<U: CodeUnit>(src: &[U]) -> {word} {{", "load(src: &[u8]) -> Self {", OF_WIDTHS) for word in WORDS[:2]),
+        Rule("load<U: CodeUnit>(src: &[U]) -> u128 {", "load(src: &[u8]) -> Word<u128> {", OF_WIDTHS, 2),
+        *(
+            Rule(
+                f"]) -> {word} {{\n        {word}::from_le_bytes(*bytes)",
+                f"]) -> Self {{\n        Word({word}::from_le_bytes(*bytes))",
+                OF_WIDTHS,
+            )
+            for word in WORDS
+        ),
+        *(Rule(f"{word}::to_le_bytes(self)", f"{word}::to_le_bytes(self.0)", OF_WIDTHS) for word in WORDS[:2]),
+        *(Rule(f"        self {sign} other\n", f"        Word(self.0 {sign} other.0)\n", OF_WIDTHS, 2) for sign in "+&|^"),
+        Rule("-> [u8; LEN] {\n        self.to_b", "-> [u8; size_of::<Self>()] {\n        self.to_b", OF_WIDTHS, 2),
+        Rule("        !self\n", "        Word(!self.0)\n", OF_WIDTHS, 2),
+        Rule("(self & Self::splat(0x80)) >> 2", "Word((self.0 & Self::splat(0x80).0) >> 2)", OF_WIDTHS, 2),
+        Rule("self == other", "self.0 == other.0", OF_WIDTHS, 3),
+        # operators of vectors
+        *(
+            Rule(
+                f"whole(halves(self) {sign} halves(other))", f"Word(whole(halves(self.0).{name}(halves(other.0))))", IN_CONSTANTS
+            )
+            for sign, name in (("+", "add"), ("&", "bitand"), ("|", "bitor"), ("^", "bitxor"))
+        ),
+        Rule("whole(!halves(self))", "Word(whole(halves(self.0).not()))", IN_CONSTANTS),
+        Rule(
+            "whole((halves(self) & halves(Self::splat(0x80))) >> u64x2::splat(2))",
+            "Word(whole(halves(self.0).bitand(halves(Self::splat(0x80).0)).shr(u64x2::splat(2))))",
+            IN_CONSTANTS,
+        ),
+        # words of bytes
+        Rule("return 0;", "return Word(0);", OF_WIDTHS),
+        Rule("return U::word_of_four(src);", "return Word(word_of_four(src));", OF_WIDTHS),
+        Rule(
+            "u32::from(src[0].low_byte())\n            | u32::from(src[middle].low_byte()) << (8 * middle)\n"
+            "            | u32::from(src[last].low_byte()) << (8 * last)",
+            "Word(src[0] as u32 | (src[middle] as u32) << (8 * middle) | (src[last] as u32) << (8 * last))",
+            IN_CONSTANTS,
+        ),
+        Rule("u64::from(<u32 as Word<4>>::load(src))", "Word(Word::<u32>::load(src).0 as u64)", IN_CONSTANTS),
+        Rule("<u32 as Word<4>>::load(&src[..4])", "Word::<u32>::load(part(src, 0, 4)).0", IN_CONSTANTS),
+        Rule("<u32 as Word<4>>::load(&src[len - 4..])", "Word::<u32>::load(part(src, len - 4, len)).0", IN_CONSTANTS),
+        Rule(
+            "u64::from(low) + ((u64::from(high) >> (8 * (8 - len))) << 32)",
+            "Word(low as u64 + ((high as u64 >> (8 * (8 - len))) << 32))",
+            IN_CONSTANTS,
+        ),
+        Rule("u128::from(<u64 as Word<8>>::load(src))", "Word(Word::<u64>::load(src).0 as u128)", IN_CONSTANTS, 2),
+        Rule("<u64 as Word<8>>::load(&src[..8])", "Word::<u64>::load(part(src, 0, 8)).0", IN_CONSTANTS, 2),
+        Rule("<u64 as Word<8>>::load(&src[len - 8..])", "Word::<u64>::load(part(src, len - 8, len)).0", IN_CONSTANTS, 2),
+        Rule("joined(low, high >> (8 * (16 - len)))", "Word(joined(low, high >> (8 * (16 - len))))", OF_WIDTHS, 2),
+        Rule("(self % HALF)", "(self.0 % HALF)", OF_WIDTHS),
+        Rule("(self / HALF)", "(self.0 / HALF)", OF_WIDTHS),
+        Rule("bytes[8..].copy", "part_mut(&mut bytes, 8, 16).copy", IN_CONSTANTS),
+        Rule("bytes[..8].copy", "part_mut(&mut bytes, 0, 8).copy", IN_CONSTANTS),
+        Rule("&Word::to_bytes_in_registers(high)", "&Word(high).to_bytes_in_registers()", OF_WIDTHS),
+        Rule("&Word::to_bytes_in_registers(low)", "&Word(low).to_bytes_in_registers()", OF_WIDTHS),
+        Rule(
+            "        bytes\n    }\n\n    #[inline(always)]\n    pub const fn load",
+            "        bytes\n    }\n\n    #[inline]\n    pub const fn load",
+            "questions take an instruction more from 16 bytes on if this is inlined first",
+        ),
+        # parts of slices
+        Rule(
+            "let (word, rest) = bytes.split_first_chunk::<16>()?;",
+            "let Some((word, rest)) = bytes.split_first_chunk::<16>() else {\n            return None;\n        };",
+            IN_CONSTANTS,
+        ),
+        Rule("&bytes[start..end]", "part(bytes, start, end)", IN_CONSTANTS),
+        Rule("bytes[start..end].copy", "part_mut(bytes, start, end).copy", IN_CONSTANTS),
+        Rule("Aligned16::from_padded(&bytes[start..])", "Aligned { word: Rest::load(bytes.split_at(start).1) }", IN_CONSTANTS),
+        Rule("bytes[start..].copy", "bytes.split_at_mut(start).1.copy", IN_CONSTANTS),
+        Rule("&word[..count]", "part(&word, 0, count)", IN_CONSTANTS),
+        Rule("&word[..N]", "part(&word, 0, N)", IN_CONSTANTS, 2),
     ],
     "tinystr_words/padded/words.rt": [
         Rule(

@@ -3,7 +3,8 @@
 An entry of the text is a line 'once: OLD', 'N times: OLD' or 'wherever: OLD' (once or more), or 'N times in FILE: OLD' and
 so on, and below it '    becomes NEW' or '    goes'. What is new alone is 'once added in FILE: NEW', with no line below. `…`
 in OLD is any text without `;` or a brace of its own, and is in NEW in the same order. Where OLD or NEW has more lines, each
-begins with eight spaces. One line of the list of tinystr-proved names the function that makes each text.
+begins with eight spaces. A line 'again in FILE, of SOURCE: NAMES' or 'again in FILE, of SOURCE, ITEM: NAMES' names functions
+that FILE has once more, in their order. One line of the list of tinystr-proved names the function that makes each text.
 """
 
 import re
@@ -15,6 +16,7 @@ from second_reader.texts import Unreadable, read
 ENTRY = re.compile(r"(?:once|wherever|(?P<count>\d+) times)(?P<added> added)?(?: in (?P<file>\S+))?: (?P<old>.*)")
 REQUIRES = re.compile(r"(?P<file>\S+\.rt): (?P<function>\w+) requires (?P<said>.*)")
 FILE = re.compile(r"(left out|by hand): (\S+)")
+AGAIN = re.compile(r"again in (?P<file>\S+), of (?P<source>\S+\.rt)(?:, (?P<item>.*))?: (?P<names>[\w ]+)")
 MAKER = re.compile(r"texts are made by (?P<function>\w+) of (?P<file>\S+\.rt), which requires (?P<said>.*?), with (?P<call>.*)")
 PRIVATE = re.compile(r"private module: (\w+), of which callers have (.*)")
 STANDS = ("panics first with", "panics in its body at", "is unsafe")
@@ -54,6 +56,17 @@ class Maker:
 
 
 @dataclass
+class Again:
+    """Functions of a proved source, or of one item of it, that a file of the package has once more, in the order of the list."""
+
+    line: int
+    file: str
+    source: str
+    item: list
+    names: list
+
+
+@dataclass
 class Listed:
     name: str
     left_out: list = field(default_factory=list)
@@ -61,6 +74,7 @@ class Listed:
     entries: list = field(default_factory=list)
     stands: dict = field(default_factory=dict)
     private: dict = field(default_factory=dict)
+    again: list = field(default_factory=list)
     maker: Maker | None = None
 
 
@@ -93,6 +107,9 @@ def read_list(path: Path) -> Listed:
             open_requires = requires["file"], requires["function"], " ".join(tokens_of(requires["said"]))
         elif file := FILE.fullmatch(line):
             (listed.left_out if file[1] == "left out" else listed.by_hand).append(file[2])
+        elif again := AGAIN.fullmatch(line):
+            item, names = tokens_of(again["item"] or ""), again["names"].split()
+            listed.again.append(Again(number, again["file"], again["source"], item, names))
         elif maker := MAKER.fullmatch(line):
             said = " ".join(tokens_of(maker["said"]))
             listed.maker = Maker(maker["file"], maker["function"], said, tokens_of(maker["call"]))

@@ -44,6 +44,12 @@ class Text:
             at = self.behind(at) if self.tokens[at] in OPENING else at + 1
         return at
 
+    def with_attributes(self, at: int) -> int:
+        """Where the attributes above an item's first token begin."""
+        while self.tokens[at - 1] == "]":
+            at = max(place for place in range(at - 1) if self.tokens[place] == "#" and self.behind(place + 1) == at)
+        return at
+
     def said_above(self, at: int) -> str:
         """The comments above an item's first token, between which attributes may stand."""
         line, said = self.lines[at] - 1, ""

@@ -44,12 +44,12 @@ pub struct Mask8([u8; 16]);
 
 impl<T: Copy, const L: usize> Lanes<T, L> {
     #[inline(always)]
-    pub fn from_array(array: [T; L]) -> Self {
+    pub const fn from_array(array: [T; L]) -> Self {
         Lanes(array)
     }
 
     #[inline(always)]
-    pub fn to_array(self) -> [T; L] {
+    pub const fn to_array(self) -> [T; L] {
         self.0
     }
 
@@ -60,25 +60,36 @@ impl<T: Copy, const L: usize> Lanes<T, L> {
     }
 
     #[inline(always)]
-    pub fn splat(value: T) -> Self {
+    pub const fn splat(value: T) -> Self {
         Lanes([value; L])
-    }
-
-    #[inline(always)]
-    fn zip(self, other: Self, op: impl Fn(T, T) -> T) -> Self {
-        Lanes(core::array::from_fn(|i| op(self.0[i], other.0[i])))
     }
 }
 
-/// The operators on 64-bit numbers, lane by lane.
+/// The operators on 64-bit numbers, lane by lane, also as functions that constants can call. A loop keeps two numbers in one
+/// register: written out one after the other they would take two. The functions are inlined late, when their loops are gone,
+/// and not by `inline(always)`: then a question would take more instructions.
 macro_rules! on_numbers {
-    ($($trait:ident $call:ident $by:expr;)*) => {$(
+    ($($trait:ident $call:ident |$a:ident, $b:ident| $made:expr;)*) => {$(
+        impl<const L: usize> Lanes<u64, L> {
+            #[inline]
+            pub const fn $call(self, other: Self) -> Self {
+                let mut lanes = self.0;
+                let mut i = 0;
+                while i < L {
+                    let ($a, $b) = (self.0[i], other.0[i]);
+                    lanes[i] = $made;
+                    i += 1;
+                }
+                Lanes(lanes)
+            }
+        }
+
         impl<const L: usize> $trait for Lanes<u64, L> {
             type Output = Self;
 
             #[inline(always)]
             fn $call(self, other: Self) -> Self {
-                self.zip(other, $by)
+                Lanes::$call(self, other)
             }
         }
     )*};
@@ -92,12 +103,19 @@ on_numbers! {
     Shr shr |a, b| a >> b;
 }
 
+impl<const L: usize> Lanes<u64, L> {
+    #[inline]
+    pub const fn not(self) -> Self {
+        self.bitxor(Lanes::splat(u64::MAX))
+    }
+}
+
 impl<const L: usize> Not for Lanes<u64, L> {
     type Output = Self;
 
     #[inline(always)]
     fn not(self) -> Self {
-        Lanes(self.0.map(|a| !a))
+        Lanes::not(self)
     }
 }
 

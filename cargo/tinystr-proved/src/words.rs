@@ -20,5 +20,7 @@ pub use code_unit::are_characters;
 pub use decimal::decimal_fits;
 pub use question::{Case, Question};
 
+pub mod in_constants;
+
 #[cfg(test)]
 mod examples;

@@ -1,4 +1,5 @@
-//! What constants call: the twins give the same as the proved calls, of all short texts and of random ones.
+//! What constants call: the twins give the same as the proved calls, of all short texts and of random ones, and questions and
+//! changes of case are what the definitions say of each byte.
 
 use tinystr::packed::{NotRising, SortedError, SortedTable, Table};
 use tinystr::ule::UleError;
@@ -11,8 +12,8 @@ const SCRIPTS: [u8; N] = [0; N];
 
 const fn region(code: &[u8]) -> Option<TinyAsciiStr<3>> {
     match TinyAsciiStr::<3>::try_from_utf8_const(code) {
-        Ok(text) if text.len_const() == 2 && text.is_ascii_alphabetic_const() => Some(text.to_ascii_uppercase_const()),
-        Ok(text) if text.len_const() == 3 && text.is_ascii_numeric_const() => Some(text),
+        Ok(text) if text.len_const() == 2 && text.is_ascii_alphabetic() => Some(text.to_ascii_uppercase()),
+        Ok(text) if text.len_const() == 3 && text.is_ascii_numeric() => Some(text),
         _ => None,
     }
 }
@@ -42,30 +43,111 @@ const QUESTIONS: [Question; 9] = [
     Question::AlphabeticUppercase,
 ];
 
-/// Each twin of a call on a text gives what the call gives.
+const CASES: [Case; 3] = [Case::Lower, Case::Title, Case::Upper];
+
+/// What a question says of the first byte of a text, in the words of std.
+fn is_so(byte: u8, question: Question) -> bool {
+    match question {
+        Question::Alphabetic => byte.is_ascii_alphabetic(),
+        Question::Alphanumeric => byte.is_ascii_alphanumeric(),
+        Question::Numeric => byte.is_ascii_digit(),
+        Question::Lowercase => !byte.is_ascii_uppercase(),
+        Question::Titlecase | Question::Uppercase => !byte.is_ascii_lowercase(),
+        Question::AlphabeticLowercase => byte.is_ascii_lowercase(),
+        Question::AlphabeticTitlecase | Question::AlphabeticUppercase => byte.is_ascii_uppercase(),
+    }
+}
+
+/// The answer by the definition, byte by byte.
+fn defined_answer(text: &[u8], question: Question) -> bool {
+    let later = match question {
+        Question::Titlecase => Question::Lowercase,
+        Question::AlphabeticTitlecase => Question::AlphabeticLowercase,
+        question => question,
+    };
+    text.iter().enumerate().all(|(at, byte)| is_so(*byte, if at == 0 { question } else { later }))
+}
+
+/// The text in a case by the definition, byte by byte.
+fn in_defined_case(text: &[u8], case: Case) -> Vec<u8> {
+    let is_upper = |at| matches!(case, Case::Upper) || matches!(case, Case::Title) && at == 0;
+    let changed = |(at, byte): (usize, &u8)| if is_upper(at) { byte.to_ascii_uppercase() } else { byte.to_ascii_lowercase() };
+    text.iter().enumerate().map(changed).collect()
+}
+
+/// Each question by its own name, in the order of `QUESTIONS`.
+const fn answers<const N: usize>(text: TinyAsciiStr<N>) -> [bool; 9] {
+    [
+        text.is_ascii_alphabetic(),
+        text.is_ascii_alphanumeric(),
+        text.is_ascii_numeric(),
+        text.is_ascii_lowercase(),
+        text.is_ascii_titlecase(),
+        text.is_ascii_uppercase(),
+        text.is_ascii_alphabetic_lowercase(),
+        text.is_ascii_alphabetic_titlecase(),
+        text.is_ascii_alphabetic_uppercase(),
+    ]
+}
+
+/// Each change of case by its own name, in the order of `CASES`.
+const fn in_cases<const N: usize>(text: TinyAsciiStr<N>) -> [TinyAsciiStr<N>; 3] {
+    [text.to_ascii_lowercase(), text.to_ascii_titlecase(), text.to_ascii_uppercase()]
+}
+
+/// Each twin of a call on a text gives what the call gives, and each question and change of case what the definition says.
 fn twins_agree<const N: usize>(text: TinyAsciiStr<N>) {
     assert_eq!((text.len_const(), text.as_utf8_const(), text.as_str_const()), (text.len(), text.as_utf8(), text.as_str()));
-    for question in QUESTIONS {
-        assert_eq!(text.ask_const(question), text.ask(question), "{text:?}");
+    for (question, answer) in QUESTIONS.into_iter().zip(answers(text)) {
+        let defined = defined_answer(text.as_utf8(), question);
+        assert_eq!((text.ask(question), answer), (defined, defined), "{text:?}");
     }
-    for case in [Case::Lower, Case::Title, Case::Upper] {
-        assert_eq!(text.in_case_const(case), text.in_case(case), "{text:?}");
+    for (case, changed) in CASES.into_iter().zip(in_cases(text)) {
+        let defined = in_defined_case(text.as_utf8(), case);
+        assert_eq!((text.in_case(case).as_utf8(), changed.as_utf8()), (&*defined, &*defined), "{text:?}");
     }
-    let named = [
-        (text.is_ascii_alphabetic_const(), text.is_ascii_alphabetic()),
-        (text.is_ascii_alphanumeric_const(), text.is_ascii_alphanumeric()),
-        (text.is_ascii_numeric_const(), text.is_ascii_numeric()),
-        (text.is_ascii_lowercase_const(), text.is_ascii_lowercase()),
-        (text.is_ascii_titlecase_const(), text.is_ascii_titlecase()),
-        (text.is_ascii_uppercase_const(), text.is_ascii_uppercase()),
-        (text.is_ascii_alphabetic_lowercase_const(), text.is_ascii_alphabetic_lowercase()),
-        (text.is_ascii_alphabetic_titlecase_const(), text.is_ascii_alphabetic_titlecase()),
-        (text.is_ascii_alphabetic_uppercase_const(), text.is_ascii_alphabetic_uppercase()),
-    ];
-    assert!(named.iter().all(|(twin, call)| twin == call), "{text:?}: {named:?}");
-    assert_eq!(text.to_ascii_lowercase_const(), text.to_ascii_lowercase());
-    assert_eq!(text.to_ascii_titlecase_const(), text.to_ascii_titlecase());
-    assert_eq!(text.to_ascii_uppercase_const(), text.to_ascii_uppercase());
+}
+
+// The first and the last byte of each class, and those beside them.
+const EDGES: [u8; 15] = *b"\0\x01/09:@AZ[`az{\x7f";
+
+/// What a constant has of one text: its answers, and its changes of case.
+type Facts<const N: usize> = ([bool; 9], [TinyAsciiStr<N>; 3]);
+
+/// What constants have of texts of at most two bytes of `EDGES`, behind as many letters as fit at `N`.
+const fn edge_facts<const N: usize>() -> [[Option<Facts<N>>; 15]; 15] {
+    let mut facts = [[None; 15]; 15];
+    let mut at = 0;
+    while at < 15 * 15 {
+        let mut bytes = [b'a'; N];
+        (bytes[N - 2], bytes[N - 1]) = (EDGES[at / 15], EDGES[at % 15]);
+        if let Ok(text) = TinyAsciiStr::try_from_raw_const(bytes) {
+            facts[at / 15][at % 15] = Some((answers(text), in_cases(text)));
+        }
+        at += 1;
+    }
+    facts
+}
+
+fn edges_agree<const N: usize>(facts: [[Option<Facts<N>>; 15]; 15]) {
+    for (first, facts) in EDGES.into_iter().zip(facts) {
+        for (second, fact) in EDGES.into_iter().zip(facts) {
+            let mut bytes = [b'a'; N];
+            (bytes[N - 2], bytes[N - 1]) = (first, second);
+            let text = TinyAsciiStr::try_from_raw(std::hint::black_box(bytes)).ok();
+            assert_eq!(fact, text.map(|text| (answers(text), in_cases(text))), "{bytes:?}");
+        }
+    }
+}
+
+/// What is computed at compile time is what is computed at run time, at each width of a word and past sixteen bytes.
+#[test]
+fn constants_are_what_runs() {
+    edges_agree(const { edge_facts::<2>() });
+    edges_agree(const { edge_facts::<4>() });
+    edges_agree(const { edge_facts::<8>() });
+    edges_agree(const { edge_facts::<13>() });
+    edges_agree(const { edge_facts::<18>() });
 }
 
 /// The twins of `concat`, where the result holds both texts, and where it cuts the second or the first.
@@ -96,6 +178,7 @@ fn twins_agree_of_all_short_texts() {
             twins_agree(text.resize::<5>());
             twins_agree(text.resize::<9>());
             twins_agree(text.resize::<17>());
+            twins_agree(tinystr!(16, "abcdefghijklmnop").concat::<2, 18>(text));
             concat_agrees(text, before);
             before = text;
         }

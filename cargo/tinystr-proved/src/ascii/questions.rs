@@ -1,7 +1,7 @@
 //! Questions and case changes.
 
 use crate::ascii::TinyAsciiStr;
-use crate::words::{Case, Question, padded};
+use crate::words::{Case, Question, in_constants};
 
 impl<const N: usize> TinyAsciiStr<N> {
     /// Answers the given question: `ask(Question::Titlecase)` is `is_ascii_titlecase()`.
@@ -19,8 +19,8 @@ impl<const N: usize> TinyAsciiStr<N> {
     /// ```
     #[inline(always)]
     #[must_use]
-    pub fn ask(&self, question: Question) -> bool {
-        padded::ask(self.bytes.as_array(), question)
+    pub const fn ask(&self, question: Question) -> bool {
+        in_constants::ask(self.bytes.as_array(), question)
     }
 
     /// The text in the given case: `in_case(Case::Title)` is `to_ascii_titlecase()`.
@@ -38,9 +38,9 @@ impl<const N: usize> TinyAsciiStr<N> {
     /// ```
     #[inline(always)]
     #[must_use]
-    pub fn in_case(self, case: Case) -> Self {
+    pub const fn in_case(self, case: Case) -> Self {
         let mut bytes = *self.bytes.as_array();
-        padded::put_in_case(&mut bytes, case);
+        in_constants::put_in_case(&mut bytes, case);
         TinyAsciiStr::from_padded(bytes)
     }
 
@@ -61,7 +61,7 @@ impl<const N: usize> TinyAsciiStr<N> {
     /// ```
     #[inline]
     #[must_use]
-    pub fn is_ascii_alphabetic(&self) -> bool {
+    pub const fn is_ascii_alphabetic(&self) -> bool {
         self.ask(Question::Alphabetic)
     }
 
@@ -74,7 +74,7 @@ impl<const N: usize> TinyAsciiStr<N> {
     /// ```
     #[inline]
     #[must_use]
-    pub fn is_ascii_alphanumeric(&self) -> bool {
+    pub const fn is_ascii_alphanumeric(&self) -> bool {
         self.ask(Question::Alphanumeric)
     }
 
@@ -87,7 +87,7 @@ impl<const N: usize> TinyAsciiStr<N> {
     /// ```
     #[inline]
     #[must_use]
-    pub fn is_ascii_numeric(&self) -> bool {
+    pub const fn is_ascii_numeric(&self) -> bool {
         self.ask(Question::Numeric)
     }
 
@@ -107,7 +107,7 @@ impl<const N: usize> TinyAsciiStr<N> {
     /// ```
     #[inline]
     #[must_use]
-    pub fn is_ascii_lowercase(&self) -> bool {
+    pub const fn is_ascii_lowercase(&self) -> bool {
         self.ask(Question::Lowercase)
     }
 
@@ -120,7 +120,7 @@ impl<const N: usize> TinyAsciiStr<N> {
     /// ```
     #[inline]
     #[must_use]
-    pub fn is_ascii_titlecase(&self) -> bool {
+    pub const fn is_ascii_titlecase(&self) -> bool {
         self.ask(Question::Titlecase)
     }
 
@@ -133,7 +133,7 @@ impl<const N: usize> TinyAsciiStr<N> {
     /// ```
     #[inline]
     #[must_use]
-    pub fn is_ascii_uppercase(&self) -> bool {
+    pub const fn is_ascii_uppercase(&self) -> bool {
         self.ask(Question::Uppercase)
     }
 
@@ -146,7 +146,7 @@ impl<const N: usize> TinyAsciiStr<N> {
     /// ```
     #[inline]
     #[must_use]
-    pub fn is_ascii_alphabetic_lowercase(&self) -> bool {
+    pub const fn is_ascii_alphabetic_lowercase(&self) -> bool {
         self.ask(Question::AlphabeticLowercase)
     }
 
@@ -166,7 +166,7 @@ impl<const N: usize> TinyAsciiStr<N> {
     /// ```
     #[inline]
     #[must_use]
-    pub fn is_ascii_alphabetic_titlecase(&self) -> bool {
+    pub const fn is_ascii_alphabetic_titlecase(&self) -> bool {
         self.ask(Question::AlphabeticTitlecase)
     }
 
@@ -179,7 +179,7 @@ impl<const N: usize> TinyAsciiStr<N> {
     /// ```
     #[inline]
     #[must_use]
-    pub fn is_ascii_alphabetic_uppercase(&self) -> bool {
+    pub const fn is_ascii_alphabetic_uppercase(&self) -> bool {
         self.ask(Question::AlphabeticUppercase)
     }
 
@@ -192,7 +192,7 @@ impl<const N: usize> TinyAsciiStr<N> {
     /// ```
     #[inline]
     #[must_use]
-    pub fn to_ascii_lowercase(self) -> Self {
+    pub const fn to_ascii_lowercase(self) -> Self {
         self.in_case(Case::Lower)
     }
 
@@ -211,7 +211,7 @@ impl<const N: usize> TinyAsciiStr<N> {
     /// ```
     #[inline]
     #[must_use]
-    pub fn to_ascii_titlecase(self) -> Self {
+    pub const fn to_ascii_titlecase(self) -> Self {
         self.in_case(Case::Title)
     }
 
@@ -224,7 +224,7 @@ impl<const N: usize> TinyAsciiStr<N> {
     /// ```
     #[inline]
     #[must_use]
-    pub fn to_ascii_uppercase(self) -> Self {
+    pub const fn to_ascii_uppercase(self) -> Self {
         self.in_case(Case::Upper)
     }
 }

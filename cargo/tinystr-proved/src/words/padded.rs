@@ -43,7 +43,7 @@ pub enum Width {
 /// ensures { IsWidthOf result len }
 /// ```
 #[inline(always)]
-pub fn width_of(len: usize) -> Width {
+pub const fn width_of(len: usize) -> Width {
     if len <= 4 {
         Width::Four
     } else if len <= 8 {

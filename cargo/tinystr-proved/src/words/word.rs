@@ -304,14 +304,14 @@ impl Word<8> for u64 {
 }
 
 // The first number past 64 bits.
-const HALF: u128 = 1 << 64;
+pub(crate) const HALF: u128 = 1 << 64;
 
 // Both halves of a word, the low one first. The compiler keeps what is made of them in a vector, from the load of a word
 // on; in halves or as one number they would take two registers, and twice the steps.
 // Proved:
 //     ensures { result ≡ (word % 2 ^ 64) ∷ (word / 2 ^ 64) ∷ [] }
 #[inline(always)]
-fn halves(word: u128) -> u64x2 {
+pub(crate) const fn halves(word: u128) -> u64x2 {
     u64x2::from_array([(word % HALF) as u64, (word / HALF) as u64])
 }
 
@@ -331,15 +331,15 @@ pub fn lanes(word: u128) -> u8x16 {
 // Proved:
 //     ensures { result ≡ low + 2 ^ 64 * high }
 #[inline(always)]
-fn joined(low: u64, high: u64) -> u128 {
-    u128::from(low) | u128::from(high) << 64
+pub(crate) const fn joined(low: u64, high: u64) -> u128 {
+    low as u128 | (high as u128) << 64
 }
 
 // The word of the halves in a vector.
 // Proved:
 //     ensures { result ≡ slice_index halves 0 + 2 ^ 64 * slice_index halves 1 }
 #[inline(always)]
-fn whole(halves: u64x2) -> u128 {
+pub(crate) const fn whole(halves: u64x2) -> u128 {
     let [low, high] = halves.to_array();
     joined(low, high)
 }
