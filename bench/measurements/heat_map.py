@@ -1,8 +1,8 @@
 """Heat maps of ratios: a row for each call, full texts on the left and mixed ones on the right, a column for each capacity, and
 the mean in a last column and in a last row."""
 
-from figures.plot import HeatMap
-from figures.tables import geometric
+from measurements.plot import HeatMap
+from measurements.tables import geometric
 
 KINDS = ["full", "mixed"]
 MEAN = "geometric mean"

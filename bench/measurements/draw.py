@@ -12,7 +12,7 @@ from matplotlib.colors import LinearSegmentedColormap, TwoSlopeNorm
 from matplotlib.figure import Figure
 from matplotlib.ticker import LogLocator, NullLocator
 
-from figures.plot import BLUE, GREY, ORANGE, Bars, HeatMap, Line, Lines, Plot
+from measurements.plot import BLUE, GREY, ORANGE, Bars, HeatMap, Line, Lines, Plot
 
 COLORS = {BLUE: "#0072b2", ORANGE: "#c04f00", GREY: "#6e7781"}
 MUTED, FAINT = "#57606a", "#c9ced4"

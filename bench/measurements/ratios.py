@@ -1,7 +1,7 @@
 """The ratios of bench/calls and bench/cargo by call and capacity, gathered from their tables."""
 
-from figures.figures import THERE, Cell, Figures
-from figures.tables import geometric
+from measurements.results import THERE, Cell, Results
+from measurements.tables import geometric
 
 # The tables with all capacities, each with the texts that its calls were given.
 KINDS = {
@@ -21,19 +21,19 @@ FAILING = "question failing at byte 1, slowest"
 SLOWER = 1.05
 
 
-def cells_of_kind(figures: Figures, kind: str) -> dict[str, dict[str, Cell]]:
+def cells_of_kind(results: Results, kind: str) -> dict[str, dict[str, Cell]]:
     """By call and capacity. Of a call in two tables the first counts."""
     found = {}
-    for cell in [cell for table in KINDS if KINDS[table] == kind for cell in figures.cells(table)]:
+    for cell in [cell for table in KINDS if KINDS[table] == kind for cell in results.cells(table)]:
         found.setdefault(cell[1], {}).setdefault(cell[2], cell)
     return found
 
 
-def ratios_of_kind(figures: Figures, kind: str) -> dict[str, dict[str, float]]:
+def ratios_of_kind(results: Results, kind: str) -> dict[str, dict[str, float]]:
     """By call and capacity; of questions that fail the slowest."""
     rows = {
-        call: {capacity: figures.ratio(cell, THERE) for capacity, cell in cells.items()}
-        for call, cells in cells_of_kind(figures, kind).items()
+        call: {capacity: results.ratio(cell, THERE) for capacity, cell in cells.items()}
+        for call, cells in cells_of_kind(results, kind).items()
     }
     if kind != "failing":
         return rows
@@ -41,14 +41,14 @@ def ratios_of_kind(figures: Figures, kind: str) -> dict[str, dict[str, float]]:
     return {FAILING: {capacity: max(row[capacity] for row in rows.values()) for capacity in capacities}}
 
 
-def mean_of(figures: Figures, kind: str, capacities: list[str] | None = None) -> float:
+def mean_of(results: Results, kind: str, capacities: list[str] | None = None) -> float:
     """Over each row of a kind once, at some capacities or at all."""
-    rows = ratios_of_kind(figures, kind).values()
+    rows = ratios_of_kind(results, kind).values()
     return geometric([ratio for row in rows for capacity, ratio in row.items() if not capacities or capacity in capacities])
 
 
-def slowest_of(figures: Figures) -> tuple[float, str, str, str]:
+def slowest_of(results: Results) -> tuple[float, str, str, str]:
     """The largest ratio of all rows, with its call, its capacity, and its kind of texts."""
     kinds = dict.fromkeys(KINDS.values())
-    rows = [(call, kind, row) for kind in kinds for call, row in ratios_of_kind(figures, kind).items()]
+    rows = [(call, kind, row) for kind in kinds for call, row in ratios_of_kind(results, kind).items()]
     return max((ratio, call, capacity, kind) for call, kind, row in rows for capacity, ratio in row.items())

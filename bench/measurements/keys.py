@@ -1,8 +1,8 @@
 """The picture of keys: types of keys in the same maps and the same sort, which are the kit's."""
 
-from figures.figures import HERE, Figures
-from figures.plot import BLUE, GREY, ORANGE, RANGES, Bars
-from figures.tables import said_range
+from measurements.results import HERE, Results
+from measurements.plot import BLUE, GREY, ORANGE, RANGES, Bars
+from measurements.tables import said_range
 
 CALLS = [
     "BTreeMap, insert", "BTreeMap, get a present key", "BTreeMap, get an absent key",
@@ -12,14 +12,14 @@ STRING, ARRAY_STRING = "the kit's String", "the kit's ArrayString"
 SERIES = {"TinyAsciiStr": (HERE, BLUE), "ArrayString": (ARRAY_STRING, GREY), "String": (STRING, ORANGE)}
 
 
-def keys_plot(figures: Figures) -> Bars:
-    cells = [cell for call in CALLS for cell in figures.times if cell[1] == call]
+def keys_plot(results: Results) -> Bars:
+    cells = [cell for call in CALLS for cell in results.times if cell[1] == call]
 
     return Bars(
-        title=f"As keys, TinyAsciiStr values take {said_range(figures, cells, STRING)} of the time of String",
-        note=f"Beside ArrayString, they take {said_range(figures, cells, ARRAY_STRING)}. Keys of 2 to 8 letters, in the kit's"
+        title=f"As keys, TinyAsciiStr values take {said_range(results, cells, STRING)} of the time of String",
+        note=f"Beside ArrayString, they take {said_range(results, cells, ARRAY_STRING)}. Keys of 2 to 8 letters, in the kit's"
         f" maps and sort. {RANGES}",
         x_label="nanoseconds a call (sort: a key)",
         series={name: color for name, (_, color) in SERIES.items()},
-        groups={cell[1].replace(", ", ",\n"): [figures.range(cell, whose) for whose, _ in SERIES.values()] for cell in cells},
+        groups={cell[1].replace(", ", ",\n"): [results.range(cell, whose) for whose, _ in SERIES.values()] for cell in cells},
     )

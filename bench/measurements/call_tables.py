@@ -1,21 +1,21 @@
 """The tables of bench/calls, and the heat map of them."""
 
-from figures.figures import THERE, Figures
-from figures.heat_map import heat_map
-from figures.plot import HeatMap
-from figures.ratios import CAPACITIES, FAILING, KINDS, SLOWER, cells_of_kind, mean_of, ratios_of_kind
-from figures.tables import aligned, cells_of_table, geometric, marked, ratio_table, rows_of, said
+from measurements.results import THERE, Results
+from measurements.heat_map import heat_map
+from measurements.plot import HeatMap
+from measurements.ratios import CAPACITIES, FAILING, KINDS, SLOWER, cells_of_kind, mean_of, ratios_of_kind
+from measurements.tables import aligned, cells_of_table, geometric, marked, ratio_table, rows_of, said
 
 LISTS = "mixed, each read once"
 
 
-def lists_and_failing(figures: Figures) -> str:
+def lists_and_failing(results: Results) -> str:
     """Readers of lists that can't be learned, and the questions that fail: the mean of all, the fastest and the slowest."""
     lines = [["call", *CAPACITIES]]
-    for call, cells in cells_of_kind(figures, LISTS).items():
-        lines.append([f"{call}, each text once", *(marked(figures, cells[capacity]) for capacity in CAPACITIES)])
-    failing = cells_of_kind(figures, "failing").values()
-    ratios = {capacity: [figures.ratio(cells[capacity], THERE) for cells in failing] for capacity in CAPACITIES}
+    for call, cells in cells_of_kind(results, LISTS).items():
+        lines.append([f"{call}, each text once", *(marked(results, cells[capacity]) for capacity in CAPACITIES)])
+    failing = cells_of_kind(results, "failing").values()
+    ratios = {capacity: [results.ratio(cells[capacity], THERE) for cells in failing] for capacity in CAPACITIES}
     for name, of in (("mean", geometric), ("fastest", min), ("slowest", max)):
         lines.append([f"nine questions that fail, {name}", *(f"{of(ratios[capacity]):.2f}" for capacity in CAPACITIES)])
     return aligned(lines)
@@ -36,11 +36,11 @@ def slower_of(ratios: dict[str, dict[str, float]]) -> dict[str, dict[str, float]
     return {call: of_call for call, of_call in found.items() if of_call}
 
 
-def slower(figures: Figures) -> str:
+def slower(results: Results) -> str:
     """The slowest first."""
     rows = {}
     for kind in dict.fromkeys(KINDS.values()):
-        for call, ratios in slower_of(ratios_of_kind(figures, kind)).items():
+        for call, ratios in slower_of(ratios_of_kind(results, kind)).items():
             rows[call if kind == "failing" else f"{call}; {kind}"] = ratios
     heads = sorted(rows, key=lambda head: max(rows[head].values()), reverse=True)
 
@@ -50,23 +50,23 @@ def slower(figures: Figures) -> str:
     return aligned([["call", *CAPACITIES], *map(line, heads)])
 
 
-def table(figures: Figures, name: str) -> str:
-    return ratio_table(*rows_of(cells_of_table(figures, name), lambda cell: cell[2]), figures)
+def table(results: Results, name: str) -> str:
+    return ratio_table(*rows_of(cells_of_table(results, name), lambda cell: cell[2]), results)
 
 
-def in_a_row(figures: Figures, name: str) -> str:
+def in_a_row(results: Results, name: str) -> str:
     """A table of one ratio for each call, with their mean."""
-    cells = cells_of_table(figures, name)
-    mean = geometric([figures.ratio(cell, THERE) for cell in cells])
-    head, ratios = [cell[1] for cell in cells], [said(figures, cell, THERE) for cell in cells]
+    cells = cells_of_table(results, name)
+    mean = geometric([results.ratio(cell, THERE) for cell in cells])
+    head, ratios = [cell[1] for cell in cells], [said(results, cell, THERE) for cell in cells]
     return aligned([["call", *head, "geometric mean"], ["ratio", *ratios, f"{mean:.2f}"]])
 
 
-def calls_plot(figures: Figures) -> HeatMap:
-    full, mixed = ratios_of_kind(figures, "full"), ratios_of_kind(figures, "mixed")
+def calls_plot(results: Results) -> HeatMap:
+    full, mixed = ratios_of_kind(results, "full"), ratios_of_kind(results, "mixed")
     rows = {call: {"full": full[call], "mixed": mixed[call]} for call in full}
-    rows[FAILING] = {"full": ratios_of_kind(figures, "failing")[FAILING]}
-    of_full, of_mixed = mean_of(figures, "full"), mean_of(figures, "mixed")
+    rows[FAILING] = {"full": ratios_of_kind(results, "failing")[FAILING]}
+    of_full, of_mixed = mean_of(results, "full"), mean_of(results, "mixed")
     title = f"A call takes {of_full:.2f} of the Rust crate's time on full texts, and {of_mixed:.2f} on mixed ones"
     note = "The means are without the question that fails, which is the slowest of nine."
     return heat_map(title, note, CAPACITIES, {"": rows})

@@ -1,4 +1,4 @@
-"""The figures that the drivers print, a line each, or that a CSV file keeps."""
+"""The results that the drivers print, a line each, or that a CSV file keeps."""
 
 import csv
 from collections import defaultdict
@@ -17,7 +17,7 @@ Cell = tuple[str, str, str]
 COLUMNS = ["run", "table", "call", "column", "whose", "nanoseconds", "instructions"]
 
 
-class Figures:
+class Results:
     """Of each cell, which is a table, a call and a column, and of each crate: the time of each run, the least of the
     places of its code, and the instructions, where they were counted.
     """

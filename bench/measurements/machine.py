@@ -1,9 +1,9 @@
-"""What the figures were taken by: what all files of figures say alike, a line for each file, and what single files say."""
+"""What the results were taken by: what all files of results say alike, a line for each file, and what single files say."""
 
 from textwrap import fill
 
-from figures.figures import Figures
-from figures.tables import aligned
+from measurements.results import Results
+from measurements.tables import aligned
 
 COLUMNS = ["date", "commit", "programs beside"]
 
@@ -18,17 +18,17 @@ def shortened(name: str, value: str) -> str:
     return digits[:LONGEST] + comma + rest if name == "commit" else value.removesuffix(" on average")
 
 
-def heads_of(all_figures: dict[str, Figures]) -> dict[str, dict[str, str]]:
+def heads_of(all_results: dict[str, Results]) -> dict[str, dict[str, str]]:
     """By file, what stands behind each name."""
 
     def parted(line: str) -> tuple[str, str]:
         return line.partition(": ")[::2]
 
-    return {f"{name}.csv": dict(map(parted, figures.head)) for name, figures in all_figures.items()}
+    return {f"{name}.csv": dict(map(parted, results.head)) for name, results in all_results.items()}
 
 
-def machine(all_figures: dict[str, Figures]) -> str:
-    heads = heads_of(all_figures)
+def machine(all_results: dict[str, Results]) -> str:
+    heads = heads_of(all_results)
     files_of = {}
     for file, head in heads.items():
         for name, value in head.items():

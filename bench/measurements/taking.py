@@ -1,4 +1,4 @@
-"""What the benches share that are Python: the head of their figures, how busy the machine was, and the tables and the CSV
+"""What the benches share that are Python: the head of their results, how busy the machine was, and the tables and the CSV
 that they end with."""
 
 import os
@@ -9,8 +9,8 @@ from collections.abc import Iterable
 from pathlib import Path
 from typing import Any
 
-from figures.figures import Figures
-from figures.tables import type_table
+from measurements.results import Results
+from measurements.tables import type_table
 from lib import commands
 
 BENCH = Path(__file__).resolve().parent.parent
@@ -19,7 +19,7 @@ BENCH = Path(__file__).resolve().parent.parent
 def parser_of(name: str, document: str) -> ArgumentParser:
     """A parser of options that tells a bench's document as it stands, and takes --csv."""
     parser = commands.parser_of(document, f"bench/{name}")
-    parser.add_argument("--csv", metavar="FILE", help="keep all figures")
+    parser.add_argument("--csv", metavar="FILE", help="keep all results")
     return parser
 
 
@@ -29,11 +29,11 @@ def said_by(*words: object, **more: Any) -> str:
     return subprocess.run(words, stdout=subprocess.PIPE, text=True, check=True, **more).stdout
 
 
-def new_figures() -> Figures:
-    """Figures with what they are taken by."""
-    figures = Figures()
-    figures.head = said_by(BENCH / "figures/head").splitlines()
-    return figures
+def new_results() -> Results:
+    """Results with what they are taken by."""
+    results = Results()
+    results.head = said_by(BENCH / "results/head").splitlines()
+    return results
 
 
 def busy_seconds() -> float:
@@ -66,22 +66,22 @@ class Load:
         return f"programs beside: {max(self.others / self.wall, 0):.2f} on average"
 
 
-def add_lines(figures: Figures, run: int, lines: Iterable[str]) -> None:
+def add_lines(results: Results, run: int, lines: Iterable[str]) -> None:
     """Adds lines TABLE|CALL|COLUMN|WHOSE|NANOSECONDS."""
-    figures.read_times(f"{run}|0|{line}" for line in lines)
+    results.read_times(f"{run}|0|{line}" for line in lines)
 
 
-def keep(figures: Figures, load: Load, csv: str | None) -> None:
+def keep(results: Results, load: Load, csv: str | None) -> None:
     """Tells how busy the machine was, and writes the CSV where one is wanted."""
-    figures.head.append(load.note())
+    results.head.append(load.note())
     if csv:
         with open(csv, "w", newline="") as file:
-            figures.write_csv(file)
+            results.write_csv(file)
 
 
-def finish(figures: Figures, load: Load, csv: str | None) -> None:
+def finish(results: Results, load: Load, csv: str | None) -> None:
     """Prints the head and the tables, and keeps them."""
-    keep(figures, load, csv)
-    print("\n".join(figures.head))
-    for table in figures.tables():
-        print(f"\n{table}\n\n{type_table(figures, figures.cells(table))}")
+    keep(results, load, csv)
+    print("\n".join(results.head))
+    for table in results.tables():
+        print(f"\n{table}\n\n{type_table(results, results.cells(table))}")

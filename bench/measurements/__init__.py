@@ -1,0 +1,1 @@
+"""Takes the results of bench/, keeps them, and makes tables, pages and pictures of them."""
