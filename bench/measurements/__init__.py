@@ -1,1 +1,1 @@
-"""Takes the results of bench/, keeps them, and makes tables, pages and pictures of them."""
+"""Takes measurements, keeps them, and makes tables, pages and pictures of them."""

@@ -1,21 +1,21 @@
 """The tables of bench/calls, and the heat map of them."""
 
-from measurements.results import THERE, Results
 from measurements.heat_map import heat_map
 from measurements.plot import HeatMap
 from measurements.ratios import CAPACITIES, FAILING, KINDS, SLOWER, cells_of_kind, mean_of, ratios_of_kind
-from measurements.tables import aligned, cells_of_table, geometric, marked, ratio_table, rows_of, said
+from measurements.results import THERE, Results, by_call
+from measurements.tables import aligned, cells_of_table, geometric, marked, ratio_and_spread, ratio_table, ratios_of
 
 LISTS = "mixed, each read once"
 
 
 def lists_and_failing(results: Results) -> str:
-    """Readers of lists that can't be learned, and the questions that fail: the mean of all, the fastest and the slowest."""
+    """Readers of lists that no branch predictor learns, and the questions that fail: the mean of all, the fastest and the slowest."""
     lines = [["call", *CAPACITIES]]
-    for call, cells in cells_of_kind(results, LISTS).items():
+    for call, cells in by_call(cells_of_kind(results, LISTS)).items():
         lines.append([f"{call}, each text once", *(marked(results, cells[capacity]) for capacity in CAPACITIES)])
-    failing = cells_of_kind(results, "failing").values()
-    ratios = {capacity: [results.ratio(cells[capacity], THERE) for cells in failing] for capacity in CAPACITIES}
+    failing = results.ratios_by_call(cells_of_kind(results, "failing")).values()
+    ratios = {capacity: [row[capacity] for row in failing] for capacity in CAPACITIES}
     for name, of in (("mean", geometric), ("fastest", min), ("slowest", max)):
         lines.append([f"nine questions that fail, {name}", *(f"{of(ratios[capacity]):.2f}" for capacity in CAPACITIES)])
     return aligned(lines)
@@ -26,7 +26,7 @@ def merged(call: str) -> str:
 
 
 def slower_of(ratios: dict[str, dict[str, float]]) -> dict[str, dict[str, float]]:
-    """The questions as one, by the slowest of them, and of each call the capacities at which it is slower."""
+    """The ratios of each call at the capacities at which it is slower. All questions are one row, with the slowest of them."""
     found = {}
     for call, by_capacity in ratios.items():
         of_call = found.setdefault(merged(call), {})
@@ -37,7 +37,7 @@ def slower_of(ratios: dict[str, dict[str, float]]) -> dict[str, dict[str, float]
 
 
 def slower(results: Results) -> str:
-    """The slowest first."""
+    """The calls that are slower, the slowest first."""
     rows = {}
     for kind in dict.fromkeys(KINDS.values()):
         for call, ratios in slower_of(ratios_of_kind(results, kind)).items():
@@ -51,14 +51,14 @@ def slower(results: Results) -> str:
 
 
 def table(results: Results, name: str) -> str:
-    return ratio_table(*rows_of(cells_of_table(results, name), lambda cell: cell[2]), results)
+    return ratio_table(by_call(cells_of_table(results, name)), results)
 
 
 def in_a_row(results: Results, name: str) -> str:
     """A table of one ratio for each call, with their mean."""
     cells = cells_of_table(results, name)
-    mean = geometric([results.ratio(cell, THERE) for cell in cells])
-    head, ratios = [cell[1] for cell in cells], [said(results, cell, THERE) for cell in cells]
+    mean = geometric(ratios_of(results, cells, THERE))
+    head, ratios = [cell[1] for cell in cells], [ratio_and_spread(results, cell, THERE) for cell in cells]
     return aligned([["call", *head, "geometric mean"], ["ratio", *ratios, f"{mean:.2f}"]])
 
 

@@ -1,11 +1,11 @@
 """The picture of README: how the ratios of all calls change with the capacity, on full texts."""
 
-from measurements.results import Results
 from measurements.plot import BLUE, GREY, ORANGE, Line, Lines
 from measurements.ratios import CAPACITIES, FAILING, ratios_of_kind
+from measurements.results import Results
 from measurements.tables import geometric
 
-# The calls whose lines have names, beside their mean and the question that fails.
+# The calls whose lines have names. The mean and the question that fails have names too.
 NAMED = ["Hash", "try_from_utf8", "to_ascii_lowercase"]
 
 

@@ -1,8 +1,8 @@
 """Whole jobs, by bench/run: their table and their picture."""
 
-from measurements.results import HERE, START, THERE, Cell, Results
 from measurements.plot import BLUE, ORANGE, RANGES, Bars
-from measurements.tables import aligned, said, said_range
+from measurements.results import HERE, START, THERE, Cell, Results
+from measurements.tables import aligned, range_text, ratio_and_spread
 
 SECOND = 1e9
 SERIES = {"this crate": (HERE, BLUE), "a Rust program over the Rust crate": (THERE, ORANGE)}
@@ -17,7 +17,7 @@ def jobs_table(results: Results) -> str:
     lines = [["seconds", "start", "now", "now / start", "Rust program", "now / Rust program"]]
     for cell in results.times:
         start, now, rust = (f"{results.time(cell, whose) / SECOND:.2f}" for whose in (START, HERE, THERE))
-        lines.append([cell[1], start, now, said(results, cell, START), rust, said(results, cell, THERE)])
+        lines.append([cell[1], start, now, ratio_and_spread(results, cell, START), rust, ratio_and_spread(results, cell, THERE)])
     return aligned(lines)
 
 
@@ -26,7 +26,7 @@ def jobs_plot(results: Results) -> Bars:
         return tuple(nanos / SECOND for nanos in results.range(cell, whose))
 
     return Bars(
-        title=f"A whole job takes {said_range(results, results.times, THERE)} of the time of a Rust program that does the same",
+        title=f"A whole job takes {range_text(results, results.times, THERE)} of the time of a Rust program that does the same",
         note=RANGES,
         x_label="seconds",
         series={name: color for name, (_, color) in SERIES.items()},

@@ -1,8 +1,8 @@
-"""The picture of keys: types of keys in the same maps and the same sort, which are the kit's."""
+"""The picture of keys: types of keys in the kit's maps and sort."""
 
-from measurements.results import HERE, Results
 from measurements.plot import BLUE, GREY, ORANGE, RANGES, Bars
-from measurements.tables import said_range
+from measurements.results import HERE, Results
+from measurements.tables import range_text
 
 CALLS = [
     "BTreeMap, insert", "BTreeMap, get a present key", "BTreeMap, get an absent key",
@@ -16,8 +16,8 @@ def keys_plot(results: Results) -> Bars:
     cells = [cell for call in CALLS for cell in results.times if cell[1] == call]
 
     return Bars(
-        title=f"As keys, TinyAsciiStr values take {said_range(results, cells, STRING)} of the time of String",
-        note=f"Beside ArrayString, they take {said_range(results, cells, ARRAY_STRING)}. Keys of 2 to 8 letters, in the kit's"
+        title=f"As keys, TinyAsciiStr values take {range_text(results, cells, STRING)} of the time of String",
+        note=f"Compared with ArrayString, they take {range_text(results, cells, ARRAY_STRING)}. Keys of 2 to 8 letters, in the kit's"
         f" maps and sort. {RANGES}",
         x_label="nanoseconds a call (sort: a key)",
         series={name: color for name, (_, color) in SERIES.items()},

@@ -1,14 +1,14 @@
-"""What the results were taken by: what all files of results say alike, a line for each file, and what single files say."""
+"""The heads of the results: what all files have in common, a line for each file, and what single files have."""
 
 from textwrap import fill
 
 from measurements.results import Results
 from measurements.tables import aligned
 
-COLUMNS = ["date", "commit", "programs beside"]
+COLUMNS = ["date", "commit", "other programs"]
 
-# What stands in the files alone.
-LEFT_OUT = ["noise, third-fastest round over the fastest", "third least time of a call"]
+# A line of a head that the page leaves out.
+LEFT_OUT = "noise, third-fastest round over the fastest"
 LONGEST = 12
 
 
@@ -19,12 +19,8 @@ def shortened(name: str, value: str) -> str:
 
 
 def heads_of(all_results: dict[str, Results]) -> dict[str, dict[str, str]]:
-    """By file, what stands behind each name."""
-
-    def parted(line: str) -> tuple[str, str]:
-        return line.partition(": ")[::2]
-
-    return {f"{name}.csv": dict(map(parted, results.head)) for name, results in all_results.items()}
+    """By file, the values by their names."""
+    return {f"{name}.csv": dict(line.partition(": ")[::2] for line in results.head) for name, results in all_results.items()}
 
 
 def machine(all_results: dict[str, Results]) -> str:
@@ -32,13 +28,13 @@ def machine(all_results: dict[str, Results]) -> str:
     files_of = {}
     for file, head in heads.items():
         for name, value in head.items():
-            if name not in COLUMNS + LEFT_OUT:
+            if name not in [*COLUMNS, LEFT_OUT]:
                 files_of.setdefault(f"{name}: {value}" if value else name, []).append(file)
-    alike = [line for line, files in files_of.items() if len(files) == len(heads)]
+    common = [line for line, files in files_of.items() if len(files) == len(heads)]
     notes = {}
     for line, files in files_of.items():
-        if line not in alike:
+        if line not in common:
             notes.setdefault(", ".join(files), []).append(line)
     rows = [[file, *(shortened(column, head.get(column, "-")) for column in COLUMNS)] for file, head in heads.items()]
     table = aligned([["file", *COLUMNS], *rows])
-    return "\n".join([fill("; ".join(alike), 120), table, *(f"{files}: {'; '.join(lines)}" for files, lines in notes.items())])
+    return "\n".join([fill("; ".join(common), 120), table, *(f"{files}: {'; '.join(lines)}" for files, lines in notes.items())])

@@ -5,21 +5,20 @@ A cell of these results is a table, as '8 bytes, 1000 records', an order of the 
 
 import re
 
-from measurements.results import HERE, Cell, Results
 from measurements.plot import BLUE, ORANGE, Line, Lines
-from measurements.tables import aligned, said, said_range
+from measurements.results import HERE, Cell, Results
+from measurements.tables import aligned, range_text, ratio_and_spread
 
 ONE_BY_ONE = "one by one"
-BY_CHANCE, IN_ORDER = "by chance, there", "all in order"
+RANDOM = "random, there"
 BYTES = "bytes a record"
-RIVALS = ["slice::binary_search", "HashSet", "BTreeSet"]
+SLICE, HASH_SET, TREE_SET = RIVALS = ["slice::binary_search", "HashSet", "BTreeSet"]
 
-# The lines of a panel: a name, whose times they are, and whether they are this crate's.
+# The lines of a panel: a name, whose times they are, and their colour.
 LINES = [
     ("sorted, in bulk", HERE, BLUE), ("sorted, one by one", ONE_BY_ONE, BLUE), ("hashed", "hashed", BLUE),
     *((rival, rival, ORANGE) for rival in RIVALS),
 ]  # fmt: skip
-SLICE, HASH_SET, _ = RIVALS
 
 
 def widths(results: Results) -> list[str]:
@@ -31,8 +30,9 @@ def counts(results: Results) -> list[str]:
     return sorted({cell[2] for cell in results.times}, key=int)
 
 
-def cell_of(width: str, order: str, count: str) -> Cell:
-    return f"{width} bytes, {count} records", order, count
+def cells_of(results: Results, width: str, order: str) -> list[Cell]:
+    """A cell for each number of records."""
+    return [(f"{width} bytes, {count} records", order, count) for count in counts(results)]
 
 
 def orders(results: Results) -> list[str]:
@@ -43,24 +43,20 @@ def orders(results: Results) -> list[str]:
 
 def in_bulk(results: Results, cell: Cell) -> str:
     """Nanoseconds for a key, and their ratio to those one by one."""
-    return f"{results.time(cell, HERE):.1f}, {said(results, cell, ONE_BY_ONE)}"
+    return f"{results.time(cell, HERE):.1f}, {ratio_and_spread(results, cell, ONE_BY_ONE)}"
 
 
 def width_table(results: Results, width: str) -> str:
-    """A row for each order of keys, and what others take for keys by chance that are there, and hold."""
-    numbers = counts(results)
-    lines = [[f"{width} bytes, keys in bulk", *(f"{int(number):,}" for number in numbers)]]
+    """A row for each order of keys; then the times of std's calls for random keys that are there, and the bytes of its sets."""
+    lines = [[f"{width} bytes, keys in bulk", *(f"{int(count):,}" for count in counts(results))]]
     for order in orders(results):
-        lines.append([order, *(in_bulk(results, cell_of(width, order, number)) for number in numbers)])
-
-    def nanos(whose: str) -> list[str]:
-        return [f"{results.time(cell_of(width, BY_CHANCE, number), whose):.1f}" for number in numbers]
-
-    def held(whose: str) -> list[str]:
-        return [f"{results.time(cell_of(width, BYTES, number), whose):.0f}" for number in numbers]
-
-    lines += [[f"{whose}, by chance, there", *nanos(whose)] for whose in RIVALS]
-    lines += [[f"{BYTES}: {whose}", *held(whose)] for whose in ("HashSet", "BTreeSet")]
+        lines.append([order, *(in_bulk(results, cell) for cell in cells_of(results, width, order))])
+    for whose in RIVALS:
+        nanos = [f"{results.time(cell, whose):.1f}" for cell in cells_of(results, width, RANDOM)]
+        lines.append([f"{whose}, {RANDOM}", *nanos])
+    for whose in (HASH_SET, TREE_SET):
+        held = [f"{results.time(cell, whose):.0f}" for cell in cells_of(results, width, BYTES)]
+        lines.append([f"{BYTES}: {whose}", *held])
     return aligned(lines)
 
 
@@ -70,16 +66,16 @@ def many_keys_tables(results: Results) -> str:
 
 
 def panel_lines(results: Results, width: str) -> list[Line]:
-    cells = [cell_of(width, BY_CHANCE, count) for count in counts(results)]
+    cells = cells_of(results, width, RANDOM)
     return [Line(name, color, [results.time(cell, whose) for cell in cells], whose == HERE) for name, whose, color in LINES]
 
 
 def many_keys_plot(results: Results) -> Lines:
     """A panel for each number of bytes."""
-    cells = [cell_of(width, BY_CHANCE, count) for width in widths(results) for count in counts(results)]
+    cells = [cell for width in widths(results) for cell in cells_of(results, width, RANDOM)]
 
     def range_of(whose: str, rival: str) -> str:
-        return said_range(results, cells, rival, whose)
+        return range_text(results, cells, rival, whose)
 
     return Lines(
         title=f"Looked up in bulk, a key of a sorted table takes {range_of(HERE, SLICE)} of the time of slice::binary_search",

@@ -1,27 +1,20 @@
 """The tables of bench/types, keys, loops, lines and c."""
 
 import re
-from collections.abc import Iterable
 
-from measurements.results import HERE, THERE, Cell, Results
+from measurements.results import HERE, THERE, Cell, Results, by_call
 from measurements.tables import TYPES, aligned, bounded_ratio, type_cell, type_table, types_of
 
 ICU = "ICU's uloc_canonicalize"
 
 
-def by_call(cells: Iterable[Cell]) -> dict[str, list[Cell]]:
-    calls = {}
-    for cell in cells:
-        calls.setdefault(cell[1], []).append(cell)
-    return calls
-
-
 def types(results: Results) -> str:
-    """A row for each call, and in a cell the ratios to a type at all four capacities."""
+    """A row for each call. A cell has the times or the ratios at all four capacities."""
     rivals = [kind for kind in types_of(results, results.times) if kind != HERE]
     capacities = [re.search(r"\d+", table)[0] for table in results.tables()]
     lines = [["at " + ", ".join(capacities), "nanoseconds", *(TYPES.get(rival, rival) for rival in rivals)]]
-    for call, cells in by_call(results.times).items():
+    for call, by_table in by_call(results.times, lambda cell: cell[0]).items():
+        cells = by_table.values()
         of_here = ", ".join(type_cell(cell, HERE, results) for cell in cells)
         lines.append([call, of_here, *(", ".join(size_or_ratio(results, cell, rival) for cell in cells) for rival in rivals)])
     return aligned(lines)
@@ -33,12 +26,12 @@ def size_or_ratio(results: Results, cell: Cell, rival: str) -> str:
 
 
 def all_cells(results: Results) -> str:
-    """A row for each call, whatever table it is of."""
-    return type_table(results, list(results.times))
+    """A row for each call of all tables."""
+    return type_table(results, results.times)
 
 
 def loops(results: Results) -> str:
-    """Look-ups in a row; parts and maps beside std; questions, each of codes that are read and of codes that were."""
+    """One row of look-ups; parts and maps compared with std; questions about codes that are read, and that were read before."""
     look_ups, parts, codes = (results.cells(table) for table in results.tables())
     nanos = [type_cell(cell, HERE, results) for cell in look_ups]
     of_here = aligned([["look-up", *(cell[1] for cell in look_ups)], ["nanoseconds", *nanos]])
@@ -47,29 +40,27 @@ def loops(results: Results) -> str:
         question, kind = cell[1].split(", ")
         questions.setdefault(question, {})[kind] = f"{type_cell(cell, HERE, results)} and {type_cell(cell, THERE, results)}"
     kinds = list(next(iter(questions.values())))
-    rows = [
-        ["this crate and tinystr 0.8.5, ratio", *kinds],
-        *([question, *kept.values()] for question, kept in questions.items()),
-    ]
-    return "\n\n".join([of_here, type_table(results, parts), aligned(rows)])
+    rows = [[question, *by_kind.values()] for question, by_kind in questions.items()]
+    of_codes = aligned([["this crate and tinystr 0.8.5, ratio", *kinds], *rows])
+    return "\n\n".join([of_here, type_table(results, parts), of_codes])
 
 
 def lines(results: Results) -> str:
-    """Megabytes a second, by the median, the slowest and the fastest turn."""
+    """Megabytes a second: the median, the slowest and the fastest run."""
     [cell] = results.times
 
     def speed(nanos: float) -> str:
         return f"{1000 / nanos:.0f}"
 
     rows = [["MB/s", "median", "slowest", "fastest"]]
-    for whose, turns in results.times[cell].items():
-        name = "the line program" if whose == HERE else whose
-        rows.append([name, *map(speed, (results.time(cell, whose), max(turns.values()), min(turns.values())))])
+    for whose in results.times[cell]:
+        fastest, median, slowest = map(speed, results.range(cell, whose))
+        rows.append(["the line program" if whose == HERE else whose, median, slowest, fastest])
     return aligned(rows)
 
 
 def c_headline(results: Results) -> str:
-    """The C library beside what a C programmer has, in three items."""
+    """The C library compared with what a C programmer has, in three items."""
     ratios = {
         (cell[1].partition(",")[0], whose): results.ratio(cell, whose) for cell in results.times for whose in results.times[cell]
     }

@@ -1,12 +1,12 @@
-"""The blocks of a page that are made of results: behind `<!-- bench/report NAME -->`, up to `<!-- end -->`."""
+"""The blocks of a page that are made from results: after `<!-- bench/report NAME -->`, up to `<!-- end -->`."""
 
 import re
 from collections.abc import Callable
+from functools import partial
 from textwrap import fill
 
 from measurements.call_tables import calls_plot, in_a_row, lists_and_failing, slower, table
 from measurements.capacities import capacities_plot
-from measurements.results import THERE, Results
 from measurements.hashed_tables import hashed_tables
 from measurements.inlined import cargo_headline, cargo_plot, inlined_table, look_ups
 from measurements.jobs import jobs_plot, jobs_table
@@ -16,30 +16,23 @@ from measurements.many_keys import many_keys_plot, many_keys_tables
 from measurements.other_tables import all_cells, c_headline, lines, loops, types
 from measurements.plot import Plot
 from measurements.ratios import FAILING, mean_of, slowest_of
-from measurements.tables import said_range
+from measurements.results import THERE, Results
+from measurements.tables import range_text
 
-# What makes a block of all results and the folder of the pictures.
+# Makes a block from all results and the folder of the pictures.
 Block = Callable[[dict[str, Results], str], str]
 BLOCK = re.compile(r"(<!-- bench/report (.+?) -->\n).*?(<!-- end -->\n)", re.DOTALL)
 
 
-def headline(all_results: dict[str, Results]) -> str:
+def headline(calls: Results, jobs: Results) -> str:
     """The means over all rows, whole jobs, and the slowest row, in three items."""
-    calls, jobs = all_results["calls"], all_results["jobs"]
     ratio, call, capacity, kind = slowest_of(calls)
     slowest = "a question that fails at its first byte" if call == FAILING else f"`{call.partition(',')[0]}` of {kind} texts"
     return (
         f"- A call takes {mean_of(calls, 'full'):.2f} of the Rust crate's time on texts that fill their capacity, and"
         f" {mean_of(calls, 'mixed'):.2f} on texts of all lengths. (These are geometric means.)\n"
-        f"- A whole job takes {said_range(jobs, jobs.times, THERE)} of the time of a Rust program that does the same.\n"
+        f"- A whole job takes {range_text(jobs, jobs.times, THERE)} of the time of a Rust program that does the same.\n"
         f"- The worst case, {slowest}, takes {ratio:.1f} times as long at capacity {capacity}.\n"
-    )
-
-
-def filled_lines(make: Callable) -> Block:
-    """The items of a form's file of results, in lines of at most 120 characters."""
-    return lambda all_results, _folder: "".join(
-        fill(item, 120, subsequent_indent="  ") + "\n" for item in make(all_results).splitlines()
     )
 
 
@@ -53,27 +46,24 @@ def picture(name: str) -> Block:
     return lambda all_results, folder: f"![{make(all_results[file]).alt()}]({folder}/{name})\n"
 
 
-def fenced(file: str, make: Callable, *more: str) -> Block:
-    """A table of one file's results."""
-    return lambda all_results, _folder: f"```text\n{make(all_results[file], *more)}\n```\n"
-
-
-def fenced_if_any(file: str, make: Callable) -> Block:
-    """A table of one file's results, or nothing if the file has none of them."""
+def items(make: Callable, *files: str) -> Block:
+    """The items that are made from the results of some files, in lines of at most 120 characters."""
 
     def block(all_results: dict[str, Results], _folder: str) -> str:
-        made = make(all_results[file])
-        return f"```text\n{made}\n```\n" if made else ""
+        made = make(*(all_results[file] for file in files)).splitlines()
+        return "".join(fill(item, 120, subsequent_indent="  ") + "\n" for item in made)
 
     return block
 
 
-def fenced_of_all(make: Callable) -> Block:
-    return lambda all_results, _folder: f"```text\n{make(all_results)}\n```\n"
+def fenced(make: Callable, *files: str) -> Block:
+    """The table that is made from the results of some files, or nothing where the table is empty."""
 
+    def block(all_results: dict[str, Results], _folder: str) -> str:
+        made = make(*(all_results[file] for file in files))
+        return f"```text\n{made}\n```\n" if made else ""
 
-def inlined(all_results: dict[str, Results]) -> str:
-    return inlined_table({"x86-64": all_results["cargo"], "v2": all_results["cargo-v2"]})
+    return block
 
 
 # The pictures, each with its file of results and what it shows of them.
@@ -87,29 +77,29 @@ PLOTS = {
 }
 BLOCKS = {
     **{name: picture(name) for name in PLOTS},
-    "headline": filled_lines(headline),
-    "headline of Cargo": filled_lines(lambda them: cargo_headline(them["cargo"], them["cargo-v2"])),
-    "headline of C": filled_lines(lambda them: c_headline(them["c"])),
-    "jobs": fenced("jobs", jobs_table),
-    "slower": fenced("calls", slower),
-    "lists": fenced("calls", lists_and_failing),
-    "packed": fenced("calls", table, "Bytes in front of others, and packed records"),
-    "identifiers": fenced("calls", in_a_row, "Language identifiers"),
-    "types": fenced("types", types),
-    "keys": fenced("keys", all_cells),
-    "loops": fenced("loops", loops),
-    "lines": fenced("lines", lines),
-    "c": fenced("c", all_cells),
-    "machine": fenced_of_all(machine),
-    "inlined": fenced_of_all(inlined),
-    "look-ups": fenced("cargo", look_ups),
-    "many keys": fenced("tables", many_keys_tables),
-    "hashed tables": fenced_if_any("tables", hashed_tables),
+    "headline": items(headline, "calls", "jobs"),
+    "headline of Cargo": items(cargo_headline, "cargo", "cargo-v2"),
+    "headline of C": items(c_headline, "c"),
+    "jobs": fenced(jobs_table, "jobs"),
+    "slower": fenced(slower, "calls"),
+    "lists": fenced(lists_and_failing, "calls"),
+    "packed": fenced(partial(table, name="Bytes before others, and packed records"), "calls"),
+    "identifiers": fenced(partial(in_a_row, name="Language identifiers"), "calls"),
+    "types": fenced(types, "types"),
+    "keys": fenced(all_cells, "keys"),
+    "loops": fenced(loops, "loops"),
+    "lines": fenced(lines, "lines"),
+    "c": fenced(all_cells, "c"),
+    "machine": lambda all_results, _folder: f"```text\n{machine(all_results)}\n```\n",
+    "inlined": fenced(inlined_table, "cargo", "cargo-v2"),
+    "look-ups": fenced(look_ups, "cargo"),
+    "many keys": fenced(many_keys_tables, "tables"),
+    "hashed tables": fenced(hashed_tables, "tables"),
 }
 
 
 def filled(page: str, all_results: dict[str, Results], folder: str) -> tuple[str, list[str]]:
-    """The page with its blocks made anew, and their names. What has no such name stays."""
+    """The page with its blocks made anew, and their names. A block with another name doesn't change."""
     found = []
 
     def block(match: re.Match) -> str:

@@ -1,47 +1,38 @@
 """Prints tables of a driver's results for drivers/measure, and writes them as CSV."""
 
-import argparse
-from argparse import Namespace
+from argparse import ArgumentParser, Namespace
 from statistics import mean, median
 
-from measurements.results import THERE, Cell, Results
-from measurements.tables import cells_of_table, geometric, ratio_table, ratios_by_column, rows_of, type_table
+from measurements.results import THERE, Cell, Results, by_call
+from measurements.tables import cells_of_table, geometric, ratio_table, ratios_of, type_tables
 
-# The tables beside others than the original, each with whose calls it has.
-BESIDE = {"Beside tinystr 0.3.2": "0.3.2", "Beside vectors written by hand": "by hand"}
+# The tables that compare with others than the original, each with whose calls it has.
+OTHERS = {"Beside tinystr 0.3.2": "0.3.2", "Beside vectors written by hand": "by hand"}
 
 
-def print_ratios(
-    title: str, rows: dict[str, dict[str, Cell]], columns: list[str], results: Results, rival: str, options: Namespace
-) -> None:
-    if not rows:
-        return
-    print(f"\n{title}\n\n{ratio_table(rows, columns, results, rival, options.times, bool(options.instructions))}")
-    ratios = ratios_by_column(rows, columns, results, rival)
-    print(f"Geometric mean of all: {geometric(sum(ratios, [])):.2f}")
+def print_ratios(title: str, rows: dict[str, dict[str, Cell]], results: Results, rival: str, options: Namespace) -> None:
+    if rows:
+        print(f"\n{title}\n\n{ratio_table(rows, results, rival, options.times, bool(options.instructions))}")
+        ratios = [ratio for row in rows.values() for ratio in ratios_of(results, row.values(), rival)]
+        print(f"Geometric mean of all: {geometric(ratios):.2f}")
 
 
 def print_all_ratios(results: Results, options: Namespace) -> None:
     for table in results.tables():
-        cells = cells_of_table(results, table)
-        print_ratios(table, *rows_of(cells, lambda cell: cell[2]), results, THERE, options)
-    for title, rival in BESIDE.items():
+        print_ratios(table, by_call(cells_of_table(results, table)), results, THERE, options)
+    for title, rival in OTHERS.items():
         cells = [cell for cell in results.times if rival in results.times[cell]]
-        print_ratios(title, *rows_of(cells, lambda cell: f"{cell[2]} {cell[0].split()[0].lower()}"), results, rival, options)
-
-
-def print_types(results: Results) -> None:
-    for table in results.tables():
-        print(f"\n{table}\n\n{type_table(results, results.cells(table))}")
+        rows = by_call(cells, lambda cell: f"{cell[2]} {cell[0].split()[0].lower()}")
+        print_ratios(title, rows, results, rival, options)
 
 
 def noise(results: Results) -> list[str]:
-    """How steady the times were; nothing where the driver doesn't tell."""
+    """How steady the times were, if the driver prints it."""
     if not results.steady:
         return []
     others, medians, most = zip(*results.steady)
     return [
-        f"programs beside: {mean(others):.2f} on average",
+        f"other programs: {mean(others):.2f} on average",
         f"noise, third-fastest round over the fastest: +{100 * median(medians):.1f} % in the median,"
         f" +{100 * max(most):.1f} % at worst",
     ]
@@ -54,7 +45,7 @@ def is_busy(results: Results) -> bool:
 
 def read_results(options: Namespace) -> Results:
     results = Results()
-    with open(options.results) as file:
+    with open(options.lines) as file:
         results.read_times(file)
     if options.instructions:
         with open(options.instructions) as file:
@@ -65,9 +56,9 @@ def read_results(options: Namespace) -> Results:
 
 
 def main() -> None:
-    parser = argparse.ArgumentParser()
+    parser = ArgumentParser()
     parser.add_argument("head")
-    parser.add_argument("results")
+    parser.add_argument("lines")
     parser.add_argument("--times", action="store_true")
     parser.add_argument("--types", action="store_true")
     parser.add_argument("--instructions")
@@ -76,14 +67,13 @@ def main() -> None:
     results = read_results(options)
     print("\n".join(results.head))
     if options.types:
-        print_types(results)
+        print("\n" + type_tables(results))
     else:
         print_all_ratios(results, options)
     if results.steady and is_busy(results):
         print("\nThe machine was busy: measure again.")
     if options.csv:
-        with open(options.csv, "w", newline="") as file:
-            results.write_csv(file)
+        results.write_csv(options.csv)
 
 
 if __name__ == "__main__":

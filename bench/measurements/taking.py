@@ -1,5 +1,5 @@
-"""What the benches share that are Python: the head of their results, how busy the machine was, and the tables and the CSV
-that they end with."""
+"""What the Python benches share: the head of their results, the load of the machine, and the tables and the CSV file at their
+end."""
 
 import os
 import subprocess
@@ -9,61 +9,62 @@ from collections.abc import Iterable
 from pathlib import Path
 from typing import Any
 
-from measurements.results import Results
-from measurements.tables import type_table
 from lib import commands
+from measurements.results import Results
+from measurements.tables import type_tables
 
 BENCH = Path(__file__).resolve().parent.parent
 
 
-def parser_of(name: str, document: str) -> ArgumentParser:
-    """A parser of options that tells a bench's document as it stands, and takes --csv."""
+def parser_of(name: str, document: str, runs: int, runs_help: str = "the number of runs") -> ArgumentParser:
+    """A parser of options that prints a bench's document, and accepts --runs and --csv."""
     parser = commands.parser_of(document, f"bench/{name}")
-    parser.add_argument("--csv", metavar="FILE", help="keep all results")
+    parser.add_argument("--runs", metavar="N", type=int, default=runs, help=runs_help)
+    parser.add_argument("--csv", metavar="FILE", help="write all measurements to a file")
     return parser
 
 
-def said_by(*words: object, **more: Any) -> str:
-    """What a command prints; where it fails, so does this."""
+def output_of(*words: object, **more: Any) -> str:
+    """What a command prints. A command that fails raises an error."""
     words = [str(word) for word in words]
     return subprocess.run(words, stdout=subprocess.PIPE, text=True, check=True, **more).stdout
 
 
 def new_results() -> Results:
-    """Results with what they are taken by."""
+    """Results without times. Their head names the machine and the tools."""
     results = Results()
-    results.head = said_by(BENCH / "results/head").splitlines()
+    results.head = output_of(BENCH / "measurements/head").splitlines()
     return results
 
 
 def busy_seconds() -> float:
-    """The seconds that all programs took of all processors, since the machine began."""
+    """The seconds that all programs used of all processors, since the machine started."""
     words = Path("/proc/stat").read_text().split("\n", 1)[0].split()[1:]
     user, nice, system, _idle, _waiting, interrupt, soft_interrupt = map(int, words[:7])
     return (user + nice + system + interrupt + soft_interrupt) / os.sysconf("SC_CLK_TCK")
 
 
 def own_seconds() -> float:
-    """Those that this program took, with the programs that it started and that have ended."""
+    """Those that this program used, with the programs that it started and that have ended."""
     return sum(os.times()[:4])
 
 
 class Load:
-    """Counts how many programs ran beside, on average over what is done `with` it."""
+    """Counts how many other programs ran, on average over what is done `with` it."""
 
     def __init__(self) -> None:
         self.wall = self.others = 0.0
 
     def __enter__(self) -> None:
-        self.begin = time.monotonic(), busy_seconds() - own_seconds()
+        self.start = time.monotonic(), busy_seconds() - own_seconds()
 
     def __exit__(self, *_: object) -> None:
-        wall, others = self.begin
+        wall, others = self.start
         self.wall += time.monotonic() - wall
         self.others += busy_seconds() - own_seconds() - others
 
     def note(self) -> str:
-        return f"programs beside: {max(self.others / self.wall, 0):.2f} on average"
+        return f"other programs: {max(self.others / self.wall, 0):.2f} on average"
 
 
 def add_lines(results: Results, run: int, lines: Iterable[str]) -> None:
@@ -72,16 +73,14 @@ def add_lines(results: Results, run: int, lines: Iterable[str]) -> None:
 
 
 def keep(results: Results, load: Load, csv: str | None) -> None:
-    """Tells how busy the machine was, and writes the CSV where one is wanted."""
+    """Adds the load to the head, and writes the CSV file, if one is requested."""
     results.head.append(load.note())
     if csv:
-        with open(csv, "w", newline="") as file:
-            results.write_csv(file)
+        results.write_csv(csv)
 
 
 def finish(results: Results, load: Load, csv: str | None) -> None:
-    """Prints the head and the tables, and keeps them."""
+    """Keeps the results, and prints their head and their tables."""
     keep(results, load, csv)
     print("\n".join(results.head))
-    for table in results.tables():
-        print(f"\n{table}\n\n{type_table(results, results.cells(table))}")
+    print("\n" + type_tables(results))
