@@ -10,7 +10,7 @@ LISTS = "mixed, each read once"
 
 
 def lists_and_failing(results: Results) -> str:
-    """Readers of lists that no branch predictor learns, and the questions that fail: the mean of all, the fastest and the slowest."""
+    """Readers of lists that no branch predictor learns; and of the questions that fail the mean, the fastest and the slowest."""
     lines = [["call", *CAPACITIES]]
     for call, cells in by_call(cells_of_kind(results, LISTS)).items():
         lines.append([f"{call}, each text once", *(marked(results, cells[capacity]) for capacity in CAPACITIES)])

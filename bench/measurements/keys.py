@@ -17,8 +17,8 @@ def keys_plot(results: Results) -> Bars:
 
     return Bars(
         title=f"As keys, TinyAsciiStr values take {range_text(results, cells, STRING)} of the time of String",
-        note=f"Compared with ArrayString, they take {range_text(results, cells, ARRAY_STRING)}. Keys of 2 to 8 letters, in the kit's"
-        f" maps and sort. {RANGES}",
+        note=f"Compared with ArrayString, they take {range_text(results, cells, ARRAY_STRING)}. Keys of 2 to 8 letters, in the"
+        f" kit's maps and sort. {RANGES}",
         x_label="nanoseconds a call (sort: a key)",
         series={name: color for name, (_, color) in SERIES.items()},
         groups={cell[1].replace(", ", ",\n"): [results.range(cell, whose) for whose, _ in SERIES.values()] for cell in cells},

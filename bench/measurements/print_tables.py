@@ -7,7 +7,7 @@ from measurements.results import THERE, Cell, Results, by_call
 from measurements.tables import cells_of_table, geometric, ratio_table, ratios_of, type_tables
 
 # The tables that compare with others than the original, each with whose calls it has.
-OTHERS = {"Beside tinystr 0.3.2": "0.3.2", "Beside vectors written by hand": "by hand"}
+OTHERS = {"Compared with tinystr 0.3.2": "0.3.2", "Compared with vectors written by hand": "by hand"}
 
 
 def print_ratios(title: str, rows: dict[str, dict[str, Cell]], results: Results, rival: str, options: Namespace) -> None:
