@@ -1,7 +1,7 @@
 /* c NAMES TABLE: nanoseconds a call from C, the least of 400 rounds, over the locale names of a file (one a line, of at most
- * 17 bytes) and packed records of 3 bytes that rise; and a key, where one call searches a column of 1,000 by chance. Beside
- * each stands what a C programmer has: a function written by hand, ICU where this is built with -DICU, bsearch and memcmp.
- * Before anything is timed, the answers are compared. */
+ * 17 bytes) and strictly ascending packed records of 3 bytes; and nanoseconds a key, where one call searches 1,000 random keys.
+ * Each is compared with what a C programmer has: a function written by hand, ICU where this is built with -DICU, bsearch and
+ * memcmp. The results are compared before anything is timed. */
 #define _POSIX_C_SOURCE 199309L
 #include <stdio.h>
 #include <stdlib.h>
@@ -29,10 +29,10 @@ static int is_letter(char c) { return (c | 0x20) >= 'a' && (c | 0x20) <= 'z'; }
 static int is_digit(char c) { return c >= '0' && c <= '9'; }
 
 /* The canonical text of a language identifier and its length, or -1: one subtag after another, a byte at a time. */
-static int by_hand(const char *in, size_t len, char *out, size_t room) {
+static int by_hand(const char *in, size_t len, char *out, size_t size) {
     enum { LANGUAGE, SCRIPT_OR_REGION, REGION, END } next = LANGUAGE;
     size_t i = 0, at = 0, k;
-    if (len >= room) return -1;
+    if (len >= size) return -1;
     for (;;) {
         const char *subtag = in + i;
         size_t n, letters = 0, digits = 0;
@@ -64,17 +64,17 @@ static int by_hand(const char *in, size_t len, char *out, size_t room) {
 
 static int compare(const void *a, const void *b) { return memcmp(a, b, CAPACITY); }
 
-/* Prints a line: a table, a call, a column without a name, whose call it is, and the nanoseconds of one of `count` answers, of
- * `calls` calls. */
+/* Prints a line: a table, a call, a column without a name, whose call it is, and the nanoseconds of each of the `count` results
+ * of `calls` calls. */
 #define TIME_CALLS(name, whose, count, calls, call) \
     do { \
         double least = 1e18; \
         int round; \
         for (round = 0; round < 400; round++) { \
             size_t i; \
-            double begin = now(), each; \
+            double start = now(), each; \
             for (i = 0; i < (calls); i++) sink += (size_t)(call); \
-            each = (now() - begin) / (double)(count); \
+            each = (now() - start) / (double)(count); \
             if (each < least) least = each; \
         } \
         printf("From C|%s||%s|%.2f\n", name, whose, least); \
@@ -105,7 +105,7 @@ static tinystr_result search(const uint8_t *key, size_t len) {
     return tinystr_sorted_search(table, len, CAPACITY, key, key[2] ? 3 : 2);
 }
 
-/* Keys by chance, each found by one call for all as by one for it. */
+/* Random keys: one call for all of them finds each where a call for it alone does. */
 static void draw_keys(size_t len) {
     uint32_t seed = 1;
     size_t k;
@@ -148,9 +148,9 @@ int main(int argc, char **argv) {
     TIME("tinystr_sorted_search", "here", record_count, tinystr_sorted_search(table, len, CAPACITY, RECORD, RECORD[2] ? 3 : 2).value);
     TIME("tinystr_sorted_search", "bsearch with memcmp", record_count, (uint8_t *)bsearch(RECORD, table, record_count, CAPACITY, compare) - table);
 #define KEY (keys + CAPACITY * i)
-    TIME_CALLS("tinystr_sorted_search_each, of 1,000 keys by chance", "here", KEYS, 1, tinystr_sorted_search_each(table, len, CAPACITY, keys, sizeof keys, found, KEYS).value);
-    TIME("tinystr_sorted_search_each, of 1,000 keys by chance", "one by one", KEYS, tinystr_sorted_search(table, len, CAPACITY, KEY, KEY[2] ? 3 : 2).value);
-    TIME("tinystr_sorted_search_each, of 1,000 keys by chance", "bsearch with memcmp", KEYS, (uint8_t *)bsearch(KEY, table, record_count, CAPACITY, compare) - table);
+    TIME_CALLS("tinystr_sorted_search_each, of 1,000 random keys", "here", KEYS, 1, tinystr_sorted_search_each(table, len, CAPACITY, keys, sizeof keys, found, KEYS).value);
+    TIME("tinystr_sorted_search_each, of 1,000 random keys", "one by one", KEYS, tinystr_sorted_search(table, len, CAPACITY, KEY, KEY[2] ? 3 : 2).value);
+    TIME("tinystr_sorted_search_each, of 1,000 random keys", "bsearch with memcmp", KEYS, (uint8_t *)bsearch(KEY, table, record_count, CAPACITY, compare) - table);
     TIME("tinystr_sorted_prefix, of one byte", "here", record_count, tinystr_sorted_prefix(table, len, CAPACITY, RECORD, 1).count);
     TIME("tinystr_read and tinystr_change_case at 8", "here", name_count,
          (tinystr_read((uint8_t *)names[i], lens[i] < 8 ? lens[i] : 8, text, 8), tinystr_change_case(text, 8, TINYSTR_UPPER).value));

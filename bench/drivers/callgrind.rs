@@ -1,4 +1,4 @@
-//! What a program asks callgrind for, which counts its instructions. Else these requests do nothing.
+//! Requests to callgrind, which counts a program's instructions. Without callgrind they do nothing.
 
 use std::arch::asm;
 use std::ffi::CString;

@@ -1,5 +1,5 @@
-//! The tables of bench/calls: the calls beside the original crate's, beside tinystr 0.3.2 and unic-langid where they are
-//! installed, and beside vectors written by hand.
+//! The tables of bench/calls: the calls compared with the original crate's, with those of tinystr 0.3.2 and unic-langid where
+//! they are installed, and with vectors written by hand.
 
 mod batch;
 mod callgrind;
@@ -32,32 +32,32 @@ use theirs::by_hand;
 const CAPACITIES: [usize; 7] = [4, 8, 12, 16, 24, 32, 64];
 const ROUNDS: usize = 100;
 
-/// Of packed records, and of bytes in front of others.
+/// The capacities of packed records, and of bytes before others.
 const PACKED_CAPACITIES: [usize; 5] = [3, 4, 8, 16, 24];
 const RECORDS: usize = 1_000_000;
 
-/// Of lists that are read once in a turn: no processor knows their lengths by heart.
+/// The number of lists that are read once in a round, so that no branch predictor learns their lengths.
 const BATCHES: usize = 32;
 
 #[cfg(has_older)]
 const OLDER: row::Whose = "0.3.2";
 const BY_HAND: row::Whose = "by hand";
 
-/// The table whose rows are measured now, and of which calls.
+/// The table whose rows are being measured, and the part of a name that selects calls.
 struct Bench {
     only: Option<String>,
     table: &'static str,
     measure: Measure,
 }
 
-/// A crate's call on a batch, with its numbers before and after the rounds, and what it makes.
+/// A crate's call on a batch, with its arguments before and after the rounds, and the fields that it writes.
 macro_rules! contender {
     ($whose:expr, $from:ident $name:ident ($($before:expr),*) ($($after:expr),*) ($($made:ident),*)) => {
         ($whose, &|rounds, answers| $from::$name($($before,)* rounds, $($after,)* $(&mut answers.$made),*))
     };
 }
 
-/// The call here and in the original.
+/// The call of this crate and that of the original.
 macro_rules! both {
     ($name:ident $before:tt $after:tt -> $made:tt) => {
         &[contender!(HERE, ours $name $before $after $made), contender!(THERE, original $name $before $after $made)]
@@ -115,7 +115,7 @@ impl Bench {
         take!("concat to N", concat(n, n)(&given.texts, &given.others) -> (texts));
     }
 
-    /// Hashes are compared, so each value makes two of them.
+    /// Hashes of pairs are compared, so each value costs two of them.
     fn take_others(&mut self, given: &Batch) {
         let n = given.capacity;
         self.take("is_empty", n, both!(ask(n, IS_EMPTY)(&given.texts) -> (marks)));
@@ -136,7 +136,7 @@ impl Bench {
         }
     }
 
-    /// Reads lists of which none comes again in a turn. Nothing is written but while answers are compared.
+    /// Reads lists, each once in a round. Texts are written only while results are compared.
     fn take_lists(&mut self, random: &mut Random) {
         for n in CAPACITIES {
             let batches: Vec<Batch> = (0..BATCHES).map(|_| Batch::mixed(random, n, 1)).collect();
@@ -189,7 +189,7 @@ impl Bench {
         }
     }
 
-    /// Beside unic-langid, which stands where the original does.
+    /// unic-langid takes the place of the original.
     #[cfg(has_locale)]
     fn take_identifiers(&mut self, random: &mut Random) {
         use identifiers::Lists;
@@ -237,7 +237,7 @@ fn main() {
     for n in CAPACITIES {
         bench.take_batch(&Batch::mixed(&mut random, n, 1));
     }
-    bench.table = "Bytes in front of others, and packed records";
+    bench.table = "Bytes before others, and packed records";
     bench.take_read_bytes(&mut random);
     bench.take_records(&mut random);
     #[cfg(has_locale)]
@@ -245,7 +245,7 @@ fn main() {
         bench.table = "Language identifiers";
         bench.take_identifiers(&mut random);
     }
-    bench.table = "Mixed lists, each read once in a turn";
+    bench.table = "Mixed lists, each read once in a round";
     bench.take_lists(&mut random);
     bench.table = "Other calls, full texts";
     for n in CAPACITIES {

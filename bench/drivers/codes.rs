@@ -57,7 +57,7 @@ fn main() {
         macro_rules! timed {
             ($method:ident) => {
                 match call {
-                    "asked" => time(&texts, |texts| count(texts, Code::$method)),
+                    "tested" => time(&texts, |texts| count(texts, Code::$method)),
                     _ => time(&raw, |raw| count_read(raw, Code::$method)),
                 }
             };

@@ -1,4 +1,4 @@
-//! Lists of bytes that are language identifiers, or near to one.
+//! Lists of bytes that are language identifiers, or nearly.
 
 use crate::ours;
 use crate::random::Random;
@@ -7,8 +7,7 @@ use theirs::original::COUNT;
 
 const MIXED: usize = 300_000;
 
-/// Reads a batch, so many times over, and writes the canonical texts that there is room for, and a number for each
-/// error.
+/// Reads a batch in a number of rounds, and writes the canonical texts that fit, and a number for each error.
 type Read = fn(usize, &[u8], &[u32], &mut [u8], &mut [u8]) -> bool;
 
 /// Lists of bytes, one after another.
@@ -116,7 +115,7 @@ fn push_separator(random: &mut Random, list: &mut Vec<u8>) {
     list.push(if random.below(8) == 0 { b'_' } else { b'-' });
 }
 
-/// Whether a later part has 4 to 8 bytes, and is no script directly behind the language.
+/// Whether a later part has 4 to 8 bytes, and is no script directly after the language.
 fn may_have_variant(list: &[u8]) -> bool {
     let parts = list.split(|&byte| byte == b'-' || byte == b'_');
     parts.enumerate().skip(1).any(|(i, part)| {

@@ -1,5 +1,5 @@
-//! The tables of bench/cargo: the calls of tinystr-proved beside the original's, both inlined in a Rust program, of lists and
-//! of one value at a time; and look-ups in its packed tables beside those of Rust's own sets.
+//! The tables of bench/cargo: the calls of tinystr-proved compared with the original's, both inlined in a Rust program, over
+//! lists and over one value at a time; and look-ups in its packed tables compared with those of Rust's own sets.
 
 mod batch;
 mod callgrind;
@@ -78,7 +78,7 @@ impl Bench {
         }
     }
 
-    /// Looks for keys in so many records.
+    /// Looks up keys in a number of records.
     fn take_searches(&mut self, random: &mut Random, records: usize) {
         let tree: BTreeSet<[u8; 8]> = std::iter::repeat_with(|| record(random)).take(records).collect();
         let sorted: Vec<[u8; 8]> = tree.iter().copied().collect();
@@ -90,16 +90,16 @@ impl Bench {
                 .map(|_| if random.below(2) < there { sorted[random.below(sorted.len())] } else { record(random) })
                 .collect();
             let count = |contains: &dyn Fn(&[u8; 8]) -> bool, rounds: usize| (0..rounds).map(|_| keys.iter().filter(|key| contains(key)).count()).sum();
-            let told = |count: usize, answers: &mut Answers| {
+            let reported = |count: usize, answers: &mut Answers| {
                 answers.codes[0] = count as u32;
                 true
             };
             if self.only.as_ref().is_none_or(|only| table.contains(only.as_str())) {
                 self.measure.take(&Row { table: &table, call, column: String::new(), values: KEYS, rounds: 1 }, &[
-                    (HERE, &|rounds, answers| told(searches::count(&bytes, &keys, rounds), answers)),
-                    ("slice::binary_search", &|rounds, answers| told(count(&|key| sorted.binary_search(key).is_ok(), rounds), answers)),
-                    ("HashSet", &|rounds, answers| told(count(&|key| hashed.contains(key), rounds), answers)),
-                    ("BTreeSet", &|rounds, answers| told(count(&|key| tree.contains(key), rounds), answers)),
+                    (HERE, &|rounds, answers| reported(searches::count(&bytes, &keys, rounds), answers)),
+                    ("slice::binary_search", &|rounds, answers| reported(count(&|key| sorted.binary_search(key).is_ok(), rounds), answers)),
+                    ("HashSet", &|rounds, answers| reported(count(&|key| hashed.contains(key), rounds), answers)),
+                    ("BTreeSet", &|rounds, answers| reported(count(&|key| tree.contains(key), rounds), answers)),
                 ]);
             }
         }

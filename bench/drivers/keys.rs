@@ -1,6 +1,6 @@
 //! Times maps, a sort and other calls by keys of two to eight letters, as the program of keys.txt does with the same
 //! keys, and prints a line for each type's time, as the other drivers do. The argument is a file with what that program
-//! printed. A `String` stands for a JSON value, and a `HashMap` has a hasher like the kit's.
+//! printed. A `String` represents a JSON value, and a `HashMap` has a hasher like the kit's.
 
 mod folding;
 
@@ -130,7 +130,7 @@ fn keys<K: Key>(count: usize, last: u8) -> Vec<K> {
     (0..count).map(|_| key()).collect()
 }
 
-/// What was done with a type of key, the nanoseconds of all of it in the least round, and a sum of what was answered.
+/// What was done with a type of key, the nanoseconds of all of it in the least round, and a sum of the results.
 struct Row {
     key: String,
     call: String,
@@ -224,7 +224,7 @@ fn time_sort<K: Key>(key: &str) -> Row {
     row
 }
 
-/// Tells the order of the keys.
+/// A number that depends on the order of the keys.
 fn digest<K: Key>(keys: &[K]) -> u64 {
     let letters = keys.iter().flat_map(|key| key.letters().bytes());
     letters.fold(0, |sum: u64, letter| sum.wrapping_mul(31).wrapping_add(u64::from(letter)))
@@ -274,7 +274,7 @@ fn sum_from_values<K: Key>(values: &[String]) -> u64 {
     values.iter().map(|value| u64::from(last(&K::of(value)))).sum()
 }
 
-/// Call by call. All types have the same answers.
+/// Call by call. All types have the same results.
 fn print_all(rows: &[Row]) {
     for first in rows.iter().filter(|row| row.key == rows[0].key) {
         let of_call: Vec<&Row> = rows.iter().filter(|row| row.call == first.call).collect();

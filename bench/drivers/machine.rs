@@ -1,6 +1,6 @@
-//! How busy the machine is, of /proc/loadavg.
+//! How busy the machine is, by /proc/loadavg.
 
-/// How many programs run now beside this one; none where the file can't be read.
+/// The number of other programs that run now; 0 where the file can't be read.
 pub fn others() -> f64 {
     let line = std::fs::read_to_string("/proc/loadavg").unwrap_or_default();
     let running = line.split(' ').nth(3).and_then(|word| word.split('/').next()?.parse().ok());

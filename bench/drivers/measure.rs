@@ -1,10 +1,10 @@
-//! What is taken of each row: times, or the instructions that callgrind counts.
+//! What is measured of each row: times, or the instructions that callgrind counts.
 
 use crate::callgrind;
 use crate::row::{Answers, Contender, Row};
 use crate::times::Timer;
 
-/// Of a call in one count: more take long, and say no more.
+/// The rounds of a call in one count. More rounds take longer, and give the same count of each.
 const COUNTED_ROUNDS: usize = 10;
 
 pub enum Measure {
@@ -21,8 +21,8 @@ impl Measure {
         }
     }
 
-    /// Takes the figures of each crate's call, and prints a line for each time. The counts with no round and with some are
-    /// named by what such a line begins with, the values of a round, and the rounds.
+    /// Measures each crate's call, and prints a line for each time. The name of a count, with no round or with some, is the
+    /// beginning of such a line, the values of a round, and the rounds.
     pub fn take(&mut self, row: &Row, contenders: &[Contender]) {
         let contenders = row.answered_alike(contenders);
         match self {

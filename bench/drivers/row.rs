@@ -1,9 +1,9 @@
-//! A row of a table, the calls whose figures stand in it, and what they answer.
+//! A row of a table, the calls that are measured in it, and their results.
 
 use std::fmt::{self, Display};
 use theirs::original::COUNT;
 
-/// What a call gives of a batch.
+/// The results of a call for a batch.
 #[derive(Clone, PartialEq)]
 pub struct Answers {
     pub texts: Vec<u8>,
@@ -23,10 +23,10 @@ pub type Whose = &'static str;
 pub const HERE: Whose = "here";
 pub const THERE: Whose = "there";
 
-/// A call with a batch, so many times over; false where there is no such call.
+/// A call with a batch, in a number of rounds; it returns false where there is no such call.
 pub type Contender<'a> = (Whose, &'a dyn Fn(usize, &mut Answers) -> bool);
 
-/// Where figures stand, how many values a round answers, and how many rounds are timed together.
+/// The place of the measurements, the number of values in a round, and the number of rounds that are timed together.
 pub struct Row<'a> {
     pub table: &'a str,
     pub call: &'a str,
@@ -36,7 +36,7 @@ pub struct Row<'a> {
 }
 
 impl Row<'_> {
-    /// The contenders that have the call. The first has it, and what the others answer is compared with its answers.
+    /// The contenders that have the call. The first has it, and the others' results are compared with its results.
     pub fn answered_alike<'a>(&self, contenders: &[Contender<'a>]) -> Vec<Contender<'a>> {
         let mut having: Vec<(Contender, Answers)> = vec![];
         for contender in contenders {

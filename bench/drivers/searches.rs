@@ -3,7 +3,7 @@
 use tinystr::TinyStr8;
 use tinystr::packed::{SortedTable, Table};
 
-/// Counts the keys that are in the table of these records, so many times over.
+/// Counts the keys that are in the table of these records, in each round again.
 #[inline(never)]
 pub fn count(records: &[u8], keys: &[[u8; 8]], rounds: usize) -> usize {
     let table = SortedTable::new(Table::<8>::new(records).unwrap()).unwrap();

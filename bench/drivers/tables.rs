@@ -21,11 +21,11 @@ const BUILDING_ROUNDS: usize = 3;
 /// A set of few records is built several times in a round, until about this number of records is reached.
 const RECORDS: usize = 100_000;
 
-// What the program times beside keys, and two orders of keys: in the second each key depends on the last record.
+// What the program measures other than look-ups, and two orders of keys: in the second each key depends on the last record.
 const BYTES: &str = "bytes a record";
 const BUILD: &str = "build, a record";
 const OPEN: &str = "open, a record";
-const PRESENT: &str = "by chance, there";
+const PRESENT: &str = "random, there";
 const DEPENDENT: &str = "random, there, dependent";
 
 // A `HashSet` with a hasher like the kit's, and with std's own.
@@ -65,7 +65,7 @@ fn next(state: u64) -> u64 {
     state ^ (state << 17)
 }
 
-/// One of so many ranks, as the program has them.
+/// One of `count` ranks, as the program has them.
 fn rank(state: u64, count: u64) -> u64 {
     let first = 1 << (state % u64::from(64 - count.leading_zeros()));
     first + (state >> 20) % first
@@ -73,17 +73,17 @@ fn rank(state: u64, count: u64) -> u64 {
 
 /// The number of a key, as the program has it.
 fn number(order: &str, turn: u64, state: u64, run: u64, count: u64) -> u64 {
-    let rising = turn * 2 * count / KEYS;
+    let ascending = turn * 2 * count / KEYS;
     match order {
         PRESENT | DEPENDENT => (state >> 20) % count * 2,
-        "by chance, not there" => (state >> 20) % count * 2 + 1,
-        "all in order" => rising,
-        "in order, by chance" => rising + (state >> 20) % (2 * count / KEYS).max(1),
+        "random, not there" => (state >> 20) % count * 2 + 1,
+        "ascending" => ascending,
+        "ascending, random gaps" => ascending + (state >> 20) % (2 * count / KEYS).max(1),
         "each record in order" => turn % count * 2,
-        "falling" => 2 * count - 1 - rising,
+        "descending" => 2 * count - 1 - ascending,
         "in runs of 1,000" => (run >> 20) % (2 * count),
         "by Zipf" => rank(state, count) * 611_953 % count * 2,
-        "two far apart by turns" => [2, 2 * count - 4][turn as usize % 2],
+        "two far apart, alternating" => [2, 2 * count - 4][turn as usize % 2],
         _ => panic!("no order {order}"),
     }
 }
@@ -182,7 +182,7 @@ impl Row<'_> {
     }
 }
 
-/// Checks that the program found as many of the same keys by each search, and in one table at the same places.
+/// Checks that each search of the program found the same number of the same keys, and in one table at the same places.
 fn check_sums(rows: &[Row]) {
     for (index, row) in rows.iter().enumerate() {
         for other in rows[..index].iter().filter(|other| other.keys() == row.keys()) {
@@ -195,7 +195,7 @@ fn check_sums(rows: &[Row]) {
 
 fn print_table<const N: usize>(rows: &[Row], count: u64) {
     let table = format!("{N} bytes, {count} records");
-    let print = |order: &str, whose: &str, figure: f64| println!("{table}|{order}|{count}|{whose}|{figure:.3}");
+    let print = |order: &str, whose: &str, number: f64| println!("{table}|{order}|{count}|{whose}|{number:.3}");
     let print_checked = |row: &Row, whose: &str, (nanos, sum): (f64, u64), wanted: u64| {
         assert_eq!(sum, wanted, "{table}, {}: {whose}", row.order);
         print(row.order, whose, nanos);

@@ -1,4 +1,4 @@
-//! The calls that are timed beside the library's. They are a crate of their own, so that their code can be moved as the
+//! The calls that the library's are compared with. They are a crate of their own, so that their code can be relocated as the
 //! library's is.
 
 pub mod by_hand;

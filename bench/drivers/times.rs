@@ -1,4 +1,4 @@
-//! Times one call of several crates in turns.
+//! Times one call of several crates, alternating.
 
 use crate::machine;
 use crate::row::{Answers, Contender, Row};
@@ -11,12 +11,12 @@ const TURNS: usize = 25;
 pub struct Timer {
     /// By how much the third least time of a call was above its least.
     spreads: Vec<f64>,
-    /// How many programs ran beside this one at each turn.
+    /// The number of other programs that ran at each turn.
     others: Vec<f64>,
 }
 
 impl Timer {
-    /// The nanoseconds a value of each: the least times of many turns, without what a call costs with no round.
+    /// The nanoseconds of each for a value: the least times of many turns, less the time of a call with no round.
     pub fn time(&mut self, row: &Row, contenders: &[Contender]) -> Vec<f64> {
         let mut answers = Answers::new();
         let mut taken = vec![[vec![], vec![]]; contenders.len()];
@@ -42,7 +42,7 @@ impl Timer {
         (busy[0] - idle[0]).max(1.0)
     }
 
-    /// Prints how many programs ran beside this one on average, and by how much the third least time of a call was above
+    /// Prints how many other programs ran on average, and by how much the third least time of a call was above
     /// its least, in the median and at most.
     pub fn print(mut self) {
         if self.spreads.is_empty() {

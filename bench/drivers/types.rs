@@ -1,4 +1,4 @@
-//! The tables of bench/types: both crates' values beside what one would use instead.
+//! The tables of bench/types: both crates' values compared with what one would use instead.
 
 // only mixed texts are taken here
 #[allow(dead_code)]

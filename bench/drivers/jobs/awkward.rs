@@ -1,4 +1,4 @@
-//! What is rare and hard, over sorted arrays, the original crate and unic-langid.
+//! Rare and difficult inputs, over sorted arrays, the original crate and unic-langid.
 
 use crate::codes::long_code;
 use crate::digest::Digest;

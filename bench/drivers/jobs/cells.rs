@@ -8,7 +8,7 @@ pub struct Cells {
 }
 
 impl Cells {
-    /// Ends a cell behind its bytes.
+    /// Ends a cell after its bytes.
     pub fn end(&mut self) {
         self.ends.push(self.bytes.len());
     }

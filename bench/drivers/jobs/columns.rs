@@ -119,7 +119,7 @@ fn read_records<const N: usize>(texts: &[TinyAsciiStr<N>], random: &mut Random, 
 fn change<const N: usize>(texts: &[TinyAsciiStr<N>], digest: &mut Digest) -> Vec<TinyAsciiStr<N>> {
     let mut changed = vec![];
     for text in texts {
-        // the original says false of the empty text at some capacities
+        // the original returns false for the empty text at some capacities
         let uppercase = text.is_empty() || text.is_ascii_alphabetic_uppercase();
         digest.add(
             u64::from(text.is_ascii_alphabetic())

@@ -2,7 +2,7 @@
 
 use tinystr::{ParseError, TinyAsciiStr};
 
-/// A number that all results went into, by the step of FxHash.
+/// A number computed from all results, by the step of FxHash.
 pub struct Digest {
     state: u64,
 }
@@ -30,7 +30,7 @@ impl Digest {
         self.add_bytes(text.all_bytes());
     }
 
-    /// Where a key is, or where it would stand.
+    /// The place of a key, or that where it would be inserted.
     pub fn add_place(&mut self, place: Result<usize, usize>) {
         self.add(match place {
             Ok(index) => index as u64,

@@ -93,7 +93,7 @@ fn swap_case(line: &mut [u8], bits: u64) {
     }
 }
 
-/// An identifier without variants: these are refused, though unic-langid reads them.
+/// An identifier without variants. unic-langid reads variants too; here they are an error.
 pub fn read(line: &[u8]) -> Result<LanguageIdentifier, ParserError> {
     match LanguageIdentifier::from_bytes(line) {
         Ok(id) if id.variants().len() == 0 => Ok(id),
@@ -138,7 +138,7 @@ fn take_apart(ids: &[LanguageIdentifier], digest: &mut Digest) {
     }
 }
 
-/// By this the identifiers stand in the order of their texts, where unic-langid's own compares all scripts first.
+/// A key that orders identifiers by their texts. unic-langid's own order compares scripts before regions.
 fn text_key(id: &LanguageIdentifier) -> (Language, u32, u32) {
     let region = id.region.map_or(0, |region| u32::from(region).to_be());
     match id.script {

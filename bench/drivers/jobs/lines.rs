@@ -148,7 +148,7 @@ fn write_truth(out: &mut Vec<u8>, truth: bool) -> io::Result<()> {
     out.write_all(if truth { b"true" } else { b"false" })
 }
 
-/// The original says false of the empty text at some capacities.
+/// The original returns false for the empty text at some capacities.
 fn write_cased<const N: usize>(
     out: &mut Vec<u8>,
     text: TinyAsciiStr<N>,

@@ -1,5 +1,5 @@
-//! The jobs of crates/workloads as a Rust user writes them: `jobs JOB SEED ROUNDS` does one of them so many times, on the
-//! same input, and prints the same digest of all results. `all` does each.
+//! The jobs of crates/workloads as a Rust user writes them: `jobs JOB SEED ROUNDS` does one of them ROUNDS times, on the same
+//! input, and prints the same digest of all results. `all` does each.
 
 mod awkward;
 mod cells;

@@ -22,7 +22,7 @@ impl Random {
         (self.bits() as u32 % bound) as usize
     }
 
-    /// Whether a chance of so many in a hundred came.
+    /// True with a probability of `percent` in a hundred.
     pub fn chance(&mut self, percent: usize) -> bool {
         self.below(100) < percent
     }
@@ -33,7 +33,7 @@ impl Random {
     }
 }
 
-/// Appends so many letters, at most eight, that stand side by side among the given ones.
+/// Appends `len` consecutive letters of the given ones, at most eight.
 pub fn push_word(bytes: &mut Vec<u8>, random: &mut Random, letters: &[u8; 64], len: usize) {
     let start = (random.bits() % 56) as usize;
     bytes.extend_from_slice(&letters[start..start + len.min(8)]);

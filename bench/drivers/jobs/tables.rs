@@ -40,14 +40,14 @@ pub fn pack_sorted<const N: usize>(codes: &[[u8; N]]) -> Vec<u8> {
     sorted.into_flattened()
 }
 
-/// The codes of a file, if each is a padded text and they rise.
+/// The codes of a file, if each is a padded text and they are strictly ascending.
 pub fn open<const N: usize>(file: &[u8]) -> Option<&[[u8; N]]> {
     let (codes, rest) = file.as_chunks::<N>();
     let valid = rest.is_empty() && codes.iter().all(|code| TinyAsciiStr::try_from_raw(*code).is_ok());
     (valid && codes.is_sorted_by(|a, b| a < b)).then_some(codes)
 }
 
-/// The codes that begin so.
+/// The codes that begin with `beginning`.
 pub fn with_prefix<'a, const N: usize>(sorted: &'a [[u8; N]], beginning: &[u8]) -> &'a [[u8; N]] {
     let rest = &sorted[sorted.partition_point(|code| &code[..] < beginning)..];
     &rest[..rest.partition_point(|code| code.starts_with(beginning))]

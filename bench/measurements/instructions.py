@@ -1,6 +1,6 @@
 #!/usr/bin/env -S python3 -B
-"""Reads what callgrind counted of a driver, and prints a line for each crate's call: its place in the tables, and the
-instructions a value, without what the call costs with no round.
+"""Reads callgrind's counts of a driver, and prints a line for each crate's call: its place in the tables, and the instructions
+for a value, less those of a call with no round.
 """
 
 import sys

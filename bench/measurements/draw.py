@@ -1,4 +1,4 @@
-"""Draws a plot as SVG, by matplotlib. The colours can be told apart by the colour-blind."""
+"""Draws a plot as SVG, by matplotlib. Colour-blind readers can distinguish the colours."""
 
 import re
 from io import StringIO
@@ -12,12 +12,12 @@ from matplotlib.colors import LinearSegmentedColormap, TwoSlopeNorm
 from matplotlib.figure import Figure
 from matplotlib.ticker import LogLocator, NullLocator
 
-from figures.plot import BLUE, GREY, ORANGE, Bars, HeatMap, Line, Lines, Plot
+from measurements.plot import BLUE, GREY, ORANGE, Bars, HeatMap, Line, Lines, Plot
 
 COLORS = {BLUE: "#0072b2", ORANGE: "#c04f00", GREY: "#6e7781"}
 MUTED, FAINT = "#57606a", "#c9ced4"
 
-# Colours of ratios. Black text is legible on the strongest, which is of all ratios beyond these bounds.
+# Colours of ratios. Ratios beyond these bounds have the strongest, on which black text is legible.
 FASTER_TO_SLOWER = LinearSegmentedColormap.from_list("ratios", ["#5aa9e6", "#ffffff", "#f0883e"])
 SHADES = TwoSlopeNorm(0, log(0.06), log(2.2))
 
@@ -29,9 +29,8 @@ SETTINGS = {
 }  # fmt: skip
 METADATA = dict.fromkeys(["Creator", "Date", "Format", "Type"])
 
-# What makes a file smaller and shows the same: no comments, no rotation by 0, no names of shapes, no name of a font but
-# sans-serif, no group of a single text, two digits after a point outside of texts, and no line breaks in
-# paths.
+# Replacements that make a file smaller and show the same: no comments, no rotation by 0, no names of shapes, no name of a font
+# but sans-serif, no group of a single text, two digits after a point outside of texts, and no line breaks in paths.
 SMALLER = [
     (r"<!--.*?-->| transform=\"rotate\(-?0 .*?\)\"| id=\"(?:text|patch|line2d)_\d+\"|'DejaVu Sans', ", ""),
     (r"<g>\s*(<text.*?</text>)\s*</g>", r"\1"),
@@ -42,11 +41,11 @@ SMALLER = [
 
 
 def spread(places: list[float], step: float) -> list[float]:
-    """The places moved apart, so that no two are nearer than a step."""
-    moved = list(places)
+    """Increases places where needed, so that no two are closer than a step."""
+    placed = list(places)
     for before, after in pairwise(sorted(range(len(places)), key=places.__getitem__)):
-        moved[after] = max(moved[after], moved[before] + step)
-    return moved
+        placed[after] = max(placed[after], placed[before] + step)
+    return placed
 
 
 def draw_line(axes: Axes, line: Line) -> None:
@@ -57,7 +56,7 @@ def draw_line(axes: Axes, line: Line) -> None:
 
 
 def draw_panel(axes: Axes, plot: Lines, title: str, bounds: tuple[float, float], step: float) -> None:
-    """The labels of lines are at least a step apart, which is a share of the height."""
+    """The labels of lines are at least `step` apart, as a fraction of the height."""
     axes.set(yscale="log", ylim=bounds, xlabel=plot.x_label, ylabel=plot.y_label)
     axes.set_title(title, loc="left", fontsize=9, fontweight="bold")
     axes.set_xticks(range(len(plot.x)), plot.x)

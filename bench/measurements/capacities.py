@@ -1,17 +1,17 @@
 """The picture of README: how the ratios of all calls change with the capacity, on full texts."""
 
-from figures.figures import Figures
-from figures.plot import BLUE, GREY, ORANGE, Line, Lines
-from figures.ratios import CAPACITIES, FAILING, ratios_of_kind
-from figures.tables import geometric
+from measurements.plot import BLUE, GREY, ORANGE, Line, Lines
+from measurements.ratios import CAPACITIES, FAILING, ratios_of_kind
+from measurements.results import Results
+from measurements.tables import geometric
 
-# The calls whose lines have names, beside their mean and the question that fails.
+# The calls whose lines have names. The mean and the question that fails have names too.
 NAMED = ["Hash", "try_from_utf8", "to_ascii_lowercase"]
 
 
-def capacities_plot(figures: Figures) -> Lines:
-    rows = {call: list(row.values()) for call, row in ratios_of_kind(figures, "full").items()}
-    failing = list(ratios_of_kind(figures, "failing")[FAILING].values())
+def capacities_plot(results: Results) -> Lines:
+    rows = {call: list(row.values()) for call, row in ratios_of_kind(results, "full").items()}
+    failing = list(ratios_of_kind(results, "failing")[FAILING].values())
     means = [geometric(ratios) for ratios in zip(*rows.values())]
     slowest = max(failing)
     lines = [Line("", GREY, row) for call, row in rows.items() if call not in NAMED]

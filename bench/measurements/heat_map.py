@@ -1,8 +1,8 @@
 """Heat maps of ratios: a row for each call, full texts on the left and mixed ones on the right, a column for each capacity, and
-the mean in a last column and in a last row."""
+means in the last column and in the last row."""
 
-from figures.plot import HeatMap
-from figures.tables import geometric
+from measurements.plot import HeatMap
+from measurements.tables import geometric
 
 KINDS = ["full", "mixed"]
 MEAN = "geometric mean"
@@ -12,7 +12,7 @@ Rows = dict[str, dict[str, dict[str, float]]]
 
 
 def means_of(rows: Rows) -> list[list[float]]:
-    """Of each kind, those of each capacity and of all, over the rows that have both kinds of texts."""
+    """For each kind the means of each capacity and of all, over the rows that have both kinds of texts."""
     both = [row for row in rows.values() if len(row) == len(KINDS)]
     ratios = [[list(row[kind].values()) for row in both] for kind in KINDS]
     return [[*map(geometric, zip(*of_kind)), geometric(sum(of_kind, []))] for of_kind in ratios]

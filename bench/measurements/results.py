@@ -1,11 +1,11 @@
-"""The figures that the drivers print, a line each, or that a CSV file keeps."""
+"""The results of measurements: lines that the drivers print, or a CSV file."""
 
 import csv
 from collections import defaultdict
-from collections.abc import Iterable
+from collections.abc import Callable, Iterable
+from operator import itemgetter
+from pathlib import Path
 from statistics import median
-from typing import TextIO
-
 
 # Whose times they are: this crate's, the Rust crate's or those of a program over it, and this crate's of an older commit.
 HERE = "here"
@@ -17,9 +17,9 @@ Cell = tuple[str, str, str]
 COLUMNS = ["run", "table", "call", "column", "whose", "nanoseconds", "instructions"]
 
 
-class Figures:
-    """Of each cell, which is a table, a call and a column, and of each crate: the time of each run, the least of the
-    places of its code, and the instructions, where they were counted.
+class Results:
+    """By cell and by crate the time of each run, which is the least over the positions of the code, and the instructions, where
+    they were counted.
     """
 
     def __init__(self) -> None:
@@ -37,7 +37,7 @@ class Figures:
     def read_times(self, lines: Iterable[str]) -> None:
         for line in lines:
             fields = line.rstrip("\n").split("|")
-            run, _place, kind = fields[:3]
+            run, _position, kind = fields[:3]
             if kind == "note":
                 if fields[3] not in self.notes:
                     self.notes.append(fields[3])
@@ -52,23 +52,24 @@ class Figures:
             *cell, whose, count = line.rstrip("\n").split("|")
             self.instructions[tuple(cell)][whose] = float(count)
 
-    def read_csv(self, lines: Iterable[str]) -> None:
-        lines = list(lines)
-        self.head = [line[2:].rstrip("\n") for line in lines if line.startswith("# ")]
+    def read_csv(self, path: Path) -> None:
+        lines = path.read_text().splitlines()
+        self.head = [line[2:] for line in lines if line.startswith("# ")]
         for row in csv.DictReader(line for line in lines if not line.startswith("#")):
             cell = row["table"], row["call"], row["column"]
             self.add(row["run"], cell, row["whose"], row["nanoseconds"])
             if row["instructions"]:
                 self.instructions[cell][row["whose"]] = float(row["instructions"])
 
-    def write_csv(self, file: TextIO) -> None:
-        file.writelines(f"# {line}\n" for line in self.head)
-        out = csv.writer(file, lineterminator="\n")
-        out.writerow(COLUMNS)
-        for cell, of_crates in self.times.items():
-            for whose, of_runs in of_crates.items():
-                instructions = self.instructions[cell].get(whose, "")
-                out.writerows([run, *cell, whose, time, instructions] for run, time in of_runs.items())
+    def write_csv(self, path: str) -> None:
+        with open(path, "w", newline="") as file:
+            file.writelines(f"# {line}\n" for line in self.head)
+            out = csv.writer(file, lineterminator="\n")
+            out.writerow(COLUMNS)
+            for cell, of_crates in self.times.items():
+                for whose, of_runs in of_crates.items():
+                    instructions = self.instructions[cell].get(whose, "")
+                    out.writerows([run, *cell, whose, time, instructions] for run, time in of_runs.items())
 
     def tables(self) -> list[str]:
         return list(dict.fromkeys(cell[0] for cell in self.times))
@@ -91,5 +92,18 @@ class Figures:
         return [here[run] / there[run] for run in here]
 
     def ratio(self, cell: Cell, rival: str, whose: str = HERE) -> float:
-        """The ratio of the medians. It lies between the least and the most of the runs' ratios."""
+        """The ratio of the medians. It lies between the least and the largest of the runs' ratios."""
         return self.time(cell, whose) / self.time(cell, rival)
+
+    def ratios_by_call(self, cells: Iterable[Cell]) -> dict[str, dict[str, float]]:
+        """The ratios to the Rust crate, by call and column."""
+        rows = by_call(cells)
+        return {call: {column: self.ratio(cell, THERE) for column, cell in row.items()} for call, row in rows.items()}
+
+
+def by_call(cells: Iterable[Cell], column_of: Callable[[Cell], str] = itemgetter(2)) -> dict[str, dict[str, Cell]]:
+    """The cells by call and column. Of two cells with the same call and column, the first counts."""
+    rows = {}
+    for cell in cells:
+        rows.setdefault(cell[1], {}).setdefault(column_of(cell), cell)
+    return rows

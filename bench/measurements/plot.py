@@ -1,5 +1,5 @@
-"""What a picture shows, as data. draw.py draws a picture from this alone. The last line of the picture's file has a digest of
-both, so that bench/report finds a picture that is out of date, or edited by hand, without matplotlib."""
+"""The content of a picture, as data, from which draw.py draws it. The last line of the picture's file has a digest of the content
+and of the drawing, so that bench/report finds a picture that is out of date, or edited by hand, without matplotlib."""
 
 import json
 from dataclasses import asdict, dataclass
@@ -10,7 +10,7 @@ MARK = "<!-- bench/report {} -->\n"
 # Colours. Orange lines are dashed too.
 BLUE, ORANGE, GREY = "blue", "orange", "grey"
 
-# What bars are, in a note.
+# A note that says what bars are.
 RANGES = "A bar is the median of all runs; its black line goes from the fastest run to the slowest."
 
 
@@ -22,11 +22,11 @@ class Plot:
     note: str
 
     def alt(self) -> str:
-        """For those who don't see the picture."""
+        """The text for readers who don't see the picture."""
         return f"{self.title}. {self.note}"
 
     def digest(self, drawing: str) -> str:
-        """Numbers count with six digits, since the last digits of a logarithm differ between machines."""
+        """Numbers have six digits in it, since the last digits of a logarithm differ between machines."""
         shown = json.loads(json.dumps(asdict(self)), parse_float=lambda number: f"{float(number):.6g}")
         return sha256((json.dumps(shown) + drawing).encode()).hexdigest()
 
@@ -34,7 +34,7 @@ class Plot:
         return drawing + MARK.format(self.digest(drawing))
 
     def is_drawn(self, file: str) -> bool:
-        """Whether the file is a marked drawing of this."""
+        """Whether the file is a marked drawing of this plot."""
         drawing = file[: file.rfind(MARK[:4])]
         return file == self.marked(drawing)
 
@@ -62,7 +62,7 @@ class Lines(Plot):
 
 @dataclass(frozen=True)
 class Bars(Plot):
-    """Of each group a bar for each series, with its least value, its median and its largest one."""
+    """A bar for each group and series, with its least value, its median and its largest one."""
 
     x_label: str
     series: dict[str, str]  # a name, and its colour
@@ -71,7 +71,7 @@ class Bars(Plot):
 
 @dataclass(frozen=True)
 class HeatMap(Plot):
-    """Of each row of a block the ratios in each column of each section, or no ratios there."""
+    """The ratios of each row of a block in the columns of each section; a row may have none in a section."""
 
     x_label: str
     sections: list[str]

@@ -1,1 +1,0 @@
-"""Takes the figures of bench/, keeps them, and makes tables, pages and pictures of them."""

@@ -1,0 +1,1 @@
+"""Takes measurements, keeps them, and makes tables, pages and pictures of them."""

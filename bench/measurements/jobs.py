@@ -1,0 +1,34 @@
+"""Whole jobs, by bench/run: their table and their picture."""
+
+from measurements.plot import BLUE, ORANGE, RANGES, Bars
+from measurements.results import HERE, START, THERE, Cell, Results
+from measurements.tables import aligned, range_text, ratio_and_spread
+
+SECOND = 1e9
+SERIES = {"this crate": (HERE, BLUE), "a Rust program over the Rust crate": (THERE, ORANGE)}
+WORK = {
+    "identifiers": "read, sort, print", "tables": "pack, search, unpack", "columns": "read, change, print",
+    "lists": "split, change, join", "lines": "parse, execute, answer", "awkward": "rare, difficult inputs",
+}  # fmt: skip
+
+
+def jobs_table(results: Results) -> str:
+    """The medians of all turns in seconds, and the ratios of this crate's to the others."""
+    lines = [["seconds", "start", "now", "now / start", "Rust program", "now / Rust program"]]
+    for cell in results.times:
+        start, now, rust = (f"{results.time(cell, whose) / SECOND:.2f}" for whose in (START, HERE, THERE))
+        lines.append([cell[1], start, now, ratio_and_spread(results, cell, START), rust, ratio_and_spread(results, cell, THERE)])
+    return aligned(lines)
+
+
+def jobs_plot(results: Results) -> Bars:
+    def seconds(cell: Cell, whose: str) -> tuple[float, ...]:
+        return tuple(nanos / SECOND for nanos in results.range(cell, whose))
+
+    return Bars(
+        title=f"A whole job takes {range_text(results, results.times, THERE)} of the time of a Rust program that does the same",
+        note=RANGES,
+        x_label="seconds",
+        series={name: color for name, (_, color) in SERIES.items()},
+        groups={f"{cell[1]}:\n{WORK[cell[1]]}": [seconds(cell, whose) for whose, _ in SERIES.values()] for cell in results.times},
+    )
