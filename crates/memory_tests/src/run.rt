@@ -1,4 +1,4 @@
-//! `run` writes nothing where memory is refused, and tells of a failed read first.
+//! `run` writes nothing if an allocation fails, and reports a failed read first.
 
 use std::io::{self, ErrorKind, Read, Write};
 use std::test::Fail;
@@ -41,7 +41,7 @@ impl Read for BrokenReader<'_> {
     }
 }
 
-// The input is kept by one request, whose refusal is told at once. All others are for replies.
+// One allocation is for the input, and its failure is reported immediately. All others are for replies.
 #[test]
 fn a_failed_read_is_told_before_a_refused_reply(rt: HostRuntime) -> Result<(), Fail> {
     let mut room = [0u8; OUTPUT.len()];

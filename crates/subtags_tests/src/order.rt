@@ -21,7 +21,7 @@ fn subtags_compare_as_their_texts(rt: HostRuntime) {
     assert!(rt; are_in_order::<Region>("001 419 DE US"));
 }
 
-/// Whether the words are values, each less than those behind it.
+/// Whether the words are values, each less than those after it.
 fn are_in_order<T: FromStr<Err = LangIdError> + Ord + Drop>(words: &str) -> bool {
     for (i, first) in words.split_whitespace().enumerate() {
         for (j, second) in words.split_whitespace().enumerate() {
@@ -70,7 +70,7 @@ fn a_hash_set_holds_each_value_once(rt: HostRuntime) -> Result<(), Fail> {
     Ok(())
 }
 
-/// Whether a set of the spellings holds two values, and among them the one that is asked for.
+/// Whether a set of the spellings holds two values, and one of them is that of the other spelling.
 fn are_of_two_values<T: FromStr<Err = LangIdError> + Eq + Hash + Copy>(
     alloc: Global,
     spellings: &[&str],

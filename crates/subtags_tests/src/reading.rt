@@ -1,4 +1,4 @@
-//! Identifiers, read and refused.
+//! Identifiers, read and rejected.
 
 use subtags::{LangId, LangIdError};
 
@@ -15,7 +15,7 @@ fn accepted_inputs_give_their_canonical_text(rt: HostRuntime) {
     }
 }
 
-/// Whether what stands before the `=` is read, its text is what stands behind it, and this is read back as the same.
+/// Whether the input before the `=` is read, its text follows the `=`, and this text is read back as the same.
 fn is_read_as_its_text(row: &str) -> bool {
     let Some((input, text)) = row.split_once('=') else {
         return false;
@@ -54,7 +54,7 @@ fn a_dash_and_an_underscore_separate_and_no_other_byte(rt: HostRuntime) {
 }
 
 /// Whether the byte between a language and a region, and between a script and a region, separates as it should. A letter
-/// behind the language makes a language of five.
+/// after the language makes a language of five.
 fn is_cut_rightly(byte: u8) -> bool {
     let separates = byte == b'-' || byte == b'_';
     let behind_language = LangId::try_from_utf8(&[b'e', b'n', byte, b'U', b'S']);

@@ -110,7 +110,7 @@ fn has_len(map: &HashedMap<'_, 3, 2>, len: usize) -> bool {
         && map.values().len() == len
 }
 
-// Keys and values, each with the fault for which they are refused.
+// Keys and values, each with the fault for which they are rejected.
 const REFUSED: &[(&[u8], &[u8], HashedMapError)] = &[
     // keys that aren't a hashed table
     (b"", b"", Keys(Header { len: 0 })),

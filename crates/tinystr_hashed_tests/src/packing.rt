@@ -182,7 +182,7 @@ fn a_text_that_occurs_twice_is_named(rt: HostRuntime) -> Result<(), Fail> {
     Ok(())
 }
 
-/// Whether the words are refused, since this one occurs twice.
+/// Whether the words are rejected, since this one occurs twice.
 fn is_refused<const N: usize>(alloc: Global, words: &[&str], word: &str) -> bool
     requires positive { 0 < N }
     requires sized { N < 2 ^ 62 }

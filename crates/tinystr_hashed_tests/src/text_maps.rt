@@ -113,7 +113,7 @@ fn has_len(map: &HashedTextMap<'_, 3, 2>, len: usize) -> bool {
         && map.values().len() == len
 }
 
-// Keys and values, each with the fault for which they are refused.
+// Keys and values, each with the fault for which they are rejected.
 const REFUSED: &[(&[u8], &[u8], HashedTextMapError)] = &[
     // keys that aren't a hashed table
     (b"", b"", Keys(Header { len: 0 })),

@@ -1,4 +1,4 @@
-//! Why bytes aren't a sorted table or a map: each case told apart from the others, and printed.
+//! Why bytes aren't a sorted table or a map: each case differs from the others, and is printed.
 
 use std::alloc::{AllocError, Global};
 use std::fmt::Debug;

@@ -105,7 +105,7 @@ fn entries_come_in_the_order_of_their_keys(rt: HostRuntime) {
     }
 }
 
-/// Whether the map's entries are the first of the five, and the iterator tells each time how many are left.
+/// Whether the map's entries are the first of the five, and the iterator reports each time the number of those that follow.
 fn has_entries(keys: &[u8], values: &[u8], len: usize) -> bool {
     let Ok(map) = PackedMap::<3, 2>::new(keys, values) else {
         return false;
@@ -125,7 +125,7 @@ fn has_entries(keys: &[u8], values: &[u8], len: usize) -> bool {
     entries.size_hint() == (0, Some(0)) && entries.next().is_none()
 }
 
-// Keys and values, each with the fault for which they are refused.
+// Keys and values, each with the fault for which they are rejected.
 const REFUSED: &[(&[u8], &[u8], MapError)] = &[
     // keys that aren't packed
     (b"CHFE", b"\x01\x02", Keys(Length { len: 4 })),
@@ -146,7 +146,7 @@ const REFUSED: &[(&[u8], &[u8], MapError)] = &[
             fault: NonAscii,
         }),
     ),
-    // that, though they don't rise either and the values are too few
+    // the same, though they aren't ascending either and the values are too few
     (
         b"EURCHF\0US",
         b"\x01",
@@ -155,7 +155,7 @@ const REFUSED: &[(&[u8], &[u8], MapError)] = &[
             fault: ContainsNull,
         }),
     ),
-    // keys that don't rise
+    // keys that aren't ascending
     (
         b"EURCHF",
         b"\x01\x02\x03\x04",

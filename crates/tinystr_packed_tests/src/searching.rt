@@ -130,17 +130,17 @@ fn each_byte_tells_longer_texts_apart(rt: HostRuntime) {
     }
 }
 
-/// Whether of two texts of `N` letters, of which one has the greater letter at any one place and the lesser behind it,
-/// that one comes second alone.
-fn are_told_apart_at_each_place<const N: usize>() -> bool
+/// Whether of two texts of `N` letters, of which one has the greater letter at any one place and lesser ones after it,
+/// only that one may come second.
+fn are_ordered_at_each_place<const N: usize>() -> bool
     requires positive { 0 < N }
     requires room { N ≤ 32 }
 {
     for at in 0..N {
         let (mut first, mut second) = ([b'a'; N], [b'a'; N]);
         second[at] = b'b';
-        for behind in at + 1..N {
-            first[behind] = b'z';
+        for later in at + 1..N {
+            first[later] = b'z';
         }
         if !is_sorted(&first, &second) || is_sorted(&second, &first) {
             return false;
@@ -162,14 +162,14 @@ fn is_sorted<const N: usize>(first: &[u8; N], second: &[u8; N]) -> bool
     }
 }
 
-/// Whether texts are told apart at each place, at each of the capacities.
-macro_rules! are_told_apart {
+/// Whether texts are ordered by each place, at each of the capacities.
+macro_rules! are_ordered {
     ($($capacity:literal)*) => {
-        true $(&& are_told_apart_at_each_place::<$capacity>())*
+        true $(&& are_ordered_at_each_place::<$capacity>())*
     };
 }
 
 #[test]
 fn each_byte_tells_texts_of_each_width_apart(rt: HostRuntime) {
-    assert!(rt; are_told_apart!(1 2 3 4 5 6 7 8 9 12 15 16 17 24 31 32));
+    assert!(rt; are_ordered!(1 2 3 4 5 6 7 8 9 12 15 16 17 24 31 32));
 }

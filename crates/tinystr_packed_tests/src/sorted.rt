@@ -21,7 +21,7 @@ fn bytes_of_texts_that_rise_are_a_sorted_table(rt: HostRuntime) {
     }
 }
 
-/// Whether the file has these words, each with a `|` behind it.
+/// Whether the file has these words, each with a `|` after it.
 fn is_table_of(file: &[u8], words: &str) -> bool {
     let Ok(sorted) = SortedTable::<3>::from_bytes(file) else {
         return false;
@@ -36,7 +36,7 @@ fn is_table_of(file: &[u8], words: &str) -> bool {
     texts.next().is_none()
 }
 
-// Bytes, each with the fault for which they are refused.
+// Bytes, each with the fault for which they are rejected.
 const REFUSED: &[(&[u8], SortedError)] = &[
     (b"CHFE", Records(Length { len: 4 })),
     (b"CH", Records(Length { len: 2 })),

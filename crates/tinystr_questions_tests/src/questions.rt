@@ -12,7 +12,7 @@ use tinystr_words::word::Word;
 /// An answer to each question, in the order of `Row::answers`.
 pub type Answers = [bool; 9];
 
-/// The questions: `$asked!` of each one's method, and of what it asks of a first byte and of each later one.
+/// The questions: `$answer!` of each one's method, and of its conditions on a first byte and on each later one.
 macro_rules! each_question {
     ($asked:ident, $of:expr) => {
         [

@@ -1,4 +1,4 @@
-//! The cases of each error: told apart, cloned and printed.
+//! The cases of each error: compared, cloned and printed.
 
 use crate::printed::is_printed;
 use std::alloc::AllocError;

@@ -47,7 +47,7 @@ fn bytes_that_are_a_text_become_it(rt: HostRuntime) -> Result<(), Fail> {
     Ok(())
 }
 
-// Whether the bytes are refused as too many at 3, and the fault tells their number.
+// Whether the bytes are rejected as too many at 3, and the fault has their number.
 fn are_too_many(bytes: &[u8]) -> bool {
     let len = bytes.len();
     Unvalidated::<3>::try_from_utf8(bytes) == Err(ParseError::TooLong { max: 3, len })

@@ -1,4 +1,4 @@
-//! Tables and maps that one is handed.
+//! Tables and maps as parameters.
 
 use std::alloc::Global;
 use std::collections::BTreeMap;
@@ -169,7 +169,7 @@ fn is_unpacked(alloc: Global, keys: &[u8], len: usize) -> bool {
     }
 }
 
-/// Whether so many of the four keys have their values, and the others none.
+/// Whether the first `len` of the four keys have their values, and the others none.
 fn has_first(made: &BTreeMap<TinyAsciiStr<3>, [u8; 1]>, len: usize) -> bool {
     for (index, (code, value)) in ENTRIES.iter().enumerate() {
         let value = if index < len { Some(*value) } else { None };

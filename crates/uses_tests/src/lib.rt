@@ -1,5 +1,5 @@
-//! The tests of `uses`: each caller on what it finds and what it refuses, each refusal told by its case. They stand
-//! apart from it, since a crate with tests is proved once more with them.
+//! The tests of `uses`: each caller on what it finds and what it rejects, with the case of each error. They are a crate of
+//! their own, since a crate with tests is proved once more with them.
 #![tactic(auto)]
 
 #[cfg(test)]

@@ -1,4 +1,4 @@
-//! Texts, asked and changed through their `str`.
+//! Texts, tested and changed through their `str`.
 
 use std::alloc::Global;
 use std::test::Fail;

@@ -6,22 +6,22 @@ use texts_of_tests::neighbours::{self, COUNT};
 use texts_of_tests::table::table_rows;
 use tinystr::{ParseError, TinyAsciiStr, UnvalidatedTinyAsciiStr};
 
-// Whether the text is read from its padded form, with these bytes behind it as the rest.
-fn is_read_before<const N: usize>(text: TinyAsciiStr<N>, behind: &[u8]) -> bool {
+// Whether the text is read from its padded form, and these bytes after it are returned as the remainder.
+fn is_read_before<const N: usize>(text: TinyAsciiStr<N>, after: &[u8]) -> bool {
     let mut input = [0; 64];
-    let len = N.saturating_add(behind.len());
+    let len = N.saturating_add(after.len());
     if len > 64 {
         return false;
     }
     input[..N].copy_from_slice(text.all_bytes());
-    input[N..len].copy_from_slice(behind);
+    input[N..len].copy_from_slice(after);
     match TinyAsciiStr::<N>::read_bytes(&input[..len]) {
-        Ok((read, rest)) => read == text && rest == behind,
+        Ok((read, rest)) => read == text && rest == after,
         Err(_) => false,
     }
 }
 
-// Whether the text comes back from JSON, and from its byte form where three bytes that no text has stand behind it.
+// Whether the text comes back from JSON, and from its byte form followed by three bytes that no text has.
 fn is_read_again<const N: usize>(text: TinyAsciiStr<N>, alloc: Global) -> Result<bool, AllocError> {
     let json = text.to_json(alloc)?;
     Ok(

@@ -1,4 +1,4 @@
-//! The JSON form of both types, there and back and refused.
+//! The JSON form of both types, written, read and rejected.
 
 use serde_json::Value;
 use std::alloc::Global;

@@ -8,7 +8,7 @@ use tinystr::ParseError::{self, ContainsNull, NonAscii, TooLong};
 use tinystr::forms::BytesReadError;
 use tinystr::{TinyAsciiStr, TinyStr4, TinyStr8, TinyStr16, tinystr};
 
-// Whether the reader took exactly this text, or refused for this fault.
+// Whether the reader returned exactly this text, or this fault.
 fn is_read<const N: usize>(
     read: Result<TinyAsciiStr<N>, ParseError>,
     expected: Result<&str, ParseError>,
@@ -115,14 +115,14 @@ fn sixteen_bit_units_are_compared_before_they_are_narrowed(rt: HostRuntime) {
     }
 }
 
-// Whether the letters are too many for the capacity of the value given, and the fault tells both numbers.
+// Whether the letters are too many for the capacity of the value given, and the fault has both numbers.
 fn are_too_many<const N: usize>(letters: &[u8], _like: TinyAsciiStr<N>) -> bool {
     let len = letters.len();
     TinyAsciiStr::<N>::try_from_utf8(letters) == Err(TooLong { max: N, len })
 }
 
 #[test]
-fn large_numbers_of_units_are_told_whole(rt: HostRuntime) {
+fn large_numbers_of_units_are_reported_whole(rt: HostRuntime) {
     let letters = [b'a'; 65_537];
     for len in [301, 65_537] {
         let letters = &letters[..len];
@@ -191,7 +191,7 @@ fn letters_but(byte: u8, at: usize) -> [u8; 100] {
     bytes
 }
 
-// Whether a bad byte there, in so many letters, is refused and replaced.
+// Whether a bad byte there, among `len` letters, is rejected and replaced.
 fn is_found(byte: u8, fault: ParseError, at: usize, len: usize) -> bool {
     let bytes = letters_but(byte, at);
     let text = letters_but(127, at);
@@ -209,7 +209,7 @@ fn a_bad_byte_is_found_at_each_position_of_each_length(rt: HostRuntime) {
     }
 }
 
-// Whether a bad byte there, in so many of a hundred letters, is refused and replaced.
+// Whether a bad byte there, among the first `len` of a hundred letters, is rejected and replaced.
 fn is_found_in_a_hundred(at: usize, len: usize) -> bool {
     if len > 100 {
         return false;
@@ -236,7 +236,7 @@ fn a_bad_byte_is_found_at_each_position_of_a_hundred(rt: HostRuntime) {
     );
 }
 
-// Whether a code unit above 127 is refused and replaced there, in so many letters.
+// Whether a code unit above 127 is rejected and replaced there, among `len` letters.
 fn is_found_wide(unit: u16, at: usize, len: usize) -> bool {
     let mut units = [0x61; 40];
     if at >= 40 || len > 40 {
@@ -301,8 +301,8 @@ fn are_refused<const N: usize>(bytes: [u8; N], raw: ParseError, form: BytesReadE
     is_refused && is_no_byte_form(bytes, form)
 }
 
-// Whether the raw reader and that of the byte form refuse a byte above 127 at each position, and a letter after NULs,
-// with and without a letter in front of these.
+// Whether the raw reader and that of the byte form reject a byte above 127 at each position, and a letter after NULs,
+// with and without a letter before these.
 fn are_refused_at_each_position<const N: usize>() -> bool
     requires { N < 2 ^ 62 }
 {
@@ -332,7 +332,7 @@ fn padded_bytes_are_refused_for_a_bad_byte_at_each_position(rt: HostRuntime) {
     assert!(rt; are_refused_at_each_position::<100>());
 }
 
-// Whether the raw reader takes letters of each number with NULs behind them.
+// Whether the raw reader takes each number of letters, followed by NULs.
 fn are_read_at_each_length<const N: usize>() -> bool
     requires { N < 2 ^ 62 }
 {
@@ -401,7 +401,7 @@ fn lossy_readers_replace_each_bad_unit(rt: HostRuntime) {
     assert!(rt; is_read(Ok(cut), Ok("a??")));
 }
 
-// Whether the lossy readers at the capacity of the value given read twenty of the byte as so many of the character.
+// Whether the lossy readers at the capacity of the value given read each of twenty such bytes as the character.
 fn are_read_as<const N: usize>(byte: u8, character: u8, _like: TinyAsciiStr<N>) -> bool {
     let text = [character; 20];
     let text = &text[..N.min(20)];
@@ -425,7 +425,7 @@ fn lossy_readers_replace_each_byte_that_is_no_character(rt: HostRuntime) {
     }
 }
 
-// Whether as many code units as the capacity of the value given are read whole.
+// Whether code units that fill the capacity of the value given are read whole.
 fn is_filled<const N: usize>(_like: TinyAsciiStr<N>) -> bool {
     let letters = b"abcdefghijklmnopqrstuvwxyzABCDEFGHIJKLMN";
     if N > 40 {
