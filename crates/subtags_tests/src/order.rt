@@ -38,8 +38,8 @@ fn are_in_order<T: FromStr<Err = LangIdError> + Ord + Drop>(words: &str) -> bool
 
 fn compare_as<T: Ord>(a: &T, b: &T, order: Ordering) -> bool {
     let are_ordered = (a.cmp(b), a.partial_cmp(b)) == (order, Some(order));
-    let told = [a < b, a > b, a == b];
-    are_ordered && told == [order.is_lt(), order.is_gt(), order.is_eq()]
+    let found = [a < b, a > b, a == b];
+    are_ordered && found == [order.is_lt(), order.is_gt(), order.is_eq()]
 }
 
 #[test]
@@ -110,7 +110,7 @@ fn is_its_clone<T: Clone + PartialEq + Drop>(value: &T) -> bool {
 }
 
 #[test]
-fn errors_are_told_apart_and_cloned(rt: HostRuntime) {
+fn errors_are_distinct_and_cloned(rt: HostRuntime) {
     let (language, subtag) = (LangIdError::InvalidLanguage, LangIdError::InvalidSubtag);
     assert!(rt; language != subtag && is_its_clone(&language) && is_its_clone(&subtag));
 }

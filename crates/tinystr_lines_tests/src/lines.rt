@@ -83,7 +83,7 @@ fn a_line_is_whole_where_reads_cut_it(rt: HostRuntime) -> Result<(), Fail> {
 }
 
 #[test]
-fn a_text_longer_than_a_read_has_its_length_told(rt: HostRuntime) -> Result<(), Fail> {
+fn the_length_of_a_text_longer_than_a_read_is_reported(rt: HostRuntime) -> Result<(), Fail> {
     let input = with_letters(rt.alloc(), b"32 len ", 100_000)?;
     assert!(rt; output(rt.alloc(), &input)?.as_slice() == b"too long 100000 > 32\n".as_slice());
     Ok(())
@@ -183,7 +183,7 @@ fn a_capacity_is_spelled_in_one_way(rt: HostRuntime) -> Result<(), Fail> {
 }
 
 #[test]
-fn each_capacity_holds_as_many_characters_as_it_says(rt: HostRuntime) -> Result<(), Fail> {
+fn each_capacity_holds_its_number_of_characters(rt: HostRuntime) -> Result<(), Fail> {
     let rows = b"0 len aaaaaaaaaaaaaaaaaaaaaaaaaaaaaaaaa\ttoo long 33 > 0
 1 len aaaaaaaaaaaaaaaaaaaaaaaaaaaaaaaaa\ttoo long 33 > 1
 2 len aaaaaaaaaaaaaaaaaaaaaaaaaaaaaaaaa\ttoo long 33 > 2
@@ -273,7 +273,7 @@ fn each_command_calls_its_own_function(rt: HostRuntime) -> Result<(), Fail> {
 }
 
 #[test]
-fn the_lossy_reader_refuses_nothing(rt: HostRuntime) -> Result<(), Fail> {
+fn the_lossy_reader_rejects_nothing(rt: HostRuntime) -> Result<(), Fail> {
     let rows = b"2 lossy toolong\tto
 0 lossy abc\t
 4 lossy\t

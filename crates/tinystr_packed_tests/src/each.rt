@@ -60,9 +60,9 @@ struct Course {
 }
 impl Course {
     /// The number of a key of those below a number.
-    fn number(&self, turn: usize, below: usize) -> usize {
-        let more = if self.is_uneven { turn / 3 } else { 0 };
-        let way = turn.saturating_add(more).saturating_mul(self.step) % below.max(1);
+    fn number(&self, index: usize, below: usize) -> usize {
+        let more = if self.is_uneven { index / 3 } else { 0 };
+        let way = index.saturating_add(more).saturating_mul(self.step) % below.max(1);
         let far = if self.is_descending {
             below.saturating_sub(way)
         } else {
@@ -103,8 +103,8 @@ fn keys<const N: usize>(
 ) -> Result<Vec<TinyAsciiStr<N>>, AllocError> {
     let below = texts.saturating_mul(2).saturating_add(3);
     let mut keys = Vec::new(alloc);
-    for turn in 0..count {
-        if let Some(text) = text::<N>(course.number(turn, below), is_grouped) {
+    for index in 0..count {
+        if let Some(text) = text::<N>(course.number(index, below), is_grouped) {
             keys.push(text)?;
         }
     }
@@ -157,8 +157,8 @@ fn alternating<const N: usize>(
     is_grouped: bool,
 ) -> Result<Vec<TinyAsciiStr<N>>, AllocError> {
     let mut keys = Vec::new(alloc);
-    for turn in 0..19usize {
-        let number = if turn % 2 == 0 { first } else { second };
+    for index in 0..19usize {
+        let number = if index % 2 == 0 { first } else { second };
         if let Some(text) = text::<N>(number, is_grouped) {
             keys.push(text)?;
         }

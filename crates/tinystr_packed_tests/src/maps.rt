@@ -126,7 +126,7 @@ fn has_entries(keys: &[u8], values: &[u8], len: usize) -> bool {
 }
 
 // Keys and values, each with the fault for which they are rejected.
-const REFUSED: &[(&[u8], &[u8], MapError)] = &[
+const REJECTED: &[(&[u8], &[u8], MapError)] = &[
     // keys that aren't packed
     (b"CHFE", b"\x01\x02", Keys(Length { len: 4 })),
     (b"CH", b"", Keys(Length { len: 2 })),
@@ -193,13 +193,13 @@ const REFUSED: &[(&[u8], &[u8], MapError)] = &[
 ];
 
 #[test]
-fn keys_are_refused_first_then_their_order_then_the_values(rt: HostRuntime) {
-    for (keys, bytes, fault) in REFUSED {
-        assert!(rt; is_refused(keys, bytes, *fault), "{fault:?}");
+fn keys_are_rejected_first_then_their_order_then_the_values(rt: HostRuntime) {
+    for (keys, bytes, fault) in REJECTED {
+        assert!(rt; is_rejected(keys, bytes, *fault), "{fault:?}");
     }
 }
 
-fn is_refused(keys: &[u8], values: &[u8], fault: MapError) -> bool {
+fn is_rejected(keys: &[u8], values: &[u8], fault: MapError) -> bool {
     match PackedMap::<3, 2>::new(keys, values) {
         Ok(_) => false,
         Err(found) => found == fault,

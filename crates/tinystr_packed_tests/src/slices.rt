@@ -37,7 +37,7 @@ fn has_ends(file: &[u8], first: Option<&str>, last: Option<&str>) -> bool {
 }
 
 #[test]
-fn each_text_stands_at_its_index(rt: HostRuntime) {
+fn each_text_is_at_its_index(rt: HostRuntime) {
     for (index, text) in TEXTS.lines().enumerate() {
         assert!(rt; is_at(index, text), "{text}");
     }

@@ -134,7 +134,7 @@ fn are_first(map: &TextMap<'_, 2, 3>, len: usize) -> bool {
 }
 
 // Keys and values, each with the fault for which they are rejected.
-const REFUSED: &[(&[u8], &[u8], TextMapError)] = &[
+const REJECTED: &[(&[u8], &[u8], TextMapError)] = &[
     (b"CHE", b"CHF", Keys(Records(Length { len: 3 }))),
     (
         b"CH\0E",
@@ -197,13 +197,13 @@ const REFUSED: &[(&[u8], &[u8], TextMapError)] = &[
 ];
 
 #[test]
-fn keys_are_refused_first_then_the_values_then_their_number(rt: HostRuntime) {
-    for (keys, bytes, fault) in REFUSED {
-        assert!(rt; is_refused(keys, bytes, *fault), "{fault:?}");
+fn keys_are_rejected_first_then_the_values_then_their_number(rt: HostRuntime) {
+    for (keys, bytes, fault) in REJECTED {
+        assert!(rt; is_rejected(keys, bytes, *fault), "{fault:?}");
     }
 }
 
-fn is_refused(keys: &[u8], values: &[u8], fault: TextMapError) -> bool {
+fn is_rejected(keys: &[u8], values: &[u8], fault: TextMapError) -> bool {
     match TextMap::<2, 3>::new(keys, values) {
         Ok(_) => false,
         Err(found) => found == fault,

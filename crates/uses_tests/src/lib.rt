@@ -17,8 +17,6 @@ mod currency;
 #[cfg(test)]
 mod cutting;
 #[cfg(test)]
-mod handed;
-#[cfg(test)]
 mod joining;
 #[cfg(test)]
 mod json;
@@ -30,6 +28,8 @@ mod literals;
 mod locale;
 #[cfg(test)]
 mod packed;
+#[cfg(test)]
+mod parameters;
 #[cfg(test)]
 mod preconditions;
 #[cfg(test)]

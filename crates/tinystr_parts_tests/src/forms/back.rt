@@ -42,7 +42,7 @@ fn texts_come_back_from_each_form(rt: HostRuntime) -> Result<(), Fail> {
     Ok(())
 }
 
-fn is_read_whatever_stands_behind<const N: usize>(text: TinyAsciiStr<N>) -> bool {
+fn is_read_whatever_follows<const N: usize>(text: TinyAsciiStr<N>) -> bool {
     is_read_before(text, b"")
         && is_read_before(text, b"\0")
         && is_read_before(text, b"\x80")
@@ -54,7 +54,7 @@ fn is_read_whatever_stands_behind<const N: usize>(text: TinyAsciiStr<N>) -> bool
 fn comes_back<const N: usize>(text: TinyAsciiStr<N>) -> bool {
     let bytes = text.to_bytes();
     let niche = TinyAsciiStr::<N>::niche_bit_pattern();
-    is_read_whatever_stands_behind(text)
+    is_read_whatever_follows(text)
         && TinyAsciiStr::try_from_utf8(text.as_utf8()) == Ok(text)
         && TinyAsciiStr::try_from_raw(bytes) == Ok(text)
         && text.to_unvalidated().try_into_tinystr() == Ok(text)
@@ -75,7 +75,7 @@ fn comes_back_at_each_capacity(text: neighbours::Text) -> bool {
 }
 
 #[test]
-fn padded_forms_come_back_whatever_stands_behind_them(rt: HostRuntime) -> Result<(), Fail> {
+fn padded_forms_come_back_whatever_follows_them(rt: HostRuntime) -> Result<(), Fail> {
     let texts = neighbours::texts(rt.alloc())?;
     assert_eq!(rt; texts.len(), COUNT);
     for text in texts {

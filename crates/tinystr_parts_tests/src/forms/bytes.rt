@@ -35,16 +35,16 @@ fn bytes_at_the_start_are_read_and_the_remainder_is_returned(rt: HostRuntime) {
     assert!(rt; is_text_at_start::<2>(b"abcdefghijklmnopqrstuvwxyz", "ab", rest));
 }
 
-fn is_refused(input: &[u8], refusal: BytesReadError) -> bool {
+fn is_rejected(input: &[u8], expected: BytesReadError) -> bool {
     match TinyAsciiStr::<4>::read_bytes(input) {
         Ok(_) => false,
-        Err(fault) => fault == refusal,
+        Err(fault) => fault == expected,
     }
 }
 
 #[test]
-fn bytes_are_refused_for_their_first_fault(rt: HostRuntime) {
-    for (input, refusal) in [
+fn bytes_are_rejected_for_their_first_fault(rt: HostRuntime) {
+    for (input, expected) in [
         (b"\0\x80\0\0".as_slice(), BytesReadError::Null),
         (b"\0a\x80\0", BytesReadError::Null),
         (b"a\x80\0b", BytesReadError::NonAscii),
@@ -59,7 +59,7 @@ fn bytes_are_refused_for_their_first_fault(rt: HostRuntime) {
         (b"\x80", BytesReadError::NonAscii),
         (b"\0a", BytesReadError::Null),
     ] {
-        assert!(rt; is_refused(input, refusal), "{input:?}");
+        assert!(rt; is_rejected(input, expected), "{input:?}");
     }
 }
 
