@@ -58,6 +58,7 @@ struct Course {
     is_uneven: bool,
     is_descending: bool,
 }
+
 impl Course {
     /// The number of a key of those below a number.
     fn number(&self, index: usize, below: usize) -> usize {

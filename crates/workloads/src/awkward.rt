@@ -191,7 +191,11 @@ fn near_identifier(random: &mut Random) -> ([u8; 48], usize) {
         if random.with_probability(30) {
             break;
         }
-        bytes[end] = if random.with_probability(80) { b'-' } else { b'_' };
+        bytes[end] = if random.with_probability(80) {
+            b'-'
+        } else {
+            b'_'
+        };
         end += 1;
     }
     (bytes, end)
