@@ -142,7 +142,7 @@ fn longer_texts<const N: usize>(
 
 /// Whether these texts of a file are found, one of them with `~` after it has its place, and those that begin as one of them
 /// does are counted.
-fn are_found<const N: usize>(file: &[u8], texts: &[TinyAsciiStr<N>]) -> bool
+fn are_found_and_counted<const N: usize>(file: &[u8], texts: &[TinyAsciiStr<N>]) -> bool
     requires some { 0 < N }
     requires bound { N < 2 ^ 62 }
 {
@@ -172,7 +172,7 @@ fn are_longer_found<const N: usize>(alloc: Global, texts: &[Text], counts: &[usi
         return false;
     };
     match pack_sorted(alloc, &longer) {
-        Ok(file) => are_found(&file, &longer),
+        Ok(file) => are_found_and_counted(&file, &longer),
         Err(_) => false,
     }
 }
