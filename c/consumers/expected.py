@@ -44,7 +44,7 @@ def langid(word):
     return INVALID_SUBTAG if is_language else INVALID_LANGUAGE, 0, b""
 
 
-def refused(word):
+def fault_of(word):
     """The code and the value of a word that is no text of the capacity; no word has a NUL."""
     if len(word) > CAPACITY:
         return TOO_LONG, len(word)
@@ -53,7 +53,7 @@ def refused(word):
 
 
 def line(word, table, places):
-    fault = refused(word)
+    fault = fault_of(word)
     code, value, text = langid(word)
     said = [b"langid %d %d [%s]" % (code, value, text)]
     said.append(b"upper %d %d [%s]" % (*(fault or (OK, len(word))), b"" if fault else word.upper()))
@@ -80,7 +80,7 @@ def main():
     data = hashed.packed(table, CAPACITY, groups=len(table) // 4 + 1)
     (folder / "hashed").write_bytes(data)
     places = {record.rstrip(b"\0"): place for place, record in enumerate(hashed.records_of(data, CAPACITY))}
-    keys = [word for word in words if not refused(word)]
+    keys = [word for word in words if not fault_of(word)]
     wanted = [b"records %d" % len(table), b"hashed %d %d" % hashed.checked(data, CAPACITY)]
     wanted.append(b"without the last %d %d" % hashed.checked(data[:-CAPACITY], CAPACITY))
     wanted += [line(word, table, places) for word in words]

@@ -15,7 +15,7 @@ const COUNT: usize = 1024;
 const BATCHES: usize = 3000;
 const BYTE_LISTS: usize = 20_000;
 
-/// Subtags, what is nearly one, and what stands between them.
+/// Subtags, what is nearly one, and separators.
 const PIECES: [&[u8]; 24] = [
     b"en", b"zh", b"EN", b"und", b"abcde", b"abcdefgh", b"Hant", b"latn", b"TW", b"us", b"419", b"-", b"_", b"--", b"", b"x",
     b"1", b"\x80", b"\0", b"abcd", b"posix", b"1a", b"@[`{", b"-",

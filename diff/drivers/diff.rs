@@ -124,7 +124,7 @@ fn padded(texts: &[Vec<u8>], n: usize) -> Vec<u8> {
     bytes
 }
 
-/// Asks each question of each text, and changes it to each case.
+/// Compares the answer to each question about each text, and the text in each case.
 fn ask(count: &mut Count, n: usize, texts: &[Vec<u8>]) {
     for texts in texts.chunks(COUNT) {
         let bytes = padded(texts, n);
@@ -150,9 +150,9 @@ fn ask(count: &mut Count, n: usize, texts: &[Vec<u8>]) {
 fn print(count: &mut Count, n: usize, forms: &[usize], lists: &[Vec<u8>]) {
     for lists in lists.chunks(COUNT) {
         let values = padded(lists, n);
-        let room = lists.len() * (9 + 6 * n);
+        let most = lists.len() * (9 + 6 * n);
         for &form in forms {
-            let mut printed = [vec![0u8; room], vec![0u8; room]];
+            let mut printed = [vec![0u8; most], vec![0u8; most]];
             let mut ends = [vec![u64::MAX; lists.len()], vec![u64::MAX; lists.len()]];
             assert!(ours::print(n, form, 1, &values, &mut printed[0], &mut ends[0]));
             assert!(original::print(n, form, 1, &values, &mut printed[1], &mut ends[1]));

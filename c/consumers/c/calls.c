@@ -147,22 +147,22 @@ static tinystr_result each_in_six(const void *keys, size_t keys_len, tinystr_res
     return tinystr_sorted_search_each(six, 18, 3, keys, keys_len, out, out_len);
 }
 
-/* Some of seventeen keys, with room for their answers, for more, and for fewer; and keys that aren't records. */
+/* Some of seventeen keys, with an `out` of the same length, a longer and a shorter one; and keys that aren't records. */
 static void many_keys(void) {
-    enum { KEYS = 17, ROOM = KEYS + 2 };
+    enum { KEYS = 17, OUT_LEN = KEYS + 2 };
     static const char keys[] = "JPYEURUSDCADGB\0GBP\0\0\0EUREURCHFZ\0\0AUDCZKEURC\0\0USDGB";
     static const size_t counts[] = {0, 1, 7, 8, 9, 16, KEYS};
-    tinystr_result out[ROOM];
+    tinystr_result out[OUT_LEN];
     size_t k, i;
     CHECK(sizeof six == 19 && sizeof keys == 3 * KEYS);
     for (k = 0; k < sizeof counts / sizeof *counts; k++) {
         size_t count = counts[k];
-        fill(out, ROOM);
+        fill(out, OUT_LEN);
         for (i = 0; i < count; i++) CHECK(is(each_in_six(keys, 3 * count, out, i), TINYSTR_NO_ROOM, count));
-        CHECK(are_filled(out, 0, ROOM));
-        CHECK(is(each_in_six(keys, 3 * count, out, count), TINYSTR_OK, count) && are_filled(out, count, ROOM));
-        fill(out, ROOM);
-        CHECK(is(each_in_six(keys, 3 * count, out, ROOM), TINYSTR_OK, count) && are_filled(out, count, ROOM));
+        CHECK(are_filled(out, 0, OUT_LEN));
+        CHECK(is(each_in_six(keys, 3 * count, out, count), TINYSTR_OK, count) && are_filled(out, count, OUT_LEN));
+        fill(out, OUT_LEN);
+        CHECK(is(each_in_six(keys, 3 * count, out, OUT_LEN), TINYSTR_OK, count) && are_filled(out, count, OUT_LEN));
         for (i = 0; i < count; i++) {
             tinystr_result r = tinystr_sorted_search(six, 18, 3, keys + 3 * i, strnlen(keys + 3 * i, 3));
             CHECK((r.code == TINYSTR_OK || r.code == TINYSTR_NOT_FOUND) && is(out[i], r.code, r.value));
@@ -172,17 +172,17 @@ static void many_keys(void) {
     CHECK(is(out[0], TINYSTR_OK, 3) && is(out[1], TINYSTR_NOT_FOUND, 5) && is(out[2], TINYSTR_NOT_FOUND, 6));
     CHECK(is(tinystr_sorted_search_each("", 0, 3, keys, 27, out, 9), TINYSTR_OK, 9));
     for (i = 0; i < 9; i++) CHECK(is(out[i], TINYSTR_NOT_FOUND, 0));
-    fill(out, ROOM);
-    CHECK(is(each_in_six(keys, 50, out, ROOM), TINYSTR_BAD_LENGTH, 50));
-    CHECK(is(each_in_six("EURE\0RZ\0\0", 9, out, ROOM), TINYSTR_NUL, 1));
+    fill(out, OUT_LEN);
+    CHECK(is(each_in_six(keys, 50, out, OUT_LEN), TINYSTR_BAD_LENGTH, 50));
+    CHECK(is(each_in_six("EURE\0RZ\0\0", 9, out, OUT_LEN), TINYSTR_NUL, 1));
     CHECK(is(each_in_six("EURJPYE\xff" "R", 9, out, 2), TINYSTR_NON_ASCII, 2));
     CHECK(is(tinystr_sorted_search_each(six, 18, 5, "EURJP", 4, out, 0), TINYSTR_BAD_ARGUMENT, 5));
-    CHECK(are_filled(out, 0, ROOM));
+    CHECK(are_filled(out, 0, OUT_LEN));
 }
 
 /* Hashed tables of six texts each, with two displacements, as c/consumers/hashed.py makes and prints them: the capacity, the
  * number of bytes, the texts in order, and the header, the displacements and the records. */
-enum { HASHED_TEXTS = 6, HASHED_START = 24, HASHED_ROOM = 120 };
+enum { HASHED_TEXTS = 6, HASHED_START = 24, HASHED_MOST = 120 };
 static const struct hashed {
     size_t capacity, len;
     const char *texts[HASHED_TEXTS], *bytes;
@@ -244,7 +244,7 @@ static void whole_and_cut(const struct hashed *it) {
 /* In place of each record, another of the records, or none that is a padded text. */
 static void changed_records(const struct hashed *it) {
     size_t n = it->capacity, i;
-    uint8_t table[HASHED_ROOM], *records = table + HASHED_START;
+    uint8_t table[HASHED_MOST], *records = table + HASHED_START;
     for (i = 0; i < HASHED_TEXTS; i++) {
         memcpy(table, it->bytes, it->len);
         memcpy(records + n * i, records + n * ((i + 1) % HASHED_TEXTS), n);
@@ -260,7 +260,7 @@ static void changed_records(const struct hashed *it) {
 
 /* The check of the table of capacity 3 with another byte. */
 static tinystr_result with_byte(size_t index, uint8_t byte) {
-    uint8_t table[HASHED_ROOM];
+    uint8_t table[HASHED_MOST];
     memcpy(table, of_three->bytes, of_three->len);
     table[index] = byte;
     return tinystr_hashed_check(table, of_three->len, 3);
@@ -269,7 +269,7 @@ static tinystr_result with_byte(size_t index, uint8_t byte) {
 static void hashed(void) {
     static const char header[] = "\1\0\0\0\0\0\0\0\0\0\0\0\0\0\0\0", version[] = "\2\0\0\0\0\0\0\0\0\0\0\0\0\0\0\0EUR";
     size_t k;
-    uint8_t table[HASHED_ROOM];
+    uint8_t table[HASHED_MOST];
     for (k = 0; k < HASHED_TABLES; k++) {
         look_up(&hashed_tables[k]);
         whole_and_cut(&hashed_tables[k]);
@@ -327,7 +327,7 @@ static void orders_of_texts(void) {
     static const char faulty[] = "a\0b\xff" "efghijklmnopqrst";
     uint8_t out[20];
     memset(out, 7, sizeof out);
-    /* the language, the later subtags, the room */
+    /* the language, the later subtags, the length of `out` */
     CHECK(is(tinystr_langid("e-x", 3, out, sizeof out), TINYSTR_INVALID_LANGUAGE, 0));
     CHECK(is(tinystr_langid("e-x", 3, out, 0), TINYSTR_INVALID_LANGUAGE, 0));
     CHECK(is(tinystr_langid("e", 1, out, 0), TINYSTR_INVALID_LANGUAGE, 0));
@@ -402,7 +402,7 @@ static void orders_of_tables(void) {
     CHECK(is_range(tinystr_sorted_prefix(nul, 9, 3, "E\xffRO", 4), TINYSTR_TOO_LONG, 0, 0));
     CHECK(is_range(tinystr_sorted_prefix(length, 11, 3, "\0E\xff", 3), TINYSTR_NUL, 0, 0));
     CHECK(is_range(tinystr_sorted_prefix(length, 11, 3, "\0\xff" "E", 3), TINYSTR_NON_ASCII, 0, 0));
-    /* the capacity, the number of the keys' bytes, the first key that isn't a padded text, the room */
+    /* the capacity, the number of the keys' bytes, the first key that isn't a padded text, the length of `out` */
     CHECK(is(tinystr_sorted_search_each(length, 11, 5, length, 11, out, 0), TINYSTR_BAD_ARGUMENT, 5));
     CHECK(is(tinystr_sorted_search_each("EURJPY", 6, 1, "EUR", 3, out, 2), TINYSTR_BAD_ARGUMENT, 1));
     CHECK(is(tinystr_sorted_search_each("EURJPY", 6, 9, nul, 9, out, 0), TINYSTR_BAD_ARGUMENT, 9));
@@ -470,7 +470,7 @@ static uint32_t seed = 1;
 static uint8_t next_byte(void) { return (uint8_t)((seed = seed * 1664525u + 1013904223u) >> 24); }
 
 /* 20,000 tables of any bytes, which were never checked: no call reads a byte outside, and each answers a place inside. A
- * table begins behind a page that can't be read, or ends before one. */
+ * table begins after a page that can't be read, or ends before one. */
 static void unchecked_tables(void) {
     enum { MOST_KEYS = 17 };
     static const size_t capacities[] = {2, 3, 4, 8, 16};
@@ -523,8 +523,8 @@ static void unchecked_hashed(void) {
     CHECK(!munmap(pages, 3 * page));
 }
 
-/* Records that don't rise: one of them isn't found. */
-static void falling_tables(void) {
+/* Records that aren't ascending: one of them isn't found. */
+static void descending_tables(void) {
     tinystr_result r = tinystr_sorted_search("JPYEURCHF", 9, 3, "CHF", 3);
     tinystr_range found = tinystr_sorted_prefix("JPYEURCHF", 9, 3, "C", 1);
     tinystr_result out[9];
@@ -599,7 +599,7 @@ int main(void) {
     orders_of_hashed();
     unchecked_tables();
     unchecked_hashed();
-    falling_tables();
+    descending_tables();
     null_pointers();
     broken_calls();
     puts(has_failed ? "failed" : "passed");

@@ -56,26 +56,26 @@ static int one_in(size_t n) { return below(n) == 0; }
 
 /* ---- bytes */
 
-/* Two rooms of whole pages between pages that can't be read. */
-static uint8_t *rooms[2];
+/* Two buffers of a page each, between pages that can't be read. */
+static uint8_t *buffers[2];
 static size_t page;
 
-static void make_rooms(void) {
+static void make_buffers(void) {
     int k;
     page = (size_t)sysconf(_SC_PAGESIZE);
     for (k = 0; k < 2; k++) {
         uint8_t *pages = mmap(NULL, 3 * page, PROT_NONE, MAP_PRIVATE | MAP_ANONYMOUS, -1, 0);
         if (pages == MAP_FAILED || mprotect(pages + page, page, PROT_READ | PROT_WRITE)) exit(2);
-        rooms[k] = pages + page;
+        buffers[k] = pages + page;
     }
 }
 
-/* Bytes at the start or the end of a room, or between; of none NULL too. */
-static const uint8_t *placed(int room, const uint8_t *bytes, size_t len) {
+/* Bytes at the start or the end of a buffer, or between; of none NULL too. */
+static const uint8_t *placed(int buffer, const uint8_t *bytes, size_t len) {
     size_t left = page - len, start = one_in(3) ? 0 : one_in(2) ? left : below(left + 1);
     if (len == 0 && one_in(2)) return NULL;
-    memcpy(rooms[room] + start, bytes, len);
-    return rooms[room] + start;
+    memcpy(buffers[buffer] + start, bytes, len);
+    return buffers[buffer] + start;
 }
 
 static size_t any_len(void) { return one_in(4) ? below(MOST + 1) : below(20); }
@@ -358,7 +358,7 @@ static void show_bytes(const char *name, const uint8_t *bytes, size_t len) {
 static void show(const struct call *it, const struct answer *a, const struct answer *b) {
     show_bytes("first", it->first, it->first_len);
     show_bytes("second", it->second, it->second_len);
-    printf("    capacity %zu, size %zu, choice %lu, room %zu\n", it->number, it->size, (unsigned long)it->choice, it->out_len);
+    printf("    capacity %zu, size %zu, choice %lu, out_len %zu\n", it->number, it->size, (unsigned long)it->choice, it->out_len);
     printf("    code %lu and %lu", (unsigned long)a->code, (unsigned long)b->code);
     printf(", numbers %zu %zu and %zu %zu\n", a->first, a->second, b->first, b->second);
 }
@@ -399,10 +399,10 @@ int main(int argc, char **argv) {
     second = opened(argv[2]);
     count = (size_t)strtoull(argv[3], NULL, 10);
     state = argc > 4 ? strtoull(argv[4], NULL, 10) : 1;
-    make_rooms();
+    make_buffers();
     make_pool(&first);
     for (k = 0; k < count; k++) {
-        /* (the version alone is asked once) */
+        /* (only the version is called once) */
         enum function function = k == 0 ? VERSION : (enum function)(1 + k % (FUNCTIONS - 1));
         struct call it = any_call(function);
         static struct answer a, b;

@@ -41,7 +41,7 @@ static tinystr_result about(const uint8_t *word, size_t len) {
     return r;
 }
 
-static void all_at_once(const uint8_t *keys, const tinystr_result *alone, size_t count) {
+static void search_all(const uint8_t *keys, const tinystr_result *alone, size_t count) {
     tinystr_result *out = malloc((count + 1) * sizeof *out), r;
     size_t k, found = 0;
     if (!out) exit(2);
@@ -80,7 +80,7 @@ int main(int argc, char **argv) {
         count += r.code == TINYSTR_OK;
         start = end + 1;
     }
-    all_at_once(keys, alone, count);
+    search_all(keys, alone, count);
     free(keys);
     free(alone);
     free(words);

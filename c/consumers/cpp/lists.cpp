@@ -50,7 +50,7 @@ bool are_empty_accepted() {
 }
 
 // Searches all keys by one call. Of each it answers as one for it alone.
-bool all_at_once(std::string_view keys, const std::vector<tinystr_result> &alone, std::string_view table) {
+bool search_all(std::string_view keys, const std::vector<tinystr_result> &alone, std::string_view table) {
     std::vector<tinystr_result> out(alone.size() + 1);
     const tinystr_result r = tinystr_sorted_search_each(table.data(), table.size(), capacity, keys.data(), keys.size(), out.data(), out.size());
     std::size_t found = 0;
@@ -82,5 +82,5 @@ int main(int argc, char **argv) {
         keys += word + std::string(capacity - word.size(), '\0');
         alone.push_back(answer);
     }
-    return all_at_once(keys, alone, table) ? 0 : 1;
+    return search_all(keys, alone, table) ? 0 : 1;
 }

@@ -62,7 +62,7 @@ func check(out *bufio.Writer, name string, hashed []byte) {
 }
 
 // Searches all keys by one call. Of each it answers as one for it alone.
-func allAtOnce(out *bufio.Writer, keys []byte, alone []C.tinystr_result, table []byte) {
+func searchAll(out *bufio.Writer, keys []byte, alone []C.tinystr_result, table []byte) {
 	answers := make([]C.tinystr_result, len(alone)+1)
 	r := C.tinystr_sorted_search_each(pointer(table), size(table), capacity, pointer(keys), size(keys), &answers[0], C.size_t(len(answers)))
 	found := 0
@@ -89,7 +89,7 @@ func main() {
 	words, table, hashed := read(os.Args[1]), read(os.Args[2]), read(os.Args[3])
 	checked := C.tinystr_sorted_check(pointer(table), size(table), capacity)
 	if checked.code != C.TINYSTR_OK {
-		log.Fatal("the records don't rise")
+		log.Fatal("the records aren't strictly ascending")
 	}
 	out := bufio.NewWriter(os.Stdout)
 	defer out.Flush()
@@ -105,5 +105,5 @@ func main() {
 			alone = append(alone, r)
 		}
 	}
-	allAtOnce(out, keys, alone, table)
+	searchAll(out, keys, alone, table)
 }

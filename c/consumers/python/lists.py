@@ -57,7 +57,7 @@ def check(name, hashed):
     return b"%s %d %d\n" % (name, r.code, r.value)
 
 
-def all_at_once(keys, alone, table):
+def search_all(keys, alone, table):
     """Searches all keys by one call. Of each it answers as one for it alone."""
     packed, out = b"".join(key.ljust(CAPACITY, b"\0") for key in keys), (Result * len(keys))()
     r = sorted_search_each(table, len(table), CAPACITY, packed, len(packed), out, len(out))
@@ -81,7 +81,7 @@ def main():
         if r.code in (OK, NOT_FOUND):
             keys.append(word)
             alone.append(r)
-    sys.stdout.buffer.write(all_at_once(keys, alone, table))
+    sys.stdout.buffer.write(search_all(keys, alone, table))
 
 
 main()

@@ -44,10 +44,10 @@ fn check(out: &mut impl Write, name: &str, hashed: &[u8]) -> io::Result<()> {
 }
 
 /// Searches all keys by one call. Of each it answers as one for it alone.
-fn all_at_once(out: &mut impl Write, keys: &[[u8; CAPACITY]], alone: &[TinystrResult], table: &[u8]) -> io::Result<()> {
+fn search_all(out: &mut impl Write, keys: &[[u8; CAPACITY]], alone: &[TinystrResult], table: &[u8]) -> io::Result<()> {
     let mut answers = vec![TinystrResult { value: 0, code: 0 }; keys.len()];
     let r = tinystr::sorted_search_each(table, CAPACITY, keys.as_flattened(), &mut answers);
-    assert_eq!((r.code, r.value), (OK, keys.len()), "there is room for each answer");
+    assert_eq!((r.code, r.value), (OK, keys.len()), "`answers` holds the answer for each key");
     assert_eq!(answers, alone);
     let found = answers.iter().filter(|answer| answer.code == OK).count();
     writeln!(out, "keys {}, found {found}", r.value)
@@ -57,7 +57,7 @@ fn main() -> io::Result<()> {
     let files: Vec<String> = std::env::args().skip(1).collect();
     let (words, table, hashed) = (std::fs::read(&files[0])?, std::fs::read(&files[1])?, std::fs::read(&files[2])?);
     let checked = tinystr::sorted_check(&table, CAPACITY);
-    assert_eq!(checked.code, OK, "the records rise");
+    assert_eq!(checked.code, OK, "the records are strictly ascending");
     let mut out = io::stdout().lock();
     let (mut keys, mut alone) = (Vec::new(), Vec::new());
     writeln!(out, "records {}", checked.value)?;
@@ -72,5 +72,5 @@ fn main() -> io::Result<()> {
             alone.push(r);
         }
     }
-    all_at_once(&mut out, &keys, &alone, &table)
+    search_all(&mut out, &keys, &alone, &table)
 }

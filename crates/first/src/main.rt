@@ -6,6 +6,6 @@ use tinystr::{TinyAsciiStr, tinystr};
 
 fn main(rt: HostRuntime) -> Result<(), Error> {
     let euro = tinystr!(3, "eur").unwrap().to_ascii_uppercase(); // proved to fit
-    let refused = TinyAsciiStr::<3>::try_from_str("euros");
-    println!(rt; "{euro} {refused:?}")
+    let too_long = TinyAsciiStr::<3>::try_from_str("euros");
+    println!(rt; "{euro} {too_long:?}")
 }

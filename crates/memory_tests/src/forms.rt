@@ -44,7 +44,7 @@ fn want_of_memory_for_bytes(rt: HostRuntime) -> Result<(), Fail> {
 }
 
 #[test]
-fn no_memory_is_asked_for_other_bytes(rt: HostRuntime) -> Result<(), Fail> {
+fn other_bytes_need_no_memory(rt: HostRuntime) -> Result<(), Fail> {
     let bytes = UnvalidatedTinyAsciiStr::from_utf8_unchecked([0, 0x41, 0]);
     match bytes.to_json(rt.alloc()) {
         Err(FormWriteError::NotAscii) => println!(rt; "not ascii")?,

@@ -9,7 +9,7 @@ use tinystr_hashed::{PackHashedError, pack_hashed, pack_hashed_map, pack_hashed_
 const FILE: &[u8] = b"\x01\0\0\0\x03\0\0\0\x1d\xdd\x6c\x4f\x91\xf4\x45\x25\
     \0\0\0\0\x26\0\0\0\x02\0\0\0CADTNDAUDGBPCLFKWDEURCHFBHD";
 
-// So many that a vector that isn't made as long as they need grows several times.
+// A vector that isn't allocated for all of them grows several times.
 fn texts() -> [TinyAsciiStr<3>; 9] {
     let text = TinyAsciiStr::from_utf8_unchecked;
     [
@@ -42,7 +42,7 @@ fn want_of_memory_for_hashing(rt: HostRuntime) -> Result<(), Fail> {
     Ok(())
 }
 
-// Values that are much longer than keys don't fit where as many bytes as the keys have were allocated for them.
+// The values are much longer than the keys, so they don't fit in an allocation of the keys' length.
 #[test]
 fn want_of_memory_for_a_hashed_map(rt: HostRuntime) -> Result<(), Fail> {
     let mut map = BTreeMap::new(rt.alloc());

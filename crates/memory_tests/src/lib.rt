@@ -1,6 +1,5 @@
-//! The tests that `scripts/checks/refused-memory` runs with each allocation refused in turn. Each prints what it met,
-//! and calls again where it was refused: no second allocation is, so a call that always fails is seen without any
-//! refusal.
+//! The tests of `scripts/checks/refused-memory`, which makes one allocation fail in each run. A test prints whether a call
+//! got its memory, and repeats a call that didn't: no second allocation fails, so the test fails if the call always does.
 #![tactic(auto)]
 
 #[cfg(test)]

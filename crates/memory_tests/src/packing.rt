@@ -167,7 +167,7 @@ fn many_texts_are_packed_and_unpacked_by_one_allocation_each(rt: HostRuntime) ->
     Ok(())
 }
 
-// Values that are much longer than keys don't fit where as many bytes as the keys have were allocated for them.
+// The values are much longer than the keys, so they don't fit in an allocation of the keys' length.
 #[test]
 fn long_values_are_packed_by_one_allocation(rt: HostRuntime) -> Result<(), Fail> {
     let mut map = BTreeMap::new(rt.alloc());

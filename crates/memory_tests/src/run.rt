@@ -1,4 +1,4 @@
-//! `run` writes nothing where memory is refused, and tells of a failed read first.
+//! `run` writes nothing if an allocation fails, and reports a failed read first.
 
 use std::io::{self, ErrorKind, Read, Write};
 use std::test::Fail;
@@ -6,9 +6,9 @@ use tinystr_lines::engine::{RunError, run};
 use tinystr_lines_tests::{INPUT, OUTPUT};
 
 #[test]
-fn a_refused_allocation_writes_nothing(rt: HostRuntime) -> Result<(), Fail> {
-    let mut room = [0u8; OUTPUT.len()];
-    let mut rest = &mut room[..];
+fn a_failed_allocation_writes_nothing(rt: HostRuntime) -> Result<(), Fail> {
+    let mut buffer = [0u8; OUTPUT.len()];
+    let mut rest = &mut buffer[..];
     let outcome = run(rt.alloc(), &mut &INPUT[..], &mut rest);
     let left = rest.len();
     match outcome {
@@ -17,11 +17,11 @@ fn a_refused_allocation_writes_nothing(rt: HostRuntime) -> Result<(), Fail> {
             assert!(rt; matches!(fault, RunError::Memory));
             assert_eq!(rt; left, OUTPUT.len());
             println!(rt; "run refused")?;
-            let mut rest = &mut room[..];
+            let mut rest = &mut buffer[..];
             run(rt.alloc(), &mut &INPUT[..], &mut rest)?;
         }
     }
-    assert_eq!(rt; &room[..], OUTPUT);
+    assert_eq!(rt; &buffer[..], OUTPUT);
     Ok(())
 }
 
@@ -36,16 +36,16 @@ impl Read for BrokenReader<'_> {
         if self.bytes.is_empty() {
             return Err(ErrorKind::Other.into());
         }
-        let room = (self.bytes.len() - 1).max(1).min(buf.len());
-        self.bytes.read(&mut buf[..room])
+        let most = (self.bytes.len() - 1).max(1).min(buf.len());
+        self.bytes.read(&mut buf[..most])
     }
 }
 
-// The input is kept by one request, whose refusal is told at once. All others are for replies.
+// One allocation is for the input, and its failure is reported immediately. All others are for replies.
 #[test]
-fn a_failed_read_is_told_before_a_refused_reply(rt: HostRuntime) -> Result<(), Fail> {
-    let mut room = [0u8; OUTPUT.len()];
-    let mut rest = &mut room[..];
+fn a_failed_read_is_reported_before_a_failed_reply(rt: HostRuntime) -> Result<(), Fail> {
+    let mut buffer = [0u8; OUTPUT.len()];
+    let mut rest = &mut buffer[..];
     let mut reader = BrokenReader { bytes: INPUT };
     let outcome = run(rt.alloc(), &mut reader, &mut rest);
     let left = rest.len();
@@ -109,7 +109,7 @@ impl Write for CountingWriter {
 // Each line gets nine bytes. The memory of these replies is free when the rest is read and kept:
 // `scripts/checks/refused-memory` limits how many bytes are in use.
 #[test]
-fn the_replies_are_dropped_before_the_rest_is_kept(rt: HostRuntime) -> Result<(), Fail> {
+fn the_replies_are_dropped_before_the_remainder_is_kept(rt: HostRuntime) -> Result<(), Fail> {
     let mut reader = LongReader {
         line_feeds: 30_000,
         lines: 90,

@@ -37,7 +37,7 @@ fn no_subtag_has_a_blank_beside_it(rt: HostRuntime) {
     }
 }
 
-/// Whether what stands before the `=` is read as the language behind it, or as none where nothing stands there.
+/// Whether the input before the `=` is read as the language after it, or as none if nothing follows.
 fn is_language_or_none(row: &str) -> bool {
     let (input, text) = row.split_once('=').unwrap_or(("", row));
     match Language::try_from_utf8(input.as_bytes()) {
@@ -100,7 +100,7 @@ fn an_identifier_gives_its_subtags(rt: HostRuntime) {
     }
 }
 
-/// Whether the identifier in front has the language, the script and the region behind it, nothing for none.
+/// Whether the first word, an identifier, has the next ones as language, script and region. An empty word represents none.
 fn has_its_subtags(row: &str) -> bool {
     let mut words = row.split('/');
     let Ok(id) = words.next().unwrap_or("").parse::<LangId>() else {
@@ -135,7 +135,7 @@ fn subtags_make_an_identifier(rt: HostRuntime) {
     }
 }
 
-/// Whether the language, the script and the region behind it, nothing for none, make the identifier in front.
+/// Whether the last words, as language, script and region, make the first, an identifier. An empty word represents none.
 fn is_made_of_its_subtags(row: &str) -> bool {
     let mut words = row.split('/');
     let text = words.next().unwrap_or("");

@@ -1,4 +1,4 @@
-//! The tests of `subtags`, each over its public calls. They stand apart from it, since a crate with tests is proved
+//! The tests of `subtags`, each over its public calls. They are a crate of their own, since a crate with tests is proved
 //! once more with them.
 #![tactic(auto)]
 

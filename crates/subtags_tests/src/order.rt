@@ -21,7 +21,7 @@ fn subtags_compare_as_their_texts(rt: HostRuntime) {
     assert!(rt; are_in_order::<Region>("001 419 DE US"));
 }
 
-/// Whether the words are values, each less than those behind it.
+/// Whether the words are values, each less than those after it.
 fn are_in_order<T: FromStr<Err = LangIdError> + Ord + Drop>(words: &str) -> bool {
     for (i, first) in words.split_whitespace().enumerate() {
         for (j, second) in words.split_whitespace().enumerate() {
@@ -38,8 +38,8 @@ fn are_in_order<T: FromStr<Err = LangIdError> + Ord + Drop>(words: &str) -> bool
 
 fn compare_as<T: Ord>(a: &T, b: &T, order: Ordering) -> bool {
     let are_ordered = (a.cmp(b), a.partial_cmp(b)) == (order, Some(order));
-    let told = [a < b, a > b, a == b];
-    are_ordered && told == [order.is_lt(), order.is_gt(), order.is_eq()]
+    let found = [a < b, a > b, a == b];
+    are_ordered && found == [order.is_lt(), order.is_gt(), order.is_eq()]
 }
 
 #[test]
@@ -70,7 +70,7 @@ fn a_hash_set_holds_each_value_once(rt: HostRuntime) -> Result<(), Fail> {
     Ok(())
 }
 
-/// Whether a set of the spellings holds two values, and among them the one that is asked for.
+/// Whether a set of the spellings holds two values, and one of them is that of the other spelling.
 fn are_of_two_values<T: FromStr<Err = LangIdError> + Eq + Hash + Copy>(
     alloc: Global,
     spellings: &[&str],
@@ -110,7 +110,7 @@ fn is_its_clone<T: Clone + PartialEq + Drop>(value: &T) -> bool {
 }
 
 #[test]
-fn errors_are_told_apart_and_cloned(rt: HostRuntime) {
+fn errors_are_distinct_and_cloned(rt: HostRuntime) {
     let (language, subtag) = (LangIdError::InvalidLanguage, LangIdError::InvalidSubtag);
     assert!(rt; language != subtag && is_its_clone(&language) && is_its_clone(&subtag));
 }

@@ -1,4 +1,4 @@
-//! The texts that the tests of `tinystr` share. They stand in a library, so that they are proved once for all of them.
+//! The texts that the tests of `tinystr` share. They are in a library, so that they are proved once for all of them.
 #![tactic(auto)]
 
 pub mod neighbours;

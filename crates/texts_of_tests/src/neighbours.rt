@@ -27,7 +27,7 @@ fn changed(alloc: Global, text: &[u8], at: usize, byte: u8) -> Result<Vec<u8>, A
     Ok(changed)
 }
 
-// Appends the text's neighbours: without its last byte, with the least byte behind it, and with one byte that is the
+// Appends the text's neighbours: without its last byte, with the least byte after it, and with one byte that is the
 // next or the one before.
 fn push_neighbours(alloc: Global, texts: &mut Vec<Vec<u8>>, text: &[u8]) -> Result<(), AllocError> {
     if let Some((_, front)) = text.split_last() {

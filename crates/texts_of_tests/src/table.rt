@@ -19,7 +19,7 @@ pub struct Row {
 }
 
 // A line for each row, its fields in their order, of at most 17 characters each. Most texts are those that the Rust
-// crate's own tests ask about. None of the answers was made by the calls that are tested on them. It is one literal, since
+// crate's own tests use. None of the answers was made by the calls that are tested on them. It is one literal, since
 // a proof reads each literal that it meets.
 const TEXTS: &str = "\
 |yyyyyyyyy|||

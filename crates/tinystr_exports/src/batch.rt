@@ -33,7 +33,7 @@ pub fn list_at<'a, U>(units: &'a [U], starts: &[u32], i: usize) -> Option<&'a [U
     units.get(starts[i] as usize..starts[i + 1] as usize)
 }
 
-/// Writes the texts that there is room for.
+/// Writes the texts that fit in the bytes.
 pub fn write_texts<const N: usize>(texts: &[TinyAsciiStr<N>; COUNT], bytes: &mut [u8])
     requires { N ≤ 128 }
 {
@@ -47,7 +47,7 @@ pub fn write_texts<const N: usize>(texts: &[TinyAsciiStr<N>; COUNT], bytes: &mut
     }
 }
 
-/// Writes the numbers that there is room for.
+/// Writes the numbers that fit in the bytes.
 pub fn write_numbers(numbers: &[u8; COUNT], bytes: &mut [u8]) {
     let count = bytes.len().min(COUNT);
     bytes[..count].copy_from_slice(&numbers[..count]);

@@ -5,7 +5,7 @@ use crate::capacities::At;
 use crate::printing::print_batch;
 use crate::readers::{decimal_batch, read8_batch, read16_batch};
 
-/// A batch of each call; false where the number that asks for it isn't known, or the capacity is above `MOST`.
+/// A batch of each call; false where the number of the call isn't known, or the capacity is above `MOST`.
 pub trait Batches {
     fn ask(&self, question: usize, rounds: usize, texts: &[u8], answers: &mut [u8]) -> bool;
 

@@ -36,7 +36,7 @@ fn resize_each<const N: usize, const M: usize>(
     true
 }
 
-/// Each text and the other one behind it, at another capacity; false where that isn't known.
+/// Each text and then the other one, concatenated at another capacity; false where that isn't known.
 pub fn concat_batch<const N: usize>(
     to: usize,
     rounds: usize,

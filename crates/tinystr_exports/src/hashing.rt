@@ -4,7 +4,7 @@ ghost use Rattle.std.specs.Prelude.{◌*◌, ◌%◌, ◌^◌, fold, bit_xor};
 
 use std::hash::{Hash, Hasher};
 
-/// FNV-1a: each byte in turn, by an exclusive or and a product.
+/// FNV-1a: an exclusive or and a product for each byte.
 #[derive(Drop)]
 struct Fnv(u64);
 

@@ -1,7 +1,7 @@
 //! The calls of `tinystr`, and the reader of `subtags`, for programs in other languages: each export answers one call
-//! for a batch of values, at a capacity and for a call that are given by number, and tells whether it knows both. Texts
-//! cross as arrays of capacity bytes each, one after another. It serves to compare and to measure, so each batch is
-//! answered as many times over as is asked.
+//! for a batch of values, at a capacity and for a call that are given by number, and returns whether it knows both. Texts
+//! are passed as arrays of capacity bytes each, one after another. The exports serve to compare and to measure, so each
+//! answers its batch in a given number of rounds.
 #![tactic(auto)]
 
 mod batch;
@@ -21,7 +21,7 @@ use capacities::At;
 use cuts::{concat_batch, resize_batch};
 use lang_ids::lang_id_batch;
 use printing::display_batch;
-use readers::front_batch;
+use readers::read_bytes_batch;
 use records::records_found;
 
 /// A question, the length or the last byte of each text, as a number.
@@ -64,8 +64,7 @@ pub extern "C" fn tinystr_exports_compare(
     batches.compare(relation, rounds, left, right, answers)
 }
 
-/// Each list of bytes as a reader reads it: list i stands from `starts[i]` to `starts[i + 1]`. A fault is told by a
-/// number.
+/// Each list of bytes as a reader reads it: list i is from `starts[i]` to `starts[i + 1]`. A fault is written as a number.
 #[unsafe(no_mangle)]
 pub extern "C" fn tinystr_exports_read8(
     capacity: usize,
@@ -95,7 +94,7 @@ pub extern "C" fn tinystr_exports_read16(
     batches.read16(reader, rounds, units, starts, texts, faults)
 }
 
-/// Each text read in front of the bytes that are left, up to the first fault.
+/// Each text, read from the start of the remaining bytes, up to the first fault.
 #[unsafe(no_mangle)]
 pub extern "C" fn tinystr_exports_read_bytes(
     capacity: usize,
@@ -103,7 +102,7 @@ pub extern "C" fn tinystr_exports_read_bytes(
     bytes: &[u8],
     texts: &mut [u8],
 ) -> bool {
-    crate::at_few_capacities!(capacity, front_batch, rounds, bytes, texts)
+    crate::at_few_capacities!(capacity, read_bytes_batch, rounds, bytes, texts)
 }
 
 /// The decimal text of each number, and 1 where it is cut.
@@ -131,7 +130,7 @@ pub extern "C" fn tinystr_exports_resize(
     crate::at_few_capacities!(capacity, resize_batch, to, rounds, texts, resized)
 }
 
-/// Each text and the other one behind it, at another capacity.
+/// Each text and then the other one, concatenated at another capacity.
 #[unsafe(no_mangle)]
 pub extern "C" fn tinystr_exports_concat(
     capacity: usize,

@@ -1,4 +1,4 @@
-//! The numbers by which the callers of the exports ask for a call. The programs in Rust of diff/ and bench/ read this file
+//! The numbers by which the callers of the exports choose a call. The programs in Rust of diff/ and bench/ read this file
 //! too.
 
 /// What `ask` answers: the length, whether the text is empty, the questions, or the last byte of `as_str`.
@@ -35,7 +35,7 @@ pub const UPPER: usize = 2;
 
 pub const COPY: usize = 3;
 
-/// What `compare` tells of two texts.
+/// What `compare` computes of two texts.
 pub const ORDER: usize = 0;
 
 pub const EQUALITY: usize = 1;

@@ -27,7 +27,7 @@ pub fn print_batch<const N: usize>(
     true
 }
 
-// Stops where the values end, or the room.
+// Stops at the end of the values, or when `printed` is full.
 fn print_each<const N: usize, const FORM: usize>(
     rounds: usize,
     values: &[u8],
@@ -66,7 +66,7 @@ fn print<const N: usize, const FORM: usize>(
     }
 }
 
-/// Prints the texts one after another, as long as there is room.
+/// Prints the texts one after another, until `printed` is full.
 pub fn display_batch<const N: usize>(rounds: usize, texts: &[u8], printed: &mut [u8]) -> bool
     requires { N ≤ 128 }
 {

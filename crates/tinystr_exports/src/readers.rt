@@ -142,8 +142,8 @@ fn lossy16_each<const N: usize>(rounds: usize, units: &[u16], starts: &[u32], te
     replace_each!(rounds, units, starts, texts, list => TinyAsciiStr::<N>::from_utf16_lossy(list, REPLACEMENT));
 }
 
-/// Reads each text in front of the bytes that are left, up to the first fault.
-pub fn front_batch<const N: usize>(rounds: usize, bytes: &[u8], texts: &mut [u8]) -> bool
+/// Reads each text from the start of the remaining bytes, up to the first fault.
+pub fn read_bytes_batch<const N: usize>(rounds: usize, bytes: &[u8], texts: &mut [u8]) -> bool
     requires { N ≤ 128 }
 {
     let mut made = [TinyAsciiStr::<N>::default(); COUNT];

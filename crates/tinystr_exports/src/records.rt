@@ -5,7 +5,7 @@ ghost use Rattle.std.specs.Prelude.{◌≤◌};
 use tinystr::ule::UleError;
 use tinystr::{ParseError, TinyAsciiStr};
 
-/// Writes what is found of records of `N` bytes: 0 for packed ones, 1 where the length is refused, and else a number
+/// Writes what is found of records of `N` bytes: 0 for packed ones, 1 where the length is rejected, and else a number
 /// for the fault and the first bad record.
 pub fn records_found<const N: usize>(bytes: &[u8], found: &mut [u32]) -> bool
     requires { N ≤ 128 }

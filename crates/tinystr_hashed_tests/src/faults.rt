@@ -321,7 +321,7 @@ fn the_first_text_that_is_not_at_its_place_is_named(rt: HostRuntime) -> Result<(
     Ok(())
 }
 
-/// Whether these texts, in this order in the file, are refused for the one at an index.
+/// Whether these texts, in this order in the file, are rejected because of the one at an index.
 fn is_misplaced_at(alloc: Global, texts: &[&str], index: usize) -> Result<bool, AllocError> {
     let (front, _) = FILE.split_at(24);
     let file = file::<3>(alloc, front, texts)?;

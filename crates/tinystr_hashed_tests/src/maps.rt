@@ -110,8 +110,8 @@ fn has_len(map: &HashedMap<'_, 3, 2>, len: usize) -> bool {
         && map.values().len() == len
 }
 
-// Keys and values, each with the fault for which they are refused.
-const REFUSED: &[(&[u8], &[u8], HashedMapError)] = &[
+// Keys and values, each with the fault for which they are rejected.
+const REJECTED: &[(&[u8], &[u8], HashedMapError)] = &[
     // keys that aren't a hashed table
     (b"", b"", Keys(Header { len: 0 })),
     (b"EUR", b"\x01\x02", Keys(Header { len: 3 })),
@@ -169,13 +169,13 @@ const REFUSED: &[(&[u8], &[u8], HashedMapError)] = &[
 ];
 
 #[test]
-fn keys_are_refused_first_and_then_the_values(rt: HostRuntime) {
-    for (keys, values, fault) in REFUSED {
-        assert!(rt; is_refused(keys, values, *fault), "{fault:?}");
+fn keys_are_rejected_first_and_then_the_values(rt: HostRuntime) {
+    for (keys, values, fault) in REJECTED {
+        assert!(rt; is_rejected(keys, values, *fault), "{fault:?}");
     }
 }
 
-fn is_refused(keys: &[u8], values: &[u8], fault: HashedMapError) -> bool {
+fn is_rejected(keys: &[u8], values: &[u8], fault: HashedMapError) -> bool {
     match HashedMap::<3, 2>::new(keys, values) {
         Ok(_) => false,
         Err(found) => found == fault,

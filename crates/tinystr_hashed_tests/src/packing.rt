@@ -172,18 +172,18 @@ const REPEATED: &[(&[&str], &str)] = &[
 #[test]
 fn a_text_that_occurs_twice_is_named(rt: HostRuntime) -> Result<(), Fail> {
     for (words, text) in REPEATED {
-        assert!(rt; is_refused::<3>(rt.alloc(), words, text), "{words:?}");
+        assert!(rt; is_rejected::<3>(rt.alloc(), words, text), "{words:?}");
     }
     let (long, other) = (
         "abcdefghijklmnopqrstuvwxyzABCDEFG",
         "abcdefghijklmnopqrstuvwxyzABCDEFH",
     );
-    assert!(rt; is_refused::<33>(rt.alloc(), &[long, other, long], long));
+    assert!(rt; is_rejected::<33>(rt.alloc(), &[long, other, long], long));
     Ok(())
 }
 
-/// Whether the words are refused, since this one occurs twice.
-fn is_refused<const N: usize>(alloc: Global, words: &[&str], word: &str) -> bool
+/// Whether the words are rejected, since this one occurs twice.
+fn is_rejected<const N: usize>(alloc: Global, words: &[&str], word: &str) -> bool
     requires positive { 0 < N }
     requires sized { N < 2 ^ 62 }
 {

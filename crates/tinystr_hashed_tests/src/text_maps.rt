@@ -113,8 +113,8 @@ fn has_len(map: &HashedTextMap<'_, 3, 2>, len: usize) -> bool {
         && map.values().len() == len
 }
 
-// Keys and values, each with the fault for which they are refused.
-const REFUSED: &[(&[u8], &[u8], HashedTextMapError)] = &[
+// Keys and values, each with the fault for which they are rejected.
+const REJECTED: &[(&[u8], &[u8], HashedTextMapError)] = &[
     // keys that aren't a hashed table
     (b"", b"", Keys(Header { len: 0 })),
     (
@@ -183,13 +183,13 @@ const REFUSED: &[(&[u8], &[u8], HashedTextMapError)] = &[
 ];
 
 #[test]
-fn keys_are_refused_first_then_the_values_then_their_number(rt: HostRuntime) {
-    for (keys, values, fault) in REFUSED {
-        assert!(rt; is_refused(keys, values, *fault), "{fault:?}");
+fn keys_are_rejected_first_then_the_values_then_their_number(rt: HostRuntime) {
+    for (keys, values, fault) in REJECTED {
+        assert!(rt; is_rejected(keys, values, *fault), "{fault:?}");
     }
 }
 
-fn is_refused(keys: &[u8], values: &[u8], fault: HashedTextMapError) -> bool {
+fn is_rejected(keys: &[u8], values: &[u8], fault: HashedTextMapError) -> bool {
     match HashedTextMap::<3, 2>::new(keys, values) {
         Ok(_) => false,
         Err(found) => found == fault,

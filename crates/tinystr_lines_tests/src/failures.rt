@@ -16,7 +16,7 @@ const KINDS: [ErrorKind; 4] = [
     ErrorKind::Other,
 ];
 
-/// Gives one byte a read, fails at the read after so many, and would go on after it.
+/// Gives one byte a read, fails once, after `failing_read` reads, and gives more bytes after that.
 #[derive(Drop)]
 struct FailingReader<'a> {
     bytes: &'a [u8],
@@ -34,8 +34,8 @@ impl Read for FailingReader<'_> {
         if read == self.failing_read {
             return Err(self.kind.into());
         }
-        let room = buf.len().min(1);
-        self.bytes.read(&mut buf[..room])
+        let most = buf.len().min(1);
+        self.bytes.read(&mut buf[..most])
     }
 }
 
@@ -46,7 +46,7 @@ enum Fault {
     TakesNothing,
 }
 
-/// Takes a few bytes a write, fails at the write after so many, or at the first flush, and would go on after it.
+/// Takes a few bytes a write, fails once, after `failing_write` writes or at the first flush, and takes more after that.
 #[derive(Drop)]
 struct FailingWriter {
     taken: Vec<u8>,
@@ -130,7 +130,7 @@ fn what_kept_a_run_from_its_end_is_printed_by_its_name(rt: HostRuntime) -> Resul
     Ok(())
 }
 
-// Whether a run asks for nothing after the failing read, or writes all where no read fails.
+// Whether a run does nothing after the failing read, or writes all where no read fails.
 fn ends_at_the_failing_read(alloc: Global, failing_read: usize, kind: ErrorKind) -> bool {
     let mut writer = failing_writer(alloc, NEVER, Fault::TakesNothing, None);
     let (outcome, reads) = run_and_count_reads(alloc, failing_read, kind, &mut writer);
@@ -155,7 +155,7 @@ fn a_failed_read_writes_nothing(rt: HostRuntime) {
     }
 }
 
-// Whether a run asks for nothing after the failing write or flush, or for one flush where none fails, and has written
+// Whether a run does nothing after the failing write or flush, or flushes once where none fails, and has written
 // what the writer took.
 fn ends_at_the_failing_write(
     alloc: Global,
@@ -201,7 +201,7 @@ fn a_failed_write_leaves_a_beginning(rt: HostRuntime) {
 
 // No write fails, since all is written before the failing one.
 #[test]
-fn a_failed_flush_comes_behind_all_writes(rt: HostRuntime) {
+fn a_failed_flush_comes_after_all_writes(rt: HostRuntime) {
     let all = OUTPUT.len();
     assert!(rt; ends_at_the_failing_write(rt.alloc(), all, Fault::TakesNothing, None));
     for kind in KINDS {
@@ -210,7 +210,7 @@ fn a_failed_flush_comes_behind_all_writes(rt: HostRuntime) {
     }
 }
 
-// Whether four thousand bytes are written whole, by as many a write as that.
+// Whether four thousand bytes are written whole, by at most this number in each write.
 fn are_written(alloc: Global, most_a_write: usize) -> Result<bool, AllocError> {
     let input = b"4 len abc\n".repeat(alloc, 2_000)?;
     let replies = b"3\n".repeat(alloc, 2_000)?;
@@ -237,7 +237,7 @@ fn a_run_that_writes_nothing_flushes(rt: HostRuntime) {
     assert!(rt; writer.writes == 0 && writer.flushes == 1);
 }
 
-/// Keeps how many bytes its longest read has room for, and has no bytes.
+/// Keeps the length of the longest buffer that it reads into, and has no bytes.
 #[derive(Drop)]
 struct MeasuringReader {
     longest: usize,
@@ -251,7 +251,7 @@ impl Read for MeasuringReader {
 }
 
 #[test]
-fn a_read_has_room_for_65536_bytes(rt: HostRuntime) -> Result<(), Fail> {
+fn a_read_takes_up_to_65536_bytes(rt: HostRuntime) -> Result<(), Fail> {
     let mut reader = MeasuringReader { longest: 0 };
     let mut out = Vec::new(rt.alloc());
     run(rt.alloc(), &mut reader, &mut out)?;

@@ -14,7 +14,7 @@ fn output(alloc: Global, input: &[u8]) -> Result<Vec<u8>, RunError> {
     Ok(out)
 }
 
-// Whether what stands before the row's first tab gets what stands after it.
+// Whether the reply to the input before the row's first tab is what follows the tab.
 fn is_answered(alloc: Global, row: &[u8]) -> Result<bool, RunError> {
     let mut parts = row.splitn(2, |byte| *byte == b'\t');
     let (Some(input), Some(replies)) = (parts.next(), parts.next()) else {
@@ -60,7 +60,7 @@ fn an_input_of_many_reads_is_answered_to_its_end(rt: HostRuntime) -> Result<(), 
     Ok(())
 }
 
-// A line of so many bytes and its line feed, and then a short one.
+// A line of `len` bytes and its line feed, and then a short one.
 fn long_line_first(alloc: Global, len: usize) -> Result<Vec<u8>, AllocError> {
     let mut input = b"4 shout ".to_vec(alloc)?;
     input.resize(len, b'a')?;
@@ -83,13 +83,13 @@ fn a_line_is_whole_where_reads_cut_it(rt: HostRuntime) -> Result<(), Fail> {
 }
 
 #[test]
-fn a_text_longer_than_a_read_has_its_length_told(rt: HostRuntime) -> Result<(), Fail> {
+fn the_length_of_a_text_longer_than_a_read_is_reported(rt: HostRuntime) -> Result<(), Fail> {
     let input = with_letters(rt.alloc(), b"32 len ", 100_000)?;
     assert!(rt; output(rt.alloc(), &input)?.as_slice() == b"too long 100000 > 32\n".as_slice());
     Ok(())
 }
 
-// Past 2^32 only a line of as many bytes has such a number in its reply.
+// A reply has a number above 2^32 only if the line has that number of bytes.
 #[test]
 fn a_number_has_all_its_digits(rt: HostRuntime) -> Result<(), Fail> {
     for (number, digits) in [
@@ -183,7 +183,7 @@ fn a_capacity_is_spelled_in_one_way(rt: HostRuntime) -> Result<(), Fail> {
 }
 
 #[test]
-fn each_capacity_holds_as_many_characters_as_it_says(rt: HostRuntime) -> Result<(), Fail> {
+fn each_capacity_holds_its_number_of_characters(rt: HostRuntime) -> Result<(), Fail> {
     let rows = b"0 len aaaaaaaaaaaaaaaaaaaaaaaaaaaaaaaaa\ttoo long 33 > 0
 1 len aaaaaaaaaaaaaaaaaaaaaaaaaaaaaaaaa\ttoo long 33 > 1
 2 len aaaaaaaaaaaaaaaaaaaaaaaaaaaaaaaaa\ttoo long 33 > 2
@@ -200,7 +200,7 @@ fn each_capacity_holds_as_many_characters_as_it_says(rt: HostRuntime) -> Result<
     Ok(())
 }
 
-// The row of a question about a text; the letter y stands for `true`.
+// The row of a question about a text; the letter y represents `true`.
 fn question_row(
     alloc: Global,
     question: &str,
@@ -273,7 +273,7 @@ fn each_command_calls_its_own_function(rt: HostRuntime) -> Result<(), Fail> {
 }
 
 #[test]
-fn the_lossy_reader_refuses_nothing(rt: HostRuntime) -> Result<(), Fail> {
+fn the_lossy_reader_rejects_nothing(rt: HostRuntime) -> Result<(), Fail> {
     let rows = b"2 lossy toolong\tto
 0 lossy abc\t
 4 lossy\t
@@ -311,7 +311,7 @@ fn packed_records_are_counted_or_the_first_bad_one_is_named(rt: HostRuntime) -> 
     Ok(())
 }
 
-// So many letters behind the beginning of a line.
+// The beginning of a line, and `count` letters after it.
 fn with_letters(alloc: Global, line: &[u8], count: usize) -> Result<Vec<u8>, AllocError> {
     let mut longer = line.to_vec(alloc)?;
     longer.resize(line.len().saturating_add(count), b'a')?;

@@ -21,7 +21,7 @@ fn each_text_is_counted(rt: HostRuntime) {
     }
 }
 
-/// Whether the words are counted as the rows tell, in their order, and no other text has a count.
+/// Whether the words have the counts of the rows, in their order, and no other text has a count.
 fn are_counts(alloc: Global, words: &str, rows: &str) -> bool {
     let Some(counts) = counts_of(alloc, words) else {
         return false;

@@ -6,13 +6,13 @@ use std::alloc::{AllocError, Global};
 use tinystr::TinyAsciiStr;
 use tinystr_packed::{PackedMap, SortedTable, in_place};
 
-// Tables of so many texts: none, fewer than eight, about eight, and so many that keys in order are looked for near and far.
+// The tables' numbers of texts: none, fewer than eight, about eight, and enough that keys in order are searched for near and far.
 const COUNTS: &[usize] = &[0, 1, 2, 7, 8, 9, 40, 300, 5000];
 
 // The steps from each key to the next: the same key, the next, each second, and far ones.
 const STEPS: &[usize] = &[0, 1, 2, 5, 37, 256, 999];
 
-/// The text of a number below 26^3 by three letters, of which the first stands in front where texts are to be in groups. The
+/// The text of a number below 26^3 by three letters, of which the first is the text's first byte if texts are in groups. The
 /// even numbers from 2 on are those of a table's texts.
 fn text<const N: usize>(number: usize, is_grouped: bool) -> Option<TinyAsciiStr<N>> {
     let mut raw = [b'm'; N];
@@ -49,22 +49,22 @@ fn file<const N: usize>(
     Ok(file)
 }
 
-/// How keys come: the number of the first, the step to the next, and whether each third step is twice as far. Where they
-/// fall, each goes as far back.
+/// The order of keys: the number of the first, the step to the next, whether each third step is twice as far, and whether
+/// the steps go back.
 #[derive(Clone, Copy)]
 struct Course {
     first: usize,
     step: usize,
     is_uneven: bool,
-    falls: bool,
+    is_descending: bool,
 }
 
 impl Course {
     /// The number of a key of those below a number.
-    fn number(&self, turn: usize, below: usize) -> usize {
-        let more = if self.is_uneven { turn / 3 } else { 0 };
-        let way = turn.saturating_add(more).saturating_mul(self.step) % below.max(1);
-        let far = if self.falls {
+    fn number(&self, index: usize, below: usize) -> usize {
+        let more = if self.is_uneven { index / 3 } else { 0 };
+        let way = index.saturating_add(more).saturating_mul(self.step) % below.max(1);
+        let far = if self.is_descending {
             below.saturating_sub(way)
         } else {
             way
@@ -78,23 +78,23 @@ const COURSES: &[Course] = &[
         first: 0,
         step: 1,
         is_uneven: false,
-        falls: false,
+        is_descending: false,
     },
     Course {
         first: 301,
         step: 1,
         is_uneven: true,
-        falls: false,
+        is_descending: false,
     },
     Course {
         first: 77,
         step: 1,
         is_uneven: true,
-        falls: true,
+        is_descending: true,
     },
 ];
 
-/// So many keys of a table, some of which are before it and behind.
+/// `count` keys of a table, some of which are less than its first text or greater than its last.
 fn keys<const N: usize>(
     alloc: Global,
     course: Course,
@@ -104,15 +104,15 @@ fn keys<const N: usize>(
 ) -> Result<Vec<TinyAsciiStr<N>>, AllocError> {
     let below = texts.saturating_mul(2).saturating_add(3);
     let mut keys = Vec::new(alloc);
-    for turn in 0..count {
-        if let Some(text) = text::<N>(course.number(turn, below), is_grouped) {
+    for index in 0..count {
+        if let Some(text) = text::<N>(course.number(index, below), is_grouped) {
             keys.push(text)?;
         }
     }
     Ok(keys)
 }
 
-/// Whether all answers are those of a search for each key, and as many.
+/// Whether all answers are those of a search for each key, and there are no others.
 fn are_same<const N: usize>(sorted: &SortedTable<'_, N>, keys: &[TinyAsciiStr<N>]) -> bool {
     let mut answers = sorted.binary_search_each(keys);
     let mut left = keys.len();
@@ -150,16 +150,16 @@ fn are_same_in_place<const N: usize>(file: &[u8], keys: &[TinyAsciiStr<N>]) -> b
     true
 }
 
-/// Two keys by turns: those of these numbers.
-fn by_turns<const N: usize>(
+/// Alternating keys: those of these two numbers.
+fn alternating<const N: usize>(
     alloc: Global,
     first: usize,
     second: usize,
     is_grouped: bool,
 ) -> Result<Vec<TinyAsciiStr<N>>, AllocError> {
     let mut keys = Vec::new(alloc);
-    for turn in 0..19usize {
-        let number = if turn % 2 == 0 { first } else { second };
+    for index in 0..19usize {
+        let number = if index % 2 == 0 { first } else { second };
         if let Some(text) = text::<N>(number, is_grouped) {
             keys.push(text)?;
         }
@@ -205,8 +205,8 @@ fn are_same_by_steps<const N: usize>(
     true
 }
 
-/// Whether they are so for two keys by turns.
-fn are_same_by_turns<const N: usize>(
+/// Whether they are so for alternating keys.
+fn are_same_of_alternating<const N: usize>(
     alloc: Global,
     file: &[u8],
     sorted: &SortedTable<'_, N>,
@@ -217,7 +217,7 @@ fn are_same_by_turns<const N: usize>(
 {
     let last = sorted.table().len().saturating_mul(2);
     for (first, second) in [(2, last), (last, 1), (3, 2), (5, last.saturating_add(1))] {
-        let keys = by_turns::<N>(alloc, first, second, is_grouped);
+        let keys = alternating::<N>(alloc, first, second, is_grouped);
         if !are_same_in_both(file, sorted, keys) {
             return false;
         }
@@ -244,7 +244,7 @@ fn are_same_of_few<const N: usize>(
     true
 }
 
-/// Whether they are so in a table of so many texts, with keys in each order.
+/// Whether they are so in a table of `count` texts, with keys in each order.
 fn are_same_of<const N: usize>(alloc: Global, count: usize, is_grouped: bool) -> bool
     requires above { 0 < N }
     requires below { N < 2 ^ 60 }
@@ -255,7 +255,7 @@ fn are_same_of<const N: usize>(alloc: Global, count: usize, is_grouped: bool) ->
     match SortedTable::<N>::from_bytes(&file) {
         Ok(sorted) => sorted.table().len() == count
             && are_same_by_steps(alloc, &file, &sorted, is_grouped)
-            && are_same_by_turns(alloc, &file, &sorted, is_grouped)
+            && are_same_of_alternating(alloc, &file, &sorted, is_grouped)
             && are_same_of_few(alloc, &file, &sorted, is_grouped),
         Err(_) => false,
     }

@@ -1,4 +1,4 @@
-//! Why bytes aren't a sorted table or a map: each case told apart from the others, and printed.
+//! Why bytes aren't a sorted table or a map: each case differs from the others, and is printed.
 
 use std::alloc::{AllocError, Global};
 use std::fmt::Debug;
@@ -27,12 +27,12 @@ const FAULTS: &[MapError] = &[
 ];
 
 #[test]
-fn faults_of_a_map_are_told_apart(rt: HostRuntime) {
-    assert!(rt; are_told_apart(FAULTS));
+fn faults_of_a_map_are_distinct(rt: HostRuntime) {
+    assert!(rt; are_distinct(FAULTS));
 }
 
 // Whether each is equal to itself alone.
-fn are_told_apart<T: PartialEq>(faults: &[T]) -> bool {
+fn are_distinct<T: PartialEq>(faults: &[T]) -> bool {
     for (i, fault) in faults.iter().enumerate() {
         for (j, other) in faults.iter().enumerate() {
             if (fault == other) != (i == j) || (fault != other) != (i != j) {
@@ -44,7 +44,7 @@ fn are_told_apart<T: PartialEq>(faults: &[T]) -> bool {
 }
 
 #[test]
-fn places_that_do_not_rise_are_told_apart(rt: HostRuntime) {
+fn orders_of_different_texts_are_distinct(rt: HostRuntime) {
     let first = NotRising { index: 1 };
     assert!(rt; first == NotRising { index: 1 } && first != NotRising { index: 2 });
 }
@@ -93,12 +93,12 @@ const SORTED_FAULTS: &[SortedError] = &[
 ];
 
 #[test]
-fn faults_of_a_sorted_table_are_told_apart(rt: HostRuntime) -> Result<(), Fail> {
-    assert!(rt; are_told_apart(SORTED_FAULTS));
+fn faults_of_a_sorted_table_are_distinct(rt: HostRuntime) -> Result<(), Fail> {
+    assert!(rt; are_distinct(SORTED_FAULTS));
     let bytes = SortedError::Records(UleError::Length { len: 7 });
-    let falling = SortedError::Order(NotRising { index: 1 });
+    let order = SortedError::Order(NotRising { index: 1 });
     assert!(rt; is_printed(rt.alloc(), &bytes, "Records(Length { len: 7 })")?);
-    assert!(rt; is_printed(rt.alloc(), &falling, "Order(NotRising { index: 1 })")?);
+    assert!(rt; is_printed(rt.alloc(), &order, "Order(NotRising { index: 1 })")?);
     Ok(())
 }
 
@@ -129,8 +129,8 @@ const PRINTED_OF_TEXTS: &[(TextMapError, &str)] = &[
 ];
 
 #[test]
-fn faults_of_a_map_of_texts_are_told_apart(rt: HostRuntime) -> Result<(), Fail> {
-    assert!(rt; are_told_apart(TEXT_FAULTS));
+fn faults_of_a_map_of_texts_are_distinct(rt: HostRuntime) -> Result<(), Fail> {
+    assert!(rt; are_distinct(TEXT_FAULTS));
     for (fault, text) in PRINTED_OF_TEXTS {
         assert!(rt; is_printed(rt.alloc(), fault, text)?, "{text}");
     }

@@ -1,4 +1,4 @@
-//! The tests of `tinystr_packed`. They stand apart from it, since a crate with tests is proved once more with them.
+//! The tests of `tinystr_packed`. They are a crate of their own, since a crate with tests is proved once more with them.
 #![tactic(auto)]
 
 #[cfg(test)]

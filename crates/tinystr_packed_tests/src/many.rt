@@ -93,12 +93,11 @@ fn are_found(file: &[u8], texts: &[Text]) -> bool {
     sorted.table().len() == COUNT && sorted.table().last() == texts.last().copied()
 }
 
-// What stands before the texts of each kind.
+// The beginning of the texts of each kind.
 const BEGINNINGS: &[&str; 3] = &["", "aaaaaaaa", "bbbbbbbbbbbbbbbb"];
 
-// How many of the texts a file has as they are, behind eight bytes that are the same, and behind sixteen: each way of the
-// search, and either side of its border at 32 records. At 24 and 40 all are different. Below, those behind sixteen bytes are
-// cut to one or two.
+// The number of the texts that a file has as they are, after eight equal bytes, and after sixteen: each path of the search,
+// and either side of its limit at 32 records. At 24 and 40 all differ. Below, those after sixteen bytes are cut to one or two.
 const COUNTS: &[[usize; 3]] = &[
     [1, 0, 0],
     [31, 0, 0],
@@ -125,7 +124,7 @@ fn longer_texts_are_found_in_each_way(rt: HostRuntime) -> Result<(), Fail> {
     Ok(())
 }
 
-/// Texts at N, so many of each kind.
+/// Texts at N, by the number of each kind.
 fn longer_texts<const N: usize>(
     alloc: Global,
     texts: &[Text],
@@ -141,9 +140,9 @@ fn longer_texts<const N: usize>(
     Ok(longer)
 }
 
-/// Whether those texts of a file are found, what has `~` behind one of them has its place, and those that begin as one of
-/// them does are told.
-fn are_told<const N: usize>(file: &[u8], texts: &[TinyAsciiStr<N>]) -> bool
+/// Whether these texts of a file are found, one of them with `~` after it has its place, and those that begin as one of them
+/// does are counted.
+fn are_found_and_counted<const N: usize>(file: &[u8], texts: &[TinyAsciiStr<N>]) -> bool
     requires some { 0 < N }
     requires bound { N < 2 ^ 62 }
 {
@@ -157,14 +156,14 @@ fn are_told<const N: usize>(file: &[u8], texts: &[TinyAsciiStr<N>]) -> bool
         }
     }
     for text in texts.iter().step_by(17) {
-        if !is_told(&sorted, text) {
+        if !are_prefixes_counted(&sorted, text) {
             return false;
         }
     }
     true
 }
 
-/// Whether that is so of a file of texts at N, so many of each kind.
+/// Whether that is so of a file of texts at N, by the number of each kind.
 fn are_longer_found<const N: usize>(alloc: Global, texts: &[Text], counts: &[usize; 3]) -> bool
     requires some { 0 < N }
     requires bound { N < 2 ^ 62 }
@@ -173,13 +172,13 @@ fn are_longer_found<const N: usize>(alloc: Global, texts: &[Text], counts: &[usi
         return false;
     };
     match pack_sorted(alloc, &longer) {
-        Ok(file) => are_told(&file, &longer),
+        Ok(file) => are_found_and_counted(&file, &longer),
         Err(_) => false,
     }
 }
 
-/// Whether as many texts begin with the first bytes of a text as std counts: with none of them, one, two, nine and all.
-fn is_told<const N: usize>(sorted: &SortedTable<'_, N>, text: &TinyAsciiStr<N>) -> bool
+/// Whether the texts with a prefix have std's number, for a text's first 0, 1, 2 and 9 bytes and all of it.
+fn are_prefixes_counted<const N: usize>(sorted: &SortedTable<'_, N>, text: &TinyAsciiStr<N>) -> bool
     requires { N < 2 ^ 62 }
 {
     for len in [0, 1, 2, 9, N] {
@@ -205,29 +204,29 @@ fn is_found<const N: usize>(sorted: &SortedTable<'_, N>, text: &TinyAsciiStr<N>)
     }
 }
 
-/// Whether a text has a place behind those that are below it and before the others.
+/// Whether a text has a place after those that are less and before the others.
 fn is_placed<const N: usize>(sorted: &SortedTable<'_, N>, text: &TinyAsciiStr<N>) -> bool {
     let place = match sorted.binary_search(text) {
         Ok(index) => index,
         Err(place) => place,
     };
-    let behind = sorted.table().get(place);
+    let after = sorted.table().get(place);
     let before = match place.checked_sub(1) {
         Some(last) => sorted.table().get(last),
         None => None,
     };
     before.map_or(true, |one| one.as_str() < text.as_str())
-        && behind.map_or(true, |one| text.as_str() <= one.as_str())
+        && after.map_or(true, |one| text.as_str() <= one.as_str())
 }
 
 #[test]
-fn each_text_that_stands_twice_is_named(rt: HostRuntime) {
+fn each_text_that_occurs_twice_is_named(rt: HostRuntime) {
     for index in 1..COUNT {
         assert!(rt; is_named(index), "{index}");
     }
 }
 
-/// Whether the text at an index doesn't rise where the one before it stands there, too.
+/// Whether `NotRising` names an index if the text there equals the one before it.
 fn is_named(index: usize) -> bool {
     let mut file = file();
     if index == 0 || index >= COUNT {

@@ -105,7 +105,7 @@ fn entries_come_in_the_order_of_their_keys(rt: HostRuntime) {
     }
 }
 
-/// Whether the map's entries are the first of the five, and the iterator tells each time how many are left.
+/// Whether the map's entries are the first of the five, and the iterator reports each time the number of those that follow.
 fn has_entries(keys: &[u8], values: &[u8], len: usize) -> bool {
     let Ok(map) = PackedMap::<3, 2>::new(keys, values) else {
         return false;
@@ -125,8 +125,8 @@ fn has_entries(keys: &[u8], values: &[u8], len: usize) -> bool {
     entries.size_hint() == (0, Some(0)) && entries.next().is_none()
 }
 
-// Keys and values, each with the fault for which they are refused.
-const REFUSED: &[(&[u8], &[u8], MapError)] = &[
+// Keys and values, each with the fault for which they are rejected.
+const REJECTED: &[(&[u8], &[u8], MapError)] = &[
     // keys that aren't packed
     (b"CHFE", b"\x01\x02", Keys(Length { len: 4 })),
     (b"CH", b"", Keys(Length { len: 2 })),
@@ -146,7 +146,7 @@ const REFUSED: &[(&[u8], &[u8], MapError)] = &[
             fault: NonAscii,
         }),
     ),
-    // that, though they don't rise either and the values are too few
+    // the same, though they aren't ascending either and the values are too few
     (
         b"EURCHF\0US",
         b"\x01",
@@ -155,7 +155,7 @@ const REFUSED: &[(&[u8], &[u8], MapError)] = &[
             fault: ContainsNull,
         }),
     ),
-    // keys that don't rise
+    // keys that aren't ascending
     (
         b"EURCHF",
         b"\x01\x02\x03\x04",
@@ -193,13 +193,13 @@ const REFUSED: &[(&[u8], &[u8], MapError)] = &[
 ];
 
 #[test]
-fn keys_are_refused_first_then_their_order_then_the_values(rt: HostRuntime) {
-    for (keys, bytes, fault) in REFUSED {
-        assert!(rt; is_refused(keys, bytes, *fault), "{fault:?}");
+fn keys_are_rejected_first_then_their_order_then_the_values(rt: HostRuntime) {
+    for (keys, bytes, fault) in REJECTED {
+        assert!(rt; is_rejected(keys, bytes, *fault), "{fault:?}");
     }
 }
 
-fn is_refused(keys: &[u8], values: &[u8], fault: MapError) -> bool {
+fn is_rejected(keys: &[u8], values: &[u8], fault: MapError) -> bool {
     match PackedMap::<3, 2>::new(keys, values) {
         Ok(_) => false,
         Err(found) => found == fault,

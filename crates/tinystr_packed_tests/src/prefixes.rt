@@ -26,7 +26,7 @@ const FILES: &[(&[u8], &str)] = &[
 ];
 
 #[test]
-fn texts_with_a_prefix_are_those_that_std_tells(rt: HostRuntime) {
+fn texts_with_a_prefix_are_those_that_std_finds(rt: HostRuntime) {
     let prefixes =
         "|A|B|a|aa|ab|ab~|ab\x7f|ab\x7f\x7f|abc|abcd|abd|abe|ac|b|ba|bab|bb|c|cc|z|zz|~|\x7f|\x7f\x7f\x7f\x7f";
     for (file, words) in FILES {
@@ -68,7 +68,7 @@ fn has_exactly_those<const N: usize>(file: &[u8], words: &str, prefix: &str) -> 
 }
 
 #[test]
-fn entries_with_a_prefix_are_those_that_std_tells(rt: HostRuntime) {
+fn entries_with_a_prefix_are_those_that_std_finds(rt: HostRuntime) {
     for (file, words) in FILES {
         for prefix in "|a|ab|ab\x7f|abc|abcd|b|ba|c|z|\x7f|\x7f\x7f\x7f\x7f".split('|') {
             assert!(rt;
@@ -106,7 +106,7 @@ fn have_exactly_those(file: &[u8], words: &str, prefix: &str) -> bool {
 }
 
 #[test]
-fn a_prefix_has_as_many_bytes_as_a_text(rt: HostRuntime) {
+fn a_prefix_has_the_length_of_a_text(rt: HostRuntime) {
     let words = "abcdefgh\nabcdefghi\nabcdefghj\nabcdefgi\n";
     for prefix in "abcdefg|abcdefgh|abcdefghi|abcdefghj|abcdefghk".split('|') {
         assert!(rt;

@@ -37,20 +37,20 @@ fn finds<const N: usize>(file: &[u8], key: &str, answer: Result<usize, usize>) -
 fn each_place_of_a_short_table_is_found(rt: HostRuntime) {
     let file = b"bdfhjlnpr";
     for len in 0..=file.len() {
-        for (turn, letter) in ('a'..='s').enumerate() {
+        for (index, letter) in ('a'..='s').enumerate() {
             assert!(rt;
-                is_at_its_place(&file[..len], turn, letter),
+                is_at_its_place(&file[..len], index, letter),
                 "{letter} of {len}"
             );
         }
     }
 }
 
-/// Whether the letter at a turn is found at half of it where the turn is odd and the file goes so far, as `b` at 0, and
-/// else belongs there, or at the end.
-fn is_at_its_place(file: &[u8], turn: usize, letter: char) -> bool {
-    let place = turn / 2;
-    let answer = if turn % 2 == 1 && place < file.len() {
+/// Whether the letter of an odd number 2 k + 1 is found at k if the file has this index, as `b` at 0, and any other has the
+/// place of half its number, or the end.
+fn is_at_its_place(file: &[u8], index: usize, letter: char) -> bool {
+    let place = index / 2;
+    let answer = if index % 2 == 1 && place < file.len() {
         Ok(place)
     } else {
         Err(place.min(file.len()))
@@ -101,7 +101,7 @@ const FULL_WORDS: &[(&str, Result<usize, usize>)] = &[
 ];
 
 #[test]
-fn each_byte_tells_texts_of_a_full_word_apart(rt: HostRuntime) {
+fn each_byte_orders_texts_of_a_full_word(rt: HostRuntime) {
     let file = b"aaaaaaaaaaaaaaacaaaaaacacaaaaaaa";
     for (text, answer) in FULL_WORDS {
         assert!(rt; finds::<8>(file, text, *answer), "{text}");
@@ -123,24 +123,24 @@ const LONGER: &[(&str, Result<usize, usize>)] = &[
 ];
 
 #[test]
-fn each_byte_tells_longer_texts_apart(rt: HostRuntime) {
+fn each_byte_orders_longer_texts(rt: HostRuntime) {
     let file = b"aaaaaaaaaaaaaaaaacaaaaaaacacaaaaaaaa";
     for (text, answer) in LONGER {
         assert!(rt; finds::<9>(file, text, *answer), "{text}");
     }
 }
 
-/// Whether of two texts of `N` letters, of which one has the greater letter at any one place and the lesser behind it,
-/// that one comes second alone.
-fn are_told_apart_at_each_place<const N: usize>() -> bool
+/// Whether of two texts of `N` letters, of which one has the greater letter at any one place and lesser ones after it,
+/// only that one may come second.
+fn are_ordered_at_each_place<const N: usize>() -> bool
     requires positive { 0 < N }
-    requires room { N ≤ 32 }
+    requires bound { N ≤ 32 }
 {
     for at in 0..N {
         let (mut first, mut second) = ([b'a'; N], [b'a'; N]);
         second[at] = b'b';
-        for behind in at + 1..N {
-            first[behind] = b'z';
+        for later in at + 1..N {
+            first[later] = b'z';
         }
         if !is_sorted(&first, &second) || is_sorted(&second, &first) {
             return false;
@@ -151,7 +151,7 @@ fn are_told_apart_at_each_place<const N: usize>() -> bool
 
 fn is_sorted<const N: usize>(first: &[u8; N], second: &[u8; N]) -> bool
     requires positive { 0 < N }
-    requires room { N ≤ 32 }
+    requires bound { N ≤ 32 }
 {
     let mut file = [0; 64];
     file[..N].copy_from_slice(first);
@@ -162,14 +162,14 @@ fn is_sorted<const N: usize>(first: &[u8; N], second: &[u8; N]) -> bool
     }
 }
 
-/// Whether texts are told apart at each place, at each of the capacities.
-macro_rules! are_told_apart {
+/// Whether texts are ordered by each place, at each of the capacities.
+macro_rules! are_ordered {
     ($($capacity:literal)*) => {
-        true $(&& are_told_apart_at_each_place::<$capacity>())*
+        true $(&& are_ordered_at_each_place::<$capacity>())*
     };
 }
 
 #[test]
-fn each_byte_tells_texts_of_each_width_apart(rt: HostRuntime) {
-    assert!(rt; are_told_apart!(1 2 3 4 5 6 7 8 9 12 15 16 17 24 31 32));
+fn each_byte_orders_texts_of_each_width(rt: HostRuntime) {
+    assert!(rt; are_ordered!(1 2 3 4 5 6 7 8 9 12 15 16 17 24 31 32));
 }

@@ -6,7 +6,7 @@ use tinystr_packed::Table;
 
 const FILE: &[u8] = b"d\0\0abc\0\0\0b\0\0";
 
-// The texts of the file, a line each. They don't rise.
+// The texts of the file, a line each. They aren't ascending.
 const TEXTS: &str = "d\nabc\n\nb\n";
 
 fn is_text<const N: usize>(found: Option<TinyAsciiStr<N>>, text: Option<&str>) -> bool {
@@ -37,7 +37,7 @@ fn has_ends(file: &[u8], first: Option<&str>, last: Option<&str>) -> bool {
 }
 
 #[test]
-fn each_text_stands_at_its_index(rt: HostRuntime) {
+fn each_text_is_at_its_index(rt: HostRuntime) {
     for (index, text) in TEXTS.lines().enumerate() {
         assert!(rt; is_at(index, text), "{text}");
     }
@@ -59,7 +59,7 @@ fn texts_come_in_the_order_of_the_table(rt: HostRuntime) {
     assert!(rt; has_texts(b"abc", "abc\n"));
 }
 
-/// Whether the iterator gives exactly the texts of the lines, and tells each time how many are left.
+/// Whether the iterator gives exactly the texts of the lines, and reports each time the number of those that follow.
 fn has_texts(file: &[u8], lines: &str) -> bool {
     let Ok(table) = Table::<3>::new(file) else {
         return false;

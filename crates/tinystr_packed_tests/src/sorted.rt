@@ -9,7 +9,7 @@ use tinystr_packed::SortedError::{Order, Records};
 use tinystr_packed::{NotRising, SortedError, SortedTable};
 
 #[test]
-fn bytes_of_texts_that_rise_are_a_sorted_table(rt: HostRuntime) {
+fn bytes_of_ascending_texts_are_a_sorted_table(rt: HostRuntime) {
     for (file, words) in [
         (&b""[..], ""),
         (&b"\0\0\0"[..], "|"),
@@ -21,7 +21,7 @@ fn bytes_of_texts_that_rise_are_a_sorted_table(rt: HostRuntime) {
     }
 }
 
-/// Whether the file has these words, each with a `|` behind it.
+/// Whether the file has these words, each with a `|` after it.
 fn is_table_of(file: &[u8], words: &str) -> bool {
     let Ok(sorted) = SortedTable::<3>::from_bytes(file) else {
         return false;
@@ -36,8 +36,8 @@ fn is_table_of(file: &[u8], words: &str) -> bool {
     texts.next().is_none()
 }
 
-// Bytes, each with the fault for which they are refused.
-const REFUSED: &[(&[u8], SortedError)] = &[
+// Bytes, each with the fault for which they are rejected.
+const REJECTED: &[(&[u8], SortedError)] = &[
     (b"CHFE", Records(Length { len: 4 })),
     (b"CH", Records(Length { len: 2 })),
     (b"EURCHFE", Records(Length { len: 7 })),
@@ -69,13 +69,13 @@ const REFUSED: &[(&[u8], SortedError)] = &[
 ];
 
 #[test]
-fn records_are_refused_first_and_then_their_order(rt: HostRuntime) {
-    for (file, fault) in REFUSED {
-        assert!(rt; is_refused(file, *fault), "{fault:?}");
+fn records_are_rejected_first_and_then_their_order(rt: HostRuntime) {
+    for (file, fault) in REJECTED {
+        assert!(rt; is_rejected(file, *fault), "{fault:?}");
     }
 }
 
-fn is_refused(file: &[u8], fault: SortedError) -> bool {
+fn is_rejected(file: &[u8], fault: SortedError) -> bool {
     match SortedTable::<3>::from_bytes(file) {
         Ok(_) => false,
         Err(found) => found == fault,

@@ -130,7 +130,7 @@ fn sorted_table(file: &[u8]) -> Result<SortedTable<'_, 4>, Option<NotRising>> {
 }
 
 #[test]
-fn the_first_text_that_does_not_rise_is_named(rt: HostRuntime) {
+fn the_first_text_out_of_order_is_named(rt: HostRuntime) {
     for (file, index) in [
         ("LatnCyrl", 1),
         ("ab\0\0ab\0\0", 1),
@@ -138,29 +138,29 @@ fn the_first_text_that_does_not_rise_is_named(rt: HostRuntime) {
         ("a\0\0\0b\0\0\0b\0\0\0a\0\0\0", 2),
         ("a\0\0\0\0\0\0\0", 1),
     ] {
-        assert!(rt; is_refused_at(file.as_bytes(), index), "{file}");
+        assert!(rt; is_rejected_at(file.as_bytes(), index), "{file}");
     }
 }
 
-fn is_refused_at(file: &[u8], index: usize) -> bool {
-    matches!(sorted_table(file), Err(Some(fall)) if fall == NotRising { index })
+fn is_rejected_at(file: &[u8], index: usize) -> bool {
+    matches!(sorted_table(file), Err(Some(fault)) if fault == NotRising { index })
 }
 
 #[test]
-fn a_file_is_refused_for_its_length_or_its_first_bad_record(rt: HostRuntime) {
-    assert!(rt; is_refused(b"Latna", UleError::Length { len: 5 }));
-    assert!(rt; is_refused(b"\0a\x80", UleError::Length { len: 3 }));
-    assert!(rt; is_refused(b"\0aaaL", UleError::Length { len: 5 }));
+fn a_file_is_rejected_for_its_length_or_its_first_bad_record(rt: HostRuntime) {
+    assert!(rt; is_rejected(b"Latna", UleError::Length { len: 5 }));
+    assert!(rt; is_rejected(b"\0a\x80", UleError::Length { len: 3 }));
+    assert!(rt; is_rejected(b"\0aaaL", UleError::Length { len: 5 }));
     let bad = |index, fault| UleError::Parse { index, fault };
     let null = ParseError::ContainsNull;
     let high = ParseError::NonAscii;
-    assert!(rt; is_refused(b"Latna\0b\0", bad(1, null)));
-    assert!(rt; is_refused(b"a\0b\0Lat\x80", bad(0, null)));
-    assert!(rt; is_refused(b"Lat\x80a\0b\0", bad(0, high)));
-    assert!(rt; is_refused(b"LatnCyrl\xff\0\0\0", bad(2, high)));
+    assert!(rt; is_rejected(b"Latna\0b\0", bad(1, null)));
+    assert!(rt; is_rejected(b"a\0b\0Lat\x80", bad(0, null)));
+    assert!(rt; is_rejected(b"Lat\x80a\0b\0", bad(0, high)));
+    assert!(rt; is_rejected(b"LatnCyrl\xff\0\0\0", bad(2, high)));
 }
 
-fn is_refused(file: &[u8], error: UleError) -> bool {
+fn is_rejected(file: &[u8], error: UleError) -> bool {
     match Table::<4>::new(file) {
         Ok(_) => false,
         Err(fault) => fault == error,

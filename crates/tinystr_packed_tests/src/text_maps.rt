@@ -86,7 +86,7 @@ fn entries_are_the_keys_with_their_texts_in_order(rt: HostRuntime) {
     }
 }
 
-/// Whether the map has the first of the five entries and no more, and tells how many they are.
+/// Whether the map has the first of the five entries and no more, and reports their number.
 fn has_entries(keys: &[u8], values: &[u8], len: usize) -> bool {
     match TextMap::<2, 3>::new(keys, values) {
         Ok(map) => has_len(&map, len) && are_first(&map, len),
@@ -101,7 +101,7 @@ fn has_len(map: &TextMap<'_, 2, 3>, len: usize) -> bool {
         && map.values().len() == len
 }
 
-/// Whether an iterator tells that so many entries are left, and has this one next.
+/// Whether an iterator reports that `left` entries follow, and has this one next.
 fn is_next(entries: &mut TextEntries<'_, 2, 3>, left: usize, key: &str, value: &str) -> bool {
     if entries.size_hint() != (left, Some(left)) {
         return false;
@@ -119,8 +119,8 @@ fn is_text_at(map: &TextMap<'_, 2, 3>, index: usize, text: &str) -> bool {
     }
 }
 
-/// Whether the entries are the first of the five and no more, each value stands at its index, and the iterator tells each
-/// time how many are left.
+/// Whether the entries are the first of the five and no more, each value is at its index, and the iterator reports each
+/// time the number of those that follow.
 fn are_first(map: &TextMap<'_, 2, 3>, len: usize) -> bool {
     let mut entries = map.iter();
     let mut left = len;
@@ -133,8 +133,8 @@ fn are_first(map: &TextMap<'_, 2, 3>, len: usize) -> bool {
     entries.size_hint() == (0, Some(0)) && entries.next().is_none()
 }
 
-// Keys and values, each with the fault for which they are refused.
-const REFUSED: &[(&[u8], &[u8], TextMapError)] = &[
+// Keys and values, each with the fault for which they are rejected.
+const REJECTED: &[(&[u8], &[u8], TextMapError)] = &[
     (b"CHE", b"CHF", Keys(Records(Length { len: 3 }))),
     (
         b"CH\0E",
@@ -152,7 +152,7 @@ const REFUSED: &[(&[u8], &[u8], TextMapError)] = &[
             fault: NonAscii,
         })),
     ),
-    // that, though they don't rise either and the values are too few and bad
+    // the same, though they aren't ascending either and the values are too few and bad
     (
         b"EUCH\0U",
         b"\xff",
@@ -189,7 +189,7 @@ const REFUSED: &[(&[u8], &[u8], TextMapError)] = &[
             fault: NonAscii,
         }),
     ),
-    // as many as there aren't keys
+    // more or fewer than the keys
     (b"CHEU", b"CHF", Count { keys: 2, values: 1 }),
     (b"CHEU", b"CHFEURJPY", Count { keys: 2, values: 3 }),
     (b"CH", b"", Count { keys: 1, values: 0 }),
@@ -197,13 +197,13 @@ const REFUSED: &[(&[u8], &[u8], TextMapError)] = &[
 ];
 
 #[test]
-fn keys_are_refused_first_then_the_values_then_their_number(rt: HostRuntime) {
-    for (keys, bytes, fault) in REFUSED {
-        assert!(rt; is_refused(keys, bytes, *fault), "{fault:?}");
+fn keys_are_rejected_first_then_the_values_then_their_number(rt: HostRuntime) {
+    for (keys, bytes, fault) in REJECTED {
+        assert!(rt; is_rejected(keys, bytes, *fault), "{fault:?}");
     }
 }
 
-fn is_refused(keys: &[u8], values: &[u8], fault: TextMapError) -> bool {
+fn is_rejected(keys: &[u8], values: &[u8], fault: TextMapError) -> bool {
     match TextMap::<2, 3>::new(keys, values) {
         Ok(_) => false,
         Err(found) => found == fault,

@@ -1,5 +1,5 @@
 //! The tests of the questions, case changes, order and printed forms of `tinystr`, and of the words that answer. They
-//! stand apart from both crates, since one with tests is proved once more with them.
+//! are a crate of their own, since a crate with tests is proved once more with them.
 #![tactic(auto)]
 
 #[cfg(test)]

@@ -34,7 +34,7 @@ fn texts_are_ordered_byte_by_byte(rt: HostRuntime) {
     }
 }
 
-// Whether a text that fills the capacity of the value given stands before the one that is greater at any one position.
+// Whether a text that fills the capacity of the value given is before the one that is greater at any one position.
 fn is_less_at_each_position<const N: usize>(_like: TinyAsciiStr<N>) -> bool {
     let less = TinyAsciiStr::<N>::from_utf8_lossy(&[b'a'; 200], b'?');
     for at in 0..N {
@@ -55,18 +55,18 @@ fn is_before<const N: usize>(less: TinyAsciiStr<N>, greater: TinyAsciiStr<N>) ->
         && greater.cmp(&less) == Ordering::Greater
 }
 
-/// Whether texts are told apart at each position, at each of the capacities.
-macro_rules! are_told_apart {
+/// Whether texts are ordered by each position, at each of the capacities.
+macro_rules! are_ordered_by_position {
     ($($capacity:literal)*) => {
         true $(&& is_less_at_each_position(TinyAsciiStr::<$capacity>::default()))*
     };
 }
 
 #[test]
-fn texts_are_told_apart_at_each_position(rt: HostRuntime) {
-    assert!(rt; are_told_apart!(0 1 3 4 5 7 8 9 12 15 16));
-    assert!(rt; are_told_apart!(17 18 19 20 21 22 23 24 25 26 27 28 29 30 31 32));
-    assert!(rt; are_told_apart!(33 34 40 47 48 49 64 100 200));
+fn texts_are_ordered_by_each_position(rt: HostRuntime) {
+    assert!(rt; are_ordered_by_position!(0 1 3 4 5 7 8 9 12 15 16));
+    assert!(rt; are_ordered_by_position!(17 18 19 20 21 22 23 24 25 26 27 28 29 30 31 32));
+    assert!(rt; are_ordered_by_position!(33 34 40 47 48 49 64 100 200));
 }
 
 #[test]
@@ -128,7 +128,7 @@ fn are_in_order_at_each_capacity(a: Text, b: Text) -> bool {
         && are_in_order(a.resize::<33>(), b.resize::<33>())
 }
 
-// The first pair out of order. Each pair is compared once, since both ways are asked.
+// The first pair out of order. Each pair is listed once, since it is compared in both directions.
 fn first_out_of_order(texts: &[Text]) -> Option<[Text; 2]> {
     for (i, a) in texts.iter().enumerate() {
         for b in &texts[..i + 1] {

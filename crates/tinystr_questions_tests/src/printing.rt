@@ -39,18 +39,18 @@ fn a_text_in_quotes_takes_no_width(rt: HostRuntime) -> Result<(), Fail> {
     Ok(())
 }
 
-// Whether the line is the text between so many of a fill in front of it and so many behind it.
-fn is_filled(line: Option<&[u8]>, fill: u8, front: usize, text: &[u8], behind: usize) -> bool {
+// Whether the line is the text with these numbers of fill characters before and after it.
+fn is_filled(line: Option<&[u8]>, fill: u8, before: usize, text: &[u8], after: usize) -> bool {
     let line = line.unwrap_or(b"");
-    let Some((fill_in_front, rest)) = line.split_at_checked(front) else {
+    let Some((fill_before, rest)) = line.split_at_checked(before) else {
         return false;
     };
-    let Some((middle, fill_behind)) = rest.split_at_checked(text.len()) else {
+    let Some((middle, fill_after)) = rest.split_at_checked(text.len()) else {
         return false;
     };
-    let is_front = are_all(fill_in_front, fill);
-    let is_behind = are_all(fill_behind, fill);
-    middle == text && fill_behind.len() == behind && is_front && is_behind
+    let is_before = are_all(fill_before, fill);
+    let is_after = are_all(fill_after, fill);
+    middle == text && fill_after.len() == after && is_before && is_after
 }
 
 fn are_all(bytes: &[u8], fill: u8) -> bool {

@@ -12,19 +12,19 @@ use tinystr_words::word::Word;
 /// An answer to each question, in the order of `Row::answers`.
 pub type Answers = [bool; 9];
 
-/// The questions: `$asked!` of each one's method, and of what it asks of a first byte and of each later one.
+/// The questions: `$answer!` of each one's method, and of its conditions on a first byte and on each later one.
 macro_rules! each_question {
-    ($asked:ident, $of:expr) => {
+    ($answer:ident, $of:expr) => {
         [
-            $asked!($of, is_ascii_alphabetic, is_letter, is_letter),
-            $asked!($of, is_ascii_alphanumeric, is_letter_or_digit, is_letter_or_digit),
-            $asked!($of, is_ascii_numeric, is_digit, is_digit),
-            $asked!($of, is_ascii_lowercase, is_not_upper, is_not_upper),
-            $asked!($of, is_ascii_titlecase, is_not_lower, is_not_upper),
-            $asked!($of, is_ascii_uppercase, is_not_lower, is_not_lower),
-            $asked!($of, is_ascii_alphabetic_lowercase, is_lower, is_lower),
-            $asked!($of, is_ascii_alphabetic_titlecase, is_upper, is_lower),
-            $asked!($of, is_ascii_alphabetic_uppercase, is_upper, is_upper),
+            $answer!($of, is_ascii_alphabetic, is_letter, is_letter),
+            $answer!($of, is_ascii_alphanumeric, is_letter_or_digit, is_letter_or_digit),
+            $answer!($of, is_ascii_numeric, is_digit, is_digit),
+            $answer!($of, is_ascii_lowercase, is_not_upper, is_not_upper),
+            $answer!($of, is_ascii_titlecase, is_not_lower, is_not_upper),
+            $answer!($of, is_ascii_uppercase, is_not_lower, is_not_lower),
+            $answer!($of, is_ascii_alphabetic_lowercase, is_lower, is_lower),
+            $answer!($of, is_ascii_alphabetic_titlecase, is_upper, is_lower),
+            $answer!($of, is_ascii_alphabetic_uppercase, is_upper, is_upper),
         ]
     };
 }

@@ -1,4 +1,4 @@
-//! The words that texts are asked in.
+//! The words in which texts answer questions.
 
 mod lanes;
 pub mod texts;

@@ -1,4 +1,4 @@
-//! The cases of each error: told apart, cloned and printed.
+//! The cases of each error: compared, cloned and printed.
 
 use crate::printed::is_printed;
 use std::alloc::AllocError;
@@ -8,7 +8,7 @@ use tinystr::forms::{BytesReadError, FormWriteError, JsonReadError};
 use tinystr::ule::UleError;
 
 // Whether each case and its clone are equal to it and to no other.
-fn are_told_apart<E: Clone + PartialEq>(cases: &[E]) -> bool {
+fn are_distinct<E: Clone + PartialEq>(cases: &[E]) -> bool {
     for (i, case) in cases.iter().enumerate() {
         for (j, other) in cases.iter().enumerate() {
             let is_cloned = matches!(case.clone(), Ok(clone) if (clone == *other) == (i == j));
@@ -60,11 +60,11 @@ const RECORDS: &[UleError] = &[
 ];
 
 #[test]
-fn cases_of_an_error_are_told_apart(rt: HostRuntime) -> Result<(), Fail> {
-    assert!(rt; are_told_apart(READ), "of readers");
-    assert!(rt; are_told_apart(JSON), "of JSON");
-    assert!(rt; are_told_apart(BYTES), "of the byte form");
-    assert!(rt; are_told_apart(RECORDS), "of records");
+fn cases_of_an_error_are_distinct(rt: HostRuntime) -> Result<(), Fail> {
+    assert!(rt; are_distinct(READ), "of readers");
+    assert!(rt; are_distinct(JSON), "of JSON");
+    assert!(rt; are_distinct(BYTES), "of the byte form");
+    assert!(rt; are_distinct(RECORDS), "of records");
     let not_ascii = FormWriteError::NotAscii.clone()?;
     let memory = FormWriteError::Memory(AllocError).clone()?;
     let are_cloned = matches!(not_ascii, FormWriteError::NotAscii)

@@ -9,7 +9,7 @@ fn eur() -> TinyAsciiStr<3> {
 }
 
 #[test]
-fn a_text_is_asked_as_a_string(rt: HostRuntime) {
+fn a_text_is_used_as_a_string(rt: HostRuntime) {
     let text = eur();
     assert!(rt; text.as_str() == "EUR" && text.as_str() != "EU");
     assert!(rt; text.as_str().chars().count() == 3);
@@ -19,7 +19,7 @@ fn a_text_is_asked_as_a_string(rt: HostRuntime) {
 }
 
 #[test]
-fn a_map_is_asked_by_a_text(rt: HostRuntime) -> Result<(), Fail> {
+fn a_map_is_searched_by_a_text(rt: HostRuntime) -> Result<(), Fail> {
     let mut places = BTreeMap::new(rt.alloc());
     places.insert(eur(), 2)?;
     assert!(rt; places.get(&tinystr!(3, "EUR").unwrap()) == Some(&2));

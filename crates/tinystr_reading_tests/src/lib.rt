@@ -1,5 +1,5 @@
-//! The tests of what `tinystr` reads and refuses, of its errors and of its views. They stand apart from it, since a crate
-//! with tests is proved once more with them.
+//! The tests of what `tinystr` reads and rejects, of its errors and of its views. They are a crate of their own, since a
+//! crate with tests is proved once more with them.
 #![tactic(auto)]
 
 #[cfg(test)]

@@ -1,4 +1,4 @@
-//! What readers take, and what they refuse.
+//! What readers take, and what they reject.
 
 mod four_bytes;
 mod letters;

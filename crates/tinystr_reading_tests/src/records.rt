@@ -19,7 +19,7 @@ fn packed_records_are_accepted(rt: HostRuntime) {
 }
 
 #[test]
-fn a_length_that_is_no_multiple_is_refused_first(rt: HostRuntime) {
+fn a_length_that_is_no_multiple_is_rejected_first(rt: HostRuntime) {
     let answers = [
         TinyAsciiStr::<3>::validate_bytes(b"GBPUSDx"),
         TinyAsciiStr::<3>::validate_bytes(b"\0GBUSDx"),
@@ -177,22 +177,22 @@ fn the_first_of_two_bad_records_of_two_blocks_is_named(rt: HostRuntime) {
     assert!(rt; TinyAsciiStr::<3>::validate_bytes(&bytes) == bad(1, ParseError::NonAscii));
 }
 
-// Whether the bytes are refused as records of two, and the fault tells their number.
+// Whether the bytes are rejected as records of two, and the fault has their number.
 fn are_no_pairs(bytes: &[u8]) -> bool {
-    let refused = Err(UleError::Length { len: bytes.len() });
-    let is_text_refused = TinyAsciiStr::<2>::validate_bytes(bytes) == refused;
-    let is_any_refused = UnvalidatedTinyAsciiStr::<2>::validate_bytes(bytes) == refused;
-    is_text_refused && is_any_refused
+    let expected = Err(UleError::Length { len: bytes.len() });
+    let is_text_rejected = TinyAsciiStr::<2>::validate_bytes(bytes) == expected;
+    let is_any_rejected = UnvalidatedTinyAsciiStr::<2>::validate_bytes(bytes) == expected;
+    is_text_rejected && is_any_rejected
 }
 
 #[test]
-fn a_long_length_that_is_no_multiple_is_told_whole(rt: HostRuntime) {
+fn a_long_length_that_is_no_multiple_is_reported_whole(rt: HostRuntime) {
     let bytes = [b'a'; 65537];
     assert!(rt; are_no_pairs(&bytes[..301]));
     assert!(rt; are_no_pairs(&bytes));
 }
 
-// Whether the pattern at the capacity of the value given is bytes 255, and is refused.
+// Whether the pattern at the capacity of the value given is bytes 255, and is rejected.
 fn is_no_value<const N: usize>(_like: TinyAsciiStr<N>) -> bool {
     let niche = TinyAsciiStr::<N>::niche_bit_pattern();
     niche == [255; N] && TinyAsciiStr::try_from_raw(niche) == Err(ParseError::NonAscii)

@@ -11,8 +11,8 @@ type Unvalidated<const N: usize> = UnvalidatedTinyAsciiStr<N>;
 fn bytes_that_are_no_text_are_kept_and_printed_as_a_list(rt: HostRuntime) -> Result<(), Fail> {
     let bytes = Unvalidated::<3>::try_from_utf8(b"\0A")?;
     let same = Unvalidated::from_utf8_unchecked([0, 0x41, 0]);
-    let refused = Err(ParseError::ContainsNull);
-    assert!(rt; bytes == same && bytes.try_into_tinystr() == refused);
+    let expected = Err(ParseError::ContainsNull);
+    assert!(rt; bytes == same && bytes.try_into_tinystr() == expected);
     assert!(rt; is_printed(format!(in rt.alloc(); "{bytes:?}"), "[0, 65, 0]"));
     let bytes = Unvalidated::from_utf8_unchecked([0, 0x41, 0, 0xFF, 9]);
     assert!(rt; is_printed(format!(in rt.alloc(); "{bytes:?}"), "[0, 65, 0, 255, 9]"));
@@ -47,7 +47,7 @@ fn bytes_that_are_a_text_become_it(rt: HostRuntime) -> Result<(), Fail> {
     Ok(())
 }
 
-// Whether the bytes are refused as too many at 3, and the fault tells their number.
+// Whether the bytes are rejected as too many at 3, and the fault has their number.
 fn are_too_many(bytes: &[u8]) -> bool {
     let len = bytes.len();
     Unvalidated::<3>::try_from_utf8(bytes) == Err(ParseError::TooLong { max: 3, len })
@@ -95,7 +95,7 @@ fn no_bytes_are_the_empty_text(rt: HostRuntime) -> Result<(), Fail> {
     Ok(())
 }
 
-// Whether the NULs are the empty text to all but the strict reader, which refuses them.
+// Whether the NULs are the empty text to all but the strict reader, which rejects them.
 fn are_the_empty_text<const N: usize>(nuls: [u8; N]) -> bool {
     let empty = TinyAsciiStr::<N>::default();
     TinyAsciiStr::try_from_raw(nuls) == Ok(empty)

@@ -51,7 +51,7 @@ fn views_show_the_text_and_its_padding(rt: HostRuntime) -> Result<(), Fail> {
     Ok(())
 }
 
-// Whether each byte of the text, held at N, stands at its index, and none past its end.
+// Whether each byte of the text, held at N, is at its index, and none past its end.
 fn has_bytes<const N: usize>(text: &str) -> bool
     requires { N < 2 ^ 62 }
 {

@@ -6,7 +6,7 @@ use Rattle.tinystr.specs.Error.{fault_of}
 use Rattle.uses.specs.declared.keys.KeyError.{KeyError}
 use Rattle.uses.specs.declared.keys.KeyError.TheVariants.{Text, Memory}
 
--- the text isn't a key, and this is its fault, or it is one, and memory was asked for
+-- the text isn't a key, and this is its fault, or it is one, and an allocation failed
 abbrev pub RefusesKey : KeyError → List ℕ → Type 0
 RefusesKey (Text fault) text = ¬ IsStrictText text 8 × (fault_of fault ≡ fault_in 8 text)
-RefusesKey (Memory refused) text = IsStrictText text 8
+RefusesKey (Memory error) text = IsStrictText text 8

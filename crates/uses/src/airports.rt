@@ -1,4 +1,4 @@
-//! Records of three texts, one behind another, as a file of airports has them.
+//! Records of three consecutive texts, as a file of airports has them.
 
 ghost use Rattle.std.specs.Prelude.{◌≡◌, ◌↔◌, Ok, IsOk, IfOk, IfErr};
 ghost use Rattle.uses.specs.Airports.{IsAirportOf, IsRecord, RefusesField, record_of};
@@ -42,8 +42,7 @@ impl Airport {
         self.city.write_bytes(city);
     }
 
-    /// The airport of a record, and whatever stands behind it is left alone. The error names the first field that isn't a
-    /// padded text.
+    /// The airport of a record, whatever follows it. The error names the first field that isn't a padded text.
     pub fn read(bytes: &[u8]) -> Result<Self, RecordError>
         ensures accepted { IsOk result ↔ IsRecord bytes.now }
         ensures fields { IfOk result (λ airport. IsAirportOf airport bytes.now) }

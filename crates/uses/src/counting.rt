@@ -46,7 +46,7 @@ pub fn times(
     Ok(counts.get(code).copied().unwrap_or(0))
 }
 
-/// Whether a code is one of a list, asked of the counted ones. It fails only if an allocation fails.
+/// Whether a code is one of a list, by the map of their counts. It fails only if an allocation fails.
 pub fn is_counted(
     alloc: Global,
     codes: &[TinyAsciiStr<3>],

@@ -6,7 +6,7 @@ ghost use Rattle.std.specs.List.{after_first, before_first};
 use tinystr::{TinyStr8, TinyStr16};
 use tinystr_words::laws::split_found;
 
-/// The name of a setting: what stands before its `=`, or all of it where there is none.
+/// The name of a setting: the part before its `=`, or all of it where there is none.
 pub fn name_of(setting: &TinyStr16) -> TinyStr16
     ensures { result ≡ before_first (λ b. b == 0x3d) setting.now }
 {

@@ -1,4 +1,4 @@
-//! A hash set of keys, asked by text.
+//! A hash set of keys, searched by text.
 
 ghost use Rattle.std.specs.Prelude.{◌≡◌, ◌↔◌, true, not, IsTrue, IfOk, IfErr, OnOk, OnErr};
 ghost use Rattle.std.specs.HashSet.{IsUnchanged, Updates, contains};

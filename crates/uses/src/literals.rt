@@ -1,4 +1,4 @@
-//! Tables and maps written in the source: what they hold is proved of the bytes as they stand there.
+//! Tables and maps written in the source: what they hold is proved of the bytes of the literals.
 
 ghost use Rattle.std.specs.Prelude.{◌≡◌, ◌∷◌, [], Some, None, codes, option_copied};
 
@@ -34,7 +34,7 @@ pub fn currencies_of_countries() -> TextMap<'static, 2, 3>
     TextMap::<2, 3>::new(b"CHJP", b"CHFJPY").unwrap()
 }
 
-/// The currency of Japan, which stands in that map.
+/// The currency of Japan, which is in that map.
 pub fn currency_of_japan() -> TinyAsciiStr<3>
     ensures { result ≡ codes "JPY" }
 {

@@ -1,4 +1,4 @@
-//! Locales, told by language identifiers.
+//! Locales, named by language identifiers.
 
 ghost use Rattle.std.specs.Prelude.{◌≡◌, ◌↔◌, None, Some, SomeIff, IsTrue, IfOk, codes};
 ghost use Rattle.std.specs.BTreeMap.{get};

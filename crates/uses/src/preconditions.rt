@@ -1,4 +1,4 @@
-//! What calls require, met: by a literal, or by a test in front of the call.
+//! What calls require is met by a literal, or by a test before the call.
 
 ghost use Rattle.std.specs.Prelude.{◌≡◌, ◌↔◌, ◌<◌, codes, IsSome, IfSome, IsTrue};
 ghost use Rattle.tinystr.specs.Packed.{IsPacked};

@@ -1,4 +1,4 @@
-//! A script code, asked as one word.
+//! A script code, tested as one word.
 
 ghost use Rattle.std.specs.Prelude.{◌≡◌, ◌↔◌, length, IsTrue};
 ghost use Rattle.tinystr_words.specs.Classes.{ask, is_lower, is_upper};

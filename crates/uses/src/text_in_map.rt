@@ -16,7 +16,7 @@ pub fn currency_of(currencies: &TextMap<'_, 2, 3>, country: &str) -> Option<Tiny
     currencies.get(&country)
 }
 
-/// The index of a code that is held with more room than the codes of the table have.
+/// The index of a code whose capacity is above that of the table's codes.
 pub fn index_of_key(codes: &SortedTable<'_, 3>, key: &TinyStr8) -> Option<usize>
     ensures found { IfSome result (λ index. slice_get codes.now index ≡ Some key.now) }
     ensures exact { IsSome result ↔ Contains codes.now key.now }

@@ -1,4 +1,4 @@
-//! Texts asked and changed by std's calls on their `str`, and promised in the words of their own calls.
+//! Texts tested and changed by std's calls on their `str`, with contracts that are written as those of their own calls.
 
 ghost use Rattle.std.specs.Prelude.{◌≡◌, ◌↔◌, IfOk, IsTrue, string_bytes};
 ghost use Rattle.std.specs.Char.{is_ascii_uppercase};

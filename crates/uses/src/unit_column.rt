@@ -32,7 +32,7 @@ pub fn join_units(
 {
     let mut kinds = Vec::with_capacity(alloc, codes.len())?;
     let mut missing = 0usize;
-    // how many rows stand in front of the first whose code isn't there
+    // the number of rows before the first whose code isn't there
     let mut known = 0usize;
     for kind in units.get_each(codes) {
         if kind.is_none() {

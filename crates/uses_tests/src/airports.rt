@@ -15,7 +15,7 @@ fn zurich() -> Airport {
 }
 
 #[test]
-fn each_field_stands_at_its_place(rt: HostRuntime) -> Result<(), Fail> {
+fn each_field_is_at_its_place(rt: HostRuntime) -> Result<(), Fail> {
     let mut record = [0xff; 16];
     zurich().write(&mut record);
     assert_eq!(rt; record, *b"ZRHCHZurich\0\0\0\0\0");
@@ -35,12 +35,12 @@ fn an_airport_comes_back_from_its_record(rt: HostRuntime) {
 }
 
 #[test]
-fn bytes_behind_a_record_are_left_alone(rt: HostRuntime) {
+fn bytes_after_a_record_are_ignored(rt: HostRuntime) {
     assert!(rt; Airport::read(b"ZRHCHZurich\0\0\0\0\0\xff\0!") == Ok(zurich()));
 }
 
 // Records, each with the first field that is bad and its fault.
-const REFUSED: &[(&[u8], Field, BytesReadError)] = &[
+const REJECTED: &[(&[u8], Field, BytesReadError)] = &[
     (b"", Code, Length { expected: 3 }),
     (b"ZR", Code, Length { expected: 3 }),
     (b"Z\0HCHZurich\0\0\0\0\0", Code, Null),
@@ -55,11 +55,11 @@ const REFUSED: &[(&[u8], Field, BytesReadError)] = &[
 
 #[test]
 fn a_refusal_names_the_first_bad_field(rt: HostRuntime) {
-    for &(record, field, fault) in REFUSED {
-        assert!(rt; is_refused(record, field, fault), "{record:?}");
+    for &(record, field, fault) in REJECTED {
+        assert!(rt; is_rejected(record, field, fault), "{record:?}");
     }
 }
 
-fn is_refused(record: &[u8], field: Field, fault: BytesReadError) -> bool {
+fn is_rejected(record: &[u8], field: Field, fault: BytesReadError) -> bool {
     Airport::read(record) == Err(RecordError { field, fault })
 }

@@ -6,7 +6,7 @@ use std::alloc::Global;
 use tinystr::TinyAsciiStr;
 use uses::columns::{left_cell, line, right_cell};
 
-// Whether a text of capacity N stands at the right of a column of that width as it is written here.
+// Whether a text of capacity N, aligned right in a column of that width, is this cell.
 fn is_right<const N: usize>(alloc: Global, text: &str, width: usize, expected: &str) -> bool
     requires { N < 2 ^ 63 }
 {
@@ -18,7 +18,7 @@ fn is_right<const N: usize>(alloc: Global, text: &str, width: usize, expected: &
 }
 
 #[test]
-fn a_text_stands_at_the_right(rt: HostRuntime) {
+fn a_text_is_aligned_right(rt: HostRuntime) {
     assert!(rt; is_right::<0>(rt.alloc(), "", 8, "        "));
     assert!(rt; is_right::<0>(rt.alloc(), "", 0, ""));
     assert!(rt; is_right::<8>(rt.alloc(), "", 8, "        "));
@@ -39,7 +39,7 @@ fn a_column_has_any_width(rt: HostRuntime) {
     }
 }
 
-// Whether a short text stands at the right of a column of that width, behind spaces alone.
+// Whether a short text is aligned right in a column of that width, after spaces alone.
 fn is_right_in_any(alloc: Global, width: usize) -> bool {
     let Ok(text) = TinyAsciiStr::<4>::try_from_str("ab") else {
         return false;
@@ -50,7 +50,7 @@ fn is_right_in_any(alloc: Global, width: usize) -> bool {
     }
 }
 
-// Texts, each as it stands at the left.
+// Texts, each with its cell, aligned left.
 const LEFT: &[(&str, &str)] = &[
     ("", "............"),
     ("en", "en.........."),
@@ -59,7 +59,7 @@ const LEFT: &[(&str, &str)] = &[
 ];
 
 #[test]
-fn a_text_stands_at_the_left(rt: HostRuntime) {
+fn a_text_is_aligned_left(rt: HostRuntime) {
     for &(text, cell) in LEFT {
         assert!(rt; is_left(rt.alloc(), text, cell), "{text:?}");
     }

@@ -20,7 +20,7 @@ fn is_found(file: &[u8], code: &str, index: Option<usize>) -> bool {
 }
 
 #[test]
-fn a_file_of_countries_has_codes_that_rise(rt: HostRuntime) {
+fn a_file_of_countries_has_ascending_codes(rt: HostRuntime) {
     for (file, count) in [("", 0), ("AT", 1), ("ATCHDE", 3)] {
         let found = countries(file.as_bytes());
         assert!(rt;

@@ -40,7 +40,7 @@ fn is_set(table: &mut Places, row: &str) -> bool {
     }
 }
 
-/// Whether the code before the `=` has the places behind it, or none where nothing stands there.
+/// Whether the code before the `=` has the places after it, or none if nothing follows.
 fn has_its_places(table: &Places, row: &str) -> bool {
     let Some((code, places)) = row.split_once('=') else {
         return false;

@@ -10,7 +10,7 @@ fn two_texts_are_joined_by_a_dash(rt: HostRuntime) {
     }
 }
 
-/// Whether the two texts in front are joined as the text behind them.
+/// Whether the first two texts are joined as the third.
 fn are_joined(row: &str) -> bool {
     let mut words = row.split('/');
     let first = TinyAsciiStr::try_from_str(words.next().unwrap_or(""));

@@ -27,7 +27,7 @@ const FAULTS: &[(&str, JsonReadError)] = &[
 ];
 
 #[test]
-fn what_is_no_key_in_json_is_refused_for_its_kind(rt: HostRuntime) {
+fn what_is_no_key_in_json_is_rejected_for_its_kind(rt: HostRuntime) {
     for &(json, fault) in FAULTS {
         assert!(rt; has_id(rt.alloc(), json, Err(fault)), "{json}");
     }

@@ -7,7 +7,7 @@ use tinystr::ParseError;
 use uses::keys::{KeyError, Keys, add_key, has_key};
 
 #[test]
-fn keys_are_asked_by_text(rt: HostRuntime) {
+fn keys_are_searched_by_text(rt: HostRuntime) {
     let mut keys = HashSet::new(rt.alloc());
     assert!(rt; is_key(&mut keys, "en", true));
     assert!(rt; is_key(&mut keys, "en", false));
@@ -42,7 +42,7 @@ fn is_key(keys: &mut Keys, text: &str, new: bool) -> bool {
 }
 
 #[test]
-fn what_is_no_key_is_refused_for_its_fault(rt: HostRuntime) {
+fn what_is_no_key_is_rejected_for_its_fault(rt: HostRuntime) {
     let mut keys = HashSet::new(rt.alloc());
     let too_long = |len| ParseError::TooLong { max: 8, len };
     assert!(rt; is_no_key(&mut keys, "ninechars", too_long(9)));

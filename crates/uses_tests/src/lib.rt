@@ -1,5 +1,5 @@
-//! The tests of `uses`: each caller on what it finds and what it refuses, each refusal told by its case. They stand
-//! apart from it, since a crate with tests is proved once more with them.
+//! The tests of `uses`: each caller on what it finds and what it rejects, with the case of each error. They are a crate of
+//! their own, since a crate with tests is proved once more with them.
 #![tactic(auto)]
 
 #[cfg(test)]
@@ -17,8 +17,6 @@ mod currency;
 #[cfg(test)]
 mod cutting;
 #[cfg(test)]
-mod handed;
-#[cfg(test)]
 mod joining;
 #[cfg(test)]
 mod json;
@@ -30,6 +28,8 @@ mod literals;
 mod locale;
 #[cfg(test)]
 mod packed;
+#[cfg(test)]
+mod parameters;
 #[cfg(test)]
 mod preconditions;
 #[cfg(test)]

@@ -8,13 +8,13 @@ use uses::literals::{
 #[test]
 fn a_table_has_the_codes_that_are_written(rt: HostRuntime) {
     for (index, code) in "EUR JPY USD".split_whitespace().enumerate() {
-        assert!(rt; stands_at(code, index), "{code}");
+        assert!(rt; is_at(code, index), "{code}");
     }
     assert!(rt; currencies().len() == 3 && sorted_currencies().table().len() == 3);
 }
 
 /// Whether both tables have the code at the index.
-fn stands_at(code: &str, index: usize) -> bool {
+fn is_at(code: &str, index: usize) -> bool {
     match TinyAsciiStr::try_from_str(code) {
         Ok(code) => {
             currencies().get(index) == Some(code)

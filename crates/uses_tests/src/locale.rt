@@ -54,7 +54,7 @@ where
     }
 }
 
-/// Whether the tag before the `=` is read as the identifier behind it, or as none where nothing stands there.
+/// Whether the tag before the `=` is read as the identifier after it, or as none if nothing follows.
 fn has_its_id(row: &str) -> bool {
     row.split_once('=')
         .is_some_and(|(tag, text)| has_id(&tag, text))

@@ -46,7 +46,7 @@ fn texts_of_a_list_are_found_in_what_it_is_sorted_to(rt: HostRuntime) {
     }
 }
 
-/// Whether each of the texts that are asked for is said to be one of the list, or none is.
+/// Whether each of these texts is found in the list, or none is.
 fn are_answered(alloc: Global, words: &str, asked: &str, is_one: bool) -> bool {
     let Some(texts) = texts(alloc, words) else {
         return false;

@@ -7,7 +7,7 @@ use uses::refusals::{readings, refusals};
 const TEXTS: [&str; 6] = ["en", "ninechars", "", "en\0US", "caf\u{e9}", "abcdefgh"];
 
 #[test]
-fn each_text_is_read_or_refused(rt: HostRuntime) {
+fn each_text_is_read_or_rejected(rt: HostRuntime) {
     assert!(rt; are_read(rt.alloc()));
     assert!(rt; matches!(readings(rt.alloc(), &[]), Ok(none) if none.is_empty()));
 }
@@ -32,11 +32,11 @@ fn are_read(alloc: Global) -> bool {
 
 #[test]
 fn refusals_are_those_of_the_texts_that_are_no_keys(rt: HostRuntime) {
-    assert!(rt; are_refused(rt.alloc()));
+    assert!(rt; are_rejected(rt.alloc()));
     assert!(rt; matches!(refusals(rt.alloc(), &["en", "US"]), Ok(none) if none.is_empty()));
 }
 
-fn are_refused(alloc: Global) -> bool {
+fn are_rejected(alloc: Global) -> bool {
     match refusals(alloc, &TEXTS) {
         Ok(found) => {
             found.as_slice()

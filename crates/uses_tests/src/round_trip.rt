@@ -44,7 +44,7 @@ fn texts_of_a_list_come_back_from_their_bytes(rt: HostRuntime) -> Result<(), Fai
     Ok(())
 }
 
-/// Whether the text at the index before the `=` comes back as what stands behind it.
+/// Whether the text at the index before the `=` comes back as the text after it.
 fn nth_comes_back(texts: &[TinyStr8], row: &str) -> bool {
     let Some((index, text)) = row.split_once('=') else {
         return false;

@@ -3,7 +3,7 @@
 use uses::script_code::is_script_code;
 
 #[test]
-fn script_codes_are_asked_as_words(rt: HostRuntime) {
+fn script_codes_are_tested_as_words(rt: HostRuntime) {
     assert!(rt; is_script_code(b"Latn"));
     assert!(rt; !is_script_code(b"latn"), "in lowercase");
     assert!(rt;

@@ -23,7 +23,7 @@ fn tags_become_identifiers_in_order(rt: HostRuntime) -> Result<(), Fail> {
     Ok(())
 }
 
-/// Whether the tags before the `=` become the identifiers behind it, in that order.
+/// Whether the tags before the `=` become the identifiers after it, in that order.
 fn become_ids(alloc: Global, row: &str) -> Result<bool, AllocError> {
     let Some((tags, ids)) = row.split_once('=') else {
         return Ok(false);
@@ -50,7 +50,7 @@ fn texts_become_keys_in_order(rt: HostRuntime) -> Result<(), Fail> {
     Ok(())
 }
 
-/// Whether the texts before the `=` become the keys behind it, in that order.
+/// Whether the texts before the `=` become the keys after it, in that order.
 fn become_keys(alloc: Global, row: &str) -> Result<bool, AllocError> {
     let Some((texts, keys)) = row.split_once('=') else {
         return Ok(false);

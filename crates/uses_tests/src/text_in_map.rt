@@ -47,7 +47,7 @@ const INDICES: &[(&str, Option<usize>)] = &[
 ];
 
 #[test]
-fn a_key_of_more_room_is_found(rt: HostRuntime) {
+fn a_key_of_a_higher_capacity_is_found(rt: HostRuntime) {
     for &(key, index) in INDICES {
         assert!(rt; has_index(key, index), "{key}");
     }

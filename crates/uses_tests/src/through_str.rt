@@ -1,4 +1,4 @@
-//! Texts, asked and changed through their `str`.
+//! Texts, tested and changed through their `str`.
 
 use std::alloc::Global;
 use std::test::Fail;
@@ -17,16 +17,16 @@ const TEXTS: &[(&str, bool, &str)] = &[
 ];
 
 #[test]
-fn uppercase_letters_are_told(rt: HostRuntime) {
+fn uppercase_letters_are_recognized(rt: HostRuntime) {
     for &(text, expected, _) in TEXTS {
-        let [through_str, by_text] = are_told(text, expected);
+        let [through_str, by_text] = are_recognized(text, expected);
         assert!(rt; through_str, "{text:?}");
         assert!(rt; by_text, "{text:?}");
     }
 }
 
 /// Whether this is the answer through the `str`, and whether it is that of the text's own call.
-fn are_told(text: &str, expected: bool) -> [bool; 2] {
+fn are_recognized(text: &str, expected: bool) -> [bool; 2] {
     let Ok(text) = TinyAsciiStr::<16>::try_from_str(text) else {
         return [false; 2];
     };

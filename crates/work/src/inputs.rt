@@ -1,4 +1,4 @@
-//! Texts by number, and the orders in which keys come.
+//! Texts by number, and the orders of keys.
 
 ghost use Rattle.std.specs.Prelude.{◌<◌, ◌^◌};
 
@@ -9,7 +9,7 @@ use tinystr_packed::pack;
 /// How many keys there are: 64 times eight.
 pub const KEYS: u32 = 512;
 
-/// So many records, of which so many begin with the same sixteen bytes. At most 2,048 records have texts of 3 bytes.
+/// `count` records, in groups of `alike` that begin with the same sixteen bytes. At most 2,048 records have texts of 3 bytes.
 #[derive(Clone, Copy)]
 pub struct Shape {
     pub count: u32,
@@ -68,7 +68,7 @@ impl Shape {
             ),
             Order::OneNotFirst => self.text_at(self.first_alike(random), 0),
             Order::Steps(step) => self.text_at(key.wrapping_mul(step) % count, 0),
-            Order::Falling => self.text_at(count - 1 - key % count, 0),
+            Order::Descending => self.text_at(count - 1 - key % count, 0),
             Order::Same => self.text_at(count / 2, 0),
             Order::Alternating if key % 2 == 0 => self.text_at(0, 0),
             Order::Alternating => self.text_at(count - 1, 0),
@@ -76,7 +76,7 @@ impl Shape {
     }
 }
 
-/// The order in which keys come.
+/// The order of keys.
 #[derive(Clone, Copy)]
 pub enum Order {
     Random,
@@ -86,9 +86,9 @@ pub enum Order {
     FirstAlike,
     /// The same, but the first key is the second of those that begin alike.
     OneNotFirst,
-    /// Each so many records after the last, and from the first record again.
+    /// Each this number of records after the last, and from the first record again.
     Steps(u32),
-    Falling,
+    Descending,
     Same,
     /// The first record and the last.
     Alternating,

@@ -14,7 +14,7 @@ const ORDERS: &[(&str, Order)] = &[
     ("each record", Order::Steps(1)),
     ("every fifth record", Order::Steps(5)),
     ("every fortieth record", Order::Steps(40)),
-    ("falling", Order::Falling),
+    ("descending", Order::Descending),
     ("one key", Order::Same),
     ("two alternating keys", Order::Alternating),
 ];

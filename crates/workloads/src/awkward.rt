@@ -148,7 +148,7 @@ fn read_units<const N: usize>(
             units.push(u16::from(*byte))?;
         }
         if let Some(last) = units.as_mut_slice().last_mut() {
-            if random.chance(50) {
+            if random.with_probability(50) {
                 *last = 0xd800;
             }
         }
@@ -182,16 +182,20 @@ fn near_identifier(random: &mut Random) -> ([u8; 48], usize) {
     for (accepted, most) in [(2, 9), (4, 5), (2, 4)] {
         let start = end.min(32);
         bytes[start..start + 8].copy_from_slice(&letters_of(random.bits(), MIXED));
-        let len = if random.chance(60) {
+        let len = if random.with_probability(60) {
             accepted
         } else {
             1 + random.below(most)
         };
         end = start.saturating_add(len).min(46);
-        if random.chance(30) {
+        if random.with_probability(30) {
             break;
         }
-        bytes[end] = if random.chance(80) { b'-' } else { b'_' };
+        bytes[end] = if random.with_probability(80) {
+            b'-'
+        } else {
+            b'_'
+        };
         end += 1;
     }
     (bytes, end)

@@ -21,7 +21,7 @@ impl Cells {
         &mut self.bytes
     }
 
-    /// Ends a cell behind its bytes.
+    /// Ends a cell after its bytes.
     #[inline(always)]
     pub fn end(&mut self) -> Result<(), AllocError> {
         self.ends.push(self.bytes.len())?;

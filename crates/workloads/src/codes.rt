@@ -43,7 +43,7 @@ pub fn short_code<const N: usize>(random: &mut Random) -> TinyAsciiStr<N>
     TinyAsciiStr::try_from_utf8(&raw[..len]).unwrap_or_default()
 }
 
-/// So many codes.
+/// `count` codes.
 #[inline(never)]
 pub fn short_codes<const N: usize>(
     alloc: Global,
@@ -59,7 +59,7 @@ pub fn short_codes<const N: usize>(
     Ok(codes)
 }
 
-/// So many codes of one length, alike in all but their last bytes.
+/// `count` codes of one length, alike in all but their last bytes.
 #[inline(never)]
 pub fn long_codes<const N: usize>(
     alloc: Global,

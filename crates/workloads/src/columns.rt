@@ -1,4 +1,4 @@
-//! Columns of codes, as a CSV file of currencies, units or airports has them: read, asked, changed, counted, printed and
+//! Columns of codes, as a CSV file of currencies, units or airports has them: read, tested, changed, counted, printed and
 //! written as JSON, with empty cells and faults among them.
 
 ghost use Rattle.std.specs.Prelude.{◌<◌, ◌^◌};

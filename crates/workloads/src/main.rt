@@ -1,5 +1,5 @@
-//! The jobs that users of these crates wait for: `workloads JOB SEED ROUNDS` does one of them so many times, on an input
-//! that the seed and the round give, and prints a digest of all results. `all` does each. `bench/run` times them.
+//! The jobs that users of these crates wait for: `workloads JOB SEED ROUNDS` does one of them in each of that number of
+//! rounds, on an input made from the seed, and prints a digest of all results. `all` does each. `bench/run` times them.
 #![tactic(auto)]
 
 mod awkward;
@@ -51,7 +51,7 @@ impl Job {
         }
     }
 
-    // The digest of so many rounds.
+    // The digest of all rounds.
     fn digest(self, alloc: Global, seed: u64, rounds: u32) -> Result<u64, RunError> {
         let mut random = Random::new(seed);
         let mut digest = Digest::new();

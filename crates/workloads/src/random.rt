@@ -32,9 +32,9 @@ impl Random {
         ((self.bits() % 0x1_0000_0000) as u32 % bound) as usize
     }
 
-    /// Whether a chance of so many in a hundred came.
+    /// True with a probability of `percent` in a hundred.
     #[inline(always)]
-    pub fn chance(&mut self, percent: usize) -> bool {
+    pub fn with_probability(&mut self, percent: usize) -> bool {
         self.below(100) < percent
     }
 
@@ -49,7 +49,7 @@ impl Random {
     }
 }
 
-/// Appends so many letters, at most eight, that stand side by side among the given ones.
+/// Appends `len` consecutive ones of the given letters, at most eight.
 #[inline(always)]
 pub fn push_word(
     bytes: &mut Vec<u8>,

@@ -17,7 +17,7 @@ pub fn run(alloc: Global, random: &mut Random, digest: &mut Digest) -> Result<()
     run_at::<16, 3>(alloc, random, digest, 200_000, 25_000)
 }
 
-// So many codes, and so many of the beginnings of `B` characters, of which there are 64 ^ B.
+// `count` codes, and `beginnings` of the 64 ^ B beginnings of `B` characters.
 fn run_at<const N: usize, const B: usize>(
     alloc: Global,
     random: &mut Random,

@@ -6,22 +6,22 @@ use texts_of_tests::neighbours::{self, COUNT};
 use texts_of_tests::table::table_rows;
 use tinystr::{ParseError, TinyAsciiStr, UnvalidatedTinyAsciiStr};
 
-// Whether the text is read from its padded form, with these bytes behind it as the rest.
-fn is_read_before<const N: usize>(text: TinyAsciiStr<N>, behind: &[u8]) -> bool {
+// Whether the text is read from its padded form, and these bytes after it are returned as the remainder.
+fn is_read_before<const N: usize>(text: TinyAsciiStr<N>, after: &[u8]) -> bool {
     let mut input = [0; 64];
-    let len = N.saturating_add(behind.len());
+    let len = N.saturating_add(after.len());
     if len > 64 {
         return false;
     }
     input[..N].copy_from_slice(text.all_bytes());
-    input[N..len].copy_from_slice(behind);
+    input[N..len].copy_from_slice(after);
     match TinyAsciiStr::<N>::read_bytes(&input[..len]) {
-        Ok((read, rest)) => read == text && rest == behind,
+        Ok((read, rest)) => read == text && rest == after,
         Err(_) => false,
     }
 }
 
-// Whether the text comes back from JSON, and from its byte form where three bytes that no text has stand behind it.
+// Whether the text comes back from JSON, and from its byte form followed by three bytes that no text has.
 fn is_read_again<const N: usize>(text: TinyAsciiStr<N>, alloc: Global) -> Result<bool, AllocError> {
     let json = text.to_json(alloc)?;
     Ok(
@@ -42,7 +42,7 @@ fn texts_come_back_from_each_form(rt: HostRuntime) -> Result<(), Fail> {
     Ok(())
 }
 
-fn is_read_whatever_stands_behind<const N: usize>(text: TinyAsciiStr<N>) -> bool {
+fn is_read_whatever_follows<const N: usize>(text: TinyAsciiStr<N>) -> bool {
     is_read_before(text, b"")
         && is_read_before(text, b"\0")
         && is_read_before(text, b"\x80")
@@ -54,7 +54,7 @@ fn is_read_whatever_stands_behind<const N: usize>(text: TinyAsciiStr<N>) -> bool
 fn comes_back<const N: usize>(text: TinyAsciiStr<N>) -> bool {
     let bytes = text.to_bytes();
     let niche = TinyAsciiStr::<N>::niche_bit_pattern();
-    is_read_whatever_stands_behind(text)
+    is_read_whatever_follows(text)
         && TinyAsciiStr::try_from_utf8(text.as_utf8()) == Ok(text)
         && TinyAsciiStr::try_from_raw(bytes) == Ok(text)
         && text.to_unvalidated().try_into_tinystr() == Ok(text)
@@ -75,7 +75,7 @@ fn comes_back_at_each_capacity(text: neighbours::Text) -> bool {
 }
 
 #[test]
-fn padded_forms_come_back_whatever_stands_behind_them(rt: HostRuntime) -> Result<(), Fail> {
+fn padded_forms_come_back_whatever_follows_them(rt: HostRuntime) -> Result<(), Fail> {
     let texts = neighbours::texts(rt.alloc())?;
     assert_eq!(rt; texts.len(), COUNT);
     for text in texts {

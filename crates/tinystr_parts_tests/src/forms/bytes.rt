@@ -1,12 +1,12 @@
-//! The byte form of both types, there and back and refused.
+//! The byte form of both types, written, read and rejected.
 
 ghost use Rattle.std.specs.Prelude.{◌<◌, ◌≤◌, ◌^◌, length};
 
 use tinystr::forms::{BytesReadError, FormWriteError};
 use tinystr::{TinyAsciiStr, UnvalidatedTinyAsciiStr};
 
-// Whether the text is read in front of the input, and this is left.
-fn is_read_in_front<const N: usize>(input: &[u8], text: TinyAsciiStr<N>, left: &[u8]) -> bool {
+// Whether the text is read from the start of the input, and this is the remainder.
+fn is_read_at_start<const N: usize>(input: &[u8], text: TinyAsciiStr<N>, left: &[u8]) -> bool {
     match TinyAsciiStr::<N>::read_bytes(input) {
         Ok((read, rest)) => read == text && rest == left,
         Err(_) => false,
@@ -14,37 +14,37 @@ fn is_read_in_front<const N: usize>(input: &[u8], text: TinyAsciiStr<N>, left: &
 }
 
 // The same of a text at N.
-fn is_text_in_front<const N: usize>(input: &[u8], text: &str, left: &[u8]) -> bool
+fn is_text_at_start<const N: usize>(input: &[u8], text: &str, left: &[u8]) -> bool
     requires { N < 2 ^ 63 }
 {
     match TinyAsciiStr::<N>::try_from_str(text) {
-        Ok(text) => is_read_in_front(input, text, left),
+        Ok(text) => is_read_at_start(input, text, left),
         Err(_) => false,
     }
 }
 
 #[test]
-fn bytes_in_front_are_read_and_the_rest_is_handed_back(rt: HostRuntime) {
-    assert!(rt; is_text_in_front::<4>(b"abcd", "abcd", b""));
-    assert!(rt; is_text_in_front::<4>(b"a\0\0\0", "a", b""));
-    assert!(rt; is_text_in_front::<4>(b"\0\0\0\0", "", b""));
-    assert!(rt; is_text_in_front::<4>(b"abcde", "abcd", b"e"));
-    assert!(rt; is_text_in_front::<2>(b"enXY", "en", b"XY"));
-    assert!(rt; is_text_in_front::<0>(b"ab", "", b"ab"));
-    let behind = b"cdefghijklmnopqrstuvwxyz";
-    assert!(rt; is_text_in_front::<2>(b"abcdefghijklmnopqrstuvwxyz", "ab", behind));
+fn bytes_at_the_start_are_read_and_the_remainder_is_returned(rt: HostRuntime) {
+    assert!(rt; is_text_at_start::<4>(b"abcd", "abcd", b""));
+    assert!(rt; is_text_at_start::<4>(b"a\0\0\0", "a", b""));
+    assert!(rt; is_text_at_start::<4>(b"\0\0\0\0", "", b""));
+    assert!(rt; is_text_at_start::<4>(b"abcde", "abcd", b"e"));
+    assert!(rt; is_text_at_start::<2>(b"enXY", "en", b"XY"));
+    assert!(rt; is_text_at_start::<0>(b"ab", "", b"ab"));
+    let rest = b"cdefghijklmnopqrstuvwxyz";
+    assert!(rt; is_text_at_start::<2>(b"abcdefghijklmnopqrstuvwxyz", "ab", rest));
 }
 
-fn is_refused(input: &[u8], refusal: BytesReadError) -> bool {
+fn is_rejected(input: &[u8], expected: BytesReadError) -> bool {
     match TinyAsciiStr::<4>::read_bytes(input) {
         Ok(_) => false,
-        Err(fault) => fault == refusal,
+        Err(fault) => fault == expected,
     }
 }
 
 #[test]
-fn bytes_are_refused_for_their_first_fault(rt: HostRuntime) {
-    for (input, refusal) in [
+fn bytes_are_rejected_for_their_first_fault(rt: HostRuntime) {
+    for (input, expected) in [
         (b"\0\x80\0\0".as_slice(), BytesReadError::Null),
         (b"\0a\x80\0", BytesReadError::Null),
         (b"a\x80\0b", BytesReadError::NonAscii),
@@ -59,11 +59,11 @@ fn bytes_are_refused_for_their_first_fault(rt: HostRuntime) {
         (b"\x80", BytesReadError::NonAscii),
         (b"\0a", BytesReadError::Null),
     ] {
-        assert!(rt; is_refused(input, refusal), "{input:?}");
+        assert!(rt; is_rejected(input, expected), "{input:?}");
     }
 }
 
-// Whether both types refuse fewer bytes than the capacity of the value given, and tell it.
+// Whether both types reject fewer bytes than the capacity of the value given, and report it.
 fn are_fewer<const N: usize>(input: &[u8], _like: TinyAsciiStr<N>) -> bool {
     let length = BytesReadError::Length { expected: N };
     match (
@@ -76,7 +76,7 @@ fn are_fewer<const N: usize>(input: &[u8], _like: TinyAsciiStr<N>) -> bool {
 }
 
 #[test]
-fn the_capacity_is_told_where_bytes_are_too_few(rt: HostRuntime) {
+fn the_capacity_is_reported_where_bytes_are_too_few(rt: HostRuntime) {
     assert!(rt; are_fewer(b"", TinyAsciiStr::<1>::default()));
     assert!(rt; are_fewer(b"abc", TinyAsciiStr::<17>::default()));
     assert!(rt; are_fewer(b"abc", TinyAsciiStr::<300>::default()));
@@ -84,7 +84,7 @@ fn the_capacity_is_told_where_bytes_are_too_few(rt: HostRuntime) {
 
 // Whether the text's byte form is this one, and is read back.
 fn is_byte_form<const N: usize>(text: TinyAsciiStr<N>, form: [u8; N]) -> bool {
-    text.to_bytes() == form && is_read_in_front(&form, text, b"")
+    text.to_bytes() == form && is_read_at_start(&form, text, b"")
 }
 
 // The same of a text at N.
@@ -103,14 +103,14 @@ fn byte_forms_are_padded_texts(rt: HostRuntime) {
     assert!(rt; has_byte_form("", []));
 }
 
-// Whether the text, written in front of bytes of `#`, gives these, and is read back from them with the others left.
+// Whether the text, written over bytes `#`, gives these bytes, and is read back from them with the others as the remainder.
 fn is_written<const N: usize, const M: usize>(text: TinyAsciiStr<N>, written: &[u8; M]) -> bool
     requires { N ≤ M }
 {
-    let mut room = [b'#'; M];
-    text.write_bytes(&mut room);
+    let mut buffer = [b'#'; M];
+    text.write_bytes(&mut buffer);
     let bytes = written.as_slice();
-    room == *written && is_read_in_front(bytes, text, &bytes[N..])
+    buffer == *written && is_read_at_start(bytes, text, &bytes[N..])
 }
 
 // The same of a text at N.
@@ -124,7 +124,7 @@ fn is_text_written<const N: usize, const M: usize>(text: &str, written: &[u8; M]
 }
 
 #[test]
-fn bytes_are_written_in_front_and_the_rest_stays(rt: HostRuntime) {
+fn bytes_are_written_at_the_start_and_the_others_stay(rt: HostRuntime) {
     assert!(rt; is_text_written::<0, 0>("", b""));
     assert!(rt; is_text_written::<0, 2>("", b"##"));
     assert!(rt; is_text_written::<1, 1>("", b"\0"));
@@ -139,7 +139,7 @@ fn bytes_are_written_in_front_and_the_rest_stays(rt: HostRuntime) {
     assert!(rt; is_text_written::<33, 39>(long, b"abcdefghijklmnopqrstuvwxyz012345\0######"));
 }
 
-// Whether any bytes are read in front of the input, and this is left.
+// Whether any bytes are read from the start of the input, and this is the remainder.
 fn are_read_unless_too_few<const N: usize>(input: &[u8], bytes: [u8; N], left: &[u8]) -> bool {
     match UnvalidatedTinyAsciiStr::<N>::read_bytes(input) {
         Ok((read, rest)) => {

@@ -1,4 +1,4 @@
-//! The JSON form of both types, there and back and refused.
+//! The JSON form of both types, written, read and rejected.
 
 use serde_json::Value;
 use std::alloc::Global;
@@ -109,20 +109,20 @@ fn characters_that_json_escapes_come_back(rt: HostRuntime) {
     assert!(rt; read_comes_back(alloc, "\x01\x1B\n\x7F", four, compact));
 }
 
-// Whether both types refuse the JSON at 4 so.
-fn is_refused_by_both(alloc: Global, compact: &str, refusal: JsonReadError) -> bool {
+// Whether both types reject the JSON at 4 so.
+fn is_rejected_by_both(alloc: Global, compact: &str, expected: JsonReadError) -> bool {
     match Value::from_str(alloc, compact) {
         Ok(value) => {
-            TinyAsciiStr::<4>::from_json(&value) == Err(refusal)
-                && UnvalidatedTinyAsciiStr::<4>::from_json(&value) == Err(refusal)
+            TinyAsciiStr::<4>::from_json(&value) == Err(expected)
+                && UnvalidatedTinyAsciiStr::<4>::from_json(&value) == Err(expected)
         }
         Err(_) => false,
     }
 }
 
 #[test]
-fn json_that_is_no_text_of_the_capacity_is_refused(rt: HostRuntime) -> Result<(), Fail> {
-    for (compact, refusal) in [
+fn json_that_is_no_text_of_the_capacity_is_rejected(rt: HostRuntime) -> Result<(), Fail> {
+    for (compact, expected) in [
         ("1", JsonReadError::NotText),
         ("null", JsonReadError::NotText),
         (r#"["en"]"#, JsonReadError::NotText),
@@ -131,7 +131,7 @@ fn json_that_is_no_text_of_the_capacity_is_refused(rt: HostRuntime) -> Result<()
         ("\"é\"", JsonReadError::InvalidText),
     ] {
         assert!(rt;
-            is_refused_by_both(rt.alloc(), compact, refusal),
+            is_rejected_by_both(rt.alloc(), compact, expected),
             "{compact}"
         );
     }

@@ -58,7 +58,7 @@ fn is_joined<const N: usize>(value: TinyAsciiStr<N>, front: &str, back: &str) ->
 fn are_joined_with<const N: usize, const M: usize, const Q: usize>(
     front: &str,
     back: &str,
-    behind: &str,
+    second: &str,
 ) -> bool
     requires front { N < 2 ^ 63 }
     requires back { M < 2 ^ 63 }
@@ -67,7 +67,7 @@ fn are_joined_with<const N: usize, const M: usize, const Q: usize>(
     let value = TinyAsciiStr::<N>::try_from_str(front);
     let back = TinyAsciiStr::<M>::try_from_str(back);
     match (value, back) {
-        (Ok(value), Ok(back)) => is_joined(value.concat::<M, Q>(back), front, behind),
+        (Ok(value), Ok(back)) => is_joined(value.concat::<M, Q>(back), front, second),
         _ => false,
     }
 }
@@ -95,13 +95,13 @@ fn long_texts_are_joined_and_cut(rt: HostRuntime) {
 fn is_joined_with<const N: usize, const M: usize, const Q: usize>(
     front: TinyAsciiStr<N>,
     back: &str,
-    behind: &str,
+    second: &str,
 ) -> bool
     requires back { M < 2 ^ 63 }
     requires joined { Q < 2 ^ 63 }
 {
     match TinyAsciiStr::<M>::try_from_str(back) {
-        Ok(back) => is_joined(front.concat::<M, Q>(back), front.as_str(), behind),
+        Ok(back) => is_joined(front.concat::<M, Q>(back), front.as_str(), second),
         Err(_) => false,
     }
 }

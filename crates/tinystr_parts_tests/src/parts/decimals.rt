@@ -107,7 +107,7 @@ fn the_last_digits_are_written_of_a_number_that_has_more(rt: HostRuntime) {
     assert!(rt; is_decimal::<0>(0, Err("")));
 }
 
-// Whether the number's decimal text has so many digits, and is read as the number.
+// Whether the number's decimal text has `digits` digits, and is read as the number.
 fn has_digits(number: u32, digits: usize) -> bool {
     match TinyAsciiStr::<10>::new_unsigned_decimal(number) {
         Ok(text) => {

@@ -13,7 +13,7 @@ fn is_joined<const N: usize, const Q: usize>(
     separator: u8,
     joined: Option<&str>,
 ) -> bool
-    requires room { Q < 2 ^ 63 }
+    requires bound { Q < 2 ^ 63 }
     requires separator { IsTextByte separator }
 {
     match (TinyAsciiStr::join::<Q>(texts, separator), joined) {

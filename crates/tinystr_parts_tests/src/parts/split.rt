@@ -48,8 +48,8 @@ fn a_text_is_split_at_each_separator(rt: HostRuntime) {
             &["abcdefghijklmnopqrstuvwxyz", "12345!#$%&*+-"]
         )
     );
-    let behind = " zyxwvut";
-    assert!(rt; is_split::<100>(HUNDRED, b'~', &[&HUNDRED[..HUNDRED.len() - 9], behind]));
+    let last = " zyxwvut";
+    assert!(rt; is_split::<100>(HUNDRED, b'~', &[&HUNDRED[..HUNDRED.len() - 9], last]));
 }
 
 #[test]

@@ -5,28 +5,28 @@ ghost use Rattle.std.specs.Prelude.{◌<◌, ◌≤◌, ◌^◌, length};
 use super::{FORTY, HUNDRED, letters};
 use tinystr::TinyAsciiStr;
 
-// Whether the text, held at N, is split into what stands before the first separator and what stands behind it.
-fn is_split<const N: usize>(text: &str, separator: u8, before: &str, behind: &str) -> bool
+// Whether the text, held at N, is split into these parts before and after the first separator.
+fn is_split<const N: usize>(text: &str, separator: u8, before: &str, after: &str) -> bool
     requires { N < 2 ^ 63 }
 {
     match TinyAsciiStr::<N>::try_from_str(text) {
         Ok(text) => match text.split_once(separator) {
-            Some((front, back)) => front.as_str() == before && back.as_str() == behind,
+            Some((front, back)) => front.as_str() == before && back.as_str() == after,
             None => false,
         },
         Err(_) => false,
     }
 }
 
-// Whether the text, held at N, is split into what stands before this place and what stands behind it.
+// Whether the text, held at N, is split into the bytes before this index and those after it.
 fn is_split_at<const N: usize>(text: &[u8], separator: u8, at: usize) -> bool
     requires held { N < 2 ^ 63 }
     requires inside { at < length text.now }
 {
     match TinyAsciiStr::<N>::try_from_utf8(text) {
         Ok(value) => match value.split_once(separator) {
-            Some((before, behind)) => {
-                before.as_utf8() == &text[..at] && behind.as_utf8() == &text[at + 1..]
+            Some((before, after)) => {
+                before.as_utf8() == &text[..at] && after.as_utf8() == &text[at + 1..]
             }
             None => false,
         },
@@ -81,7 +81,7 @@ fn a_text_without_the_separator_is_not_split(rt: HostRuntime) {
     assert!(rt; is_split::<2>("\u{1}\u{7f}", 127, "\u{1}", ""));
 }
 
-// Whether texts of each length up to N are split wherever the separator stands.
+// Whether texts of each length up to N are split wherever the separator is.
 fn is_split_anywhere<const N: usize>() -> bool
     requires { N < 2 ^ 63 }
 {

@@ -99,7 +99,7 @@ fn texts_at_the_edges_of_words_answer_alike(rt: HostRuntime) -> Result<(), Fail>
     Ok(())
 }
 
-// An array of each length at which a text of at most sixteen characters stands in the table, and of each word's length.
+// An array of each length that a text of at most sixteen characters has in the table, and of each word's length.
 #[test]
 fn texts_answer_alike_in_each_word_that_holds_them(rt: HostRuntime) -> Result<(), Fail> {
     let rows = table_rows(rt.alloc())?;

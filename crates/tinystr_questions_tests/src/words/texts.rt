@@ -1,4 +1,4 @@
-//! Each text in each word that holds it, handed in at its own length and padded.
+//! Each text in each word that holds it, from bytes of its own length and from padded ones.
 
 ghost use Rattle.std.specs.Prelude.{◌≤◌, length};
 ghost use Rattle.tinystr_words.specs.Text.{IsPaddedText};

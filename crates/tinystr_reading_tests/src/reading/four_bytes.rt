@@ -29,7 +29,7 @@ fn are_read_raw(bytes: [u8; 4], fault: Option<ParseError>) -> bool {
             let len = if bytes[3] == 0 { 3 } else { 4 };
             fault.is_none() && text.all_bytes() == &bytes && text.len() == len
         }
-        Err(refused) => Some(refused) == fault,
+        Err(found) => Some(found) == fault,
     }
 }
 
@@ -37,7 +37,7 @@ fn are_read_raw(bytes: [u8; 4], fault: Option<ParseError>) -> bool {
 fn are_read_in_front(bytes: [u8; 4], fault: Option<BytesReadError>) -> bool {
     match TinyStr4::read_bytes(&bytes) {
         Ok((text, rest)) => fault.is_none() && text.all_bytes() == &bytes && rest.is_empty(),
-        Err(refused) => Some(refused) == fault,
+        Err(found) => Some(found) == fault,
     }
 }
 

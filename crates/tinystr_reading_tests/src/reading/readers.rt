@@ -1,4 +1,4 @@
-//! What each reader takes, and the first fault of what it refuses.
+//! What each reader takes, and the first fault of what it rejects.
 
 ghost use Rattle.std.specs.Prelude.{◌<◌, ◌^◌};
 
@@ -8,7 +8,7 @@ use tinystr::ParseError::{self, ContainsNull, NonAscii, TooLong};
 use tinystr::forms::BytesReadError;
 use tinystr::{TinyAsciiStr, TinyStr4, TinyStr8, TinyStr16, tinystr};
 
-// Whether the reader took exactly this text, or refused for this fault.
+// Whether the reader returned exactly this text, or this fault.
 fn is_read<const N: usize>(
     read: Result<TinyAsciiStr<N>, ParseError>,
     expected: Result<&str, ParseError>,
@@ -88,7 +88,7 @@ fn the_raw_reader_takes_padded_texts_alone(rt: HostRuntime) {
 }
 
 #[test]
-fn a_text_that_fills_its_array_is_read_asked_and_changed(rt: HostRuntime) -> Result<(), Fail> {
+fn a_text_that_fills_its_array_is_read_tested_and_changed(rt: HostRuntime) -> Result<(), Fail> {
     let city = TinyStr8::try_from_raw(*b"New York")?;
     assert!(rt; is_read(Ok(city), Ok("New York")));
     assert!(rt; is_read(Ok(city.to_ascii_uppercase()), Ok("NEW YORK")));
@@ -115,14 +115,14 @@ fn sixteen_bit_units_are_compared_before_they_are_narrowed(rt: HostRuntime) {
     }
 }
 
-// Whether the letters are too many for the capacity of the value given, and the fault tells both numbers.
+// Whether the letters are too many for the capacity of the value given, and the fault has both numbers.
 fn are_too_many<const N: usize>(letters: &[u8], _like: TinyAsciiStr<N>) -> bool {
     let len = letters.len();
     TinyAsciiStr::<N>::try_from_utf8(letters) == Err(TooLong { max: N, len })
 }
 
 #[test]
-fn large_numbers_of_units_are_told_whole(rt: HostRuntime) {
+fn large_numbers_of_units_are_reported_whole(rt: HostRuntime) {
     let letters = [b'a'; 65_537];
     for len in [301, 65_537] {
         let letters = &letters[..len];
@@ -140,15 +140,15 @@ const HIGHER_BITS: [u16; 9] = [
 #[test]
 fn a_sixteen_bit_unit_with_any_higher_bit_is_no_character(rt: HostRuntime) {
     for bit in HIGHER_BITS {
-        let is_refused = is_read(TinyStr4::try_from_utf16(&[bit]), Err(NonAscii))
+        let is_rejected = is_read(TinyStr4::try_from_utf16(&[bit]), Err(NonAscii))
             && is_read(TinyStr4::try_from_utf16(&[bit | 0x61]), Err(NonAscii))
             && is_found_wide(bit | 0x61, 20, 33);
-        assert!(rt; is_refused, "{bit}");
+        assert!(rt; is_rejected, "{bit}");
     }
 }
 
-// Whether each strict reader refuses the bytes for the fault, at the capacity of the value given.
-fn is_refused<const N: usize>(
+// Whether each strict reader rejects the bytes for the fault, at the capacity of the value given.
+fn is_rejected<const N: usize>(
     bytes: &[u8],
     units: &[u16],
     fault: ParseError,
@@ -170,16 +170,16 @@ fn is_shown<const N: usize>(
     narrow.as_utf8() == text && wide.as_utf8() == text
 }
 
-// Whether each reader refuses the bytes or gives the text, at a long capacity and at a short one that holds them.
+// Whether each reader rejects the bytes or gives the text, at a long capacity and at a short one that holds them.
 fn are_found(bytes: &[u8], units: &[u16], fault: ParseError, text: &[u8]) -> bool {
     let long = TinyAsciiStr::<40>::default();
     let short = TinyStr8::default();
     let is_long = bytes.len() > 8;
-    let is_refused_long = is_refused(bytes, units, fault, long);
+    let is_rejected_long = is_rejected(bytes, units, fault, long);
     let is_shown_long = is_shown(bytes, units, text, long);
-    let is_refused_short = is_long || is_refused(bytes, units, fault, short);
+    let is_rejected_short = is_long || is_rejected(bytes, units, fault, short);
     let is_shown_short = is_long || is_shown(bytes, units, text, short);
-    is_refused_long && is_shown_long && is_refused_short && is_shown_short
+    is_rejected_long && is_shown_long && is_rejected_short && is_shown_short
 }
 
 // A hundred letters with another byte at that position.
@@ -191,7 +191,7 @@ fn letters_but(byte: u8, at: usize) -> [u8; 100] {
     bytes
 }
 
-// Whether a bad byte there, in so many letters, is refused and replaced.
+// Whether a bad byte there, among `len` letters, is rejected and replaced.
 fn is_found(byte: u8, fault: ParseError, at: usize, len: usize) -> bool {
     let bytes = letters_but(byte, at);
     let text = letters_but(127, at);
@@ -209,7 +209,7 @@ fn a_bad_byte_is_found_at_each_position_of_each_length(rt: HostRuntime) {
     }
 }
 
-// Whether a bad byte there, in so many of a hundred letters, is refused and replaced.
+// Whether a bad byte there, among the first `len` of a hundred letters, is rejected and replaced.
 fn is_found_in_a_hundred(at: usize, len: usize) -> bool {
     if len > 100 {
         return false;
@@ -218,8 +218,8 @@ fn is_found_in_a_hundred(at: usize, len: usize) -> bool {
     let text = &letters_but(127, at)[..len];
     let units = &letters_but(0x80, at).map(u16::from)[..len];
     let hundred = TinyAsciiStr::<100>::default();
-    let is_refused = is_refused(bytes, units, NonAscii, hundred);
-    is_refused && is_shown(bytes, units, text, hundred)
+    let is_rejected = is_rejected(bytes, units, NonAscii, hundred);
+    is_rejected && is_shown(bytes, units, text, hundred)
 }
 
 #[test]
@@ -236,7 +236,7 @@ fn a_bad_byte_is_found_at_each_position_of_a_hundred(rt: HostRuntime) {
     );
 }
 
-// Whether a code unit above 127 is refused and replaced there, in so many letters.
+// Whether a code unit above 127 is rejected and replaced there, among `len` letters.
 fn is_found_wide(unit: u16, at: usize, len: usize) -> bool {
     let mut units = [0x61; 40];
     if at >= 40 || len > 40 {
@@ -245,11 +245,11 @@ fn is_found_wide(unit: u16, at: usize, len: usize) -> bool {
     units[at] = unit;
     let units = &units[..len];
     let shown = &letters_but(127, at)[..len];
-    let is_refused = TinyAsciiStr::<40>::try_from_utf16(units) == Err(NonAscii);
-    let is_refused_at_16 = TinyStr16::try_from_utf16(units) == Err(NonAscii);
-    let is_refused_at_8 = TinyStr8::try_from_utf16(units) == Err(NonAscii);
+    let is_rejected = TinyAsciiStr::<40>::try_from_utf16(units) == Err(NonAscii);
+    let is_rejected_at_16 = TinyStr16::try_from_utf16(units) == Err(NonAscii);
+    let is_rejected_at_8 = TinyStr8::try_from_utf16(units) == Err(NonAscii);
     let is_replaced = TinyAsciiStr::<40>::from_utf16_lossy(units, 127).as_utf8() == shown;
-    is_refused && is_replaced && (len > 16 || is_refused_at_16) && (len > 8 || is_refused_at_8)
+    is_rejected && is_replaced && (len > 16 || is_rejected_at_16) && (len > 8 || is_rejected_at_8)
 }
 
 #[test]
@@ -288,22 +288,22 @@ fn lossy_readers_replace_at_each_position_of_each_length(rt: HostRuntime) {
     assert!(rt; are_shown(TinyAsciiStr::<15>::default()));
 }
 
-fn is_no_byte_form<const N: usize>(bytes: [u8; N], refusal: BytesReadError) -> bool {
+fn is_no_byte_form<const N: usize>(bytes: [u8; N], expected: BytesReadError) -> bool {
     match TinyAsciiStr::<N>::read_bytes(&bytes) {
         Ok(_) => false,
-        Err(fault) => fault == refusal,
+        Err(fault) => fault == expected,
     }
 }
 
-// Whether the raw reader and that of the byte form refuse the bytes so.
-fn are_refused<const N: usize>(bytes: [u8; N], raw: ParseError, form: BytesReadError) -> bool {
-    let is_refused = TinyAsciiStr::try_from_raw(bytes) == Err(raw);
-    is_refused && is_no_byte_form(bytes, form)
+// Whether the raw reader and that of the byte form reject the bytes so.
+fn are_rejected<const N: usize>(bytes: [u8; N], raw: ParseError, form: BytesReadError) -> bool {
+    let is_rejected = TinyAsciiStr::try_from_raw(bytes) == Err(raw);
+    is_rejected && is_no_byte_form(bytes, form)
 }
 
-// Whether the raw reader and that of the byte form refuse a byte above 127 at each position, and a letter after NULs,
-// with and without a letter in front of these.
-fn are_refused_at_each_position<const N: usize>() -> bool
+// Whether the raw reader and that of the byte form reject a byte above 127 at each position, and a letter after NULs,
+// with and without a letter before these.
+fn are_rejected_at_each_position<const N: usize>() -> bool
     requires { N < 2 ^ 62 }
 {
     for at in 1..N {
@@ -313,9 +313,9 @@ fn are_refused_at_each_position<const N: usize>() -> bool
         late[at] = b'a';
         let mut apart = late;
         apart[0] = b'b';
-        let is_high = are_refused(high, NonAscii, BytesReadError::NonAscii);
-        let is_late = are_refused(late, ContainsNull, BytesReadError::Null);
-        let is_apart = at == 1 || are_refused(apart, ContainsNull, BytesReadError::Null);
+        let is_high = are_rejected(high, NonAscii, BytesReadError::NonAscii);
+        let is_late = are_rejected(late, ContainsNull, BytesReadError::Null);
+        let is_apart = at == 1 || are_rejected(apart, ContainsNull, BytesReadError::Null);
         if !(is_high && is_late && is_apart) {
             return false;
         }
@@ -324,15 +324,15 @@ fn are_refused_at_each_position<const N: usize>() -> bool
 }
 
 #[test]
-fn padded_bytes_are_refused_for_a_bad_byte_at_each_position(rt: HostRuntime) {
-    assert!(rt; are_refused_at_each_position::<7>());
-    assert!(rt; are_refused_at_each_position::<12>());
-    assert!(rt; are_refused_at_each_position::<17>());
-    assert!(rt; are_refused_at_each_position::<40>());
-    assert!(rt; are_refused_at_each_position::<100>());
+fn padded_bytes_are_rejected_for_a_bad_byte_at_each_position(rt: HostRuntime) {
+    assert!(rt; are_rejected_at_each_position::<7>());
+    assert!(rt; are_rejected_at_each_position::<12>());
+    assert!(rt; are_rejected_at_each_position::<17>());
+    assert!(rt; are_rejected_at_each_position::<40>());
+    assert!(rt; are_rejected_at_each_position::<100>());
 }
 
-// Whether the raw reader takes letters of each number with NULs behind them.
+// Whether the raw reader takes each number of letters, followed by NULs.
 fn are_read_at_each_length<const N: usize>() -> bool
     requires { N < 2 ^ 62 }
 {
@@ -351,13 +351,13 @@ fn check_padding<const N: usize>(rt: &impl Abort)
 {
     let are_read = are_read_at_each_length::<N>();
     assert!(rt;
-        are_read && are_refused_at_each_position::<N>(),
+        are_read && are_rejected_at_each_position::<N>(),
         "capacity {N}"
     );
 }
 
 #[test]
-fn padding_is_tested_with_each_number_of_bytes_behind_the_last_sixteen(rt: HostRuntime) {
+fn padding_is_tested_with_each_number_of_bytes_after_the_last_sixteen(rt: HostRuntime) {
     check_padding::<17>(&rt);
     check_padding::<18>(&rt);
     check_padding::<19>(&rt);
@@ -401,7 +401,7 @@ fn lossy_readers_replace_each_bad_unit(rt: HostRuntime) {
     assert!(rt; is_read(Ok(cut), Ok("a??")));
 }
 
-// Whether the lossy readers at the capacity of the value given read twenty of the byte as so many of the character.
+// Whether the lossy readers at the capacity of the value given read each of twenty such bytes as the character.
 fn are_read_as<const N: usize>(byte: u8, character: u8, _like: TinyAsciiStr<N>) -> bool {
     let text = [character; 20];
     let text = &text[..N.min(20)];
@@ -425,7 +425,7 @@ fn lossy_readers_replace_each_byte_that_is_no_character(rt: HostRuntime) {
     }
 }
 
-// Whether as many code units as the capacity of the value given are read whole.
+// Whether code units that fill the capacity of the value given are read whole.
 fn is_filled<const N: usize>(_like: TinyAsciiStr<N>) -> bool {
     let letters = b"abcdefghijklmnopqrstuvwxyzABCDEFGHIJKLMN";
     if N > 40 {

@@ -65,7 +65,7 @@ fn bytes_are_taken_and_shown(rt: HostRuntime) {
     assert!(rt; are_bytes_taken::<TinyAsciiStr<33>>(b"abcdefghijklmnopqrstuvwxyz012345!"));
 }
 
-fn is_refused<'a, T: TryFrom<&'a str, Error = ParseError> + Drop>(
+fn is_rejected<'a, T: TryFrom<&'a str, Error = ParseError> + Drop>(
     text: &'a str,
     fault: ParseError,
 ) -> bool {
@@ -73,20 +73,20 @@ fn is_refused<'a, T: TryFrom<&'a str, Error = ParseError> + Drop>(
 }
 
 #[test]
-fn texts_are_refused_for_their_first_fault(rt: HostRuntime) {
-    assert!(rt; is_refused::<TinyAsciiStr<0>>("a", TooLong { max: 0, len: 1 }));
-    assert!(rt; is_refused::<TinyAsciiStr<4>>("en\0", ContainsNull));
-    assert!(rt; is_refused::<TinyAsciiStr<4>>("\0\u{e9}", NonAscii));
-    assert!(rt; is_refused::<TinyAsciiStr<4>>("\u{e9}\u{e9}\u{e9}", TooLong { max: 4, len: 6 }));
-    assert!(rt; is_refused::<TinyAsciiStr<8>>("New\0York", ContainsNull));
-    assert!(rt; is_refused::<TinyAsciiStr<8>>("New York.", TooLong { max: 8, len: 9 }));
-    assert!(rt; is_refused::<TinyAsciiStr<12>>("caf\u{e9}", NonAscii));
+fn texts_are_rejected_for_their_first_fault(rt: HostRuntime) {
+    assert!(rt; is_rejected::<TinyAsciiStr<0>>("a", TooLong { max: 0, len: 1 }));
+    assert!(rt; is_rejected::<TinyAsciiStr<4>>("en\0", ContainsNull));
+    assert!(rt; is_rejected::<TinyAsciiStr<4>>("\0\u{e9}", NonAscii));
+    assert!(rt; is_rejected::<TinyAsciiStr<4>>("\u{e9}\u{e9}\u{e9}", TooLong { max: 4, len: 6 }));
+    assert!(rt; is_rejected::<TinyAsciiStr<8>>("New\0York", ContainsNull));
+    assert!(rt; is_rejected::<TinyAsciiStr<8>>("New York.", TooLong { max: 8, len: 9 }));
+    assert!(rt; is_rejected::<TinyAsciiStr<12>>("caf\u{e9}", NonAscii));
     assert!(rt;
-        is_refused::<TinyAsciiStr<17>>("abcdefgh-Hant-419\0", TooLong { max: 17, len: 18 })
+        is_rejected::<TinyAsciiStr<17>>("abcdefgh-Hant-419\0", TooLong { max: 17, len: 18 })
     );
 }
 
-fn are_bytes_refused<'a, T: TryFrom<&'a [u8], Error = ParseError> + Drop>(
+fn are_bytes_rejected<'a, T: TryFrom<&'a [u8], Error = ParseError> + Drop>(
     bytes: &'a [u8],
     fault: ParseError,
 ) -> bool {
@@ -94,20 +94,20 @@ fn are_bytes_refused<'a, T: TryFrom<&'a [u8], Error = ParseError> + Drop>(
 }
 
 #[test]
-fn bytes_are_refused_for_their_first_fault(rt: HostRuntime) {
-    assert!(rt; are_bytes_refused::<TinyAsciiStr<0>>(b"a", TooLong { max: 0, len: 1 }));
-    assert!(rt; are_bytes_refused::<TinyAsciiStr<4>>(b"en\0", ContainsNull));
-    assert!(rt; are_bytes_refused::<TinyAsciiStr<4>>(b"\0\x80", NonAscii));
+fn bytes_are_rejected_for_their_first_fault(rt: HostRuntime) {
+    assert!(rt; are_bytes_rejected::<TinyAsciiStr<0>>(b"a", TooLong { max: 0, len: 1 }));
+    assert!(rt; are_bytes_rejected::<TinyAsciiStr<4>>(b"en\0", ContainsNull));
+    assert!(rt; are_bytes_rejected::<TinyAsciiStr<4>>(b"\0\x80", NonAscii));
     assert!(rt;
-        are_bytes_refused::<TinyAsciiStr<4>>(b"\xff\xff\xff\xff\xff", TooLong { max: 4, len: 5 })
+        are_bytes_rejected::<TinyAsciiStr<4>>(b"\xff\xff\xff\xff\xff", TooLong { max: 4, len: 5 })
     );
-    assert!(rt; are_bytes_refused::<TinyAsciiStr<8>>(b"New\0York", ContainsNull));
-    assert!(rt; are_bytes_refused::<TinyAsciiStr<8>>(b"New York!", TooLong { max: 8, len: 9 }));
-    assert!(rt; are_bytes_refused::<TinyAsciiStr<12>>(b"caf\xe9", NonAscii));
+    assert!(rt; are_bytes_rejected::<TinyAsciiStr<8>>(b"New\0York", ContainsNull));
+    assert!(rt; are_bytes_rejected::<TinyAsciiStr<8>>(b"New York!", TooLong { max: 8, len: 9 }));
+    assert!(rt; are_bytes_rejected::<TinyAsciiStr<12>>(b"caf\xe9", NonAscii));
     assert!(rt;
-        are_bytes_refused::<TinyAsciiStr<16>>(b"MacintoshOSX2019x", TooLong { max: 16, len: 17 })
+        are_bytes_rejected::<TinyAsciiStr<16>>(b"MacintoshOSX2019x", TooLong { max: 16, len: 17 })
     );
     assert!(rt;
-        are_bytes_refused::<TinyAsciiStr<33>>(b"abcdefghijklmnopqrstuvwxyz01234\x80", NonAscii)
+        are_bytes_rejected::<TinyAsciiStr<33>>(b"abcdefghijklmnopqrstuvwxyz01234\x80", NonAscii)
     );
 }

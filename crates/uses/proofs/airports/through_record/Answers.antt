@@ -14,22 +14,22 @@ use Rattle.uses.proofs.airports.through_record.Goals as goal
 IsRecord-written : (a : Airport) → IsStrictText a.code 3 → IsStrictText a.country 2 → IsStrictText a.city 11 → IsRecord (record_of a) × IsAirportOf a (record_of a)
 IsRecord-written a code country city =
     let last : pad a.city 11 ≡ pad a.city 11 ++ [] = sym (append-nil (pad a.city 11)) in
-    let behind_code : drop 3 (record_of a) ≡ pad a.country 2 ++ pad a.city 11 = bytes_back_rest a.code _ 3 code in
-    let behind_country : drop 5 (record_of a) ≡ pad a.city 11 ++ [] =
-    sym (drop-drop 2 3 (record_of a)) ∙ rw behind_code (bytes_back_rest a.country (pad a.city 11) 2 country) ∙ last in (
+    let after_code : drop 3 (record_of a) ≡ pad a.country 2 ++ pad a.city 11 = bytes_back_rest a.code _ 3 code in
+    let after_country : drop 5 (record_of a) ≡ pad a.city 11 ++ [] =
+    sym (drop-drop 2 3 (record_of a)) ∙ rw after_code (bytes_back_rest a.country (pad a.city 11) 2 country) ∙ last in (
       record {
         code = bytes_back_clean a.code _ 3 code;
-        country = rw behind_code (bytes_back_clean a.country _ 2 country);
-        city = rw behind_country (bytes_back_clean a.city [] 11 city);
+        country = rw after_code (bytes_back_clean a.country _ 2 country);
+        city = rw after_country (bytes_back_clean a.city [] 11 city);
       },
       record {
         code = sym (bytes_back_text a.code _ 3 code);
-        country = rw behind_code (sym (bytes_back_text a.country _ 2 country));
-        city = rw behind_country (sym (bytes_back_text a.city [] 11 city));
+        country = rw after_code (sym (bytes_back_text a.country _ 2 country));
+        city = rw after_country (sym (bytes_back_text a.city [] 11 city));
       },
     )
 
--- the airport that is read of a record is the one whose fields stand there
+-- the airport that is read of a record is the one of its fields
 read-is : (r : Result Airport RecordError) (a : Airport) (bytes : List ℕ) → IsRecord bytes × IsAirportOf a bytes → (IsOk r ↔ IsRecord bytes) → IfOk r (λ b. IsAirportOf b bytes) → r ≡ Ok a
 read-is (Ok b) a bytes written accepted fields =
     ap (λ (t : List ℕ). Ok (record { code = t; country = b.country; city = b.city })) (fields.code ∙ sym written.1.code)

@@ -8,9 +8,9 @@ use Rattle.std.specs.List.Sorted.{IsStrictlySortedBy}
 use Rattle.std.proofs.lemmas.Cmp.{nat_list_cmp_total}
 use Rattle.std.proofs.lemmas.List.{get_or-map, get_or_at, length-append, length-map}
 use Rattle.std.proofs.lemmas.Map.Keys.{Less-from_sorted, sorted_from_all_adjacent, sorted_tail}
-use Rattle.uses.proofs.handed.unpacked.Goals as goal
+use Rattle.uses.proofs.parameters.unpacked.Goals as goal
 
--- an entry above all others is put behind them
+-- an entry greater than all others is inserted after them
 insert_last : (es rest : List (List ℕ × List ℕ)) (k v : List ℕ) → IsStrictlySortedBy (slice_cmp nat_cmp) (keys_of (es ++ (k, v) ∷ rest)) → insert_entry (slice_cmp nat_cmp) es k v ≡ es ++ (k, v) ∷ []
 insert_last [] rest k v up = refl
 insert_last (e ∷ es) rest k v up =

@@ -1,4 +1,4 @@
-//! Tables and maps that one is handed, and what their calls say of them.
+//! Tables and maps as parameters, and what their calls say of them.
 
 ghost use Rattle.std.specs.Prelude.{◌≡◌, ◌<◌, ◌≤◌, ◌↔◌, ◌-◌, ◌^◌, ℕ, Contains, IfOk, IfSome, IsSome, Some, SomeIff, drop, length, slice_get, take};
 ghost use Rattle.std.specs.List.{flat_map};
@@ -20,7 +20,7 @@ pub fn file_len<const N: usize>(table: &Table<'_, N>) -> Option<usize>
     table.len().checked_mul(N)
 }
 
-/// The text at an index of a table, told as that of the record at this index of its file.
+/// The text at an index of a table, which is that of the record at this index of its file.
 pub fn text_of_record<const N: usize>(table: &Table<'_, N>, index: usize) -> Option<TinyAsciiStr<N>>
     ensures { let file = flat_map (λ t. pad t N) table.now in
         SomeIff result (index < length table.now) (text_of (record_at N file index)) }
@@ -48,7 +48,7 @@ pub fn page<'a, const N: usize>(
     SortedTable::new(texts.table().slice(range)).unwrap()
 }
 
-/// The one index at which a text stands.
+/// The one index of a text.
 pub fn only_index<const N: usize>(
     texts: &SortedTable<'_, N>,
     text: &TinyAsciiStr<N>,

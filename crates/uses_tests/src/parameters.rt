@@ -1,16 +1,16 @@
-//! Tables and maps that one is handed.
+//! Tables and maps as parameters.
 
 use std::alloc::Global;
 use std::collections::BTreeMap;
 use std::ops::Range;
 use tinystr::{TinyAsciiStr, TinyStr8};
 use tinystr_packed::{PackedMap, SortedTable, Table};
-use uses::handed::{file_len, keys_of_codes, only_index, page, text_of_record, unpacked};
+use uses::parameters::{file_len, keys_of_codes, only_index, page, text_of_record, unpacked};
 
 const FILE: &[u8] = b"CHFEURJPYUSD";
 
 #[test]
-fn a_file_has_as_many_bytes_as_its_table_tells(rt: HostRuntime) {
+fn a_file_has_the_length_that_its_table_gives(rt: HostRuntime) {
     for len in 0..=4 {
         assert!(rt; has_len(&FILE[..3 * len]), "{len}");
     }
@@ -134,13 +134,13 @@ const INDICES: &[(&str, Option<usize>)] = &[
 ];
 
 #[test]
-fn a_text_stands_at_one_index(rt: HostRuntime) {
+fn a_text_has_one_index(rt: HostRuntime) {
     for &(code, index) in INDICES {
-        assert!(rt; stands_at(code, index), "{code}");
+        assert!(rt; is_at(code, index), "{code}");
     }
 }
 
-fn stands_at(code: &str, index: Option<usize>) -> bool {
+fn is_at(code: &str, index: Option<usize>) -> bool {
     match (open(FILE), TinyAsciiStr::try_from_str(code)) {
         (Some(sorted), Ok(code)) => only_index(&sorted, &code) == index,
         _ => false,
@@ -169,7 +169,7 @@ fn is_unpacked(alloc: Global, keys: &[u8], len: usize) -> bool {
     }
 }
 
-/// Whether so many of the four keys have their values, and the others none.
+/// Whether the first `len` of the four keys have their values, and the others none.
 fn has_first(made: &BTreeMap<TinyAsciiStr<3>, [u8; 1]>, len: usize) -> bool {
     for (index, (code, value)) in ENTRIES.iter().enumerate() {
         let value = if index < len { Some(*value) } else { None };

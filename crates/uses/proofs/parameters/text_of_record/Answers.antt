@@ -1,6 +1,6 @@
 use Rattle.std.proofs.Common.{[], sym, ◌∙◌, arith, inl, inr}
 use Rattle.std.proofs.lemmas.Option.{slice_get_cases, get_or_from_slice_get}
-use Rattle.uses.proofs.handed.text_of_record.Goals as goal
+use Rattle.uses.proofs.parameters.text_of_record.Goals as goal
 
 pub returns : goal.returns
 returns g c =

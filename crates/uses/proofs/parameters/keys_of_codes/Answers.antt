@@ -4,7 +4,7 @@ use Rattle.std.proofs.lemmas.Iterator.{items_from_collect, YieldsList-from_map}
 use Rattle.std.proofs.lemmas.Iterator.Consumers.{YieldsList-at, YieldsList-from_first}
 use Rattle.std.proofs.lemmas.List.{take_all}
 use Rattle.std.proofs.lemmas.List.Folds.{map_fixed}
-use Rattle.uses.proofs.handed.keys_of_codes.Goals as goal
+use Rattle.uses.proofs.parameters.keys_of_codes.Goals as goal
 
 pub returns : goal.returns
 returns c =
