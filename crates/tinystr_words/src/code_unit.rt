@@ -123,7 +123,7 @@ impl CodeUnit for u16 {
 }
 
 /// Whether all code units are characters. There is no early exit, so that the compiler can test a known number of them
-/// at once.
+/// in one step.
 #[inline(always)]
 pub fn are_characters<U: CodeUnit>(units: &[U]) -> bool
     ensures { IsTrue result ↔ IsText (map U.number units.now) }

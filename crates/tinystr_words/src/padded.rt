@@ -30,7 +30,7 @@ pub use first_lanes::{first_lanes_of_eight, first_lanes_of_sixteen};
 pub use order::{compare, number};
 
 /// The words that take padded bytes: the narrowest that holds them all, since it takes the fewest steps to load and to
-/// ask.
+/// test.
 #[derive(Clone, Copy)]
 pub enum Width {
     /// One of 32 bits.
@@ -39,7 +39,7 @@ pub enum Width {
     Eight,
     /// One of 128 bits, the widest integer.
     Sixteen,
-    /// As many of 128 bits as the bytes fill.
+    /// Several of 128 bits.
     Many,
 }
 
@@ -81,7 +81,7 @@ pub fn decimal<const N: usize>(number: u32) -> Result<[u8; N], [u8; N]>
 {
     let fits = decimal_fits(number, N);
     match width_of(N) {
-        // 5 to 8 digits, made at once
+        // 5 to 8 digits, made in one step
         Width::Eight => {
             let digits = resize_at_once(&Aligned8::from_number(number, N).to_bytes());
             if fits { Ok(digits) } else { Err(digits) }

@@ -66,7 +66,7 @@ impl<const N: usize> TinyAsciiStr<N> {
         }
     }
 
-    // A text, and behind it each of the others with the separator in front, all in the bytes of the first.
+    // Appends each of the others to the first text, with the separator before it, in the bytes of the first.
     #[tactic(auto, using(tinystr_words::proofs::Parts::Cuts::joined_parts))]
     fn join_behind<const Q: usize>(
         first: TinyAsciiStr<Q>,
@@ -86,8 +86,8 @@ impl<const N: usize> TinyAsciiStr<N> {
         Some(TinyAsciiStr::from_padded(bytes))
     }
 
-    // Puts the text behind another of `len` bytes, and tells how long both are, or `None` where there is no room. A short
-    // array is copied whole where it fits, with the NULs behind its text: a copy of a known length takes one or two moves.
+    // Appends the text to another of `len` bytes, and returns the length of both, or `None` if they don't fit. A short array
+    // is copied whole where it fits, with the NULs after its text: a copy of a known length takes one or two moves.
     #[inline(always)]
     fn put_behind(&self, bytes: &mut [u8], len: usize) -> Option<usize>
         requires padded { IsPadded bytes.old }
