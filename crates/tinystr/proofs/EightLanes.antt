@@ -5,7 +5,7 @@ use Rattle.std.proofs.lemmas.Bool.Decides.{nat_tests}
 use Rattle.tinystr_words.specs.Text.{IsPadded, IsPaddedText, IsStrictText, text_of, pad}
 use Rattle.tinystr_words.specs.Words.{word, lanes_of}
 use Rattle.tinystr_words.proofs.Words.Lanes.{IsBytes, IsBytes-from_IsText, below_at}
-use Rattle.tinystr_words.proofs.Parts.Cuts.{IsStrictText-drop, IsStrictText-take}
+use Rattle.tinystr_words.proofs.Parts.Splits.{IsStrictText-drop, IsStrictText-take}
 use Rattle.tinystr_words.proofs.Texts.{length-pad}
 use Rattle.tinystr_words.proofs.Words.Numbers.{div-pow_256, mod-pow_256, lanes_of-word_pad, pow_256, word-nuls}
 

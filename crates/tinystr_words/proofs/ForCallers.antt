@@ -32,11 +32,11 @@ use Rattle.tinystr_words.proofs.Order.OfLists.{before_not_same, before_one_way, 
 use Rattle.tinystr_words.proofs.Reading.ByteForms.{byte_fault-first_padded, byte_fault-padded}
 use Rattle.tinystr_words.proofs.Cases.Changes.{All-differs, IsStrictText-map, IsStrictText-titlecase, IsText-asked, IsText-list_all, ask-joined, ask-map, ask-titlecase, lowercase-alone, lowercase-titlecase, map-map_same, position-missed, titlecase-alone, titlecase-lowercase, titlecase-twice, titlecase-uppercase, uppercase-alone, uppercase-titlecase}
 use Rattle.tinystr_words.proofs.Parts.Found.{All-absent, Contains-joined, before_first-absent, byte_position-none, byte_position-some, split-whole, text_position-at, text_position-distinct, text_position-none, text_position-some}
-use Rattle.tinystr_words.proofs.Parts.Fronts.{lowercase-take, take_join_cut, titlecase-take, uppercase-take}
+use Rattle.tinystr_words.proofs.Parts.Prefixes.{lowercase-take, take_join_cut, titlecase-take, uppercase-take}
 use Rattle.tinystr_words.proofs.Decimals.Shortest.{IsDecimalOf-decimal, IsDecimalOf-only, IsText-decimal, length-decimal-le_ten}
 use Rattle.tinystr_words.proofs.Reading.Records.{IsPacked-joined, IsPacked-record, length-joined, text_of-record}
-use Rattle.tinystr_words.proofs.Parts.Cuts.{IsStrictText-after_first, IsStrictText-before_first, IsStrictText-drop, IsStrictText-slice_split, IsStrictText-take, IsText-joined, ask-joined_texts, map-joined, slice_split-found, slice_split-joined, slice_split-missed}
-use Rattle.tinystr_words.proofs.Printing.{char_count-text, length-padded, padded-before, padded-behind, padded-between, styled-padded, take_chars-text}
+use Rattle.tinystr_words.proofs.Parts.Splits.{IsStrictText-after_first, IsStrictText-before_first, IsStrictText-drop, IsStrictText-slice_split, IsStrictText-take, IsText-joined, ask-joined_texts, map-joined, slice_split-found, slice_split-joined, slice_split-missed}
+use Rattle.tinystr_words.proofs.Printing.{char_count-text, length-padded, padded-before, padded-after, padded-between, styled-padded, take_chars-text}
 use Rattle.tinystr_words.proofs.Reading.OnePass.{IsScanned-none, fault_in-fits, first_fault-high}
 use Rattle.tinystr_words.proofs.Cases.SameAsStd.{is_alphanumeric-std, lower-std, lowercase-std, raise-std, uppercase-std}
 use Rattle.tinystr_words.proofs.Texts.{IsAscii-padded, IsPaddedText-pad, after_first-joined, before_first-joined, length-pad, text_of-pad}
@@ -562,10 +562,10 @@ pub print_width_styled : (s : _) (t : List ℕ) → IsText t → length t ≤ 2 
 print_width_styled = styled-padded
 
 pub print_width_no_side : (s : _) (t : List ℕ) → IsText t → spec_fill s < 128 → s.align ≡ 0 → length t ≤ s.precision → padded s t ≡ t ++ replicate (s.width - length t) s.fill
-print_width_no_side s t h low side = padded-behind s t h low (rw side refl)
+print_width_no_side s t h low side = padded-after s t h low (rw side refl)
 
 pub print_width_left : (s : _) (t : List ℕ) → IsText t → spec_fill s < 128 → s.align ≡ 1 → length t ≤ s.precision → padded s t ≡ t ++ replicate (s.width - length t) s.fill
-print_width_left s t h low side = padded-behind s t h low (rw side refl)
+print_width_left s t h low side = padded-after s t h low (rw side refl)
 
 pub print_width_center : (s : _) (t : List ℕ) → IsText t → spec_fill s < 128 → s.align ≡ 2 → length t ≤ s.precision → let short = s.width - length t in padded s t ≡ replicate (short / 2) s.fill ++ (t ++ replicate (short - short / 2) s.fill)
 print_width_center s t h low side = padded-between s t h low (rw side refl)

@@ -46,9 +46,9 @@ padded-text s t h low fits =
     (ap₂ (λ x y. x ++ (t ++ y)) (repeat-ascii _ s.fill low) (repeat-ascii _ s.fill low))
 
 -- behind it where no side is named, and under `<`
-pub padded-behind : (s : _) (t : List ℕ) → IsText t → spec_fill s < 128 → padding_before s (s.width - length t) 1 ≡ 0 → length t ≤ s.precision
+pub padded-after : (s : _) (t : List ℕ) → IsText t → spec_fill s < 128 → padding_before s (s.width - length t) 1 ≡ 0 → length t ≤ s.precision
     → padded s t ≡ t ++ replicate (s.width - length t) s.fill
-padded-behind s t h low none fits =
+padded-after s t h low none fits =
     let all : s.width - length t - 0 ≡ s.width - length t = omega arith in
     rw (none, all) at (padded-text s t h low fits)
 
@@ -71,9 +71,9 @@ padding_before-le s n = grind (arith, nat_tests)
 pub length-padded : (s : _) (t : List ℕ) → IsText t → spec_fill s < 128 → length t ≤ s.precision → length t ≤ s.width → length (padded s t) ≡ s.width
 length-padded s t h low fits short =
     let front = padding_before s (s.width - length t) 1 in
-    let behind = s.width - length t - front in
+    let after = s.width - length t - front in
     rw (padded-text s t h low fits)
-    (omega (arith, padding_before-le s (s.width - length t), length-append (replicate front s.fill) (t ++ replicate behind s.fill), length-append t (replicate behind s.fill), length-replicate {A = ℕ} front s.fill, length-replicate {A = ℕ} behind s.fill))
+    (omega (arith, padding_before-le s (s.width - length t), length-append (replicate front s.fill) (t ++ replicate after s.fill), length-append t (replicate after s.fill), length-replicate {A = ℕ} front s.fill, length-replicate {A = ℕ} after s.fill))
 
 -- ---- with no width and no precision
 

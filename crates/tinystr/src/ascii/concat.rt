@@ -55,7 +55,7 @@ impl<const N: usize> TinyAsciiStr<N> {
     /// assert!(rt; TinyAsciiStr::join(&parts, b'-') == Some(tinystr!(10, "zh-Hant-TW")?));
     /// assert!(rt; TinyAsciiStr::join::<9>(&parts, b'-').is_none());
     /// ```
-    #[tactic(auto, using(tinystr_words::proofs::Parts::Cuts::joined_parts))]
+    #[tactic(auto, using(tinystr_words::proofs::Parts::Splits::joined_parts))]
     pub fn join<const Q: usize>(texts: &[Self], separator: u8) -> Option<TinyAsciiStr<Q>>
         requires { IsTextByte separator }
         ensures { SomeIff result (length (join_with_byte separator texts.now) ≤ Q) (join_with_byte separator texts.now) }
@@ -67,7 +67,7 @@ impl<const N: usize> TinyAsciiStr<N> {
     }
 
     // Appends each of the others to the first text, with the separator before it, in the bytes of the first.
-    #[tactic(auto, using(tinystr_words::proofs::Parts::Cuts::joined_parts))]
+    #[tactic(auto, using(tinystr_words::proofs::Parts::Splits::joined_parts))]
     fn join_behind<const Q: usize>(
         first: TinyAsciiStr<Q>,
         others: &[Self],

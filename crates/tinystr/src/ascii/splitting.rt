@@ -101,7 +101,7 @@ impl<const N: usize> TinyAsciiStr<N> {
     /// assert_eq!(rt; parts.next(), Some(tinystr!(16, "TW")?));
     /// assert_eq!(rt; parts.next(), None);
     /// ```
-    #[tactic(auto, using(tinystr_words::proofs::Parts::Cuts::first_parts))]
+    #[tactic(auto, using(tinystr_words::proofs::Parts::Splits::first_parts))]
     pub fn split(&self, separator: u8) -> Parts<'_, N>
         ensures parts { result ≡ slice_split (λ b. b == separator) self.now }
         ensures bound { length result ≤ N + 1 }

@@ -47,8 +47,8 @@ word_onto-last_two r w big small =
 -- ---- the room that the steps leave
 
 -- up to three pairs of bytes with one more pair below them take the room of one pair more, and fit 64 bits
-pub room_more : (last pair i : ℕ) → i < 4 → last < 65536 ^ i → pair < 65536 → (65536 * last + pair < 65536 ^ (i + 1)) × (65536 * last + pair < 2 ^ 64)
-room_more last pair i few room small =
+pub fits_more : (last pair i : ℕ) → i < 4 → last < 65536 ^ i → pair < 65536 → (65536 * last + pair < 65536 ^ (i + 1)) × (65536 * last + pair < 2 ^ 64)
+fits_more last pair i few fits small =
     let next : 65536 * last + pair < 65536 ^ (i + 1) = omega (arith, pow_more 65536 i) in
     let up : i + 1 ≤ 4 = omega arith in
     let most : 65536 ^ (i + 1) ≤ 65536 ^ 4 = pow-le-pow_right {n = 65536} (lit< tt) up in

@@ -59,8 +59,8 @@ digits_of_pairs a b c d =
     (omega arith, omega arith)
 
 -- they leave room
-room_of_pairs : (a b c d : ℕ) → a < 100 → b < 100 → c < 100 → d < 100 → four (pair a) (pair b) (pair c) (pair d) < 2 ^ 64
-room_of_pairs a b c d p q r s = omega arith
+pairs_fit : (a b c d : ℕ) → a < 100 → b < 100 → c < 100 → d < 100 → four (pair a) (pair b) (pair c) (pair d) < 2 ^ 64
+pairs_fit a b c d p q r s = omega arith
 
 -- ---- the word of eight digits
 
@@ -106,7 +106,7 @@ made n pairs tens small is cut =
     let whole : pairs ≡ four a b c d = is in
     let tenth : tens ≡ four (a / 10) (b / 10) (c / 10) (d / 10) = cut ∙ ap (λ m. bit_and (m * 103 / 1024) 0x000f_000f_000f_000f) whole ∙ tenths a b c d first (omega arith) (omega arith) (omega arith) in
     let digits = digits_of_pairs a b c d in
-    let room : four (pair a) (pair b) (pair c) (pair d) < 2 ^ 64 = room_of_pairs a b c d first (omega arith) (omega arith) (omega arith) in
+    let below : four (pair a) (pair b) (pair c) (pair d) < 2 ^ 64 = pairs_fit a b c d first (omega arith) (omega arith) (omega arith) in
     rw (tenth, whole) (digits.0, omega (arith, digits.1), digits.1 ∙ sym (word-eight_digits n small))
 
 -- ---- the zeros at the low end of a number
@@ -212,10 +212,10 @@ word-drop z l bytes le =
     ap (λ m. m / 256 ^ z) (word_split z l le ∙ omega (arith, mul_comm (256 ^ z) (word (drop z l)))) ∙ div-mul-add (word (drop z l)) (256 ^ z) (word (take z l)) front
 
 -- the word of eight digits has room
-pub eight_digits-room : (n v : ℕ) → n < 2 ^ 32 → v + 0x3030303030303030 ≡ word (decimal (10 ^ 8 + n % 10 ^ 8)) / 256 → v + 0x3030303030303030 < 2 ^ 64
-eight_digits-room n v fits is =
+pub eight_digits-fit : (n v : ℕ) → n < 2 ^ 32 → v + 0x3030303030303030 ≡ word (decimal (10 ^ 8 + n % 10 ^ 8)) / 256 → v + 0x3030303030303030 < 2 ^ 64
+eight_digits-fit n v fits is =
     let e : ℕ = n % 10 ^ 8 in
-    let room = room_of_pairs (e / 10 ^ 6) (e / 10 ^ 4 % 100) (e / 100 % 100) (e % 100) (omega arith) (omega arith) (omega arith) (omega arith) in
+    let small = pairs_fit (e / 10 ^ 6) (e / 10 ^ 4 % 100) (e / 100 % 100) (e % 100) (omega arith) (omega arith) (omega arith) (omega arith) in
     omega (arith, word-eight_digits e (omega arith))
 
 -- of eight digits those are left that are the text, or the last k
@@ -238,9 +238,9 @@ word-last k n v z some most fits is whole cut =
           let zeros : ds ≡ replicate j 48 ++ decimal n = eight_digits-zeros n fits (omega arith) in
           let one = decimal_nonempty n (omega arith) in
           let same : v ≡ word (values ds) = omega (arith, rw long at (word-values ds (digits-eight_digits n fits))) in
-          let told : z ≡ j = whole all ∙ ap (λ w. count_trailing_zeros 64 (bit_or w (2 ^ 56)) / 8) (same ∙ ap (λ (l : List ℕ). word (values l)) zeros)
+          let found : z ≡ j = whole all ∙ ap (λ w. count_trailing_zeros 64 (bit_or w (2 ^ 56)) / 8) (same ∙ ap (λ (l : List ℕ). word (values l)) zeros)
           ∙ trailing-digits j (decimal n) (omega arith) (digits-decimal n (omega arith)) (no_leading_zero n (omega arith)) one in
           let none : length (decimal n) - k ≡ 0 = omega arith in
-          left j told (omega arith) (ap (λ (l : List ℕ). drop j l) zeros ∙ drop_at (replicate j 48) (decimal n) j (length-replicate {A = ℕ} j 48) ∙ sym (ap (λ i. drop i (decimal n)) none))
+          left j found (omega arith) (ap (λ (l : List ℕ). drop j l) zeros ∙ drop_at (replicate j 48) (decimal n) j (length-replicate {A = ℕ} j 48) ∙ sym (ap (λ i. drop i (decimal n)) none))
           )
     ]

@@ -131,14 +131,14 @@ ArePaddedFrom-tested bytes xs ys start passed x y is = (
       let next : start + 1 + j ≡ suc k = omega arith in
       let fine = are_fine-at xs ys j (x.0 ∙ sym y.0) (sym is ∙ t) (omega (arith, x.0)) in
       let given : get_or xs j 0 ≡ get_or bytes k 0 = x.1 j (omega arith) ∙ ap (λ i. get_or bytes i 0) here in
-      let behind : get_or ys j 0 ≡ get_or bytes (suc k) 0 = y.1 j (omega arith) ∙ ap (λ i. get_or bytes i 0) next in
-      (omega (arith, fine.0), λ nul. sym behind ∙ fine.1 (given ∙ nul)),
+      let after : get_or ys j 0 ≡ get_or bytes (suc k) 0 = y.1 j (omega arith) ∙ ap (λ i. get_or bytes i 0) next in
+      (omega (arith, fine.0), λ nul. sym after ∙ fine.1 (given ∙ nul)),
   λ h. is ∙ are_fine-from xs ys (x.0 ∙ sym y.0) (λ k less.
       let small : k < 16 = omega (arith, x.0) in
       let at = h (start + k) (omega arith) (omega arith) in
       let given = x.1 k small in
-      let behind : get_or ys k 0 ≡ get_or bytes (suc (start + k)) 0 = y.1 k small ∙ ap (λ i. get_or bytes i 0) (omega arith) in
-      (omega (arith, at.0), λ nul. behind ∙ at.1 (sym given ∙ nul))),
+      let after : get_or ys k 0 ≡ get_or bytes (suc (start + k)) 0 = y.1 k small ∙ ap (λ i. get_or bytes i 0) (omega arith) in
+      (omega (arith, at.0), λ nul. after ∙ at.1 (sym given ∙ nul))),
 )
 
 pub ruleset padding = (ArePaddedFrom-padded, ArePaddedFrom-more, IsPadded-whole)

@@ -49,11 +49,11 @@ position-first p t m None at whole = grind (arith, nat_tests, position_or_len-ta
 position-first p t m (Some i) at whole = grind (arith, nat_tests, position_or_len-take p m t, length-take m t, at)
 
 -- in a front behind n that do not pass
-pub position-behind : (p : ℕ → Bool) (t : List ℕ) (n m i : ℕ) → position p (take n t) ≡ None → position p (take m (drop n t)) ≡ Some i → position p t ≡ Some (n + i)
-position-behind p t n m i none at =
+pub position-after : (p : ℕ → Bool) (t : List ℕ) (n m i : ℕ) → position p (take n t) ≡ None → position p (take m (drop n t)) ≡ Some i → position p t ≡ Some (n + i)
+position-after p t n m i none at =
     grind (arith, nat_tests, position_or_len-take p n t, length-take n t, position_or_len-drop p n t, position_or_len-take p m (drop n t), length-take m (drop n t), length-drop n t, none, at)
 
 -- and where it has none either
-pub position-none_behind : (p : ℕ → Bool) (t : List ℕ) (n m : ℕ) → position p (take n t) ≡ None → position p (take m (drop n t)) ≡ None → position p (take (n + m) t) ≡ None
-position-none_behind p t n m none more =
+pub position-none_after : (p : ℕ → Bool) (t : List ℕ) (n m : ℕ) → position p (take n t) ≡ None → position p (take m (drop n t)) ≡ None → position p (take (n + m) t) ≡ None
+position-none_after p t n m none more =
     grind (arith, nat_tests, position_or_len-take p (n + m) t, length-take (n + m) t, position_or_len-take p n t, length-take n t, position_or_len-drop p n t, position_or_len-take p m (drop n t), length-take m (drop n t), length-drop n t, none, more)

@@ -98,9 +98,9 @@ HasLanes-or xs ys l a b e at start end is made same x =
     let y = HasLanes-sixteen_from ys (NULS 48 ++ l) start made in (
       length-zip2 bit_or xs ys (x.0 ∙ sym y.0) ∙ x.0,
       λ i small.
-          let moved : get_or ys i 0 ≡ get_or (NULS e ++ b) (at + i) 0 =
+          let shifted : get_or ys i 0 ≡ get_or (NULS e ++ b) (at + i) 0 =
           y.1 i small ∙ grind (arith, get_or-nuls_left 48 l (start + i), get_or-nuls_right 48 l (start + i), get_or-nuls_left e b (at + i), get_or-nuls_right e b (at + i), same (start + i - 48)) in
-          get_or-zip2 bit_or xs ys i 0 0 0 (omega (arith, x.0)) (omega (arith, y.0)) ∙ rw (x.1 i small, moved) (bit_or-append a b e (at + i) end),
+          get_or-zip2 bit_or xs ys i 0 0 0 (omega (arith, x.0)) (omega (arith, y.0)) ∙ rw (x.1 i small, shifted) (bit_or-append a b e (at + i) end),
     )
 
 -- where no byte of the other text is
@@ -126,12 +126,12 @@ sixteen_from-loaded l x start count at p is many made =
 
 -- one more piece of t, which fills its array
 pub take-sixteen_from : (lanes piece t : List ℕ) (n at k : ℕ) → at + k ≤ n → k ≤ 16 → lanes ≡ sixteen_from t at → piece ≡ take k lanes → piece ≡ take k (drop at (pad (take n t) n))
-take-sixteen_from lanes piece t n at k room few made is =
+take-sixteen_from lanes piece t n at k inside few made is =
     let x = HasLanes-sixteen_from lanes t at made in
     let size : length (take k lanes) ≡ k = length-take-le k lanes (omega (arith, x.0)) in
-    rw is (same_number_lists _ _ (search (rules, places)) (λ i inside.
+    rw is (same_number_lists _ _ (search (rules, places)) (λ i within.
     let below : i < k = omega (arith, size) in
-    let room_at : at + i < n = omega arith in
+    let in_array : at + i < n = omega arith in
     rw (get_or-take, get_or-take, get_or-drop, get_or-pad, get_or-take) (x.1 i (omega arith))))
 
 -- all pieces

@@ -73,5 +73,5 @@ lane_class_is a low high m n p bounds i h =
     let f = (lane_sum_is a (map (λ b. 0x7f - b) high) (omega (arith, length-map high (λ b. 0x7f - b))) p q_low).1 i h in
     let b = bounds i h in
     let range : Range = record { low = 0x80 - get_or low i 0; high = 0x7f - get_or high i 0; no_carry = (omega arith, omega arith); not_empty = omega arith } in
-    let tells = is_in-sums range (get_or a i 0) in
+    let by_sums = is_in-sums range (get_or a i 0) in
     rw (e, f, get_or-map (λ b. 0x80 - b) low i 0 0 (omega arith), get_or-map (λ b. 0x7f - b) high i 0 0 (omega arith)) (λ r. (grind (arith, nat_tests), grind (arith, nat_tests)), λ r. (grind (arith, nat_tests), grind (arith, nat_tests)))

@@ -18,7 +18,7 @@ use Rattle.tinystr_words.proofs.Words.Lanes.{lanes}
 use Rattle.tinystr_words.proofs.Words.Formulas.{on, Ascii-padded, IsSafe-changes, on-text_in, lanes-change}
 use Rattle.tinystr_words.proofs.Words.Numbers.{lanes_of-word_pad, word-nuls, leading_zeros-word, leading_zeros-more}
 use Rattle.tinystr_words.proofs.Pieces.Word.{map-mod_bytes}
-use Rattle.tinystr_words.proofs.Words.LowLanes.{low_word, low_room}
+use Rattle.tinystr_words.proofs.Words.LowLanes.{low_word, low_bound}
 use Rattle.tinystr_words.proofs.Words.Kernels.{case_change, Changes-case_change}
 
 -- ---- a word from a padded text
@@ -51,7 +51,7 @@ length-text_in {n} {w} h =
 -- and by the place of the highest bit, above one more bit
 pub length-text_in-by_top : {w : ℕ} → HoldsText 8 w → w < 18446744073709551616 → (63 - count_leading_zeros 64 (2 * w + 1) + 7) / 8 ≡ length (text_in 8 w)
 length-text_in-by_top {w} h small =
-    omega (arith, length-text_in h, leading_zeros-more 63 w (omega (arith, low_room 8 w h.low)))
+    omega (arith, length-text_in h, leading_zeros-more 63 w (omega (arith, low_bound 8 w h.low)))
 
 -- the lanes are the padded text
 pub lanes-text_in : {n w : ℕ} → HoldsText n w → lanes_of n w ≡ pad (text_in n w) n

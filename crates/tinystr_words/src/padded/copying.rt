@@ -56,10 +56,10 @@ pub(crate) fn append(bytes: &mut [u8], len: usize, padded: &[u8])
     ensures padded { IsPadded bytes.new }
     ensures text { text_of bytes.new ≡ take (length bytes.old) (text_of bytes.old ++ text_of padded.now) }
 {
-    let room = bytes.len() - len;
-    if padded.len() <= room {
+    let free = bytes.len() - len;
+    if padded.len() <= free {
         bytes[len..len + padded.len()].copy_from_slice(padded);
-    } else if room > 0 {
-        bytes[len..].copy_from_slice(&padded[..room]);
+    } else if free > 0 {
+        bytes[len..].copy_from_slice(&padded[..free]);
     }
 }
