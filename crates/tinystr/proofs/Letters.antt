@@ -103,13 +103,13 @@ letters-lanes u small =
     let l = take 8 u in
     let bytes : IsBytes l = below_from_Fits w8 l (chunk-fits w8 0 8 u small) in
     let few : length l ≤ 8 = omega (arith, length-take 8 u) in
-    let room : 8 ≡ length l + (8 - length l) = omega arith in
+    let all : 8 ≡ length l + (8 - length l) = omega arith in
     let n = prefix_len is_alphabetic (take 8 u) in
     let most : n ≤ 8 = omega (arith, prefix_len-le-length is_alphabetic l) in
-    let taken = take-lowered l (8 - length l) 8 bytes room in
+    let taken = take-lowered l (8 - length l) 8 bytes all in
     let same = take-take n 8 u most in
     let letters : list_all is_alphabetic (lowercase (take n u)) ≡ true = rw same at taken.1 in (
-      prefix_len-lowered l (8 - length l) 8 bytes room,
+      prefix_len-lowered l (8 - length l) 8 bytes all,
       rw same at taken.0,
       record { text = λ k d below. letter_is_text (get_or (lowercase (take n u)) k d) (AllPass-from_list_all is_alphabetic (lowercase (take n u)) letters k d below); fits = omega (arith, length-map (take n u) lower, length-take n u) },
     )

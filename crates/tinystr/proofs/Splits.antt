@@ -121,9 +121,9 @@ pub slice_split-whole : (p : ℕ → Bool) (t part : List ℕ) → position p t 
 slice_split-whole p t part none is = rw is (slice_split-missed p t none)
 
 -- what stands before the first such byte, and behind it
-pub split_once-found : (c : ℕ) (t before behind : List ℕ) (i : ℕ) → position (λ b. eqb b c) t ≡ Some i → before ≡ take i t → behind ≡ drop (i + 1) t
-    → Contains t c × (◌≡◌ {A = List ℕ × List ℕ} (before, behind) (before_first (λ b. eqb b c) t, after_first (λ b. eqb b c) t))
-split_once-found c t before behind i at front back =
+pub split_once-found : (c : ℕ) (t before after : List ℕ) (i : ℕ) → position (λ b. eqb b c) t ≡ Some i → before ≡ take i t → after ≡ drop (i + 1) t
+    → Contains t c × (◌≡◌ {A = List ℕ × List ℕ} (before, after) (before_first (λ b. eqb b c) t, after_first (λ b. eqb b c) t))
+split_once-found c t before after i at front back =
     let is = position-Some (λ b. eqb b c) t i c at in
     let first : position_or_len (λ b. eqb b c) t ≡ i = position_or_len_is (λ b. eqb b c) t i c (omega (arith, is.0)) is.2 (λ _. is.1) in
     let here : get_or t i c ≡ c = grind (arith, nat_tests, is.1) in

@@ -22,7 +22,7 @@ mod words;
 
 use crate::decimal::decimal_fits;
 use crate::int_ops::{Aligned4, Aligned8, Aligned16};
-use crate::{Case, Question};
+use crate::question::{Case, Question};
 pub use code_units::{lossy, low_bytes, read_all};
 use concatenation::{concat_in_memory, concat_in_vectors, concat_in_word, fit_vectors};
 pub use copying::{resize, resize_at_once};

@@ -5,8 +5,8 @@ ghost use Rattle.tinystr_words.specs.Text.{pad};
 ghost use Rattle.tinystr_words.specs.Reading.{lossy, lossy_byte};
 ghost use Rattle.tinystr_words.specs.Private.ReadPieces.{IsReadPiece};
 
-use super::replacing::lossy_word;
-use crate::CodeUnit;
+use crate::code_unit::CodeUnit;
+use crate::padded::replacing::lossy_word;
 
 // The byte of a character, or the replacement.
 #[inline(always)]

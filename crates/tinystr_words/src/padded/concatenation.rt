@@ -4,9 +4,9 @@ ghost use Rattle.std.specs.Prelude.{◌≡◌, ◌≤◌, ◌*◌, ◌++◌, len
 ghost use Rattle.tinystr_words.specs.Text.{IsPadded, IsPaddedText, text_of};
 ghost use Rattle.tinystr_words.specs.Private.Padded.{sixteen_from};
 
-use super::copying::{append, put, resize, resize_at_once};
-use super::words;
 use crate::int_ops::{Aligned8, Aligned16};
+use crate::padded::copying::{append, put, resize, resize_at_once};
+use crate::padded::words;
 use std::simd::prelude::*;
 
 /// How many bytes a vector has.

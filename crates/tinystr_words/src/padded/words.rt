@@ -6,7 +6,7 @@ ghost use Rattle.tinystr_words.specs.Questions.{ask_question, in_case};
 ghost use Rattle.tinystr_words.specs.Private.Padded.{IsFirstWord};
 
 use crate::int_ops::Aligned16;
-use crate::{Case, Question};
+use crate::question::{Case, Question};
 
 // The first sixteen bytes as a word, and the bytes after them.
 #[inline(always)]

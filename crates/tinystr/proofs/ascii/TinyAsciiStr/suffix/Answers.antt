@@ -32,7 +32,7 @@ pub text_of_lanes-requires : goal.text_of_lanes-requires
 text_of_lanes-requires g c =
     let bytes = c.self.inside.bytes in
     let rest = take (length bytes - c.min.result) (drop c.min.result bytes) in
-    let room : length rest ≤ g.row.M = elim c.else-this.branch [
+    let fits : length rest ≤ g.row.M = elim c.else-this.branch [
       | else-this-via-then-this+else-start w ↦ omega (arith, c.min.ensures, length-take {A = ℕ}, length-drop {A = ℕ})
       | else-this-via-else-this w ↦ omega (arith, length-take {A = ℕ}, length-drop {A = ℕ})
     ] in
