@@ -58,7 +58,7 @@ pub IsPaddedText-pad_take : (bytes t : List ℕ) (n : ℕ) → bytes ≡ pad (ta
 IsPaddedText-pad_take bytes t n made h =
     IsPaddedText-places bytes t n (rw made (search (rules, places))) h (λ k below. rw (made, get_or-pad) (grind (arith, places)))
 
--- k bytes of x, which are all of it or fill r, put behind the text of r
+-- k bytes of x, which are all of it or fill r, appended to the text of r
 pub IsPadded-appended : (r x y : List ℕ) (at k : ℕ) → IsPadded r → at ≡ length (text_of r) → IsPadded x
     → y ≡ take k x → k ≤ length x → at + k ≤ length r → (k ≡ length x) ⊎ (k ≡ length r - at)
     → IsPadded (put_mid at k r y) × (text_of (put_mid at k r y) ≡ take (length r) (text_of r ++ text_of x))
@@ -74,7 +74,7 @@ IsPadded-nuls n =
     let made = IsPaddedText-places (NULS n) [] (length (NULS n)) refl (All-nil IsTextByte) (λ k below. get_or-nuls n k) in
     (made.0, made.1 ∙ take-nil (length (NULS n)))
 
--- so many of the eight from a place on
+-- k of the eight from a place on
 pub piece-of_eight : {X : Type 0} (f : X → ℕ) (xs : List X) (eight piece : List ℕ) (at all skip k from count : ℕ) → all ≡ 8 → eight ≡ map f (take all (drop at xs))
     → piece ≡ take k (drop skip eight) → skip + k ≤ 8 → at + skip ≡ from → k ≡ count → piece ≡ take count (drop from (map f xs))
 piece-of_eight f xs eight piece at all skip k from count is_all made is fits there same =

@@ -76,7 +76,7 @@ IsPacked-from_records bytes n (suc k) long good =
 
 -- ---- one pass over a list of records, several at a time
 
--- in a list of records the first i are padded texts, and `rest` are those behind them
+-- in a list of records the first i are padded texts, and `rest` are those after them
 pub record IsChecked (records : List (List ℕ)) (n i : ℕ) (rest : List (List ℕ)) : Type 0 where
   pub left : rest ≡ drop i records
   pub seen : i + length rest ≡ length records
@@ -140,7 +140,7 @@ IsFirstUnpadded-some records n i h padded = h.bad (padded i [] h.inside)
 
 -- ---- the records of bytes, as a list
 
--- so many chunks
+-- the number of chunks
 pub length-first_chunks : (m k : ℕ) (xs : List ℕ) → length (first_chunks m k xs) ≡ k
 length-first_chunks m zero xs = refl
 length-first_chunks m (suc k) xs = ap suc (length-first_chunks m k (drop m xs))

@@ -39,9 +39,9 @@ pub sixteen_from-HasLanes : (xs t : List ℕ) (at : ℕ) → HasLanes xs t at �
 sixteen_from-HasLanes xs t at x =
     same_number_lists xs (sixteen_from t at) (x.0 ∙ sym (length-piece t 16 at)) (λ i inside. let small : i < 16 = omega (arith, x.0) in x.1 i small ∙ sym (get_or-piece t 16 at i small))
 
--- ---- lanes moved by a table
+-- ---- lanes shifted by a table
 
--- 128, or the lane behind 48 others
+-- 128, or the lane after 48 others
 TAKEN_LANES-at : (k : ℕ) → k < 112 → get_or TAKEN_LANES k 0 ≡ cond (nat_le 48 k && nat_lt k 64) (k - 48) 128
 TAKEN_LANES-at k inside = let e = below_at (λ k. nat_eq (get_or TAKEN_LANES k 0) (cond (nat_le 48 k && nat_lt k 64) (k - 48) 128)) 112 refl k inside in grind (arith, nat_tests)
 
@@ -91,7 +91,7 @@ swz_l-lanes_of_table xs start long inside =
 bit_or-append : (a b : List ℕ) (e p : ℕ) → (0 < length b → e ≡ length a) → bit_or (get_or a p 0) (get_or (NULS e ++ b) p 0) ≡ get_or (a ++ b) p 0
 bit_or-append a b e p end = grind (arith, places, get_or-nuls, or_zero_l, or_zero_r, end)
 
--- moved to where the other text ends
+-- shifted to where the other text ends
 pub HasLanes-or : (xs ys l a b : List ℕ) (e at start : ℕ) → (0 < length b → e ≡ length a) → start + e ≡ 48 + at → ys ≡ sixteen_from (NULS 48 ++ l) start
     → ((k : ℕ) → get_or l k 0 ≡ get_or b k 0) → HasLanes xs a at → HasLanes (zip2 bit_or xs ys) (a ++ b) at
 HasLanes-or xs ys l a b e at start end is made same x =
@@ -111,7 +111,7 @@ HasLanes-same xs a b e at end x out = (x.0, λ i small. grind (arith, places, x.
 pub get_or-first_sixteen : (l b : List ℕ) → l ≡ sixteen_from b 0 → (k : ℕ) → get_or l k 0 ≡ get_or (take 16 b) k 0
 get_or-first_sixteen l b made k = rw made (get_or-pad (take 16 b) 16 k)
 
--- and those behind them
+-- and those after them
 pub get_or-last_sixteen : (l b : List ℕ) → l ≡ sixteen_from b 16 → length b ≤ 32 → (k : ℕ) → get_or l k 0 ≡ get_or (drop 16 b) k 0
 get_or-last_sixteen l b made fits k = rw made (get_or-pad (take 16 (drop 16 b)) 16 k ∙ rw (take_all 16 (drop 16 b) (omega (arith, length-drop 16 b))) refl)
 

@@ -16,7 +16,7 @@ use Rattle.tinystr_words.proofs.Words.Lanes.{IsBytes, IsBytes-from_IsText, word-
 use Rattle.tinystr_words.proofs.Pieces.Word.{word_split}
 use Rattle.tinystr_words.proofs.Words.Texts.{HoldsText-word}
 
--- the word of two lists joined: that of the second stands above that of the first
+-- the word of two lists joined: that of the second is above that of the first
 word-append : (t s : List ℕ) → word (t ++ s) ≡ word t + 256 ^ length t * word s
 word-append t s =
     rw (take-append_seam t s, drop-append_seam t s) at (word_split (length t) (t ++ s) (omega (arith, length-append t s)))
@@ -34,7 +34,7 @@ word-mod s n h =
       | inr all ↦ rw (take_all n s all) (mod-eq_of_lt (rw (take_all n s all) at front))
     ]
 
--- the second text stands behind the first, and what has no room is lost
+-- the second text follows the first, and what doesn't fit is lost
 word-after : (s : List ℕ) (len n : ℕ) → IsBytes s → len ≤ n → word s * 256 ^ len % 256 ^ n ≡ 256 ^ len * word (take (n - len) s)
 word-after s len n h le =
     let k : 256 ^ n ≡ 256 ^ (n - len) * 256 ^ len = ap (λ m. 256 ^ m) (omega arith) ∙ pow-add 256 (n - len) len in

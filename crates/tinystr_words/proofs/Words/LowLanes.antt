@@ -1,4 +1,4 @@
--- Words whose lanes are all below 0x80: what makes them, and the room that they leave.
+-- Words whose lanes are all below 0x80: what makes them, and how large they are.
 use Rattle.std.proofs.Common.{ℕ, zero, suc, ◌+◌, ◌*◌, ◌/◌, ◌%◌, ◌^◌, ◌<◌, ◌≤◌, ◌≡◌, List, [], ◌∷◌, replicate, ap, ◌∙◌, arith, bit_and, bit_or}
 use Rattle.std.proofs.Math.Nat.{pow-suc}
 use Rattle.std.proofs.lemmas.Nat.{and_shr, and_mod, and_le_r, or_shr, or_mod, or_lt}

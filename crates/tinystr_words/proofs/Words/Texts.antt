@@ -82,7 +82,7 @@ nuls-text_in {w} h lanes is =
     ap (λ m. m + 2 ^ length t) (bitmask_splat w8 eqb lanes 16 0 long (omega arith) ∙ ap (λ (l : List ℕ). mask_l (map (λ b. eqb b 0) l)) (is ∙ lanes-text_in h))
     ∙ mask_nuls-padded t (16 - length t) 16 h.text (omega arith)
 
--- and the zeros above it tell the length
+-- and the zeros above it give the length
 pub leading_zeros-nuls : {w : ℕ} → HoldsText 16 w → (lanes : List ℕ) → lanes ≡ lanes_of 16 w → 63 - length (text_in 16 w) ≡ count_leading_zeros 64 (65536 - nuls lanes)
 leading_zeros-nuls {w} h lanes is =
     let k = length (text_in 16 w) in

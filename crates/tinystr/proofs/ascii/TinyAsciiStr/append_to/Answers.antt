@@ -7,7 +7,7 @@ use Rattle.tinystr_words.proofs.Texts.{IsPaddedText-places, length-text_of-le}
 use Rattle.tinystr.proofs.ascii.TinyAsciiStr.append_to.Goals as goal
 use Rattle.tinystr.proofs.ascii.TinyAsciiStr.append_to.Goals.{then-this-le16+then-free, else-this-le16}
 
--- padded bytes put behind the text of others, where there is room for all of them
+-- padded bytes appended to the text of others, where all of them fit
 put_whole : (r x y t m : List ℕ) (at k : ℕ) → IsPadded r → at ≡ length (text_of r) → IsPadded x → text_of x ≡ t → y ≡ x → k ≡ length x → at + k ≤ length r
     → m ≡ put_mid at k r y → IsPadded m × (text_of m ≡ text_of r ++ t)
 put_whole r x y t m at k p here q said is all fits put =

@@ -16,7 +16,7 @@ use Rattle.tinystr_words.proofs.int_ops.Aligned+u64+8.from_number.Goals.{then-de
 pub overflow_add-result : goal.overflow_add-result
 overflow_add-result c = omega (arith, eight_digits-fit c.args.number _ (omega arith) c.eight_digits-digits.ensures)
 
--- which lanes are shifted out, and what is left
+-- which lanes are shifted out, and which remain
 kept : (n most v z : ℕ) (fits : Bool) → (0 < most) × (most ≤ 8) → n < 2 ^ 32 → v + 3472328296227680304 ≡ word (decimal (100000000 + n % 100000000)) / 256
     → (IsTrue fits ↔ (length (decimal n) ≤ most)) → ((fits ≡ true) × (z ≡ count_trailing_zeros 64 (bit_or v 72057594037927936) / 8)) ⊎ ((fits ≡ false) × (z ≡ 8 - most))
     → (z < 8) × HoldsText 8 ((v + 3472328296227680304) / 2 ^ (8 * z)) × (text_in 8 ((v + 3472328296227680304) / 2 ^ (8 * z)) ≡ last most (decimal n))
