@@ -1,4 +1,4 @@
-//! Texts as JSON values and as `N` bytes, and back: the errors of both forms, and the form in bytes. `json` has the other.
+//! Texts as JSON values and as `N` bytes, and back: the errors, and the form in bytes. `json` has the JSON form.
 
 ghost use Rattle.std.specs.Prelude.{◌≡◌, ◌++◌, ◌≤◌, ◌↔◌, Some, None, option_map, length, take, drop, IsOk, IfOk, IfErr};
 ghost use Rattle.tinystr_words.specs.Text.{pad, text_of, IsPaddedText};
