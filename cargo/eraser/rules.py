@@ -96,7 +96,7 @@ IN_FILE = {
     ],
     "tinystr/forms.rt": [
         Rule(
-            "//! Texts as JSON values and as `N` bytes, and back: the errors, and the bytes. Values stand in `json`.",
+            "//! Texts as JSON values and as `N` bytes, and back: the errors, and the form in bytes. `json` has the JSON form.",
             "//! Texts as `N` bytes, and back.",
             "JSON is left out",
         ),
@@ -149,7 +149,7 @@ IN_FILE = {
         ),
     ],
     "tinystr/ascii/splitting.rt": [
-        Rule("Some((before.resize(), behind.resize()))", "Some((before.resize().hinted(), behind.resize().hinted()))", HINTED),
+        Rule("Some((before.resize(), after.resize()))", "Some((before.resize().hinted(), after.resize().hinted()))", HINTED),
         Rule(
             "Some((self.take(at), self.suffix(at + 1)))", "Some((self.take(at).hinted(), self.suffix(at + 1).hinted()))", HINTED
         ),

@@ -5,7 +5,7 @@ use Rattle.std.proofs.lemmas.Bool.Decides.{nat_tests}
 use Rattle.tinystr_words.specs.Text.{IsPadded, IsPaddedText, IsStrictText, text_of, pad}
 use Rattle.tinystr_words.specs.Words.{word, lanes_of}
 use Rattle.tinystr_words.proofs.Words.Lanes.{IsBytes, IsBytes-from_IsText, below_at}
-use Rattle.tinystr_words.proofs.Parts.Cuts.{IsStrictText-drop, IsStrictText-take}
+use Rattle.tinystr_words.proofs.Parts.Splits.{IsStrictText-drop, IsStrictText-take}
 use Rattle.tinystr_words.proofs.Texts.{length-pad}
 use Rattle.tinystr_words.proofs.Words.Numbers.{div-pow_256, mod-pow_256, lanes_of-word_pad, pow_256, word-nuls}
 
@@ -15,7 +15,7 @@ IsPadded-whole bytes n padded = let size : length bytes ≡ n = ap length padded
 
 -- ---- a word cut at a byte
 
--- the bytes in front of a place
+-- the bytes before a place
 word-take : (n : ℕ) (l : List ℕ) → IsBytes l → word l % 256 ^ n ≡ word (take n l)
 word-take zero l a = omega arith
 word-take (suc n) [] a = zero-mod (256 ^ suc n)
@@ -24,7 +24,7 @@ word-take (suc n) (b ∷ l) a =
     let rest : (b + 256 * word l) / 256 ≡ word l = omega (arith, a.0) in
     mod-pow_256 n (b + 256 * word l) ∙ ap₂ (λ c w. c + 256 * (w % 256 ^ n)) first rest ∙ ap (λ w. b + 256 * w) (word-take n l a.1)
 
--- and those behind it
+-- and those from it on
 word-drop : (n : ℕ) (l : List ℕ) → IsBytes l → word l / 256 ^ n ≡ word (drop n l)
 word-drop zero l a = omega arith
 word-drop (suc n) [] a = zero-div (256 ^ suc n)

@@ -22,7 +22,7 @@ fault_of-parse_error_of (too_long max len) = refl
 fault_of-parse_error_of contains_null = refl
 fault_of-parse_error_of non_ascii = refl
 
--- where a test tells what is accepted, the answer is one value
+-- where a test decides what is accepted, the answer is one value
 pub read_is : {P : Type 0} (r : Result (List ℕ) ParseError) (test : Bool) (t : List ℕ) (fault : Fault) → Decides test P → (IsOk r ↔ P) → IfOk r (λ s. s ≡ t) → IfErr r (λ e. fault_of e ≡ fault)
     → r ≡ (if test then Ok t else Err (parse_error_of fault))
 read_is (Ok s) test t fault decides accepted text refusal =

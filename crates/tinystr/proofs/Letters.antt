@@ -31,7 +31,7 @@ prefix_len-less : (lanes : List ℕ) → Each1 (Fits w8) lanes → prefix_len (�
 prefix_len-less [] a = refl
 prefix_len-less (b ∷ l) a = ap₂ (λ (is : Bool) (n : ℕ). cond is (1 + n) 0) (is_lower-less b a.0.fits) (prefix_len-less l a.1)
 
--- the lowest mark tells how many are in front
+-- the lowest mark is at the number of leading ones
 pub prefix_len-others : (lanes : List ℕ) → length lanes ≡ 8 → Each1 (Fits w8) lanes
     → (others lanes ≡ 0 → 8 ≡ prefix_len is_lower lanes) × (others lanes ≢ 0 → (count_trailing_zeros 64 (others lanes) ≡ prefix_len is_lower lanes) × (count_trailing_zeros 64 (others lanes) ≤ 8))
 prefix_len-others lanes eight small =
@@ -55,7 +55,7 @@ IsBytes-nuls : (l : List ℕ) (k : ℕ) → IsBytes l → IsBytes (l ++ NULS k)
 IsBytes-nuls [] k a = Each1-replicate (λ b. b < 256) k 0 (lit< tt)
 IsBytes-nuls (b ∷ l) k a = (a.0, IsBytes-nuls l k a.1)
 
--- bytes are read into lanes, and NULs behind them
+-- bytes are read into lanes, and then NULs
 pub lanes_of-bytes : (n : ℕ) (l : List ℕ) → IsBytes l → length l ≤ n → lanes_of n (word l) ≡ pad l n
 lanes_of-bytes n l a fits =
     subst (λ m. lanes_of m (word l) ≡ pad l n) (length-pad l n fits)
@@ -68,7 +68,7 @@ is_lower-lowered b small = let e = below_at (λ b. cond (is_lower (bit_or b 32))
 lower-lowered : (b : ℕ) → b < 256 → is_alphabetic b ≡ true → bit_or b 32 ≡ lower b
 lower-lowered b small letter = let e = below_at (λ b. cond (is_alphabetic b) (eqb (bit_or b 32) (lower b)) true) 256 refl b small in grind (arith, nat_tests)
 
--- so many lanes in front are letters as bytes are
+-- the same number of leading lanes and of leading bytes are letters
 prefix_len-lowered : (l : List ℕ) (k n : ℕ) → IsBytes l → n ≡ length l + k → prefix_len is_lower (zip2 bit_or (l ++ NULS k) (replicate n 32)) ≡ prefix_len is_alphabetic l
 prefix_len-lowered [] zero n a e = refl
 prefix_len-lowered [] (suc k) zero a e = refl
@@ -95,7 +95,7 @@ take-lowered (b ∷ l) k (suc n) a e = first (is_alphabetic b) refl (take-lowere
 letter_is_text : (b : ℕ) → is_alphabetic b ≡ true → IsTextByte b
 letter_is_text b letter = grind (arith, nat_tests)
 
--- the letters in front, in lowercase, as lanes hold them
+-- the leading letters, in lowercase, as lanes hold them
 letters-lanes : (u : List ℕ) → ((i : ℕ) → Fits w8 (get_or u i 0))
     → (let lanes = zip2 bit_or (pad (take 8 u) 8) (replicate 8 32) in let n = prefix_len is_alphabetic (take 8 u) in
     (prefix_len is_lower lanes ≡ n) × (take n lanes ≡ lowercase (take n u)) × IsStrictText (lowercase (take n u)) 8)
@@ -103,13 +103,13 @@ letters-lanes u small =
     let l = take 8 u in
     let bytes : IsBytes l = below_from_Fits w8 l (chunk-fits w8 0 8 u small) in
     let few : length l ≤ 8 = omega (arith, length-take 8 u) in
-    let room : 8 ≡ length l + (8 - length l) = omega arith in
+    let all : 8 ≡ length l + (8 - length l) = omega arith in
     let n = prefix_len is_alphabetic (take 8 u) in
     let most : n ≤ 8 = omega (arith, prefix_len-le-length is_alphabetic l) in
-    let taken = take-lowered l (8 - length l) 8 bytes room in
+    let taken = take-lowered l (8 - length l) 8 bytes all in
     let same = take-take n 8 u most in
     let letters : list_all is_alphabetic (lowercase (take n u)) ≡ true = rw same at taken.1 in (
-      prefix_len-lowered l (8 - length l) 8 bytes room,
+      prefix_len-lowered l (8 - length l) 8 bytes all,
       rw same at taken.0,
       record { text = λ k d below. letter_is_text (get_or (lowercase (take n u)) k d) (AllPass-from_list_all is_alphabetic (lowercase (take n u)) letters k d below); fits = omega (arith, length-map (take n u) lower, length-take n u) },
     )

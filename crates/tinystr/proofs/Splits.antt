@@ -11,7 +11,7 @@ use Rattle.std.proofs.lemmas.Simd.{bitmask_splat, first_set_mask_l}
 use Rattle.std.proofs.lemmas.List.Sums.{fails_before_first, passes_at_first, position_or_len_is}
 use Rattle.tinystr_words.specs.Text.{IsPadded, IsPaddedText, IsText, pad, text_of}
 use Rattle.tinystr_words.proofs.Padding.KeptLanes.{IsPadded-first_lanes}
-use Rattle.tinystr_words.proofs.Parts.Cuts.{slice_split-found, slice_split-missed}
+use Rattle.tinystr_words.proofs.Parts.Splits.{slice_split-found, slice_split-missed}
 use Rattle.tinystr_words.proofs.Parts.Positions.{position-None, position-None-fails, position-at}
 use Rattle.tinystr_words.proofs.Texts.{IsPaddedText-made, IsPaddedText-drop, IsPaddedText-take, get_or-text_of, length-pad, length-text_of-le, text_of-drop, text_of-made, text_of-take}
 
@@ -26,7 +26,7 @@ pub position-none_text : (p : ℕ → Bool) (l : List ℕ) → IsPadded l → po
 position-none_text p l q none =
     position-None p (text_of l) (λ k inside. rw (get_or-text_of l (length l) k q) at (position-None-fails p l none k (omega (arith, length-text_of-le l))))
 
--- another byte stands in no padding
+-- another byte is in no padding
 pub position-text_of : (l : List ℕ) (byte : ℕ) → IsPadded l → 0 < byte → position (λ b. eqb b byte) l ≡ position (λ b. eqb b byte) (text_of l)
 position-text_of l byte q some =
     let p : ℕ → Bool = λ b. eqb b byte in
@@ -45,7 +45,7 @@ position-text_of l byte q some =
           ])) ∙ grind (arith, nat_tests)
     ]
 
--- ---- sixteen at once
+-- ---- sixteen in one vector
 
 -- the marks of the lanes that are the byte
 abbrev pub marks : List ℕ → ℕ → ℕ
@@ -59,7 +59,7 @@ position_or_len-lt p (x ∷ xs) some = mark (p x) (mask_l (map p xs)) (position_
   mark true n m l some f = omega arith
   mark false n m l some f = omega (arith, f (omega arith))
 
--- the lowest mark tells where the byte first stands
+-- the lowest mark is at the first place of the byte
 pub position-marks : (lanes : List ℕ) (byte : ℕ) → length lanes ≡ 16
     → (marks lanes byte ≡ 0 → position (λ b. eqb b byte) lanes ≡ None) × (0 < marks lanes byte → position (λ b. eqb b byte) lanes ≡ Some (count_trailing_zeros 64 (marks lanes byte)))
 position-marks lanes byte long =
@@ -70,11 +70,11 @@ position-marks lanes byte long =
 
 -- ---- the first sixteen bytes
 
--- of as many or more
+-- of sixteen or more
 pub IsPadded-first_sixteen : (l r : List ℕ) → IsPadded l → 16 ≤ length l → r ≡ take 16 l → (length r ≡ 16) × (IsPadded r) × (text_of r ≡ take 16 (text_of l))
 IsPadded-first_sixteen l r q many is = rw is (search (rules, places), IsPaddedText-take l (length l) 16 q, text_of-take l (length l) 16 q)
 
--- and of fewer, with NULs behind them
+-- and of fewer, and then NULs
 pub IsPadded-fewer : (l r : List ℕ) → IsPadded l → length l ≤ 16 → r ≡ pad (text_of l) 16 → (length r ≡ 16) × (IsPadded r) × (text_of r ≡ take 16 (text_of l))
 IsPadded-fewer l r q few is =
     let fits : length (text_of l) ≤ 16 = omega (arith, length-text_of-le l) in
@@ -94,7 +94,7 @@ IsPadded-before_found p l sixteen lanes i long q is found made =
     let front = IsPadded-first_lanes sixteen lanes 16 i (rw long at q) few made in
     (omega (arith, inside.0, length-take 16 (text_of l)), front.0, front.1 ∙ ap (take i) is ∙ take-take i 16 (text_of l) few)
 
--- ---- what stands behind a place
+-- ---- the text from a place on
 
 -- where a byte is NUL the text has ended
 pub length-text_of-nul : (l : List ℕ) (w n : ℕ) → IsPaddedText l w → get_or l n 0 ≡ 0 → length (text_of l) ≤ n
@@ -120,10 +120,10 @@ slice_split-padded p l part i q at is = rw (is, text_of-rest l (i + 1) q) (slice
 pub slice_split-whole : (p : ℕ → Bool) (t part : List ℕ) → position p t ≡ None → part ≡ t → slice_split p t ≡ part ∷ []
 slice_split-whole p t part none is = rw is (slice_split-missed p t none)
 
--- what stands before the first such byte, and behind it
-pub split_once-found : (c : ℕ) (t before behind : List ℕ) (i : ℕ) → position (λ b. eqb b c) t ≡ Some i → before ≡ take i t → behind ≡ drop (i + 1) t
-    → Contains t c × (◌≡◌ {A = List ℕ × List ℕ} (before, behind) (before_first (λ b. eqb b c) t, after_first (λ b. eqb b c) t))
-split_once-found c t before behind i at front back =
+-- the text before the first such byte, and after it
+pub split_once-found : (c : ℕ) (t before after : List ℕ) (i : ℕ) → position (λ b. eqb b c) t ≡ Some i → before ≡ take i t → after ≡ drop (i + 1) t
+    → Contains t c × (◌≡◌ {A = List ℕ × List ℕ} (before, after) (before_first (λ b. eqb b c) t, after_first (λ b. eqb b c) t))
+split_once-found c t before after i at front back =
     let is = position-Some (λ b. eqb b c) t i c at in
     let first : position_or_len (λ b. eqb b c) t ≡ i = position_or_len_is (λ b. eqb b c) t i c (omega (arith, is.0)) is.2 (λ _. is.1) in
     let here : get_or t i c ≡ c = grind (arith, nat_tests, is.1) in

@@ -1,4 +1,4 @@
-//! Texts as JSON values and as `N` bytes, and back: the errors, and the bytes. Values stand in `json`.
+//! Texts as JSON values and as `N` bytes, and back: the errors, and the form in bytes. `json` has the JSON form.
 
 ghost use Rattle.std.specs.Prelude.{◌≡◌, ◌++◌, ◌≤◌, ◌↔◌, Some, None, option_map, length, take, drop, IsOk, IfOk, IfErr};
 ghost use Rattle.tinystr_words.specs.Text.{pad, text_of, IsPaddedText};
@@ -34,7 +34,7 @@ pub enum JsonReadError {
 pub enum BytesReadError {
     /// There are fewer than `expected` bytes.
     Length { expected: usize },
-    /// A byte other than NUL stands behind a NUL.
+    /// A byte other than NUL follows a NUL.
     Null,
     /// A byte is above 127.
     NonAscii,
@@ -91,8 +91,8 @@ impl<const N: usize> TinyAsciiStr<N> {
 
     /// Reads the first `N` bytes, a text and then NULs, and gives the text and the rest of the input.
     ///
-    /// The error is the fault of the first of `N` positions that has one: the input has ended (`Length`), a byte behind
-    /// a NUL isn't NUL (`Null`), or a byte is above 127 (`NonAscii`). A byte with both of the last two faults is
+    /// The error is the fault of the first of `N` positions that has one: the input has ended (`Length`), a byte after a
+    /// NUL isn't NUL (`Null`), or a byte is above 127 (`NonAscii`). A byte with both of the last two faults is
     /// `Null`.
     ///
     /// ```rust
@@ -159,7 +159,7 @@ impl<const N: usize> UnvalidatedTinyAsciiStr<N> {
 }
 
 // The fault at the first of `expected` positions that has one. Bytes are read in order, so the end of the input is a
-// fault where it comes, and a byte above 127 behind a NUL is `Null`. `ascii::strict::find_fault` gives the first fault
+// fault where it comes, and a byte above 127 after a NUL is `Null`. `ascii::strict::find_fault` gives the first fault
 // of code units that were counted before, and has `NonAscii` before `ContainsNull`.
 #[tactic(auto, using(tinystr_words::proofs::Reading::ByteForms::byte_pass))]
 fn find_byte_fault(input: &[u8], expected: usize) -> Option<BytesReadError>

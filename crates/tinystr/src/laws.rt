@@ -48,7 +48,7 @@ pub fn unvalidated_back<const N: usize>(
     text.to_unvalidated().try_into_tinystr()
 }
 
-/// `niche_bit_pattern`, which no text has, is refused as `NonAscii`. `N` must be above 0.
+/// `niche_bit_pattern`, which no text has, is rejected as `NonAscii`. `N` must be above 0.
 pub fn niche_refused<const N: usize>() -> Result<TinyAsciiStr<N>, ParseError>
     requires { 0 < N }
     ensures { result ≡ Err ParseError.NonAscii }

@@ -32,11 +32,11 @@ use Rattle.tinystr_words.proofs.Order.OfLists.{before_not_same, before_one_way, 
 use Rattle.tinystr_words.proofs.Reading.ByteForms.{byte_fault-first_padded, byte_fault-padded}
 use Rattle.tinystr_words.proofs.Cases.Changes.{All-differs, IsStrictText-map, IsStrictText-titlecase, IsText-asked, IsText-list_all, ask-joined, ask-map, ask-titlecase, lowercase-alone, lowercase-titlecase, map-map_same, position-missed, titlecase-alone, titlecase-lowercase, titlecase-twice, titlecase-uppercase, uppercase-alone, uppercase-titlecase}
 use Rattle.tinystr_words.proofs.Parts.Found.{All-absent, Contains-joined, before_first-absent, byte_position-none, byte_position-some, split-whole, text_position-at, text_position-distinct, text_position-none, text_position-some}
-use Rattle.tinystr_words.proofs.Parts.Fronts.{lowercase-take, take_join_cut, titlecase-take, uppercase-take}
+use Rattle.tinystr_words.proofs.Parts.Prefixes.{lowercase-take, take_join_cut, titlecase-take, uppercase-take}
 use Rattle.tinystr_words.proofs.Decimals.Shortest.{IsDecimalOf-decimal, IsDecimalOf-only, IsText-decimal, length-decimal-le_ten}
 use Rattle.tinystr_words.proofs.Reading.Records.{IsPacked-joined, IsPacked-record, length-joined, text_of-record}
-use Rattle.tinystr_words.proofs.Parts.Cuts.{IsStrictText-after_first, IsStrictText-before_first, IsStrictText-drop, IsStrictText-slice_split, IsStrictText-take, IsText-joined, ask-joined_texts, map-joined, slice_split-found, slice_split-joined, slice_split-missed}
-use Rattle.tinystr_words.proofs.Printing.{char_count-text, length-padded, padded-before, padded-behind, padded-between, styled-padded, take_chars-text}
+use Rattle.tinystr_words.proofs.Parts.Splits.{IsStrictText-after_first, IsStrictText-before_first, IsStrictText-drop, IsStrictText-slice_split, IsStrictText-take, IsText-joined, ask-joined_texts, map-joined, slice_split-found, slice_split-joined, slice_split-missed}
+use Rattle.tinystr_words.proofs.Printing.{char_count-text, length-padded, padded-before, padded-after, padded-between, styled-padded, take_chars-text}
 use Rattle.tinystr_words.proofs.Reading.OnePass.{IsScanned-none, fault_in-fits, first_fault-high}
 use Rattle.tinystr_words.proofs.Cases.SameAsStd.{is_alphanumeric-std, lower-std, lowercase-std, raise-std, uppercase-std}
 use Rattle.tinystr_words.proofs.Texts.{IsAscii-padded, IsPaddedText-pad, after_first-joined, before_first-joined, length-pad, text_of-pad}
@@ -239,7 +239,7 @@ lane_sum = lane_sum_is
 pub word_length : (w : ℕ) (t : List ℕ) → IsText t → length t ≤ w → (word (pad t w) < 256 ^ length t) × ((k : ℕ) → word (pad t w) < 256 ^ k → length t ≤ k)
 word_length = word_length_is
 
--- The high bits of two sums tell which lanes lie in their ranges.
+-- The high bits of two sums show which lanes are in their ranges.
 pub lane_class : (a low high : List ℕ) → length low ≡ length a → length high ≡ length a → All (λ b. b ≤ 0x7f) a → ((i : ℕ) → i < length a → (1 ≤ slice_index low i) × (slice_index low i ≤ slice_index high i) × (slice_index high i ≤ 0x7f)) → let p = map (λ b. 0x80 - b) low in let q = map (λ b. 0x7f - b) high in (i : ℕ) → i < length a → (IsInRange (slice_index low i) (slice_index high i) (slice_index a i)) ↔ ((0x80 ≤ lane (word a + word p) i) × (lane (word a + word q) i < 0x80))
 lane_class = lane_class_is
 
@@ -291,7 +291,7 @@ strict_read_refused t n other = grind (arith, is_strict_text-Decides)
 
 pub ruleset strict_read = (strict_read_taken, strict_read_refused)
 
--- Each prefix and suffix of a text that fits also fits, and so do the parts before and behind its first byte of a kind.
+-- Each prefix and suffix of a text that fits also fits, and so do the parts before and after its first byte of a kind.
 pub strict_parts_front : (k : ℕ) (t : List ℕ) (n : ℕ) → IsStrictText t n → IsStrictText (take k t) n
 strict_parts_front = IsStrictText-take
 
@@ -401,7 +401,7 @@ split_joined_strict = IsStrictText-slice_split
 
 pub ruleset split_joined = (split_joined_back, split_joined_joined, split_joined_strict)
 
--- The index of the first byte of a kind gives the parts before and behind that byte. If no byte is of the kind, the
+-- The index of the first byte of a kind gives the parts before and after that byte. If no byte is of the kind, the
 -- text is a single part.
 pub split_found_inside : (p : ℕ → Bool) (t : List ℕ) (at : ℕ) → position p t ≡ Some at → at < length t
 split_found_inside p t i at = grind (arith, nat_tests)
@@ -483,7 +483,7 @@ joined_texts_upper = map-joined raise
 
 pub ruleset joined_texts = (joined_texts_text, joined_texts_asked, joined_texts_lower, joined_texts_upper)
 
--- Bytes of 255 are refused as `NonAscii`.
+-- Bytes of 255 are rejected as `NonAscii`.
 pub niche_fault_refused : (n : ℕ) → 0 < n → ¬ IsPaddedText (replicate n 255) n
 niche_fault_refused n some padded =
     let low = IsAscii-padded (replicate n 255) n padded 0 in
@@ -504,7 +504,7 @@ pub ruleset niche_fault = (niche_fault_refused, niche_fault_fault)
 pub packed_records : (bytes : List ℕ) (n i : ℕ) → IsPacked bytes n → i * n < length bytes → IsPaddedText (record_at n bytes i) n
 packed_records = IsPacked-record
 
--- Padded texts, one after another, are packed records, as many as the texts, and each record holds its text.
+-- Padded texts, one after another, are packed records, one for each text, and each record holds its text.
 pub texts_packed_packed : (n : ℕ) (ts : List (List ℕ)) → All (λ t. IsStrictText t n) ts → IsPacked (flat_map (λ t. pad t n) ts) n
 texts_packed_packed = IsPacked-joined
 
@@ -516,7 +516,7 @@ texts_packed_text = text_of-record
 
 pub ruleset texts_packed = (texts_packed_packed, texts_packed_len, texts_packed_text)
 
--- The classes and the case changes are those of std's calls on a `u8`, a `char` and a `str`, and a question of one class asks each byte.
+-- The classes and the case changes are those of std's calls on a `u8`, a `char` and a `str`, and a question of one class tests each byte.
 pub same_as_std_upper : (b : ℕ) → is_upper b ≡ is_ascii_uppercase b
 same_as_std_upper b = refl
 
@@ -549,9 +549,9 @@ same_as_std_each = ask-same
 
 pub ruleset same_as_std = (same_as_std_upper, same_as_std_lower, same_as_std_digit, same_as_std_letter, same_as_std_letter_or_digit, same_as_std_lowered, same_as_std_raised, same_as_std_lowercase, same_as_std_uppercase, same_as_std_each)
 
--- A text has as many characters as bytes. If a style doesn't truncate the text and its fill is ASCII, the text is
--- filled up to the width: behind it if no side is named and for `<`, on both sides for `^`, with the lesser half in
--- front, and in front of it for `>`. For these `align` is 0, 1, 2 and 3.
+-- The characters of a text are its bytes. If a style doesn't truncate the text and its fill is ASCII, the text is
+-- filled up to the width: after it if no side is named and for `<`, on both sides for `^`, with the lesser half
+-- before it, and before it for `>`. For these `align` is 0, 1, 2 and 3.
 pub print_width_chars : (t : List ℕ) → IsText t → char_count t ≡ length t
 print_width_chars = char_count-text
 
@@ -562,10 +562,10 @@ pub print_width_styled : (s : _) (t : List ℕ) → IsText t → length t ≤ 2 
 print_width_styled = styled-padded
 
 pub print_width_no_side : (s : _) (t : List ℕ) → IsText t → spec_fill s < 128 → s.align ≡ 0 → length t ≤ s.precision → padded s t ≡ t ++ replicate (s.width - length t) s.fill
-print_width_no_side s t h low side = padded-behind s t h low (rw side refl)
+print_width_no_side s t h low side = padded-after s t h low (rw side refl)
 
 pub print_width_left : (s : _) (t : List ℕ) → IsText t → spec_fill s < 128 → s.align ≡ 1 → length t ≤ s.precision → padded s t ≡ t ++ replicate (s.width - length t) s.fill
-print_width_left s t h low side = padded-behind s t h low (rw side refl)
+print_width_left s t h low side = padded-after s t h low (rw side refl)
 
 pub print_width_center : (s : _) (t : List ℕ) → IsText t → spec_fill s < 128 → s.align ≡ 2 → length t ≤ s.precision → let short = s.width - length t in padded s t ≡ replicate (short / 2) s.fill ++ (t ++ replicate (short - short / 2) s.fill)
 print_width_center s t h low side = padded-between s t h low (rw side refl)

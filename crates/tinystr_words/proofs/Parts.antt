@@ -1,5 +1,5 @@
 -- Parts of texts, and the places where they begin.
-pub mod Cuts
-pub mod Fronts
+pub mod Splits
+pub mod Prefixes
 pub mod Positions
 pub mod Found

@@ -12,7 +12,7 @@ use Rattle.tinystr_words.specs.Text.{IsTextByte, IsText}
 is_char_start-text : (b : ℕ) → IsTextByte b → is_char_start b ≡ true
 is_char_start-text b h = grind (arith, nat_tests)
 
--- a text has as many characters as bytes
+-- the characters of a text are its bytes
 pub char_count-text : (t : List ℕ) → IsText t → char_count t ≡ length t
 unfolding char_count
 char_count-text [] h = refl
@@ -45,10 +45,10 @@ padded-text s t h low fits =
     rw (take_chars-text s.precision t h, take_all s.precision t fits, char_count-text t h)
     (ap₂ (λ x y. x ++ (t ++ y)) (repeat-ascii _ s.fill low) (repeat-ascii _ s.fill low))
 
--- behind it where no side is named, and under `<`
-pub padded-behind : (s : _) (t : List ℕ) → IsText t → spec_fill s < 128 → padding_before s (s.width - length t) 1 ≡ 0 → length t ≤ s.precision
+-- after it where no side is named, and under `<`
+pub padded-after : (s : _) (t : List ℕ) → IsText t → spec_fill s < 128 → padding_before s (s.width - length t) 1 ≡ 0 → length t ≤ s.precision
     → padded s t ≡ t ++ replicate (s.width - length t) s.fill
-padded-behind s t h low none fits =
+padded-after s t h low none fits =
     let all : s.width - length t - 0 ≡ s.width - length t = omega arith in
     rw (none, all) at (padded-text s t h low fits)
 
@@ -57,7 +57,7 @@ pub padded-between : (s : _) (t : List ℕ) → IsText t → spec_fill s < 128 �
     → let short = s.width - length t in padded s t ≡ replicate (short / 2) s.fill ++ (t ++ replicate (short - short / 2) s.fill)
 padded-between s t h low half fits = rw half at (padded-text s t h low fits)
 
--- in front of it under `>`
+-- before it under `>`
 pub padded-before : (s : _) (t : List ℕ) → IsText t → spec_fill s < 128 → padding_before s (s.width - length t) 1 ≡ s.width - length t → length t ≤ s.precision
     → padded s t ≡ replicate (s.width - length t) s.fill ++ t
 padded-before s t h low all fits =
@@ -71,9 +71,9 @@ padding_before-le s n = grind (arith, nat_tests)
 pub length-padded : (s : _) (t : List ℕ) → IsText t → spec_fill s < 128 → length t ≤ s.precision → length t ≤ s.width → length (padded s t) ≡ s.width
 length-padded s t h low fits short =
     let front = padding_before s (s.width - length t) 1 in
-    let behind = s.width - length t - front in
+    let after = s.width - length t - front in
     rw (padded-text s t h low fits)
-    (omega (arith, padding_before-le s (s.width - length t), length-append (replicate front s.fill) (t ++ replicate behind s.fill), length-append t (replicate behind s.fill), length-replicate {A = ℕ} front s.fill, length-replicate {A = ℕ} behind s.fill))
+    (omega (arith, padding_before-le s (s.width - length t), length-append (replicate front s.fill) (t ++ replicate after s.fill), length-append t (replicate after s.fill), length-replicate {A = ℕ} front s.fill, length-replicate {A = ℕ} after s.fill))
 
 -- ---- with no width and no precision
 
@@ -90,7 +90,7 @@ if_true : {A : Type 0} (test : Bool) (x y : A) → (test ≡ true → x ≡ y) �
 if_true true x y same = same refl
 if_true false x y same = refl
 
--- a text stands as it is where a style names neither
+-- a text is unchanged where a style names neither
 pub styled-padded : (s : _) (t : List ℕ) → IsText t → length t ≤ 2 ^ 64 - 1 → styled_text s t ≡ padded s t
 styled-padded s t h small = if_true (s.width == 0 && s.precision == 2 ^ 64 - 1) t (padded s t)
     (λ bare.

@@ -34,7 +34,7 @@ get_or-pad t n k = grind (arith, places, get_or-nuls)
 pub length-pad : (t : List ℕ) (n : ℕ) → length t ≤ n → length (pad t n) ≡ n
 length-pad t n h = omega (arith, length-append t (NULS (n - length t)), length-replicate {A = ℕ} (n - length t) 0)
 
--- as many bytes stand before the first NUL of a padded text as the text has
+-- the number of bytes before the first NUL of a padded text is that of the text
 prefix_len-pad : (t : List ℕ) (n : ℕ) → IsText t → prefix_len differs_from_nul (pad t n) ≡ length t
 prefix_len-pad t n h =
     prefix_len_is differs_from_nul (pad t n) (length t) 0
@@ -107,7 +107,7 @@ IsAscii-padded bytes n p = λ i. rw (get_or-text_of bytes n i p) (IsAscii-text (
 pub IsUtf8-text : (t : List ℕ) → IsText t → IsUtf8 t
 IsUtf8-text t h = IsUtf8-from_ascii t (IsAscii-text t h)
 
--- what a string made of a text's bytes asks for
+-- what a string made of a text's bytes requires
 pub ruleset utf8_texts = (IsUtf8-text)
 
 -- ---- the parts of lists that are joined, and of padded texts
@@ -172,7 +172,7 @@ IsStrictText-uppercase t n h = record {
   fits = omega (arith, length-map t raise, h.fits);
 }
 
--- the first byte of a kind stands behind a text that has none
+-- the first byte of a kind is after a text that has none
 position-joined : (c : ℕ) (t s : List ℕ) → All (λ b. b ≢ c) t → position_or_len (λ b. b == c) (t ++ c ∷ s) ≡ length t
 position-joined c t s h =
     position_or_len_is (λ b. b == c) (t ++ c ∷ s) (length t) 0
@@ -180,7 +180,7 @@ position-joined c t s h =
     (λ k below. rw (get_or_append_left t (c ∷ s) 0 k below) (let p = h k 0 below in grind (arith, nat_tests)))
     (λ inside. grind (arith, nat_tests, places))
 
--- so these are the texts before and behind it
+-- so these are the texts before and after it
 pub before_first-joined : (c : ℕ) (t s : List ℕ) → All (λ b. b ≢ c) t → before_first (λ b. b == c) (t ++ c ∷ s) ≡ t
 before_first-joined c t s h = rw (position-joined c t s h) (take_at t (c ∷ s) (length t) refl)
 

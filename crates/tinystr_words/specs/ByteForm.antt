@@ -3,7 +3,7 @@ use Rattle.std.specs.Prelude.{ℕ, ◌==◌, ◌&&◌, not, nat_lt, nat_le, List
 use Rattle.std.specs.List.{find, range_with_len}
 use Rattle.tinystr_words.specs.Reading.{is_after_nul}
 
--- why bytes aren't read: there are fewer than a number of them, a byte behind a NUL isn't a NUL, or a byte is above 127
+-- why bytes aren't read: there are fewer than a number of them, a byte after a NUL isn't a NUL, or a byte is above 127
 pub data ByteFault : Type 0 where
   too_short : ℕ → ByteFault
   null : ByteFault

@@ -1,4 +1,4 @@
--- Classes of bytes, and the questions that texts are asked.
+-- Classes of bytes, and questions about texts.
 use Rattle.std.specs.Prelude.{ℕ, Bool, true, ◌&&◌, ◌||◌, not, List, [], ◌∷◌}
 use Rattle.std.specs.Int.{is_in_range}
 use Rattle.std.specs.List.{list_all}

@@ -7,7 +7,7 @@ abbrev pub number_of : List ℕ → ℕ
 number_of [] = 0
 number_of (d ∷ ds) = (d - 48) * 10 ^ length ds + number_of ds
 
--- digits alone, one at least, that spell n, with no zero in front but in `0`
+-- digits alone, one at least, that spell n, with no leading zero but in `0`
 pub record IsDecimalOf (n : ℕ) (ds : List ℕ) : Type 0 where
   pub some : 0 < length ds
   pub digits : All (λ d. IsInRange 48 57 d) ds

@@ -1,4 +1,4 @@
--- Packed records: padded texts, one behind another.
+-- Packed records: padded texts, one after another.
 use Rattle.std.specs.Prelude.{◌≡◌, ℕ, ◌*◌, ◌/◌, ◌%◌, ◌<◌, ◌==◌, ◌&&◌, Bool, List, length, take, drop, All}
 use Rattle.std.specs.List.{flat_map, list_all}
 use Rattle.std.specs.Simd.{first_chunks}

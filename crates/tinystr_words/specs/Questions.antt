@@ -1,4 +1,4 @@
--- What each question asks of a text, and what each case makes of it.
+-- What each question means for a text, and what each case makes of it.
 use Rattle.std.specs.Prelude.{ℕ, Bool, List}
 use Rattle.tinystr_words.specs.declared.question.Question.{Question}
 use Rattle.tinystr_words.specs.declared.question.Question.TheVariants.{Alphabetic, Alphanumeric, Numeric, Lowercase, Titlecase, Uppercase, AlphabeticLowercase, AlphabeticTitlecase, AlphabeticUppercase}

@@ -8,7 +8,7 @@ use Rattle.tinystr_words.specs.Text.{is_text_byte, is_strict_text}
 abbrev pub strict_of : ℕ → List ℕ → Option (List ℕ)
 strict_of n units = if is_strict_text units n then Some units else None
 
--- whether a NUL stands before position i
+-- whether a NUL is before position i
 abbrev pub is_after_nul : List ℕ → ℕ → Bool
 is_after_nul units i = list_any (λ u. u == 0) (take i units)
 
@@ -21,7 +21,7 @@ is_faulty units i =
 unfoldable pub first_faulty : List ℕ → Option ℕ
 first_faulty units = find (is_faulty units) (range_with_len 0 (length units))
 
--- why a list of code units is refused
+-- why a list of code units is rejected
 pub data Fault : Type 0 where
   too_long : ℕ → ℕ → Fault
   contains_null : Fault

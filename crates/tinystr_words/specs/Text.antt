@@ -20,7 +20,7 @@ pub record IsStrictText (t : List ℕ) (n : ℕ) : Type 0 where
 abbrev pub pad : List ℕ → ℕ → List ℕ
 pad t n = t ++ replicate (n - length t) 0
 
--- what stands before the first NUL
+-- the bytes before the first NUL
 abbrev pub text_of : List ℕ → List ℕ
 text_of bytes = before_first (λ b. b == 0) bytes
 

@@ -11,7 +11,7 @@ word (b ∷ rest) = b + 256 * word rest
 abbrev pub lane : ℕ → ℕ → ℕ
 lane w i = w / 256 ^ i % 256
 
--- no lane has its high bit set, so each leaves room for another such lane
+-- no lane has its high bit set, so the sum of two such lanes fits in a lane
 abbrev pub HasLowLanes : ℕ → Type 0
 HasLowLanes w = (i : ℕ) → lane w i ≤ 0x7f
 

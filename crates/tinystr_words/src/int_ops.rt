@@ -1,4 +1,4 @@
-//! Texts in one word each, asked and changed by a few sums over the whole word.
+//! Texts in one word each. Questions and case changes take a few sums over the whole word.
 
 ghost use Rattle.std.specs.Prelude.{◌≡◌, ◌<◌, ◌≤◌, ◌++◌, length, map, take, MatchOption, IsTrue, ◌↔◌};
 ghost use Rattle.std.specs.Fmt.{decimal};
@@ -185,7 +185,7 @@ impl<T: Word<LEN>, const LEN: usize> Aligned<T, LEN> {
     }
 }
 
-// What stands from here on is there for `padded`, and for the strict readers, `split` and `find` of `tinystr`.
+// The functions from here on are for `padded`, and for the strict readers, `split` and `find` of `tinystr`.
 impl<T: Word<LEN>, const LEN: usize> Aligned<T, LEN> {
     /// Takes at most `LEN` bytes, which must be a text and then NULs.
     #[inline(always)]
@@ -392,7 +392,7 @@ impl Aligned<u128, 16> {
         }
     }
 
-    /// The last `count` digits of a number that has more. While they are made, a 1 in front of them keeps their zeros.
+    /// The last `count` digits of a number that has more. While they are made, a 1 before them keeps their zeros.
     #[inline(always)]
     pub fn from_last_digits(number: u32, count: usize) -> Self
         requires { count < length (decimal number) }

@@ -164,7 +164,7 @@ pub fn word_length()
         (word (pad t w) < 256 ^ length t) × ((k : ℕ) → word (pad t w) < 256 ^ k → length t ≤ k) }
 {}
 
-/// The high bits of two sums tell which lanes lie in their ranges.
+/// The high bits of two sums show which lanes are in their ranges.
 #[tactic(auto, using(crate::proofs::ForCallers::lane_class))]
 pub fn lane_class()
     ensures { (a low high : List ℕ) → length low ≡ length a → length high ≡ length a →
@@ -211,7 +211,7 @@ pub fn strict_read()
     ensures refused { (t : List ℕ) (n : ℕ) → ¬ IsStrictText t n → strict_of n t ≡ None }
 {}
 
-/// Each prefix and suffix of a text that fits also fits, and so do the parts before and behind its first byte of a
+/// Each prefix and suffix of a text that fits also fits, and so do the parts before and after its first byte of a
 /// kind.
 #[tactic(auto, using(crate::proofs::ForCallers::strict_parts))]
 pub fn strict_parts()
@@ -285,7 +285,7 @@ pub fn split_joined()
         All (λ part. IsStrictText part n) (slice_split p t) }
 {}
 
-/// The index of the first byte of a kind gives the parts before and behind that byte. If no byte is of the kind, the
+/// The index of the first byte of a kind gives the parts before and after that byte. If no byte is of the kind, the
 /// text is a single part.
 #[tactic(auto, using(crate::proofs::ForCallers::split_found))]
 pub fn split_found()
@@ -341,7 +341,7 @@ pub fn joined_texts()
         uppercase (join_with_byte c ts) ≡ join_with_byte (raise c) (map uppercase ts) }
 {}
 
-/// Bytes of 255 are refused as `NonAscii`.
+/// Bytes of 255 are rejected as `NonAscii`.
 #[tactic(auto, using(crate::proofs::ForCallers::niche_fault))]
 pub fn niche_fault()
     ensures refused { (n : ℕ) → 0 < n → ¬ IsPaddedText (replicate n 255) n }
@@ -355,7 +355,7 @@ pub fn packed_records()
         IsPaddedText (record_at n bytes i) n }
 {}
 
-/// Padded texts, one after another, are packed records, as many as the texts, and each record holds its text.
+/// Padded texts, one after another, are packed records, one for each text, and each record holds its text.
 #[tactic(auto, using(crate::proofs::ForCallers::texts_packed))]
 pub fn texts_packed()
     ensures packed { (n : ℕ) (ts : List (List ℕ)) → All (λ t. IsStrictText t n) ts →
@@ -367,7 +367,7 @@ pub fn texts_packed()
 {}
 
 /// The classes and the case changes are those of std's calls on a `u8`, a `char` and a `str`, and a question of one class
-/// asks each byte.
+/// tests each byte.
 #[tactic(auto, using(crate::proofs::ForCallers::same_as_std))]
 pub fn same_as_std()
     ensures upper { (b : ℕ) → is_upper b ≡ is_ascii_uppercase b }
@@ -382,9 +382,9 @@ pub fn same_as_std()
     ensures each { (p : ℕ → Bool) (t : List ℕ) → ask p p t ≡ list_all p t }
 {}
 
-/// A text has as many characters as bytes. If a style doesn't truncate the text and its fill is ASCII, the text is
-/// filled up to the width: behind it if no side is named and for `<`, on both sides for `^`, with the lesser half in
-/// front, and in front of it for `>`. For these `align` is 0, 1, 2 and 3.
+/// The characters of a text are its bytes. If a style doesn't truncate the text and its fill is ASCII, the text is
+/// filled up to the width: after it if no side is named and for `<`, on both sides for `^`, with the lesser half
+/// before it, and before it for `>`. For these `align` is 0, 1, 2 and 3.
 #[tactic(auto, using(crate::proofs::ForCallers::print_width))]
 pub fn print_width()
     ensures chars { (t : List ℕ) → IsText t → char_count t ≡ length t }

@@ -22,7 +22,7 @@ mod words;
 
 use crate::decimal::decimal_fits;
 use crate::int_ops::{Aligned4, Aligned8, Aligned16};
-use crate::{Case, Question};
+use crate::question::{Case, Question};
 pub use code_units::{lossy, low_bytes, read_all};
 use concatenation::{concat_in_memory, concat_in_vectors, concat_in_word, fit_vectors};
 pub use copying::{resize, resize_at_once};
@@ -30,7 +30,7 @@ pub use first_lanes::{first_lanes_of_eight, first_lanes_of_sixteen};
 pub use order::{compare, number};
 
 /// The words that take padded bytes: the narrowest that holds them all, since it takes the fewest steps to load and to
-/// ask.
+/// test.
 #[derive(Clone, Copy)]
 pub enum Width {
     /// One of 32 bits.
@@ -39,7 +39,7 @@ pub enum Width {
     Eight,
     /// One of 128 bits, the widest integer.
     Sixteen,
-    /// As many of 128 bits as the bytes fill.
+    /// Several of 128 bits.
     Many,
 }
 
@@ -81,7 +81,7 @@ pub fn decimal<const N: usize>(number: u32) -> Result<[u8; N], [u8; N]>
 {
     let fits = decimal_fits(number, N);
     match width_of(N) {
-        // 5 to 8 digits, made at once
+        // 5 to 8 digits, made in one step
         Width::Eight => {
             let digits = resize_at_once(&Aligned8::from_number(number, N).to_bytes());
             if fits { Ok(digits) } else { Err(digits) }
@@ -160,7 +160,7 @@ pub fn put_in_case<const N: usize>(bytes: &mut [u8; N], case: Case)
 /// The first `Q` bytes of the two texts joined. The way is chosen at compile time, except that a first text which fills
 /// the result is found at run time.
 #[inline(always)]
-#[tactic(auto, using(crate::proofs::Parts::Fronts::fronts_joined))]
+#[tactic(auto, using(crate::proofs::Parts::Prefixes::prefixes_joined))]
 pub fn concat<const N: usize, const M: usize, const Q: usize>(
     first: &[u8; N],
     second: &[u8; M],

@@ -3,7 +3,7 @@
 ghost use Rattle.std.specs.Prelude.{◌≡◌};
 ghost use Rattle.tinystr_words.specs.Questions.{later_question, later_case};
 
-/// A question that a text is asked: whether each byte is in a class. The titlecase ones have a class of their own for
+/// A question about a text: whether each byte is in a class. The titlecase ones have a class of their own for
 /// the first byte.
 ///
 /// ```rust

@@ -55,20 +55,20 @@ impl<const N: usize> TinyAsciiStr<N> {
     /// assert!(rt; TinyAsciiStr::join(&parts, b'-') == Some(tinystr!(10, "zh-Hant-TW")?));
     /// assert!(rt; TinyAsciiStr::join::<9>(&parts, b'-').is_none());
     /// ```
-    #[tactic(auto, using(tinystr_words::proofs::Parts::Cuts::joined_parts))]
+    #[tactic(auto, using(tinystr_words::proofs::Parts::Splits::joined_parts))]
     pub fn join<const Q: usize>(texts: &[Self], separator: u8) -> Option<TinyAsciiStr<Q>>
         requires { IsTextByte separator }
         ensures { SomeIff result (length (join_with_byte separator texts.now) ≤ Q) (join_with_byte separator texts.now) }
     {
         match texts.split_first() {
-            Some((first, rest)) => Self::join_behind(first.try_resize()?, rest, separator),
+            Some((first, rest)) => Self::join_after(first.try_resize()?, rest, separator),
             None => Some(TinyAsciiStr::default()),
         }
     }
 
-    // A text, and behind it each of the others with the separator in front, all in the bytes of the first.
-    #[tactic(auto, using(tinystr_words::proofs::Parts::Cuts::joined_parts))]
-    fn join_behind<const Q: usize>(
+    // Appends each of the others to the first text, with the separator before it, in the bytes of the first.
+    #[tactic(auto, using(tinystr_words::proofs::Parts::Splits::joined_parts))]
+    fn join_after<const Q: usize>(
         first: TinyAsciiStr<Q>,
         others: &[Self],
         separator: u8,
@@ -80,16 +80,16 @@ impl<const N: usize> TinyAsciiStr<N> {
         let mut len = first.len();
         let mut bytes = first.bytes;
         for text in others {
-            len = separator.put_behind(&mut bytes[..], len)?;
-            len = text.put_behind(&mut bytes[..], len)?;
+            len = separator.append_to(&mut bytes[..], len)?;
+            len = text.append_to(&mut bytes[..], len)?;
         }
         Some(TinyAsciiStr::from_padded(bytes))
     }
 
-    // Puts the text behind another of `len` bytes, and tells how long both are, or `None` where there is no room. A short
-    // array is copied whole where it fits, with the NULs behind its text: a copy of a known length takes one or two moves.
+    // Appends the text to another of `len` bytes, and returns the length of both, or `None` if they don't fit. A short array
+    // is copied whole where it fits, with the NULs after its text: a copy of a known length takes one or two moves.
     #[inline(always)]
-    fn put_behind(&self, bytes: &mut [u8], len: usize) -> Option<usize>
+    fn append_to(&self, bytes: &mut [u8], len: usize) -> Option<usize>
         requires padded { IsPadded bytes.old }
         requires at_end { len ≡ length (text_of bytes.old) }
         ensures len { length bytes.new ≡ length bytes.old }
@@ -97,12 +97,12 @@ impl<const N: usize> TinyAsciiStr<N> {
         ensures padded { IsPadded bytes.new }
         ensures text { len + length self.now ≤ length bytes.old → text_of bytes.new ≡ text_of bytes.old ++ self.now }
     {
-        let room = bytes.len() - len;
+        let free = bytes.len() - len;
         let text_len = self.len();
-        if text_len > room {
+        if text_len > free {
             return None;
         }
-        if N <= 16 && N <= room {
+        if N <= 16 && N <= free {
             bytes[len..len + N].copy_from_slice(&self.bytes);
         } else {
             bytes[len..len + text_len].copy_from_slice(self.as_utf8());

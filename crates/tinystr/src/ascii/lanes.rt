@@ -1,4 +1,4 @@
-//! Sixteen bytes at once.
+//! The first sixteen bytes of a text, in a vector.
 
 ghost use Rattle.std.specs.Prelude.{◌≡◌, ◌≤◌, length, take};
 ghost use Rattle.tinystr_words.specs.Text.{IsPadded, text_of};

@@ -25,7 +25,7 @@ impl TinyAsciiStr<8> {
         ensures fits { result.1 ≤ 8 }
         ensures text { result.0 ≡ lowercase (take result.1 code_units.now) }
     {
-        // the bit that an uppercase letter lacks makes a letter of no other byte
+        // 0x20 lowercases A to Z, and turns no other byte into a letter
         let lowered = front_lanes(code_units) | u8x8::splat(0x20);
         let len = lowercase_lanes(lowered);
         let letters = first_lanes_of_eight(lowered, len).to_array();
@@ -42,7 +42,7 @@ fn front_lanes(units: &[u8]) -> u8x8
     u8x8::from_array(<u64 as Word<8>>::load(front).to_le_bytes())
 }
 
-// How many lanes in front are lowercase letters. From 'a' to 'z' are 25 steps.
+// The number of leading lanes that are lowercase letters. From 'a' to 'z' are 25 steps.
 #[inline(always)]
 fn lowercase_lanes(lanes: u8x8) -> usize
     ensures len { result ≡ prefix_len is_lower lanes }

@@ -41,8 +41,8 @@ impl<const N: usize> TinyAsciiStr<N> {
         self.prefix(len)
     }
 
-    // What stands behind the first bytes, as much as there is room for. Where `M` bytes of the array stand there, they are
-    // copied at once. Up to sixteen others stay in a vector.
+    // The text from `start` on, truncated to `M` bytes. Where the array has `M` bytes from there on, one copy takes them.
+    // Otherwise up to sixteen bytes stay in a vector.
     #[inline(always)]
     pub(crate) fn suffix<const M: usize>(&self, start: usize) -> TinyAsciiStr<M>
         ensures { result ≡ take M (drop start self.now) }

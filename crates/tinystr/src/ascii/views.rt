@@ -45,7 +45,7 @@ impl<const N: usize> TinyAsciiStr<N> {
         Some(self.bytes[index])
     }
 
-    /// Borrows the bytes of the text, without the NULs behind it.
+    /// Borrows the bytes of the text, without the NULs after it.
     ///
     /// ```rust
     /// assert_eq!(rt; tinystr!(8, "en-US")?.as_utf8(), b"en-US".as_slice());

@@ -82,7 +82,7 @@ lower_alone b = (λ e. grind (arith, nat_tests), λ e. grind (arith, nat_tests))
 raise_alone : (b : ℕ) → (raise b ≡ b) ↔ (is_not_lower b ≡ true)
 raise_alone b = (λ e. grind (arith, nat_tests), λ e. grind (arith, nat_tests))
 
--- a byte and the list behind it, each left alone exactly where a test passes
+-- a byte and the list after it, each left alone exactly where a test passes
 cons_alone : (b c : ℕ) (t s : List ℕ) (p q : Bool) → (c ≡ b) ↔ (p ≡ true) → (s ≡ t) ↔ (q ≡ true) → (c ∷ s ≡ b ∷ t) ↔ ((p && q) ≡ true)
 cons_alone b c t s p q first others = (
   λ e. let x = first.0 (cc) in let y = others.0 (cc) in cc,

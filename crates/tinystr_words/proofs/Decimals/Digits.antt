@@ -8,7 +8,7 @@ use Rattle.std.proofs.lemmas.Grind.{pow_more}
 
 -- ---- digits in a word
 
--- the word of a list whose last byte stands below the bytes of another word
+-- the word of a list whose last byte is below the bytes of another word
 abbrev pub word_onto : List ℕ → ℕ → ℕ
 word_onto [] w = w
 word_onto (b ∷ l) w = b + 256 * word_onto l w
@@ -44,17 +44,17 @@ pub word_onto-last_two : (r w : ℕ) → 10 ≤ r → r < 100 → word_onto (dec
 word_onto-last_two r w big small =
     word_onto-decimal r w big (omega arith) ∙ word_onto-one_digit (r / 10) (48 + r % 10 + 256 * w) (omega arith) ∙ omega arith
 
--- ---- the room that the steps leave
+-- ---- the steps fit in 64 bits
 
--- up to three pairs of bytes with one more pair below them take the room of one pair more, and fit 64 bits
-pub room_more : (last pair i : ℕ) → i < 4 → last < 65536 ^ i → pair < 65536 → (65536 * last + pair < 65536 ^ (i + 1)) × (65536 * last + pair < 2 ^ 64)
-room_more last pair i few room small =
+-- up to three pairs of bytes with one more pair below them take one pair more, and fit in 64 bits
+pub fits_more : (last pair i : ℕ) → i < 4 → last < 65536 ^ i → pair < 65536 → (65536 * last + pair < 65536 ^ (i + 1)) × (65536 * last + pair < 2 ^ 64)
+fits_more last pair i few fits small =
     let next : 65536 * last + pair < 65536 ^ (i + 1) = omega (arith, pow_more 65536 i) in
     let up : i + 1 ≤ 4 = omega arith in
     let most : 65536 ^ (i + 1) ≤ 65536 ^ 4 = pow-le-pow_right {n = 65536} (lit< tt) up in
     (next, omega arith)
 
--- what is left, times 100 for each pair of digits taken, stays at most n with one pair more
+-- the remainder, times 100 for each pair of digits taken, stays at most n with one pair more
 pub enough_next : (r i n : ℕ) → r * 100 ^ i ≤ n → r / 100 * 100 ^ (i + 1) ≤ n
 enough_next r i n enough =
     let less : (r / 100 * 100) * 100 ^ i ≤ r * 100 ^ i = mul-le-mul_right (100 ^ i) (omega arith) in

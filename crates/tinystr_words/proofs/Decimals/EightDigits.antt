@@ -1,4 +1,4 @@
--- Eight digits made by four pairs at once, and which of them are a number's text.
+-- Eight digits made by four pairs in one step, and which of them are a number's text.
 use Rattle.std.proofs.Common.{◌≡◌, ℕ, zero, suc, ◌+◌, ◌-◌, ◌*◌, ◌/◌, ◌%◌, ◌^◌, ◌<◌, ◌≤◌, List, [], ◌∷◌, ◌++◌, length, take, drop, map, get_or, replicate, bit_and, bit_or, refl, sym, ap, ap₂, ◌∙◌, subst, arith, inl, inr}
 use lib.Count.{count_trailing_zeros, under}
 use Rattle.std.proofs.Math.Nat.{pow-suc, mul_assoc, mul_comm, mul-le-mul_right, mul-mod_left}
@@ -24,7 +24,7 @@ use Rattle.tinystr_words.proofs.Pieces.Word.{word_split}
 abbrev pub four : ℕ → ℕ → ℕ → ℕ → ℕ
 four a b c d = a + 65536 * (b + 65536 * (c + 65536 * d))
 
--- the tenth of a lane, whatever stands in the lanes above
+-- the tenth of a lane, whatever is in the lanes above
 tenth : (p r m : ℕ) → p < 100 → bit_and ((103 * p + 65536 * r) / 1024) (15 + 65536 * m) ≡ p / 10 + 65536 * bit_and (r / 1024) m
 tenth p r m small =
     let low : ℕ = 103 * p / 1024 + 64 * (r % 1024) in
@@ -58,9 +58,9 @@ digits_of_pairs a b c d =
     let ones : 10 * tens + four (a % 10) (b % 10) (c % 10) (d % 10) ≡ four a b c d = omega arith in
     (omega arith, omega arith)
 
--- they leave room
-room_of_pairs : (a b c d : ℕ) → a < 100 → b < 100 → c < 100 → d < 100 → four (pair a) (pair b) (pair c) (pair d) < 2 ^ 64
-room_of_pairs a b c d p q r s = omega arith
+-- they fit in 64 bits
+pairs_fit : (a b c d : ℕ) → a < 100 → b < 100 → c < 100 → d < 100 → four (pair a) (pair b) (pair c) (pair d) < 2 ^ 64
+pairs_fit a b c d p q r s = omega arith
 
 -- ---- the word of eight digits
 
@@ -76,7 +76,7 @@ two_more r q p w some small is fits =
 without_first : (w d : ℕ) → d < 256 → (256 * w + d) / 256 ≡ w
 without_first w d small = omega arith
 
--- the digits behind a 1, by pairs
+-- the digits after a 1, by pairs
 pub word-eight_digits : (n : ℕ) → n < 10 ^ 8 → word (decimal (10 ^ 8 + n)) / 256 ≡ four (pair (n / 10 ^ 6)) (pair (n / 10 ^ 4 % 100)) (pair (n / 100 % 100)) (pair (n % 100))
 word-eight_digits n small =
     let w1 : ℕ = pair (n % 100) in
@@ -106,7 +106,7 @@ made n pairs tens small is cut =
     let whole : pairs ≡ four a b c d = is in
     let tenth : tens ≡ four (a / 10) (b / 10) (c / 10) (d / 10) = cut ∙ ap (λ m. bit_and (m * 103 / 1024) 0x000f_000f_000f_000f) whole ∙ tenths a b c d first (omega arith) (omega arith) (omega arith) in
     let digits = digits_of_pairs a b c d in
-    let room : four (pair a) (pair b) (pair c) (pair d) < 2 ^ 64 = room_of_pairs a b c d first (omega arith) (omega arith) (omega arith) in
+    let below : four (pair a) (pair b) (pair c) (pair d) < 2 ^ 64 = pairs_fit a b c d first (omega arith) (omega arith) (omega arith) in
     rw (tenth, whole) (digits.0, omega (arith, digits.1), digits.1 ∙ sym (word-eight_digits n small))
 
 -- ---- the zeros at the low end of a number
@@ -124,7 +124,7 @@ under-lt (suc d) t u few = omega arith
 mod-pow_suc : (n t : ℕ) → n % 2 ^ suc t ≡ n / 2 % 2 ^ t * 2 + n % 2
 mod-pow_suc n t = let e : suc t ≡ t + 1 = omega arith in rw e (mod-pow-add n t 1)
 
--- as many as the power of two that divides it
+-- at least the exponent of a power of two that divides it
 trailing-ge : (k t n : ℕ) → t ≤ k → n % 2 ^ t ≡ 0 → t ≤ count_trailing_zeros k n
 unfolding count_trailing_zeros
 trailing-ge k zero n le none = omega arith
@@ -133,7 +133,7 @@ trailing-ge (suc k) (suc t) n le none =
     let parts = mod-pow_suc n t in
     under-ge (n % 2) t (count_trailing_zeros k (n / 2)) (omega arith) (trailing-ge k t (n / 2) (omega arith) (omega arith))
 
--- and fewer than one that doesn't
+-- and less than that of one that doesn't
 trailing-lt : (k t n : ℕ) → 0 < n % 2 ^ t → count_trailing_zeros k n < t
 unfolding count_trailing_zeros
 trailing-lt k zero n some = absurd (omega arith)
@@ -168,14 +168,14 @@ word-values (d ∷ l) a =
     let h = All-head IsDigit d l a in
     omega (arith, word-values l (All-tail IsDigit d l a))
 
--- zeros in front only move them up
+-- leading zeros only shift them up
 word-zeros : (j : ℕ) (l : List ℕ) → word (values (replicate j 48 ++ l)) ≡ word (values l) * 256 ^ j
 word-zeros zero l = omega arith
 word-zeros (suc j) l =
     let up : word (values l) * 256 ^ suc j ≡ word (values l) * 256 ^ j * 256 = ap (λ p. word (values l) * p) (pow-suc 256 j) ∙ sym (mul_assoc (word (values l)) (256 ^ j) 256) in
     omega (arith, word-zeros j l)
 
--- zeros in front are told by the lowest bit, where one more bit stands in the last lane
+-- the lowest bit gives the number of leading zeros, where one more bit is set in the last lane
 trailing-digits : (j : ℕ) (l : List ℕ) → j + length l ≡ 8 → All IsDigit l → (get_or l 0 0 ≡ 48 → length l ≡ 1) → 0 < length l
     → count_trailing_zeros 64 (bit_or (word (values (replicate j 48 ++ l))) (2 ^ 56)) / 8 ≡ j
 trailing-digits j [] long digits first some = absurd (omega arith)
@@ -211,11 +211,11 @@ word-drop z l bytes le =
     let front : word (take z l) < 256 ^ z = subst (λ m. word (take z l) < 256 ^ m) (length-take-le z l le) (word-lt (take z l) (Each1-chunk (λ b. b < 256) 0 z l bytes)) in
     ap (λ m. m / 256 ^ z) (word_split z l le ∙ omega (arith, mul_comm (256 ^ z) (word (drop z l)))) ∙ div-mul-add (word (drop z l)) (256 ^ z) (word (take z l)) front
 
--- the word of eight digits has room
-pub eight_digits-room : (n v : ℕ) → n < 2 ^ 32 → v + 0x3030303030303030 ≡ word (decimal (10 ^ 8 + n % 10 ^ 8)) / 256 → v + 0x3030303030303030 < 2 ^ 64
-eight_digits-room n v fits is =
+-- the word of eight digits fits in 64 bits
+pub eight_digits-fit : (n v : ℕ) → n < 2 ^ 32 → v + 0x3030303030303030 ≡ word (decimal (10 ^ 8 + n % 10 ^ 8)) / 256 → v + 0x3030303030303030 < 2 ^ 64
+eight_digits-fit n v fits is =
     let e : ℕ = n % 10 ^ 8 in
-    let room = room_of_pairs (e / 10 ^ 6) (e / 10 ^ 4 % 100) (e / 100 % 100) (e % 100) (omega arith) (omega arith) (omega arith) (omega arith) in
+    let small = pairs_fit (e / 10 ^ 6) (e / 10 ^ 4 % 100) (e / 100 % 100) (e % 100) (omega arith) (omega arith) (omega arith) (omega arith) in
     omega (arith, word-eight_digits e (omega arith))
 
 -- of eight digits those are left that are the text, or the last k
@@ -238,9 +238,9 @@ word-last k n v z some most fits is whole cut =
           let zeros : ds ≡ replicate j 48 ++ decimal n = eight_digits-zeros n fits (omega arith) in
           let one = decimal_nonempty n (omega arith) in
           let same : v ≡ word (values ds) = omega (arith, rw long at (word-values ds (digits-eight_digits n fits))) in
-          let told : z ≡ j = whole all ∙ ap (λ w. count_trailing_zeros 64 (bit_or w (2 ^ 56)) / 8) (same ∙ ap (λ (l : List ℕ). word (values l)) zeros)
+          let found : z ≡ j = whole all ∙ ap (λ w. count_trailing_zeros 64 (bit_or w (2 ^ 56)) / 8) (same ∙ ap (λ (l : List ℕ). word (values l)) zeros)
           ∙ trailing-digits j (decimal n) (omega arith) (digits-decimal n (omega arith)) (no_leading_zero n (omega arith)) one in
           let none : length (decimal n) - k ≡ 0 = omega arith in
-          left j told (omega arith) (ap (λ (l : List ℕ). drop j l) zeros ∙ drop_at (replicate j 48) (decimal n) j (length-replicate {A = ℕ} j 48) ∙ sym (ap (λ i. drop i (decimal n)) none))
+          left j found (omega arith) (ap (λ (l : List ℕ). drop j l) zeros ∙ drop_at (replicate j 48) (decimal n) j (length-replicate {A = ℕ} j 48) ∙ sym (ap (λ i. drop i (decimal n)) none))
           )
     ]

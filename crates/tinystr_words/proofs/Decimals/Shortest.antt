@@ -69,7 +69,7 @@ number_of-append (d ∷ a) b =
 pub decimal-lt : (k n : ℕ) → n < 2 ^ 64 → length (decimal n) ≤ k → n < 10 ^ k
 decimal-lt k n fits short = rw (digits_value-decimal digits_model n fits) at (digits_value_short digits_model (decimal n) k (digits_decimal digits_model n fits) short)
 
--- they are those of a number that has a 1 in front of them, without the 1
+-- they are those of a number that has a 1 before them, without the 1
 pub decimal-last_digits : (k n : ℕ) → n < 2 ^ 32 → k < length (decimal n) → drop 1 (decimal (10 ^ k + n % 10 ^ k)) ≡ last k (decimal n)
 decimal-last_digits k n fits more =
     let ds = last k (decimal n) in
@@ -91,14 +91,14 @@ pow_10-bounds k n fits more =
     let nine : k ≤ 9 = omega arith in
     (pow-le-pow_right {n = 10} (lit< tt) nine, one-le-pow k 10 (lit< tt))
 
--- ---- the last eight digits of a number, and zeros in front of them where it has fewer
+-- ---- the last eight digits of a number, and leading zeros where it has fewer
 
--- zeros in front add nothing
+-- leading zeros add nothing
 number_of-zeros : (j : ℕ) (l : List ℕ) → number_of (replicate j 48 ++ l) ≡ number_of l
 number_of-zeros zero l = refl
 number_of-zeros (suc j) l = omega (arith, number_of-zeros j l)
 
--- the digits behind a 1 that keeps their zeros
+-- the digits after a 1 that keeps their zeros
 abbrev pub eight_digits : ℕ → List ℕ
 eight_digits n = drop 1 (decimal (10 ^ 8 + n % 10 ^ 8))
 

@@ -5,7 +5,7 @@ use Rattle.std.proofs.lemmas.List.{drop-drop, length-drop, take-append-drop, tak
 use Rattle.std.proofs.lemmas.Slice.Eq.{bytes_eq-Decides}
 use Rattle.std.specs.Str.{bytes_eq}
 
--- the first n and what stands from k on, which overlap or meet
+-- the first n and those from k on, which overlap or meet
 same-pieces : (xs ys : List ℕ) (n k : ℕ) → k ≤ n
     → take n xs ≡ take n ys → drop k xs ≡ drop k ys
     → xs ≡ ys
@@ -21,7 +21,7 @@ bytes_eq-pieces xs ys n k le =
     ((λ t. let p = parts.0 t in same-pieces xs ys n k le p.0 p.1), (λ e. parts.1 (ap (take n) e, ap (drop k) e)))
     (bytes_eq-Decides xs ys)
 
--- sixteen bytes, and what stands behind them
+-- sixteen bytes, and those after them
 pub next_sixteen : (xs ys : List ℕ) (s : ℕ)
     → (bytes_eq (take 16 (drop s xs)) (take 16 (drop s ys)) && bytes_eq (drop (s + 16) xs) (drop (s + 16) ys))
     ≡ bytes_eq (drop s xs) (drop s ys)

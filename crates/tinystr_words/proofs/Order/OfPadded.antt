@@ -9,7 +9,7 @@ use Rattle.std.proofs.lemmas.List.Elements.{All-head, All-tail}
 use Rattle.tinystr_words.proofs.Texts.{NULS}
 use Rattle.tinystr_words.specs.Text.{IsText, IsTextByte, pad, text_of, IsPaddedText}
 
--- texts with NULs behind them, up to one length, are in the order of the texts
+-- texts followed by NULs, up to one length, are in the order of the texts
 cmp-padded : (t s : List ℕ) (k m : ℕ) → IsText t → IsText s → length t + k ≡ length s + m → slice_cmp nat_cmp (t ++ NULS k) (s ++ NULS m) ≡ slice_cmp nat_cmp t s
 cmp-padded [] [] k m a b e = let same : k ≡ m = omega arith in rw same (tied_itself nat_list_cmp_total (NULS m))
 cmp-padded [] (y ∷ s) zero m a b e = absurd (omega arith)

@@ -1,4 +1,4 @@
--- Bytes are a text and then NULs where each is below 128 and behind each NUL stands another.
+-- Bytes are a text and then NULs where each is below 128 and another NUL follows each NUL.
 use Rattle.std.proofs.Common.{Bool, List, [], ap, ap₂, arith, Fits, bit_and, bit_or, cond, eqb, false, inl, inr, map, not, get_or, length, nat_eq, nat_lt, refl, replicate, subst, sym, true, w8, zero, suc, ℕ, ◌&&◌, ◌||◌, ◌+◌, ◌++◌, ◌-◌, ◌<◌, ◌∙◌, ◌∷◌, ◌≡◌, ◌≤◌, ◌↔◌, ◌%◌, ◌^◌}
 use Rattle.std.proofs.Math.Facts.{Fits-lt-pow}
 use Rattle.std.proofs.lemmas.Bool.{cases_lt}
@@ -43,7 +43,7 @@ ArePaddedFrom-more bytes start before more = λ k _ inside. elim (cases_lt k sta
 pub IsPadded-whole : (bytes : List ℕ) (count : ℕ) → ArePaddedFrom bytes 0 count → length bytes ≤ count → IsPadded bytes
 IsPadded-whole bytes count all most = IsPadded-from_places bytes (λ k from inside. all k from (omega arith))
 
--- ---- sixteen of them in vectors, with the bytes behind them
+-- ---- sixteen of them in vectors, each with the byte after it
 
 abbrev is_fine : ℕ → ℕ → Bool
 is_fine x y = nat_lt x 128 && (not (nat_eq x 0) || nat_eq y 0)
@@ -108,7 +108,7 @@ sixteen_fine xs ys a e f =
     ∙ vectors_same (zip2 bit_or late high) (replicate 16 0) long (omega (arith, long))
     ∙ late_lanes xs ys 16 a e f
 
--- the bytes behind those of a vector, of which the last is in the vector that follows
+-- the bytes after those of a vector, of which the last is in the next vector
 pub HasLanes-next : (xs ys bytes : List ℕ) (start : ℕ) → HasLanes xs bytes start → HasLanes ys bytes (start + 16) → HasLanes (pick_l 0 (xs ++ ys) (range_with_len 1 16)) bytes (start + 1)
 HasLanes-next xs ys bytes start x y =
     let long : 1 + 16 ≤ length (xs ++ ys) = omega (arith, length-append xs ys, x.0, y.0) in
@@ -121,7 +121,7 @@ HasLanes-next xs ys bytes start x y =
 pub IsBytes-HasLanes : (xs bytes : List ℕ) (start : ℕ) → HasLanes xs bytes start → ((k : ℕ) → Fits w8 (get_or bytes k 0)) → IsBytes xs
 IsBytes-HasLanes xs bytes start x fits = Each1-from_get_or (λ b. b < 256) xs 0 (λ k inside. rw (x.1 k (omega (arith, x.0))) (Fits-lt-pow (fits (start + k))))
 
--- the test of sixteen bytes, and of the bytes behind them
+-- the test of sixteen bytes, each with the byte after it
 pub ArePaddedFrom-tested : (bytes xs ys : List ℕ) (start : ℕ) (passed : Bool) → HasLanes xs bytes start → HasLanes ys bytes (start + 1)
     → passed ≡ are_fine xs ys → (passed ≡ true) ↔ ArePaddedFrom bytes start 16
 ArePaddedFrom-tested bytes xs ys start passed x y is = (
@@ -131,14 +131,14 @@ ArePaddedFrom-tested bytes xs ys start passed x y is = (
       let next : start + 1 + j ≡ suc k = omega arith in
       let fine = are_fine-at xs ys j (x.0 ∙ sym y.0) (sym is ∙ t) (omega (arith, x.0)) in
       let given : get_or xs j 0 ≡ get_or bytes k 0 = x.1 j (omega arith) ∙ ap (λ i. get_or bytes i 0) here in
-      let behind : get_or ys j 0 ≡ get_or bytes (suc k) 0 = y.1 j (omega arith) ∙ ap (λ i. get_or bytes i 0) next in
-      (omega (arith, fine.0), λ nul. sym behind ∙ fine.1 (given ∙ nul)),
+      let after : get_or ys j 0 ≡ get_or bytes (suc k) 0 = y.1 j (omega arith) ∙ ap (λ i. get_or bytes i 0) next in
+      (omega (arith, fine.0), λ nul. sym after ∙ fine.1 (given ∙ nul)),
   λ h. is ∙ are_fine-from xs ys (x.0 ∙ sym y.0) (λ k less.
       let small : k < 16 = omega (arith, x.0) in
       let at = h (start + k) (omega arith) (omega arith) in
       let given = x.1 k small in
-      let behind : get_or ys k 0 ≡ get_or bytes (suc (start + k)) 0 = y.1 k small ∙ ap (λ i. get_or bytes i 0) (omega arith) in
-      (omega (arith, at.0), λ nul. behind ∙ at.1 (sym given ∙ nul))),
+      let after : get_or ys k 0 ≡ get_or bytes (suc (start + k)) 0 = y.1 k small ∙ ap (λ i. get_or bytes i 0) (omega arith) in
+      (omega (arith, at.0), λ nul. after ∙ at.1 (sym given ∙ nul))),
 )
 
 pub ruleset padding = (ArePaddedFrom-padded, ArePaddedFrom-more, IsPadded-whole)

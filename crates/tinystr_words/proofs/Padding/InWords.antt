@@ -33,7 +33,7 @@ mark b = bit_and (bit_and b 0x7f + 0x7f) 0x80
 abbrev pub marks_of : ℕ → ℕ → ℕ
 marks_of n w = bit_and (bit_and w (word_of_each n 0x7f) + word_of_each n 0x7f) (word_of_each n 0x80)
 
--- a word has no lane above 0x7f, and no mark stands after a lane without one
+-- a word has no lane above 0x7f, and no mark is after a lane without one
 abbrev pub is_padded_word : ℕ → ℕ → Bool
 is_padded_word n w = nat_eq (bit_or (bit_and w (word_of_each n 0x80)) (bit_and (marks_of n w / 256) (256 ^ n - 1 - marks_of n w))) (word_of_each n 0)
 
@@ -77,7 +77,7 @@ first_mark-is : (l : List ℕ) → word (map mark l) % 256 ≡ mark (get_or l 0 
 first_mark-is [] = refl
 first_mark-is (b ∷ l) = let k = mark-lt b in omega arith
 
--- of two marks, the one that stands after a lane without one
+-- of two marks, the one that is after a lane without one
 bit_and-marks : (p q : Bool) → bit_and (cond p 0 0x80) (255 - cond q 0 0x80) ≡ cond q (cond p 0 0x80) 0
 bit_and-marks true true = refl
 bit_and-marks true false = refl
@@ -87,7 +87,7 @@ bit_and-marks false false = refl
 abbrev late_marks : List ℕ → ℕ
 late_marks l = bit_and (word (map mark l) / 256) (256 ^ length l - 1 - word (map mark l))
 
--- the marks that stand after a lane without one, by the first lane and the others
+-- the marks that are after a lane without one, by the first lane and the others
 late_marks-cons : (b : ℕ) (l : List ℕ) → late_marks (b ∷ l) ≡ bit_and (word (map mark l) % 256) (255 - mark b) + 256 * late_marks l
 late_marks-cons b l =
     let n = length l in
@@ -100,7 +100,7 @@ late_marks-cons b l =
     let d : 255 - mark b < 256 = omega arith in
     rw (rest, others) (and_step (x / 256) (256 ^ n - 1 - x) (x % 256) (255 - mark b) m d)
 
--- no lane is above 0x7f, and no mark stands after a lane without one
+-- no lane is above 0x7f, and no mark is after a lane without one
 abbrev IsClean : List ℕ → Type 0
 IsClean l = (bit_and (word l) (fill (length l) 0x80) ≡ 0) × (late_marks l ≡ 0)
 
@@ -160,7 +160,7 @@ IsPadded-IsClean (b ∷ l) a =
 
 -- ---- the test
 
--- the test of a word of as many bytes
+-- the test of a word of that number of bytes
 is_padded_word-whole : (l : List ℕ) → IsBytes l → (is_padded_word (length l) (word l) ≡ true → IsPadded l) × (IsPadded l → is_padded_word (length l) (word l) ≡ true)
 is_padded_word-whole l a =
     let n = length l in

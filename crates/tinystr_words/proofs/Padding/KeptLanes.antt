@@ -1,4 +1,4 @@
--- The first lanes of a vector, and NULs behind them.
+-- The first lanes of a vector, and then NULs.
 use Rattle.std.proofs.Common.{◌≡◌, ◌+◌, ◌-◌, ◌<◌, ◌≤◌, ℕ, true, false, Bool, List, length, take, drop, get_or, cond, bit_and, nat_eq, nat_lt, ap, sym, ◌∙◌, w8, arith, refl}
 use mir.Val.{Fits}
 use lib.Lanes.{Each1}
@@ -33,7 +33,7 @@ byte_kept : (r : ℕ) → r < 256 → (kept : Bool) → bit_and r (cond kept 255
 byte_kept r small true = let e = below_at (λ r. nat_eq (bit_and r 255) r) 256 refl r small in grind (arith, nat_tests)
 byte_kept r small false = let e = below_at (λ r. nat_eq (bit_and r 0) 0) 256 refl r small in grind (arith, nat_tests)
 
--- a lane up to a place, and 0 behind it
+-- a lane before a place, and 0 from it on
 kept_at : (lanes : List ℕ) (n count i : ℕ) → count ≤ 16 → cond (nat_lt (16 - count + i) 16) (get_or lanes i 0) 0 ≡ get_or (pad (take count lanes) n) i 0
 kept_at lanes n count i few = rw get_or-pad (grind (arith, nat_tests, places))
 

@@ -14,7 +14,7 @@ pad-full t n long = same_lists _ _ (search (rules, places)) (λ k d h. grind (ar
 -- one more piece
 pub copied_more : (old src bytes piece : List ℕ) (at k next : ℕ) → bytes ≡ take at src ++ drop at old → next ≡ at + k → next ≤ length src → next ≤ length old
     → piece ≡ take k (drop at src) → put_mid at k bytes piece ≡ take next src ++ drop next old
-copied_more old src bytes piece at k next e step room fits is =
+copied_more old src bytes piece at k next e step inside fits is =
     rw (e, is) (same_lists _ _ (search (rules, places)) (λ i d h. grind (arith, places)))
 
 -- what both have is all of one
@@ -58,7 +58,7 @@ pub IsPaddedText-pad_take : (bytes t : List ℕ) (n : ℕ) → bytes ≡ pad (ta
 IsPaddedText-pad_take bytes t n made h =
     IsPaddedText-places bytes t n (rw made (search (rules, places))) h (λ k below. rw (made, get_or-pad) (grind (arith, places)))
 
--- k bytes of x, which are all of it or fill r, put behind the text of r
+-- k bytes of x, which are all of it or fill r, appended to the text of r
 pub IsPadded-appended : (r x y : List ℕ) (at k : ℕ) → IsPadded r → at ≡ length (text_of r) → IsPadded x
     → y ≡ take k x → k ≤ length x → at + k ≤ length r → (k ≡ length x) ⊎ (k ≡ length r - at)
     → IsPadded (put_mid at k r y) × (text_of (put_mid at k r y) ≡ take (length r) (text_of r ++ text_of x))
@@ -74,17 +74,17 @@ IsPadded-nuls n =
     let made = IsPaddedText-places (NULS n) [] (length (NULS n)) refl (All-nil IsTextByte) (λ k below. get_or-nuls n k) in
     (made.0, made.1 ∙ take-nil (length (NULS n)))
 
--- so many of the eight from a place on
+-- k of the eight from a place on
 pub piece-of_eight : {X : Type 0} (f : X → ℕ) (xs : List X) (eight piece : List ℕ) (at all skip k from count : ℕ) → all ≡ 8 → eight ≡ map f (take all (drop at xs))
     → piece ≡ take k (drop skip eight) → skip + k ≤ 8 → at + skip ≡ from → k ≡ count → piece ≡ take count (drop from (map f xs))
 piece-of_eight f xs eight piece at all skip k from count is_all made is fits there same =
     let src = map f xs in
     let whole : eight ≡ take 8 (drop at src) = rw is_all at made ∙ sym (take-map f 8 (drop at xs)) ∙ ap (take 8) (sym (drop-map f at xs)) in
-    let behind : drop skip (take 8 (drop at src)) ≡ take (8 - skip) (drop skip (drop at src)) =
+    let after : drop skip (take 8 (drop at src)) ≡ take (8 - skip) (drop skip (drop at src)) =
     (rw (let all : skip + (8 - skip) ≡ 8 = omega arith in all) at (drop-take skip (8 - skip) (drop at src))) in
-    is ∙ ap (λ l. take k (drop skip l)) whole ∙ ap (take k) behind ∙ take-take k (8 - skip) (drop skip (drop at src)) (omega arith)
+    is ∙ ap (λ l. take k (drop skip l)) whole ∙ ap (take k) after ∙ take-take k (8 - skip) (drop skip (drop at src)) (omega arith)
     ∙ ap (take k) (drop-drop skip at src) ∙ rw (there, same) refl
 
 -- all of a list copied onto one as long
 pub copied_whole : (old src bytes : List ℕ) (n : ℕ) → n ≡ length src → length old ≡ n → bytes ≡ take n src ++ drop n old → bytes ≡ src
-copied_whole old src bytes n all room e = rw e (same_lists _ _ (search (rules, places)) (λ k d h. grind (arith, places)))
+copied_whole old src bytes n all long e = rw e (same_lists _ _ (search (rules, places)) (λ k d h. grind (arith, places)))

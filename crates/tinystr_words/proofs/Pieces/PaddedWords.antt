@@ -92,7 +92,7 @@ in_case-last_word all bytes word made t start k count c fits size count_is small
     let size_now = length-in_case c rest in
     rw made_now (same_lists _ _ (search (rules, places)) (λ i d h. grind (arith, places)) ∙ left)
 
--- what is left after one more word is padded
+-- the rest after one more word is padded
 pub IsPadded-after_word : (bytes made : List ℕ) (start k : ℕ) → start + 16 ≤ length bytes → k ≡ 16 → length made ≡ k
     → IsPadded (drop start bytes)
     → IsPadded (drop (start + 16) (put_mid start k bytes made))

@@ -64,7 +64,7 @@ IsPaddedText-full number bytes units n len text made =
 pub IsReadPiece-more : (old bytes units : List ℕ) (r i j x : ℕ) (all char : Bool) → length units ≤ length bytes → j < length units → IsReadPiece all old bytes units r i j
     → (IsTrue char ↔ IsTextByte (get_or units j 0)) → x ≡ lossy_byte r (get_or units j 0)
     → IsReadPiece (all && char) old (set bytes j x) units r i (j + 1)
-IsReadPiece-more old bytes units r i j x all char room inside h is copy =
+IsReadPiece-more old bytes units r i j x all char fits inside h is copy =
     let here : get_or (map (lossy_byte r) units) j 0 ≡ x = get_or-map (lossy_byte r) units j 0 0 inside ∙ sym copy in
     record {
       tested = Tested-more units i j all char inside h.tested is;

@@ -15,7 +15,7 @@ use Rattle.tinystr_words.proofs.Words.Numbers.{pow_256}
 
 -- ---- a word, by its halves
 
--- the front of a word, and behind it the back
+-- the front of a word, and after it the back
 pub word_split : (n : ℕ) (l : List ℕ) → n ≤ length l → word l ≡ word (take n l) + 256 ^ n * word (drop n l)
 word_split zero l h = omega arith
 word_split (suc n) [] h = absurd (omega arith)
@@ -74,7 +74,7 @@ map-mod_bytes l f = rw (map-id l) at (map-mod_small (λ u. u) l (rw (map-id l) (
 pub map-mod_text : {X : Type 0} (f : X → ℕ) (l : List X) → IsText (map f l) → map (λ u. f u % 256) l ≡ map f l
 map-mod_text f l h = map-mod_small f l (IsBytes-from_IsText (map f l) h)
 
--- the last n code units, without those that stand among the first n, follow these, as the code shifts them, and nothing
+-- the last n code units, without those that are among the first n, follow these, as the code shifts them, and nothing
 -- is lost
 pub word_from_halves : {X : Type 0} (f : X → ℕ) (n : ℕ) (l : List X) → n ≤ length l → length l ≤ n + n
     → (word (map (λ u. f u % 256) (take n l)) + 256 ^ n * (word (map (λ u. f u % 256) (take (length l - (length l - n)) (drop (length l - n) l))) / 2 ^ (8 * (n + n - length l))) ≡ word (map (λ u. f u % 256) l))

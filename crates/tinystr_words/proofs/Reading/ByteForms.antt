@@ -50,7 +50,7 @@ is_faulty-byte_fault_at n input i none = grind (arith, nat_tests)
 
 -- ---- the fault that a pass finds
 
--- no position that a pass has left behind has a fault
+-- no position that a pass has tested has a fault
 byte_fault_at-scanned : (n : ℕ) (input : List ℕ) (i : ℕ) (seen : Bool) → IsScanned input i seen → i ≤ length input → (k : ℕ) → k < i → byte_fault_at n input k ≡ None
 byte_fault_at-scanned n input i seen h inside k below = byte_fault_at-none n input k (omega arith) (h.clean k below)
 
@@ -104,7 +104,7 @@ byte_fault-first_padded n input enough padded =
     byte_fault_at-none n input k (omega arith)
     (sym (is_faulty-take n input k below) ∙ is_faulty-none (take n input) (first_fault-padded (take n input) n padded) k (omega arith)))
 
--- nor has a text that is padded to n bytes, whatever stands behind it
+-- nor has a text that is padded to n bytes, whatever follows it
 pub byte_fault-padded : (t rest : List ℕ) (n : ℕ) → IsStrictText t n → byte_fault n (pad t n ++ rest) ≡ None
 byte_fault-padded t rest n h =
     let long = length-pad t n h.fits in

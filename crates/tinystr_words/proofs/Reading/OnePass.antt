@@ -15,7 +15,7 @@ use Rattle.tinystr_words.specs.Text.{IsTextByte, IsPaddedText, text_of}
 use Rattle.tinystr_words.specs.Reading.{is_after_nul, is_faulty, first_faulty, first_fault, fault_in}
 use Rattle.tinystr_words.specs.Reading.Fault.{too_long, contains_null, non_ascii}
 
--- no position before i is faulty, and `seen` tells whether a NUL stands there
+-- no position before i is faulty, and `seen` is whether a NUL is among them
 pub record IsScanned (units : List ℕ) (i : ℕ) (seen : Bool) : Type 0 where
   pub clean : (k : ℕ) → k < i → is_faulty units k ≡ false
   pub nul : seen ≡ is_after_nul units i
@@ -24,7 +24,7 @@ pub record IsScanned (units : List ℕ) (i : ℕ) (seen : Bool) : Type 0 where
 pub IsScanned-none : (units : List ℕ) → IsScanned units 0 false
 IsScanned-none units = record { clean = λ k h. absurd (omega arith); nul = refl }
 
--- a NUL stands before the next position exactly if one stands before this one or at it
+-- a NUL is before the next position exactly if one is before this one or at it
 is_after_nul-more : (units : List ℕ) (i : ℕ) → i < length units → is_after_nul units (i + 1) ≡ (is_after_nul units i || (get_or units i 0 == 0))
 is_after_nul-more units i inside = list_any_more (λ u. u == 0) units i 0 inside
 
@@ -124,7 +124,7 @@ fault_in-fits n units fits = let within : nat_lt n (length units) ≡ false = gr
 is_faulty-low : (units : List ℕ) (i : ℕ) → is_faulty units i ≡ false → get_or units i 0 < 128
 is_faulty-low units i clean = grind (arith, nat_tests)
 
--- a code unit that isn't faulty and stands after a NUL is a NUL
+-- a code unit that isn't faulty and is after a NUL is a NUL
 is_faulty-after_nul : (units : List ℕ) (i j : ℕ) → is_faulty units i ≡ false → j < i → i < length units → get_or units j 0 ≡ 0 → get_or units i 0 ≡ 0
 is_faulty-after_nul units i j clean before inside nul =
     let long = length-take-le i units (omega arith) in

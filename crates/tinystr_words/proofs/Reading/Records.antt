@@ -76,7 +76,7 @@ IsPacked-from_records bytes n (suc k) long good =
 
 -- ---- one pass over a list of records, several at a time
 
--- in a list of records the first i are padded texts, and `rest` are those behind them
+-- in a list of records the first i are padded texts, and `rest` are those after them
 pub record IsChecked (records : List (List ℕ)) (n i : ℕ) (rest : List (List ℕ)) : Type 0 where
   pub left : rest ≡ drop i records
   pub seen : i + length rest ≡ length records
@@ -88,16 +88,16 @@ IsChecked-none records n = record { left = refl; seen = omega arith; good = λ k
 
 -- or the first i are known
 pub IsChecked-some : (records rest : List (List ℕ)) (n i : ℕ) → i ≤ length records → rest ≡ drop i records → AllPadded n (take i records) → IsChecked records n i rest
-IsChecked-some records rest n i inside behind padded = record { left = behind; seen = rw behind (omega (arith, length-drop i records)); good = padded }
+IsChecked-some records rest n i inside after padded = record { left = after; seen = rw after (omega (arith, length-drop i records)); good = padded }
 
 -- the next records are padded texts
 pub IsChecked-block : (records rest block more : List (List ℕ)) (n i m : ℕ) → IsChecked records n i rest → block ≡ take m rest → more ≡ drop m rest → length block ≡ m
     → AllPadded n block → IsChecked records n (i + length block) more
-IsChecked-block records rest block more n i m h first behind count padded =
+IsChecked-block records rest block more n i m h first after count padded =
     let long : length block ≤ length rest = omega (arith, ap (λ (l : List (List ℕ)). length l) first, length-take m rest) in
     record {
-      left = rw (count, behind, h.left) (drop-drop m i records);
-      seen = rw behind (omega (arith, h.seen, length-drop m rest));
+      left = rw (count, after, h.left) (drop-drop m i records);
+      seen = rw after (omega (arith, h.seen, length-drop m rest));
       good = rw (count, take-add i m records, ← h.left, ← first) (All-append (λ (raw : List ℕ). IsPaddedText raw n) (take i records) block h.good padded);
     }
 
@@ -140,7 +140,7 @@ IsFirstUnpadded-some records n i h padded = h.bad (padded i [] h.inside)
 
 -- ---- the records of bytes, as a list
 
--- so many chunks
+-- the number of chunks
 pub length-first_chunks : (m k : ℕ) (xs : List ℕ) → length (first_chunks m k xs) ≡ k
 length-first_chunks m zero xs = refl
 length-first_chunks m (suc k) xs = ap suc (length-first_chunks m k (drop m xs))

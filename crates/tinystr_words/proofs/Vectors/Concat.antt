@@ -39,9 +39,9 @@ pub sixteen_from-HasLanes : (xs t : List ℕ) (at : ℕ) → HasLanes xs t at �
 sixteen_from-HasLanes xs t at x =
     same_number_lists xs (sixteen_from t at) (x.0 ∙ sym (length-piece t 16 at)) (λ i inside. let small : i < 16 = omega (arith, x.0) in x.1 i small ∙ sym (get_or-piece t 16 at i small))
 
--- ---- lanes moved by a table
+-- ---- lanes shifted by a table
 
--- 128, or the lane behind 48 others
+-- 128, or the lane after 48 others
 TAKEN_LANES-at : (k : ℕ) → k < 112 → get_or TAKEN_LANES k 0 ≡ cond (nat_le 48 k && nat_lt k 64) (k - 48) 128
 TAKEN_LANES-at k inside = let e = below_at (λ k. nat_eq (get_or TAKEN_LANES k 0) (cond (nat_le 48 k && nat_lt k 64) (k - 48) 128)) 112 refl k inside in grind (arith, nat_tests)
 
@@ -91,16 +91,16 @@ swz_l-lanes_of_table xs start long inside =
 bit_or-append : (a b : List ℕ) (e p : ℕ) → (0 < length b → e ≡ length a) → bit_or (get_or a p 0) (get_or (NULS e ++ b) p 0) ≡ get_or (a ++ b) p 0
 bit_or-append a b e p end = grind (arith, places, get_or-nuls, or_zero_l, or_zero_r, end)
 
--- moved to where the other text ends
+-- shifted to where the other text ends
 pub HasLanes-or : (xs ys l a b : List ℕ) (e at start : ℕ) → (0 < length b → e ≡ length a) → start + e ≡ 48 + at → ys ≡ sixteen_from (NULS 48 ++ l) start
     → ((k : ℕ) → get_or l k 0 ≡ get_or b k 0) → HasLanes xs a at → HasLanes (zip2 bit_or xs ys) (a ++ b) at
 HasLanes-or xs ys l a b e at start end is made same x =
     let y = HasLanes-sixteen_from ys (NULS 48 ++ l) start made in (
       length-zip2 bit_or xs ys (x.0 ∙ sym y.0) ∙ x.0,
       λ i small.
-          let moved : get_or ys i 0 ≡ get_or (NULS e ++ b) (at + i) 0 =
+          let shifted : get_or ys i 0 ≡ get_or (NULS e ++ b) (at + i) 0 =
           y.1 i small ∙ grind (arith, get_or-nuls_left 48 l (start + i), get_or-nuls_right 48 l (start + i), get_or-nuls_left e b (at + i), get_or-nuls_right e b (at + i), same (start + i - 48)) in
-          get_or-zip2 bit_or xs ys i 0 0 0 (omega (arith, x.0)) (omega (arith, y.0)) ∙ rw (x.1 i small, moved) (bit_or-append a b e (at + i) end),
+          get_or-zip2 bit_or xs ys i 0 0 0 (omega (arith, x.0)) (omega (arith, y.0)) ∙ rw (x.1 i small, shifted) (bit_or-append a b e (at + i) end),
     )
 
 -- where no byte of the other text is
@@ -111,7 +111,7 @@ HasLanes-same xs a b e at end x out = (x.0, λ i small. grind (arith, places, x.
 pub get_or-first_sixteen : (l b : List ℕ) → l ≡ sixteen_from b 0 → (k : ℕ) → get_or l k 0 ≡ get_or (take 16 b) k 0
 get_or-first_sixteen l b made k = rw made (get_or-pad (take 16 b) 16 k)
 
--- and those behind them
+-- and those after them
 pub get_or-last_sixteen : (l b : List ℕ) → l ≡ sixteen_from b 16 → length b ≤ 32 → (k : ℕ) → get_or l k 0 ≡ get_or (drop 16 b) k 0
 get_or-last_sixteen l b made fits k = rw made (get_or-pad (take 16 (drop 16 b)) 16 k ∙ rw (take_all 16 (drop 16 b) (omega (arith, length-drop 16 b))) refl)
 
@@ -126,12 +126,12 @@ sixteen_from-loaded l x start count at p is many made =
 
 -- one more piece of t, which fills its array
 pub take-sixteen_from : (lanes piece t : List ℕ) (n at k : ℕ) → at + k ≤ n → k ≤ 16 → lanes ≡ sixteen_from t at → piece ≡ take k lanes → piece ≡ take k (drop at (pad (take n t) n))
-take-sixteen_from lanes piece t n at k room few made is =
+take-sixteen_from lanes piece t n at k inside few made is =
     let x = HasLanes-sixteen_from lanes t at made in
     let size : length (take k lanes) ≡ k = length-take-le k lanes (omega (arith, x.0)) in
-    rw is (same_number_lists _ _ (search (rules, places)) (λ i inside.
+    rw is (same_number_lists _ _ (search (rules, places)) (λ i within.
     let below : i < k = omega (arith, size) in
-    let room_at : at + i < n = omega arith in
+    let in_array : at + i < n = omega arith in
     rw (get_or-take, get_or-take, get_or-drop, get_or-pad, get_or-take) (x.1 i (omega arith))))
 
 -- all pieces

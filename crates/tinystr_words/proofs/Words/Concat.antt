@@ -16,7 +16,7 @@ use Rattle.tinystr_words.proofs.Words.Lanes.{IsBytes, IsBytes-from_IsText, word-
 use Rattle.tinystr_words.proofs.Pieces.Word.{word_split}
 use Rattle.tinystr_words.proofs.Words.Texts.{HoldsText-word}
 
--- the word of two lists joined: that of the second stands above that of the first
+-- the word of two lists joined: that of the second is above that of the first
 word-append : (t s : List ℕ) → word (t ++ s) ≡ word t + 256 ^ length t * word s
 word-append t s =
     rw (take-append_seam t s, drop-append_seam t s) at (word_split (length t) (t ++ s) (omega (arith, length-append t s)))
@@ -34,9 +34,9 @@ word-mod s n h =
       | inr all ↦ rw (take_all n s all) (mod-eq_of_lt (rw (take_all n s all) at front))
     ]
 
--- the second text stands behind the first, and what has no room is lost
-word-behind : (s : List ℕ) (len n : ℕ) → IsBytes s → len ≤ n → word s * 256 ^ len % 256 ^ n ≡ 256 ^ len * word (take (n - len) s)
-word-behind s len n h le =
+-- the second text follows the first, and what doesn't fit is lost
+word-after : (s : List ℕ) (len n : ℕ) → IsBytes s → len ≤ n → word s * 256 ^ len % 256 ^ n ≡ 256 ^ len * word (take (n - len) s)
+word-after s len n h le =
     let k : 256 ^ n ≡ 256 ^ (n - len) * 256 ^ len = ap (λ m. 256 ^ m) (omega arith) ∙ pow-add 256 (n - len) len in
     let one = pow_256-pos len in
     let up : word s * 256 ^ len / 256 ^ len ≡ word s = ap (λ m. m / 256 ^ len) (omega arith) ∙ div-mul-add (word s) (256 ^ len) 0 one in
@@ -55,7 +55,7 @@ HoldsText-concat {n} {w} {v} p q len is =
     let cut : both ≡ t ++ take (n - len) s = take-joined t s n ∙ ap₂ (λ (l m : List ℕ). l ++ m) (take_all n t p.fits) (ap (λ m. take (n - m) s) (sym is)) in
     let sum : w + v * 256 ^ len % 256 ^ n ≡ word both =
     ap₂ (λ (x y : ℕ). x + y * 256 ^ len % 256 ^ n) (p.padded ∙ word-nuls t (n - length t)) (q.padded ∙ word-nuls s (n - length s))
-    ∙ ap (λ m. word t + m) (word-behind s len n (IsBytes-from_IsText s q.text) (omega (arith, is, p.fits)))
+    ∙ ap (λ m. word t + m) (word-after s len n (IsBytes-from_IsText s q.text) (omega (arith, is, p.fits)))
     ∙ sym (ap word cut ∙ word-append t (take (n - len) s) ∙ ap (λ m. word t + 256 ^ m * word (take (n - len) s)) (sym is)) in
     let holds = HoldsText-word n both text fits in
     rw sum (word-lt_pow both n (IsBytes-from_IsText both text) fits, holds.0, holds.1)

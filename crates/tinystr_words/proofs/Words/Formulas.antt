@@ -171,7 +171,7 @@ on-text_in {n} {w} h f s =
     let l = pad (text_in n w) n in
     ap (on f n) h.padded ∙ ap (λ m. on f m (word l)) (sym (length-pad (text_in n w) n h.fits)) ∙ lanewise f l (Ascii-padded (text_in n w) (n - length (text_in n w)) h.text) s
 
--- two formulas that ask for classes are equal on such a word exactly if its text is in them
+-- two formulas that test for classes are equal on such a word exactly if its text is in them
 pub nat_eq-on : {n w : ℕ} → HoldsText n w → (f g : Formula) (first others : ℕ → Bool) → Asks f g first others → nat_eq (on f n w) (on g n w) ≡ ask first others (text_in n w)
 nat_eq-on {n} {w} h f g first others a =
     let t = text_in n w in

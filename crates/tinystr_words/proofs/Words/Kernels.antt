@@ -61,7 +61,7 @@ and-high_bit z h = same_from_nat_eq _ _ (below_at is_high_bit_alone 256 refl z h
 abbrev outside_of : Range → ℕ → ℕ
 outside_of r b = bit_or (255 - (b + r.low)) (b + r.high)
 
--- two sums tell whether a byte is in a range
+-- two sums show whether a byte is in a range
 pub is_in-sums : (r : Range) (b : ℕ) → (nat_le 0x80 (b + r.low) && nat_lt (b + r.high) 0x80) ≡ is_in r b
 is_in-sums r b = let bounds = r.no_carry in grind (arith, nat_tests)
 
@@ -90,7 +90,7 @@ nat_eq-outside_but_nuls r b h =
 abbrev inside_of : Range → ℕ → ℕ
 inside_of r b = bit_xor (b + r.low) (b + r.high)
 
--- two bits tell whether the sum of the one that stands for both and a number below is below them
+-- two bits show whether the sum of the one that represents both and a number below is below them
 nat_lt-bits : (p q : Bool) (m : ℕ) → m < 128 → nat_lt (bit_xor (cond p 0 1) (cond q 0 1) * 128 + m) 0x80 ≡ beq p q
 nat_lt-bits true true m h = grind (arith, nat_tests)
 nat_lt-bits true false m h = grind (arith, nat_tests)
@@ -130,7 +130,7 @@ nat_eq-inside r b h =
 is_safe-marks : (r : Range) (b : ℕ) → b < 128 → (is_safe (outside_but_nuls r r) true b ≡ true) × (is_safe (inside r r) true b ≡ true)
 is_safe-marks r b h = let bounds = r.no_carry in (grind (arith, nat_tests, widths), grind (arith, nat_tests, widths))
 
--- these ask each byte to be in its range
+-- these test whether each byte is in its range
 pub Asks-outside_but_nuls : (first others : Range) → Asks (outside_but_nuls first others) (splat 0) (is_in first) (is_in others)
 Asks-outside_but_nuls first others true b h = ((is_safe-marks first b h).0, (refl, nat_eq-outside_but_nuls first b h))
 Asks-outside_but_nuls first others false b h = ((is_safe-marks others b h).0, (refl, nat_eq-outside_but_nuls others b h))
@@ -140,7 +140,7 @@ pub Asks-inside : (first others : Range) → Asks (inside first others) (splat 0
 Asks-inside first others true b h = ((is_safe-marks first b h).1, (refl, nat_eq-inside first b h))
 Asks-inside first others false b h = ((is_safe-marks others b h).1, (refl, nat_eq-inside others b h))
 
--- these ask for letters, as computing finds at each byte
+-- these test for letters, as computing finds at each byte
 pub Asks-not_letters : Asks not_letters (splat 0) is_alphabetic is_alphabetic
 unfolding everywhere
 Asks-not_letters = Asks-from_everywhere not_letters (splat 0) is_alphabetic is_alphabetic refl

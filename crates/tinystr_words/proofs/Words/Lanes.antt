@@ -68,7 +68,7 @@ pub record Bytewise : Type 0 where
   pub zeros : op 0 0 ≡ 0
   pub step : (a b r s : ℕ) → r < 256 → s < 256 → op (r + 256 * a) (s + 256 * b) ≡ op r s + 256 * op a b
 
--- done on a low byte and on what stands above it, it is done on each byte
+-- done on a low byte and on the bytes above it, it is done on each byte
 pub step_from_block : (op : ℕ → ℕ → ℕ) → ((a b r s : ℕ) → r < 256 → s < 256 → op (a * 256 + r) (b * 256 + s) ≡ op a b * 256 + op r s)
     → (a b r s : ℕ) → r < 256 → s < 256 → op (r + 256 * a) (s + 256 * b) ≡ op r s + 256 * op a b
 step_from_block op block a b r s p q =
@@ -108,7 +108,7 @@ lanes F i (b ∷ l) = F i b ∷ lanes F false l
 abbrev pub Bytes : (Bool → ℕ → ℕ) → Type 0
 Bytes F = (i : Bool) (b : ℕ) → b < 128 → F i b < 256
 
--- as many lanes as before
+-- the same number of lanes
 pub length-lanes : (F : Bool → ℕ → ℕ) (i : Bool) (l : List ℕ) → length (lanes F i l) ≡ length l
 length-lanes F i [] = refl
 length-lanes F i (b ∷ l) = ap suc (length-lanes F false l)
@@ -134,7 +134,7 @@ word_not F p i (b ∷ l) a =
     let s = rw (length-lanes F false l) at (word-lt (lanes F false l) (Each1-lanes 256 F p false l a.1)) in
     let k = p i b a.0 in omega (arith, pow-suc 256 (length l), word_not F p false l a.1)
 
--- a quarter of a word whose lanes leave no bit behind is that of each lane
+-- a quarter of a word whose lanes lose no bit is that of each lane
 pub word_quarter : (F : Bool → ℕ → ℕ) → ((i : Bool) (b : ℕ) → b < 128 → F i b % 4 ≡ 0) → (i : Bool) (l : List ℕ) → Ascii l → word (lanes F i l) ≡ 4 * word (lanes (λ i b. F i b / 4) i l)
 word_quarter F p i [] a = refl
 word_quarter F p i (b ∷ l) a = let h = word_quarter F p false l a.1 in let k = p i b a.0 in omega arith

@@ -1,4 +1,4 @@
--- The laws of words: the lanes of a sum, what two sums tell of a lane, and the size of a word.
+-- The laws of words: the lanes of a sum, what two sums show of a lane, and the size of a word.
 use Rattle.std.proofs.Common.{ℕ, zero, suc, ◌+◌, ◌-◌, ◌/◌, ◌%◌, ◌^◌, ◌<◌, ◌≤◌, ◌≡◌, ◌↔◌, List, [], ◌∷◌, length, get_or, map, sym, ap, ◌∙◌, arith, lit<}
 use Rattle.std.proofs.Math.Nat.{mod-eq_of_lt}
 use Rattle.std.proofs.lemmas.List.{length-map, get_or-map}
@@ -57,11 +57,11 @@ length-le_from_word : (t : List ℕ) → IsText t → (k : ℕ) → word t < 256
 length-le_from_word [] x k h = omega arith
 length-le_from_word (b ∷ t) x k h = exponent-lt 256 (length t) k (lit< tt) (omega (arith, (word_bounds b t x).0))
 
--- the size of a word tells the length of its text
+-- the size of a word gives the length of its text
 pub word_length_is : (w : ℕ) (t : List ℕ) → IsText t → length t ≤ w → (word (pad t w) < 256 ^ length t) × ((k : ℕ) → word (pad t w) < 256 ^ k → length t ≤ k)
 word_length_is w t x le = rw (word-nuls t (w - length t)) (word-lt t (IsBytes-from_IsText t x), length-le_from_word t x)
 
--- two sums tell whether a lane is in its range
+-- two sums show whether a lane is in its range
 pub lane_class_is : (a low high : List ℕ) → length low ≡ length a → length high ≡ length a → All IsLow a
     → ((i : ℕ) → i < length a → (1 ≤ get_or low i 0) × (get_or low i 0 ≤ get_or high i 0) × (get_or high i 0 ≤ 0x7f))
     → (i : ℕ) → i < length a
@@ -73,5 +73,5 @@ lane_class_is a low high m n p bounds i h =
     let f = (lane_sum_is a (map (λ b. 0x7f - b) high) (omega (arith, length-map high (λ b. 0x7f - b))) p q_low).1 i h in
     let b = bounds i h in
     let range : Range = record { low = 0x80 - get_or low i 0; high = 0x7f - get_or high i 0; no_carry = (omega arith, omega arith); not_empty = omega arith } in
-    let tells = is_in-sums range (get_or a i 0) in
+    let by_sums = is_in-sums range (get_or a i 0) in
     rw (e, f, get_or-map (λ b. 0x80 - b) low i 0 0 (omega arith), get_or-map (λ b. 0x7f - b) high i 0 0 (omega arith)) (λ r. (grind (arith, nat_tests), grind (arith, nat_tests)), λ r. (grind (arith, nat_tests), grind (arith, nat_tests)))

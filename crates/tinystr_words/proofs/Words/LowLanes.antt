@@ -1,4 +1,4 @@
--- Words whose lanes are all below 0x80: what makes them, and the room that they leave.
+-- Words whose lanes are all below 0x80: what makes them, and how large they are.
 use Rattle.std.proofs.Common.{ℕ, zero, suc, ◌+◌, ◌*◌, ◌/◌, ◌%◌, ◌^◌, ◌<◌, ◌≤◌, ◌≡◌, List, [], ◌∷◌, replicate, ap, ◌∙◌, arith, bit_and, bit_or}
 use Rattle.std.proofs.Math.Nat.{pow-suc}
 use Rattle.std.proofs.lemmas.Nat.{and_shr, and_mod, and_le_r, or_shr, or_mod, or_lt}
@@ -18,11 +18,11 @@ low_word (b ∷ l) a (suc i) =
     rw (div-pow_256 (b + 256 * word l) i, e) (low_word l a.1 i)
 
 -- what the lowest lanes of such a word leave
-pub low_room : (n w : ℕ) → HasLowLanes w → w % 256 ^ n ≤ word (replicate n 0x7f)
-low_room zero w h = omega arith
-low_room (suc n) w h =
+pub low_bound : (n w : ℕ) → HasLowLanes w → w % 256 ^ n ≤ word (replicate n 0x7f)
+low_bound zero w h = omega arith
+low_bound (suc n) w h =
     let first = h 0 in
-    omega (arith, mod-pow_256 n w, low_room n (w / 256) (λ i. rw (div-pow_256 w i) at (h (suc i))))
+    omega (arith, mod-pow_256 n w, low_bound n (w / 256) (λ i. rw (div-pow_256 w i) at (h (suc i))))
 
 -- two such lanes leave no carry, so nor do two such words
 pub low_sum : (n w v : ℕ) → HasLowLanes w → HasLowLanes v → w % 256 ^ n + v % 256 ^ n < 256 ^ n

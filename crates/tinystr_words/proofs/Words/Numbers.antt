@@ -1,4 +1,4 @@
--- A word is a number: its bytes are the remainders, padding adds nothing, and its size tells how many bytes it has.
+-- A word is a number: its bytes are the remainders, padding adds nothing, and its size gives the number of its bytes.
 use Rattle.std.proofs.Common.{ℕ, zero, suc, ◌+◌, ◌-◌, ◌*◌, ◌/◌, ◌%◌, ◌^◌, ◌<◌, ◌≤◌, ◌≡◌, List, [], ◌∷◌, ◌++◌, length, refl, sym, ap, ap₂, ◌∙◌, subst, arith, lit<, ⊎_elim}
 use Rattle.std.proofs.Math.Nat.{one-le-pow, mul_comm, pow-suc, div-div-eq-div-mul, pow-le-pow_right}
 use Rattle.std.proofs.Math.Arith.{mod-mul}
@@ -92,9 +92,9 @@ lanes_of-word_pad n t x le =
     subst (λ m. lanes_of m (word (pad t n)) ≡ pad t n) (length-pad t n le)
     (lanes_of-word (pad t n) (IsBytes-from_Ascii (pad t n) (Ascii-padded t (n - length t) x)))
 
--- ---- padding, and the room that it leaves
+-- ---- padding, and the size of a text's word
 
--- NULs behind a text add nothing
+-- NULs after a text add nothing
 pub word-nuls : (t : List ℕ) (k : ℕ) → word (t ++ NULS k) ≡ word t
 word-nuls [] zero = refl
 word-nuls [] (suc k) = let e : word (NULS k) ≡ 0 = word-nuls [] k in omega arith

@@ -18,7 +18,7 @@ use Rattle.tinystr_words.proofs.Words.Lanes.{lanes}
 use Rattle.tinystr_words.proofs.Words.Formulas.{on, Ascii-padded, IsSafe-changes, on-text_in, lanes-change}
 use Rattle.tinystr_words.proofs.Words.Numbers.{lanes_of-word_pad, word-nuls, leading_zeros-word, leading_zeros-more}
 use Rattle.tinystr_words.proofs.Pieces.Word.{map-mod_bytes}
-use Rattle.tinystr_words.proofs.Words.LowLanes.{low_word, low_room}
+use Rattle.tinystr_words.proofs.Words.LowLanes.{low_word, low_bound}
 use Rattle.tinystr_words.proofs.Words.Kernels.{case_change, Changes-case_change}
 
 -- ---- a word from a padded text
@@ -51,7 +51,7 @@ length-text_in {n} {w} h =
 -- and by the place of the highest bit, above one more bit
 pub length-text_in-by_top : {w : ℕ} → HoldsText 8 w → w < 18446744073709551616 → (63 - count_leading_zeros 64 (2 * w + 1) + 7) / 8 ≡ length (text_in 8 w)
 length-text_in-by_top {w} h small =
-    omega (arith, length-text_in h, leading_zeros-more 63 w (omega (arith, low_room 8 w h.low)))
+    omega (arith, length-text_in h, leading_zeros-more 63 w (omega (arith, low_bound 8 w h.low)))
 
 -- the lanes are the padded text
 pub lanes-text_in : {n w : ℕ} → HoldsText n w → lanes_of n w ≡ pad (text_in n w) n
@@ -82,7 +82,7 @@ nuls-text_in {w} h lanes is =
     ap (λ m. m + 2 ^ length t) (bitmask_splat w8 eqb lanes 16 0 long (omega arith) ∙ ap (λ (l : List ℕ). mask_l (map (λ b. eqb b 0) l)) (is ∙ lanes-text_in h))
     ∙ mask_nuls-padded t (16 - length t) 16 h.text (omega arith)
 
--- and the zeros above it tell the length
+-- and the zeros above it give the length
 pub leading_zeros-nuls : {w : ℕ} → HoldsText 16 w → (lanes : List ℕ) → lanes ≡ lanes_of 16 w → 63 - length (text_in 16 w) ≡ count_leading_zeros 64 (65536 - nuls lanes)
 leading_zeros-nuls {w} h lanes is =
     let k = length (text_in 16 w) in

@@ -22,7 +22,7 @@ pub record IsFirstWord (bytes word others : List ℕ) : Type 0 where
 abbrev pub sixteen_from : List ℕ → ℕ → List ℕ
 sixteen_from bytes at = pad (take 16 (drop at bytes)) 16
 
--- so many bytes from `start` on are below 128, and behind each NUL among them stands another
+-- `count` bytes from `start` on are below 128, and another NUL follows each NUL among them
 abbrev pub ArePaddedFrom : List ℕ → ℕ → ℕ → Type 0
 ArePaddedFrom bytes start count = (k : ℕ) → start ≤ k → k < start + count →
     (get_or bytes k 0 < 128) × (get_or bytes k 0 ≡ 0 → get_or bytes (suc k) 0 ≡ 0)

@@ -5,8 +5,8 @@ ghost use Rattle.tinystr_words.specs.Text.{pad};
 ghost use Rattle.tinystr_words.specs.Reading.{lossy, lossy_byte};
 ghost use Rattle.tinystr_words.specs.Private.ReadPieces.{IsReadPiece};
 
-use super::replacing::lossy_word;
-use crate::CodeUnit;
+use crate::code_unit::CodeUnit;
+use crate::padded::replacing::lossy_word;
 
 // The byte of a character, or the replacement.
 #[inline(always)]
@@ -21,7 +21,7 @@ fn byte_or<U: CodeUnit>(unit: U, replacement: u8) -> u8
 }
 
 // Reads `K` code units into the bytes at the same places, with the replacement for each that isn't a character, and
-// tells whether all are characters. There is no early exit, so that the compiler can take all code units at once.
+// returns whether all are characters. There is no early exit, so that the compiler can read all of them in one step.
 #[inline(always)]
 fn read_piece<U: CodeUnit, const K: usize>(
     bytes: &mut [u8],
@@ -75,23 +75,23 @@ fn read_many<U: CodeUnit>(bytes: &mut [u8], units: &[U], replacement: u8) -> boo
 }
 
 /// Reads all code units in the largest pieces that fit, writes the replacement for each that isn't a character, and
-/// tells whether all are characters.
+/// returns whether all are characters.
 #[inline(always)]
 pub fn read_all<U: CodeUnit>(bytes: &mut [u8], units: &[U], replacement: u8) -> bool
     requires room { length units.now ≤ length bytes.old }
     ensures read { IsReadPiece result bytes.old bytes.new (map U.number units.now) replacement 0 (length units.now) }
     ensures len { length bytes.new ≡ length bytes.old }
 {
-    // The room is known at compile time: no code is left of what it has no place for.
-    let room = bytes.len();
+    // The capacity is known at compile time, so no code is built for pieces that are longer.
+    let capacity = bytes.len();
     let len = units.len();
-    if room >= 32 && len >= 32 {
+    if capacity >= 32 && len >= 32 {
         read_many(bytes, units, replacement)
-    } else if room >= 16 && len >= 16 {
+    } else if capacity >= 16 && len >= 16 {
         read_pair::<U, 16>(bytes, units, replacement)
-    } else if room >= 8 && len >= 8 {
+    } else if capacity >= 8 && len >= 8 {
         read_pair::<U, 8>(bytes, units, replacement)
-    } else if room >= 4 && len >= 4 {
+    } else if capacity >= 4 && len >= 4 {
         read_pair::<U, 4>(bytes, units, replacement)
     } else if len >= 2 {
         read_pair::<U, 2>(bytes, units, replacement)

@@ -1,11 +1,11 @@
-//! Bytes copied into arrays, also behind a text. `put` and `append` copy the same bytes, and so do `resize` and
+//! Bytes copied into arrays, also after a text. `put` and `append` copy the same bytes, and so do `resize` and
 //! `resize_at_once`: the compiler makes different code of them.
 
 ghost use Rattle.std.specs.Prelude.{◌≡◌, ◌++◌, length, take, drop};
 ghost use Rattle.tinystr_words.specs.Text.{IsPadded, IsPaddedText, pad, text_of};
 
 /// Copies the bytes that both have, eight at a time: where their number is known at compile time they go through
-/// registers, and a copy of all at once would keep the value in memory.
+/// registers, and one copy of all would keep the value in memory.
 #[inline(always)]
 pub(crate) fn put(bytes: &mut [u8], src: &[u8])
     ensures { bytes.new ≡ take (length bytes.old) src.now ++ drop (length src.now) bytes.old }
@@ -56,10 +56,10 @@ pub(crate) fn append(bytes: &mut [u8], len: usize, padded: &[u8])
     ensures padded { IsPadded bytes.new }
     ensures text { text_of bytes.new ≡ take (length bytes.old) (text_of bytes.old ++ text_of padded.now) }
 {
-    let room = bytes.len() - len;
-    if padded.len() <= room {
+    let free = bytes.len() - len;
+    if padded.len() <= free {
         bytes[len..len + padded.len()].copy_from_slice(padded);
-    } else if room > 0 {
-        bytes[len..].copy_from_slice(&padded[..room]);
+    } else if free > 0 {
+        bytes[len..].copy_from_slice(&padded[..free]);
     }
 }

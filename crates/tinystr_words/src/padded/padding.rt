@@ -26,7 +26,7 @@ pub(crate) fn is_padded(bytes: &[u8]) -> bool
     are_sixteen_padded(bytes, start) & are_sixteen_padded(bytes, start + 16)
 }
 
-// Whether sixteen bytes are below 128, and behind each NUL among them stands another. Bytes past the last are NULs.
+// Whether sixteen bytes are below 128, and another NUL follows each NUL among them. Bytes past the last are NULs.
 #[inline(always)]
 fn are_sixteen_padded(bytes: &[u8], start: usize) -> bool
     requires { start ≤ length bytes.now }

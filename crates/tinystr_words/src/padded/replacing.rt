@@ -5,9 +5,9 @@ ghost use Rattle.std.specs.Prelude.{◌≡◌, ◌≤◌, length, map, replicate
 ghost use Rattle.tinystr_words.specs.Text.{pad};
 ghost use Rattle.tinystr_words.specs.Reading.{lossy_byte};
 
-use super::copying::resize;
-use super::first_lanes::first_lanes_of_sixteen;
 use crate::code_unit::CHARACTERS;
+use crate::padded::copying::resize;
+use crate::padded::first_lanes::first_lanes_of_sixteen;
 use crate::word::{Word, lanes};
 use std::simd::prelude::*;
 

@@ -6,9 +6,9 @@ ghost use Rattle.tinystr_words.specs.Questions.{ask_question, in_case};
 ghost use Rattle.tinystr_words.specs.Private.Padded.{IsFirstWord};
 
 use crate::int_ops::Aligned16;
-use crate::{Case, Question};
+use crate::question::{Case, Question};
 
-// The first sixteen bytes as a word, and the bytes behind them.
+// The first sixteen bytes as a word, and the bytes after them.
 #[inline(always)]
 fn split_word(bytes: &[u8]) -> Option<(Aligned16, &[u8])>
     requires { IsPadded bytes.now }
@@ -34,7 +34,7 @@ pub(crate) fn len(bytes: &[u8]) -> usize
     sum + Aligned16::from_padded(rest).len()
 }
 
-/// Whether each word passes the question; the later words are asked as the rest of a text.
+/// Whether each word passes the question; the later words are tested as the rest of a text.
 #[inline(always)]
 pub(crate) fn ask(bytes: &[u8], question: Question) -> bool
     requires { IsPadded bytes.now }
@@ -52,7 +52,7 @@ pub(crate) fn ask(bytes: &[u8], question: Question) -> bool
     Aligned16::from_padded(rest).ask(asked)
 }
 
-/// Changes each word in place; the later words are changed as the rest of a text. The NULs behind the text stay.
+/// Changes each word in place; the later words are changed as the rest of a text. The NULs after the text stay.
 #[inline(always)]
 pub(crate) fn put_in_case(bytes: &mut [u8], case: Case)
     requires { IsPadded bytes.old }

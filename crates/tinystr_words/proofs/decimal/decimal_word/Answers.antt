@@ -1,18 +1,18 @@
 use Rattle.std.proofs.Common.{◌<◌, ◌∙◌, sym, arith}
 use Rattle.std.specs.Fmt.{decimal}
-use Rattle.tinystr_words.proofs.Decimals.Digits.{word_is_onto, word_onto-two_digits, word_onto-one_digit, word_onto-last_two, room_more, enough_next, enough_small}
+use Rattle.tinystr_words.proofs.Decimals.Digits.{word_is_onto, word_onto-two_digits, word_onto-one_digit, word_onto-last_two, fits_more, enough_next, enough_small}
 use Rattle.tinystr_words.proofs.decimal.decimal_word.Goals as goal
 use Rattle.tinystr_words.proofs.decimal.decimal_word.Goals.{else-loop-i-test, then-loop-i-test+then-rest-lt100}
 
 pub overflow_mul-last : goal.overflow_mul-last
-overflow_mul-last c = omega (arith, room_more c.loop-i.last 0 c.loop-i.i (omega arith) c.loop-i.invariant.room (omega arith))
+overflow_mul-last c = omega (arith, fits_more c.loop-i.last 0 c.loop-i.i (omega arith) c.loop-i.invariant.fits (omega arith))
 
 pub overflow_add-last : goal.overflow_add-last
-overflow_add-last c = omega (arith, room_more c.loop-i.last c.from.result c.loop-i.i (omega arith) c.loop-i.invariant.room (omega arith))
+overflow_add-last c = omega (arith, fits_more c.loop-i.last c.from.result c.loop-i.i (omega arith) c.loop-i.invariant.fits (omega arith))
 
 pub loop-i-preserved : goal.loop-i-preserved
 loop-i-preserved c = record {
-  room = (room_more c.loop-i.last c.from.result c.loop-i.i (omega arith) c.loop-i.invariant.room (omega arith)).0;
+  fits = (fits_more c.loop-i.last c.from.result c.loop-i.i (omega arith) c.loop-i.invariant.fits (omega arith)).0;
   enough = enough_next c.loop-i.rest c.loop-i.i c.args.number c.loop-i.invariant.enough;
   written = c.loop-i.invariant.written ∙ rw (c.from.ensures, c.two_digits.ensures) (word_onto-two_digits c.loop-i.rest c.loop-i.last (omega arith) (omega arith));
 }

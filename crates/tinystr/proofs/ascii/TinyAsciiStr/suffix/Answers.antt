@@ -8,7 +8,7 @@ use Rattle.tinystr.proofs.Splits.{IsPadded-rest, length-text_of-nul, text_of-res
 use Rattle.tinystr.proofs.ascii.TinyAsciiStr.suffix.Goals as goal
 use Rattle.tinystr.proofs.ascii.TinyAsciiStr.suffix.Goals.{else-this-via-then-this+else-start, else-this-via-else-this, then-rest-le16-via-then-rest-le16, then-rest-le16-via-else-rest-le16+then-rest-eq0}
 
--- what stands behind a place, which is moved to the end where it lies past it
+-- the text from a place on, or from the end where the place is past it
 drop-min : (t : List ℕ) (n m start : ℕ) → length t ≤ n → m ≡ min start n → drop m t ≡ drop start t
 drop-min t n m start fits is = rw is (same_lists _ _ (search (rules, places)) (λ k d h. grind (arith, places)))
 
@@ -32,7 +32,7 @@ pub text_of_lanes-requires : goal.text_of_lanes-requires
 text_of_lanes-requires g c =
     let bytes = c.self.inside.bytes in
     let rest = take (length bytes - c.min.result) (drop c.min.result bytes) in
-    let room : length rest ≤ g.row.M = elim c.else-this.branch [
+    let fits : length rest ≤ g.row.M = elim c.else-this.branch [
       | else-this-via-then-this+else-start w ↦ omega (arith, c.min.ensures, length-take {A = ℕ}, length-drop {A = ℕ})
       | else-this-via-else-this w ↦ omega (arith, length-take {A = ℕ}, length-drop {A = ℕ})
     ] in

@@ -1,5 +1,5 @@
 use Rattle.std.proofs.Common.{◌==◌, sym}
-use Rattle.tinystr_words.proofs.Parts.Cuts.{slice_split-found, slice_split-missed}
+use Rattle.tinystr_words.proofs.Parts.Splits.{slice_split-found, slice_split-missed}
 use Rattle.tinystr.proofs.ascii.splitting.split_first_of_eight.Goals as goal
 
 pub returns-in-Some-clause-parts : goal.returns-in-Some-clause-parts

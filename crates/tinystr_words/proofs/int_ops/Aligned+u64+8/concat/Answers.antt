@@ -12,7 +12,7 @@ returns-then-len-eq8 c = rw (← c.self.view_is, ← c.other.view_is) (full _ _ 
 
 pub overflow_add-result : goal.overflow_add-result
 overflow_add-result c =
-    let room = rw (pow_256 c.text_len-len.result) at (HoldsText-concat c.self.invariant c.other.invariant c.text_len-len.result c.text_len-len.ensures).0 in
+    let small = rw (pow_256 c.text_len-len.result) at (HoldsText-concat c.self.invariant c.other.invariant c.text_len-len.result c.text_len-len.ensures).0 in
     omega arith
 
 pub invariant_of-result-2 : goal.invariant_of-result-2

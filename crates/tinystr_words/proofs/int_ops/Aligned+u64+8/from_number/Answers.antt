@@ -6,7 +6,7 @@ use Rattle.std.specs.Fmt.{decimal}
 use Rattle.tinystr_words.specs.Decimal.{last}
 use Rattle.tinystr_words.specs.Text.{IsTextByte}
 use Rattle.tinystr_words.specs.Words.{word, text_in, HoldsText}
-use Rattle.tinystr_words.proofs.Decimals.EightDigits.{word-last, eight_digits-room}
+use Rattle.tinystr_words.proofs.Decimals.EightDigits.{word-last, eight_digits-fit}
 use Rattle.tinystr_words.proofs.Decimals.Shortest.{IsText-decimal}
 use Rattle.tinystr_words.proofs.Words.Texts.{HoldsText-word}
 use Rattle.tinystr_words.proofs.Words.Numbers.{pow_256}
@@ -14,17 +14,17 @@ use Rattle.tinystr_words.proofs.int_ops.Aligned+u64+8.from_number.Goals as goal
 use Rattle.tinystr_words.proofs.int_ops.Aligned+u64+8.from_number.Goals.{then-decimal_fits, else-decimal_fits}
 
 pub overflow_add-result : goal.overflow_add-result
-overflow_add-result c = omega (arith, eight_digits-room c.args.number _ (omega arith) c.eight_digits-digits.ensures)
+overflow_add-result c = omega (arith, eight_digits-fit c.args.number _ (omega arith) c.eight_digits-digits.ensures)
 
--- which lanes are shifted out, and what is left
+-- which lanes are shifted out, and which remain
 kept : (n most v z : ℕ) (fits : Bool) → (0 < most) × (most ≤ 8) → n < 2 ^ 32 → v + 3472328296227680304 ≡ word (decimal (100000000 + n % 100000000)) / 256
     → (IsTrue fits ↔ (length (decimal n) ≤ most)) → ((fits ≡ true) × (z ≡ count_trailing_zeros 64 (bit_or v 72057594037927936) / 8)) ⊎ ((fits ≡ false) × (z ≡ 8 - most))
     → (z < 8) × HoldsText 8 ((v + 3472328296227680304) / 2 ^ (8 * z)) × (text_in 8 ((v + 3472328296227680304) / 2 ^ (8 * z)) ≡ last most (decimal n))
-kept n most v z fits bounds small is told at =
+kept n most v z fits bounds small is exact at =
     let whole : length (decimal n) ≤ most → z ≡ count_trailing_zeros 64 (bit_or v 72057594037927936) / 8 =
-    λ short. elim at [ inl h ↦ h.1 | inr h ↦ (let yes = told.1 short in let no = h.0 in absurd (cc)) ] in
+    λ short. elim at [ inl h ↦ h.1 | inr h ↦ (let yes = exact.1 short in let no = h.0 in absurd (cc)) ] in
     let cut : most < length (decimal n) → z ≡ 8 - most =
-    λ more. elim at [ inl h ↦ (let short = told.0 h.0 in absurd (omega arith)) | inr h ↦ h.1 ] in
+    λ more. elim at [ inl h ↦ (let short = exact.0 h.0 in absurd (omega arith)) | inr h ↦ h.1 ] in
     let left = word-last most n v z bounds.0 bounds.1 small is whole cut in
     let text = All-drop IsTextByte (length (decimal n) - most) (decimal n) (IsText-decimal n (omega arith)) in
     let holds = HoldsText-word 8 (last most (decimal n)) text (omega (arith, bounds.1, length-drop (length (decimal n) - most) (decimal n))) in

@@ -19,14 +19,14 @@ returns c =
     let last_part = length-drop 16 b in
     let front : HasLanes lanes a at = HasLanes-sixteen_from lanes a at c.lanes_from-lanes.ensures in
     let first : HasLanes c.if-at.lanes (a ++ take 16 b) at = elim c.if-at.branch [
-      | then-at w ↦ rw w.lanes-is (HasLanes-or lanes w.moved-lanes.result w.lanes_from.result a (take 16 b) n at (48 + at - n) (λ some. c.requires.first_len) (omega arith)
-          w.moved-lanes.ensures (get_or-first_sixteen w.lanes_from.result b w.lanes_from.ensures) front)
+      | then-at w ↦ rw w.lanes-is (HasLanes-or lanes w.shifted-lanes.result w.lanes_from.result a (take 16 b) n at (48 + at - n) (λ some. c.requires.first_len) (omega arith)
+          w.shifted-lanes.ensures (get_or-first_sixteen w.lanes_from.result b w.lanes_from.ensures) front)
       | else-at w ↦ rw w.lanes-is (HasLanes-same lanes a (take 16 b) n at (λ some. c.requires.first_len) front (inr (omega arith)))
     ] in
     let end : 0 < length (drop 16 b) → n + 16 ≡ length (a ++ take 16 b) = λ some. omega (arith, length-append a (take 16 b)) in
     let second : HasLanes c.if-at-gt0.lanes ((a ++ take 16 b) ++ drop 16 b) at = elim c.if-at-gt0.branch [
-      | then-at-gt0+then-at-2 w ↦ rw w.lanes-is (HasLanes-or c.if-at.lanes w.moved-lanes-then-at-2.result w.lanes_from-then-at-2.result (a ++ take 16 b) (drop 16 b)
-          (n + 16) at (32 + at - n) end (omega arith) w.moved-lanes-then-at-2.ensures (get_or-last_sixteen w.lanes_from-then-at-2.result b w.lanes_from-then-at-2.ensures (omega arith)) first)
+      | then-at-gt0+then-at-2 w ↦ rw w.lanes-is (HasLanes-or c.if-at.lanes w.shifted-lanes-then-at-2.result w.lanes_from-then-at-2.result (a ++ take 16 b) (drop 16 b)
+          (n + 16) at (32 + at - n) end (omega arith) w.shifted-lanes-then-at-2.ensures (get_or-last_sixteen w.lanes_from-then-at-2.result b w.lanes_from-then-at-2.ensures (omega arith)) first)
       | else-at-gt0 w ↦ rw w.lanes-is (HasLanes-same c.if-at.lanes (a ++ take 16 b) (drop 16 b) (n + 16) at end first (elim w.else-at-gt0.branch [
         | else-at-gt0-via-then-at-gt0+else-at-2 v ↦ inr (omega arith)
         | else-at-gt0-via-else-at-gt0 v ↦ inl (omega arith)

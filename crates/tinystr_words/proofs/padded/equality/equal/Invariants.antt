@@ -2,7 +2,7 @@ use Rattle.std.proofs.Common.{◌≡◌, ◌+◌, ◌-◌, ◌≤◌, length, dr
 use Rattle.std.specs.Str.{bytes_eq}
 use Rattle.tinystr_words.proofs.padded.equality.equal.Given as goal
 
--- what is left to compare decides
+-- the bytes that remain decide
 abbrev pub invariant-loop-start : goal.invariant-loop-start
 invariant-loop-start l = record {
   inside : l.start + 16 ≤ length l.fn.left;

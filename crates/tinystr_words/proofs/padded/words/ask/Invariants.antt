@@ -3,7 +3,7 @@ use Rattle.tinystr_words.specs.Text.{IsPadded, text_of}
 use Rattle.tinystr_words.specs.Questions.{ask_question, later_question}
 use Rattle.tinystr_words.proofs.padded.words.ask.Given as goal
 
--- the answer is what is asked of the rest
+-- the answer is that for the rest
 abbrev pub invariant-loop-word : goal.invariant-loop-word
 invariant-loop-word l = record {
   padded : IsPadded l.rest;

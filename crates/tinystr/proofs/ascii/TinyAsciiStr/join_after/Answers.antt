@@ -3,9 +3,9 @@ use Rattle.std.proofs.lemmas.Grind.{common_steps}
 use Rattle.std.proofs.lemmas.List.{length-append}
 use Rattle.std.proofs.lemmas.List.Elements.{All-cons, All-nil}
 use Rattle.tinystr_words.specs.Text.{IsTextByte, text_of}
-use Rattle.tinystr_words.proofs.Parts.Cuts.{joined-more, length-joined_more}
+use Rattle.tinystr_words.proofs.Parts.Splits.{joined-more, length-joined_more}
 use Rattle.tinystr_words.proofs.Texts.{text_of-pad}
-use Rattle.tinystr.proofs.ascii.TinyAsciiStr.join_behind.Goals as goal
+use Rattle.tinystr.proofs.ascii.TinyAsciiStr.join_after.Goals as goal
 
 -- one byte is its own text
 text_of-byte : (b : ℕ) → IsTextByte b → text_of (b ∷ []) ≡ b ∷ []

@@ -4,10 +4,10 @@ use borrow.Rule.Slice.PartMut.{put_mid}
 use Rattle.tinystr_words.specs.Text.{IsPadded, IsPaddedText, IsText, text_of}
 use Rattle.tinystr_words.proofs.Pieces.Copying.{IsPadded-appended}
 use Rattle.tinystr_words.proofs.Texts.{IsPaddedText-places, length-text_of-le}
-use Rattle.tinystr.proofs.ascii.TinyAsciiStr.put_behind.Goals as goal
-use Rattle.tinystr.proofs.ascii.TinyAsciiStr.put_behind.Goals.{then-this-le16+then-room, else-this-le16}
+use Rattle.tinystr.proofs.ascii.TinyAsciiStr.append_to.Goals as goal
+use Rattle.tinystr.proofs.ascii.TinyAsciiStr.append_to.Goals.{then-this-le16+then-free, else-this-le16}
 
--- padded bytes put behind the text of others, where there is room for all of them
+-- padded bytes appended to the text of others, where all of them fit
 put_whole : (r x y t m : List ℕ) (at k : ℕ) → IsPadded r → at ≡ length (text_of r) → IsPadded x → text_of x ≡ t → y ≡ x → k ≡ length x → at + k ≤ length r
     → m ≡ put_mid at k r y → IsPadded m × (text_of m ≡ text_of r ++ t)
 put_whole r x y t m at k p here q said is all fits put =
@@ -24,7 +24,7 @@ text_alone t h =
 pub returns : goal.returns
 returns g c =
     let made : IsPadded c.if-this-le16.bytes × (text_of c.if-this-le16.bytes ≡ text_of c.args.bytes.now ++ c.args.self.now) = elim c.if-this-le16.branch [
-      | then-this-le16+then-room w ↦ (
+      | then-this-le16+then-free w ↦ (
           let bytes = c.self.inside.bytes in
           let all : length bytes ≡ g.row.N = c.self.told in
           put_whole c.args.bytes.now bytes w.copy_from_slice.new.self c.args.self.now c.if-this-le16.bytes c.args.len (c.args.len + g.row.N - c.args.len) c.requires.padded c.requires.at_end

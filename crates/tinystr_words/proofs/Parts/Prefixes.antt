@@ -25,9 +25,9 @@ pub take_join_cut : (a b c : List ℕ) (p q r : ℕ) → q ≤ p → q ≤ r →
 take_join_cut a b c p q r first second = same_lists _ _ (search (rules, places)) (λ k d h. grind (arith, places))
 
 -- the fronts of two texts, joined, begin as both texts joined
-pub fronts_joined : (l r : List ℕ) (n m q : ℕ) → IsPaddedText l n → IsPaddedText r m
+pub prefixes_joined : (l r : List ℕ) (n m q : ℕ) → IsPaddedText l n → IsPaddedText r m
     → take q (text_of (take (min n q) l) ++ text_of (take (min m q) r)) ≡ take q (text_of l ++ text_of r)
-fronts_joined l r n m q p o =
+prefixes_joined l r n m q p o =
     let first = p.fits in
     let second = o.fits in
     rw (text_of-take l n (min n q) p, text_of-take r m (min m q) o) (same_lists _ _ (search (rules, places)) (λ k d h. grind (arith, places)))

@@ -23,7 +23,7 @@ IsStrictText-take m t n h = record { text = All-take IsTextByte m t h.text; fits
 pub IsStrictText-drop : (m : ℕ) (t : List ℕ) (n : ℕ) → IsStrictText t n → IsStrictText (drop m t) n
 IsStrictText-drop m t n h = record { text = All-drop IsTextByte m t h.text; fits = omega (arith, length-drop m t, h.fits) }
 
--- what stands before the first byte of a kind, and what stands behind it
+-- the part before the first byte of a kind, and the part after it
 pub IsStrictText-before_first : (p : ℕ → Bool) (t : List ℕ) (n : ℕ) → IsStrictText t n → IsStrictText (before_first p t) n
 IsStrictText-before_first p t n h = IsStrictText-take (position_or_len p t) t n h
 
@@ -40,7 +40,7 @@ AllStrict-either : (n : ℕ) (yes : Bool) (ts ss : List (List ℕ)) → AllStric
 AllStrict-either n true ts ss h k = h
 AllStrict-either n false ts ss h k = k
 
--- one more byte in front of the first part
+-- one more byte before the first part
 AllStrict-onto_first : (b n : ℕ) (parts : List (List ℕ)) → IsTextByte b → AllStrict n parts → AllStrict (suc n) (onto_first b parts)
 AllStrict-onto_first b n [] here h =
     All-cons (λ t. IsStrictText t (suc n)) (b ∷ []) [] (record { text = All-cons IsTextByte b [] here (All-nil IsTextByte); fits = omega arith }) (All-nil (λ t. IsStrictText t (suc n)))
@@ -65,7 +65,7 @@ AllStrict-parts p (b ∷ t) h =
 pub IsStrictText-slice_split : (p : ℕ → Bool) (t : List ℕ) (n : ℕ) → IsStrictText t n → All (λ part. IsStrictText part n) (slice_split p t)
 IsStrictText-slice_split p t n h = AllStrict-weaker (length t) n (slice_split p t) h.fits (AllStrict-parts p t h.text)
 
--- at the first byte of a kind a text is split into what stands before it, and the parts of what stands behind it
+-- at the first byte of a kind a text is split into the part before it, and the parts of the rest after it
 pub slice_split-found : (p : ℕ → Bool) (t : List ℕ) (i : ℕ) → position p t ≡ Some i → slice_split p t ≡ take i t ∷ slice_split p (drop (i + 1) t)
 slice_split-found p t i at = elim (cases_lt (position_or_len p t) (length t)) [
   | inl inside ↦ (let first : position_or_len p t ≡ i = grind (arith, nat_tests) in rw first at (slice_split_first p t 0 inside))
@@ -99,7 +99,7 @@ slice_split-joined c (t ∷ s ∷ ts) some h =
     slice_split_at (λ b. b == c) t c (join_with_byte c (s ∷ ts)) (fails-Lacks c t (All-head (Lacks c) t (s ∷ ts) h)) (grind (arith, nat_tests))
     ∙ ap (λ (l : List (List ℕ)). t ∷ l) (slice_split-joined c (s ∷ ts) (omega arith) (All-tail (Lacks c) t (s ∷ ts) h))
 
--- a byte stands before each text but the first
+-- a byte is before each text but the first
 length-joined : (c : ℕ) (t : List ℕ) (ts : List (List ℕ)) → length (join_with_byte c (t ∷ ts)) ≡ length t + sum_by (λ s. 1 + length s) ts
 length-joined c t [] = omega arith
 length-joined c t (s ∷ ts) = omega (arith, length-append t (c ∷ join_with_byte c (s ∷ ts)), length-joined c s ts, sum_by-cons (λ (s : List ℕ). 1 + length s) s ts)
@@ -144,7 +144,7 @@ ask-joined_texts p c ts h each =
     ask-same p (join_with_byte c ts)
     ∙ list_all-joined p c ts h (All-weaker (λ t. ask p p t ≡ true) (λ t. list_all p t ≡ true) (λ t k. sym (ask-same p t) ∙ k) ts each)
 
--- and a change of each byte is one of the texts and of what stands between them
+-- and a change of each byte is one of the texts and of the bytes between them
 pub map-joined : (f : ℕ → ℕ) (c : ℕ) (ts : List (List ℕ)) → map f (join_with_byte c ts) ≡ join_with_byte (f c) (map (λ t. map f t) ts)
 map-joined f c [] = refl
 map-joined f c (t ∷ []) = refl

@@ -1,5 +1,5 @@
 use Rattle.tinystr_words.proofs.Vectors.Concat.{swz_l-lanes_of_table, SwzOk-lanes_of_table}
-use Rattle.tinystr_words.proofs.padded.concatenation.moved.Goals as goal
+use Rattle.tinystr_words.proofs.padded.concatenation.shifted.Goals as goal
 
 pub swizzle : goal.swizzle
 swizzle c = SwzOk-lanes_of_table c.args.start c.requires.start
