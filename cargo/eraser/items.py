@@ -47,7 +47,7 @@ def without_item(text: str, head: str) -> tuple[str, int]:
     while found := re.search(ABOVE + head, text, re.M):
         tokens = Tokens(text[found.end() :])
         body = tokens.next_mark(0, "{")
-        rest = tokens.joined(tokens.behind_bracket(body), len(tokens))
+        rest = tokens.joined(tokens.after_bracket(body), len(tokens))
         text = text[: found.start()] + rest.lstrip("\n")
         count += 1
     return text, count

@@ -29,7 +29,7 @@ class Text:
     lines: list
     comments: dict
 
-    def behind(self, at: int) -> int:
+    def after_bracket(self, at: int) -> int:
         """The place behind the bracket that closes the one at a place."""
         depth = 0
         for place in range(at, len(self.tokens)):
@@ -41,13 +41,13 @@ class Text:
     def next_of(self, at: int, marks: str | Iterable[str]) -> int:
         """The next of some marks that stands in no bracket."""
         while self.tokens[at] not in marks:
-            at = self.behind(at) if self.tokens[at] in OPENING else at + 1
+            at = self.after_bracket(at) if self.tokens[at] in OPENING else at + 1
         return at
 
     def with_attributes(self, at: int) -> int:
         """Where the attributes above an item's first token begin."""
         while self.tokens[at - 1] == "]":
-            at = max(place for place in range(at - 1) if self.tokens[place] == "#" and self.behind(place + 1) == at)
+            at = max(place for place in range(at - 1) if self.tokens[place] == "#" and self.after_bracket(place + 1) == at)
         return at
 
     def said_above(self, at: int) -> str:
@@ -93,9 +93,9 @@ def without_ghosts(text: Text) -> tuple[Text, dict[int, list[Clause]]]:
                 place = f"{text.name}:{text.lines[start]}"
                 raise Unreadable(f"{place}: a ghost item has `{found.pop()}`, or doesn't end where it seems")
         elif tokens[at] == "#" and "tactic" in tokens[at + 1 : at + 4]:
-            at = text.behind(tokens.index("[", at))
+            at = text.after_bracket(tokens.index("[", at))
         elif tokens[at] in ("requires", "ensures"):
-            at = text.behind(tokens.index("{", at))
+            at = text.after_bracket(tokens.index("{", at))
             clauses.setdefault(len(kept), []).append(Clause(tokens[start], " ".join(tokens[start + 1 : at])))
         else:
             kept.append(tokens[at])
@@ -121,7 +121,7 @@ def functions(text: Text) -> list[Function]:
     for at, token in enumerate(tokens):
         if token == "trait" and tokens[at - 1] == "pub":
             start = text.next_of(at, "{")
-            traits.append((start, text.behind(start)))
+            traits.append((start, text.after_bracket(start)))
         if token == "fn" and at + 1 < len(tokens) and re.match(r"\w", tokens[at + 1]):
             start = text.next_of(at, "{;")
             head = at
@@ -129,6 +129,6 @@ def functions(text: Text) -> list[Function]:
                 head -= 3 if tokens[head - 1] == ")" else 1
             in_trait = any(first < at < last for first, last in traits)
             is_public = in_trait or tokens[head] == "pub" and tokens[head + 1] != "("
-            end = text.behind(start) if tokens[start] == "{" else start + 1
+            end = text.after_bracket(start) if tokens[start] == "{" else start + 1
             found.append(Function(tokens[at + 1], is_public, head, start, end))
     return found
