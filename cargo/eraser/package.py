@@ -21,7 +21,7 @@ LEFT_OUT = {
     "tinystr/macros.rt": "`constants.rs` has `tinystr!` as a constant",
     **{f"{crate}/laws.rt": "laws are for proofs" for crate in MODULES},
 }
-# The crate's first lines, by hand, which stand in the place of those of its source.
+# The crate's first lines, by hand, which replace those of its source.
 FRONT = "lib.rs"
 # A link to another page of the repository, which isn't in the package.
 LINK = re.compile(r"\[([^\]]*)\]\((?!http|#)[^)]*\)")
@@ -39,7 +39,7 @@ class Package:
         self.tests = []
 
     def files(self) -> dict[str, str]:
-        """All files: those that are made, those by hand, and the copies of what stands elsewhere in the repository."""
+        """All files: those that are made, those by hand, and the copies of what is elsewhere in the repository."""
         made = {}
         left_out = set(LEFT_OUT)
         for crate in MODULES:
@@ -102,7 +102,7 @@ def read(path: Path) -> str:
 
 
 def place_of(file: str) -> str:
-    """Where the Rust of a source stands in the package."""
+    """The path of the Rust of a source in the package."""
     crate, _, inner = file.partition("/")
     inner = Path(inner).with_suffix(".rs")
     module = MODULES[crate]
@@ -112,7 +112,7 @@ def place_of(file: str) -> str:
 
 
 def tidy(text: str) -> str:
-    """Without the empty lines that what is left out leaves."""
+    """Without the empty lines around omitted items."""
     text = re.sub(r"[ \t]+\n", "\n", text)
     text = re.sub(r"\n{3,}", "\n\n", text)
     text = re.sub(r"\{\n\n+", "{\n", text)

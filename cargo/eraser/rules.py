@@ -1,7 +1,7 @@
 """What Rattle writes and Rust writes otherwise: the old text, the new one, and why.
 
-A rule of `EVERYWHERE` is a pattern, and has to fit somewhere. One of a file is the text itself, and has to stand there
-as often as it says.
+A rule of `EVERYWHERE` is a pattern, and must fit somewhere. One of a file is the text itself, and must be there as often as it
+says.
 """
 
 import re
@@ -46,7 +46,7 @@ OF_FEATURE = "what allocates is feature `alloc`"
 OF_ALLOCATOR = "Rust's vectors and maps name no allocator"
 WANT_OF_MEMORY = "want of memory ends a program in Rust, and is no error"
 NOT_PROVED_HERE = "in Rust nothing proves a condition at a call"
-AT_ROOT = "so that the documentation tells of it at its root"
+AT_ROOT = "so that the documentation has it at its root"
 IN_CONSTANTS = "a `const fn` calls no trait, so it has neither an index by a range nor `min`"
 OF_CONSTANTS = "`in_constants.rs` calls it"
 OF_CONST_CALLS = "the same function as constants can call it"
@@ -55,7 +55,7 @@ OF_WIDTHS = "in `in_constants.rs` each width has its own functions"
 WORDS = ("u32", "u64", "u128")
 TWIN_MAKES = "`constants.rs` makes one at compile time"
 HINTED = "the compiler is given a hint that the text is no error and not `None`, which share its bytes"
-BELOW_128 = "a type that knows that each byte is below 128 leaves room for `None`"
+BELOW_128 = "a type whose bytes are each below 128 has another value for `None`"
 OF_BYTES = "the derived equality of a text is that of its bytes, and the proved one is theirs"
 IN_WORDS = "without vectors a form in words of 64 bits takes fewer steps"
 NAMED_AS_STR = "`Deref` to `str` has this name, and the original's callers use that"
@@ -427,7 +427,7 @@ IN_FILE = {
     ],
 }
 
-# What may not stand in code that is made: whatever is left of Rattle.
+# What code that is made may not have: words of Rattle.
 LEFT = re.compile(
     r"\b(?:ghost|requires|ensures|tactic|invariant|Model|AsStr|AsSlice|AllocError|Global|derive_where|thiserror|serde_json"
     r"|std|rt|tinystr_words|tinystr_packed|tinystr_hashed)\b|[^\x00-\x7f]"
@@ -435,7 +435,7 @@ LEFT = re.compile(
 
 
 class Rules:
-    """Applies the rules, and tells which fitted."""
+    """Applies the rules, and keeps which fitted."""
 
     def __init__(self, in_file: dict[str, list[Rule]] | None = None, everywhere: list[Rule] | None = None) -> None:
         self.in_file = IN_FILE if in_file is None else in_file
@@ -447,7 +447,7 @@ class Rules:
         for rule in self.in_file.get(file, []):
             count = text.count(rule.old)
             if count != rule.times:
-                raise Stopped(f"{file}: a rule's text stands {count} times, and not {rule.times}: {rule.old!r}")
+                raise Stopped(f"{file}: a rule's text is there {count} times, and not {rule.times}: {rule.old!r}")
             text = text.replace(rule.old, rule.new)
         self.used.add(file)
         for rule in self.everywhere:

@@ -12,7 +12,7 @@ TOKEN = re.compile(
     re.X,
 )
 OPENING, CLOSING = "([{", ")]}"
-# What stands in no ghost item.
+# What no ghost item has.
 CODE = {"use", "pub", "impl", "struct", "enum", "trait", "mod", "const", "static", "for", "while", "#"}
 
 
@@ -30,7 +30,7 @@ class Text:
     comments: dict
 
     def after_bracket(self, at: int) -> int:
-        """The place behind the bracket that closes the one at a place."""
+        """The place after the bracket that closes the one at a place."""
         depth = 0
         for place in range(at, len(self.tokens)):
             depth += (self.tokens[place] in OPENING) - (self.tokens[place] in CLOSING)
@@ -39,7 +39,7 @@ class Text:
         raise Unreadable(f"{self.name}:{self.lines[at]}: nothing closes this bracket")
 
     def next_of(self, at: int, marks: str | Iterable[str]) -> int:
-        """The next of some marks that stands in no bracket."""
+        """The next of some marks outside of brackets."""
         while self.tokens[at] not in marks:
             at = self.after_bracket(at) if self.tokens[at] in OPENING else at + 1
         return at
@@ -51,7 +51,7 @@ class Text:
         return at
 
     def said_above(self, at: int) -> str:
-        """The comments above an item's first token, between which attributes may stand."""
+        """The comments above an item's first token, with or without attributes between them."""
         line, said = self.lines[at] - 1, ""
         first = {line: token for token, line in zip(reversed(self.tokens), reversed(self.lines))}
         while line in self.comments or first.get(line) == "#":
@@ -75,14 +75,14 @@ def read(name: str, text: str) -> Text:
 
 @dataclass
 class Clause:
-    """What a function requires or ensures: the word, and behind it the clause as it is written but for space."""
+    """What a function requires or ensures: the word, and the clause as it is written but for space."""
 
     kind: str
     said: str
 
 
 def without_ghosts(text: Text) -> tuple[Text, dict[int, list[Clause]]]:
-    """A proved source without ghost items, contracts and tactics, and the clauses by the place where they stood."""
+    """A proved source without ghost items, contracts and tactics, and the clauses by the place where they were."""
     kept, lines, clauses, at = [], [], {}, 0
     tokens = text.tokens
     while at < len(tokens):
@@ -106,7 +106,7 @@ def without_ghosts(text: Text) -> tuple[Text, dict[int, list[Clause]]]:
 
 @dataclass
 class Function:
-    """Its name, whether it is public by its own head or its trait's, where its head begins and its body stands."""
+    """Its name, whether it is public by its own head or its trait's, and where its head and its body begin and it ends."""
 
     name: str
     is_public: bool
