@@ -21,8 +21,6 @@ LEFT_OUT = {
     "tinystr/macros.rt": "`constants.rs` has `tinystr!` as a constant",
     **{f"{crate}/laws.rt": "laws are for proofs" for crate in MODULES},
 }
-# The crate's first lines, by hand, which replace those of its source.
-FRONT = "lib.rs"
 # A link to another page of the repository, which isn't in the package.
 LINK = re.compile(r"\[([^\]]*)\]\((?!http|#)[^)]*\)")
 
@@ -54,13 +52,7 @@ class Package:
         self.fields.finish()
         made["src/words/examples.rs"] = module_of_tests(self.tests)
         made["src/words.rs"] += "\npub mod in_constants;\n\n#[cfg(test)]\nmod examples;\n"
-        made["src/lib.rs"] = read(self.by_hand / FRONT) + made["src/lib.rs"].partition("\n\n")[2]
-        for path in sorted(path for path in self.by_hand.rglob("*") if path.is_file()):
-            inner = path.relative_to(self.by_hand)
-            if inner.parts[0] == "package":
-                made[str(inner.relative_to("package"))] = read(path)
-            elif str(inner) != FRONT:
-                made[f"src/{inner}"] = read(path)
+        add_by_hand(made, self.by_hand)
         made[constants.FRAME] = self.rules.apply(constants.with_functions(made[constants.FRAME], made), constants.NAME)
         self.rules.finish()
         made["LICENSE"] = read(self.top / "LICENSE")
@@ -99,6 +91,18 @@ def read(path: Path) -> str:
         return path.read_text(encoding="utf-8")
     except (OSError, UnicodeDecodeError) as why:
         raise Stopped(f"{path}: can't be read: {why}") from None
+
+
+def add_by_hand(made: dict[str, str], folder: Path) -> None:
+    """Adds the files that are written by hand, in `package/` at the package's top, and replaces the first lines of the crate."""
+    for path in sorted(path for path in folder.rglob("*") if path.is_file()):
+        inner = path.relative_to(folder)
+        if inner.parts[0] == "package":
+            made[str(inner.relative_to("package"))] = read(path)
+        elif str(inner) == "lib.rs":
+            made["src/lib.rs"] = read(path) + made["src/lib.rs"].partition("\n\n")[2]
+        else:
+            made[f"src/{inner}"] = read(path)
 
 
 def place_of(file: str) -> str:
