@@ -14,7 +14,7 @@ extern void __libc_free(void *);
 
 static size_t in_use, most_in_use;
 
-static int is_refused(void) {
+static int must_fail(void) {
     static const char report[] = "allocation refused\n";
     static long made;
     const char *number = getenv("REFUSED_ALLOCATION");
@@ -30,14 +30,14 @@ static void *counted(void *made, size_t old_size) {
     return made;
 }
 
-void *malloc(size_t size) { return is_refused() ? NULL : counted(__libc_malloc(size), 0); }
+void *malloc(size_t size) { return must_fail() ? NULL : counted(__libc_malloc(size), 0); }
 
 /* None of these fails, since the program's own allocations are by malloc and realloc. */
 void *calloc(size_t count, size_t size) { return counted(__libc_calloc(count, size), 0); }
 
 void *realloc(void *old, size_t size) {
     size_t old_size = malloc_usable_size(old);
-    return is_refused() ? NULL : counted(__libc_realloc(old, size), old_size);
+    return must_fail() ? NULL : counted(__libc_realloc(old, size), old_size);
 }
 
 void free(void *old) {

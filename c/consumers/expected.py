@@ -16,15 +16,51 @@ import hashed
 
 NAMES = Path("/usr/share/i18n/SUPPORTED")
 CODES = Path("/usr/share/iso-codes/json")
-LISTS = [("iso_639-3.json", "639-3", "alpha_3"), ("iso_639-3.json", "639-3", "alpha_2"), ("iso_639-2.json", "639-2", "alpha_3"),
-         ("iso_639-5.json", "639-5", "alpha_3")]
-OTHERS = [("iso_4217.json", "4217", "alpha_3"), ("iso_15924.json", "15924", "alpha_4"), ("iso_3166-1.json", "3166-1", "alpha_3"),
-          ("iso_3166-2.json", "3166-2", "code")]
-AWKWARD = ["zh_hANT-tw", "abcdefgh-latn-419", "abcdefgh-latn-4199", "en-US-posix", "en_Latn_US_x", "a", "abcd", "abcdefghi", "es-419",
-           "es-41", "-", "en-", "_en", "en--US", "EN_us", "Ωmega", "né", "üb", "a\x7f", "\x01", "qqq", "zzz", "z", "419", "A1", "a b"]
+LISTS = [
+    ("iso_639-3.json", "639-3", "alpha_3"),
+    ("iso_639-3.json", "639-3", "alpha_2"),
+    ("iso_639-2.json", "639-2", "alpha_3"),
+    ("iso_639-5.json", "639-5", "alpha_3"),
+]
+OTHERS = [
+    ("iso_4217.json", "4217", "alpha_3"),
+    ("iso_15924.json", "15924", "alpha_4"),
+    ("iso_3166-1.json", "3166-1", "alpha_3"),
+    ("iso_3166-2.json", "3166-2", "code"),
+]
+AWKWARD = [
+    "zh_hANT-tw",
+    "abcdefgh-latn-419",
+    "abcdefgh-latn-4199",
+    "en-US-posix",
+    "en_Latn_US_x",
+    "a",
+    "abcd",
+    "abcdefghi",
+    "es-419",
+    "es-41",
+    "-",
+    "en-",
+    "_en",
+    "en--US",
+    "EN_us",
+    "Ωmega",
+    "né",
+    "üb",
+    "a\x7f",
+    "\x01",
+    "qqq",
+    "zzz",
+    "z",
+    "419",
+    "A1",
+    "a b",
+]
 CAPACITY = 3
 LANGUAGE = re.compile(rb"(?:[a-z]{2,3}|[a-z]{5,8})", re.I)
-IDENTIFIER = re.compile(rb"(?P<language>[a-z]{2,3}|[a-z]{5,8})(?:[-_](?P<script>[a-z]{4}))?(?:[-_](?P<region>[a-z]{2}|[0-9]{3}))?", re.I)
+IDENTIFIER = re.compile(
+    rb"(?P<language>[a-z]{2,3}|[a-z]{5,8})(?:[-_](?P<script>[a-z]{4}))?(?:[-_](?P<region>[a-z]{2}|[0-9]{3}))?", re.I
+)
 OK, TOO_LONG, NON_ASCII, INVALID_LANGUAGE, INVALID_SUBTAG, NOT_FOUND = 0, 1, 3, 4, 5, 11
 
 

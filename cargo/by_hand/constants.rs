@@ -6,7 +6,7 @@ use crate::error::ParseError;
 use crate::packed::{NotRising, SortedError, SortedTable, Table};
 use crate::ule::UleError;
 
-// The bytes of code units that are a text of at most `N`, or their fault. NULs behind the text are taken where `$nuls` says so.
+// The bytes of code units that are a text of at most `N`, or their fault. NULs after the text are allowed where `$nuls` says so.
 macro_rules! padded {
     ($code_units:expr, $nuls:expr) => {{
         let code_units = $code_units;

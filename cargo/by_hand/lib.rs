@@ -21,7 +21,7 @@ mod simd;
 mod strings;
 pub mod subtags;
 mod traits;
-// what no caller reaches, and some of it no function here
+// private, and some of it is called by no function here
 #[allow(dead_code, unused_imports)]
 mod words;
 

@@ -83,7 +83,7 @@ impl<const N: usize> Visitor<'_> for TextVisitor<N> {
     }
 }
 
-/// Takes at most `N` bytes, and tells how many there were.
+/// Takes at most `N` bytes, and returns their number.
 struct BytesVisitor<const N: usize>;
 
 impl<'de, const N: usize> Visitor<'de> for BytesVisitor<N> {

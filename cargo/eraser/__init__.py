@@ -1,7 +1,7 @@
 """Makes plain Rust of the proved sources, and the package for Cargo of that.
 
 A source goes through the modules here in the order of `package.py`: what is ghost goes, contracts become comments, and
-what Rattle writes otherwise is changed by tables, in which each entry tells why. `Stopped` ends it where a source or a
+what Rattle writes otherwise is changed by tables, in which each entry has its reason. `Stopped` ends it where a source or a
 table isn't as the eraser knows it: nothing is dropped or kept in silence.
 """
 

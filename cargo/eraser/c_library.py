@@ -5,7 +5,7 @@ import re
 from eraser import Stopped
 from eraser.contracts import Contracts
 from eraser.ghosts import without_ghosts
-from eraser.package import read, sources, tidy
+from eraser.package import add_by_hand, read, sources, tidy
 from eraser.rules import Rule, Rules, stop_at_what_is_left
 from lib.rattle import unmatched_bracket
 
@@ -34,8 +34,6 @@ SAFETY = """///
 ///
 /// The caller has to keep what `tinystr.h` says that it owes.
 """
-# The crate's first lines, by hand, which take the place of those of its source.
-FRONT = "lib.rs"
 
 
 class CLibrary:
@@ -55,13 +53,7 @@ class CLibrary:
             inner = file.removeprefix(f"{CRATE}/").removesuffix(".rt")
             made[f"src/{inner}.rs"] = self.rust_of(read(path), file)
         self.rules.finish()
-        made["src/lib.rs"] = read(self.by_hand / FRONT) + made["src/lib.rs"].partition("\n\n")[2]
-        for path in sorted(it for it in self.by_hand.rglob("*") if it.is_file()):
-            inner = path.relative_to(self.by_hand)
-            if inner.parts[0] == "package":
-                made[str(inner.relative_to("package"))] = read(path)
-            elif str(inner) != FRONT:
-                made[f"src/{inner}"] = read(path)
+        add_by_hand(made, self.by_hand)
         made["LICENSE"] = read(self.top / "LICENSE")
         made["include/tinystr.h"] = read(self.top / "c/include/tinystr.h")
         return made

@@ -1,7 +1,7 @@
 """Functions that constants call: proved ones once more, in a frame by hand that names them.
 
-A line '//= FILE: NAMES' of the frame is replaced by the functions of these names in a made file, and '//= FILE, ITEM: NAMES' by
-those of one item. Each becomes a `pub const fn` without its comment; rules change what a `const fn` can't do.
+A line '//= FILE: `NAMES`' of the frame is replaced by the functions of these names in a made file, and '//= FILE, ITEM: `NAMES`'
+by those of one item. Each becomes a `pub const fn` without its comment; rules change what a `const fn` can't do.
 """
 
 import re
@@ -11,7 +11,7 @@ from eraser import Stopped
 # The frame, in the package, and what its rules are listed by.
 FRAME = "src/words/in_constants.rs"
 NAME = "tinystr_words/in_constants.rt"
-MARK = re.compile(r"^( *)//= (?P<file>\S+\.rs)(?:, (?P<item>.*))?: (?P<names>[\w ]+)\n", re.M)
+MARK = re.compile(r"^( *)//= (?P<file>\S+\.rs)(?:, (?P<item>.*))?: `(?P<names>[\w ]+)`\n", re.M)
 HEAD = r"( *)(?:pub(?:\(crate\))? )?(?:const )?fn "
 # An item, and a function that has a body, with its attributes: each ends at the first brace as far in as its head.
 ITEM = r"^()%s \{\n(?:.*\n)*?\}\n"

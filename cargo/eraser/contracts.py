@@ -1,10 +1,10 @@
-"""Contracts as comments: the clauses of a function stand in its comment, and what it requires is checked or told."""
+"""Contracts as comments: the clauses of a function go into its comment, and what it requires is checked or documented."""
 
 import re
 
 from eraser import Stopped
 from eraser.ghosts import EDGE, PART
-from eraser.requires import STANDS_FOR, Panics, Unsafe
+from eraser.requires import REPLACEMENTS, Panics, Unsafe
 from lib.rattle import line_of
 
 CLAUSES = re.compile(f"(?:{EDGE}[^{EDGE}]*{EDGE})+")
@@ -14,7 +14,7 @@ ABOVE = re.compile(r"(?:^ *(?://|#\[)[^\n]*\n)*\Z", re.M)
 
 
 class Contracts:
-    """Places the contracts of the files, and tells which entries of the table were used."""
+    """Places the contracts of the files, and keeps which entries of the table were used."""
 
     def __init__(self) -> None:
         self.used = set()
@@ -23,7 +23,7 @@ class Contracts:
         """Moves the clauses of each function of a file into its comment. In a private module no function is public."""
         for found in reversed(list(CLAUSES.finditer(text))):
             if CLOSURE.search(text[: found.start()]):
-                # a closure has no comment: that of its function tells what both give
+                # a closure has no comment: that of its function says what both return
                 text = text[: found.start()] + re.sub(r"\A\s*\{", " {", text[found.end() :])
                 continue
             heads = [head for head in HEAD.finditer(text, 0, found.start()) if is_open(text[head.end() : found.start()])]
@@ -35,32 +35,34 @@ class Contracts:
     def place_one(self, text: str, found: re.Match, head: re.Match, file: str, is_private: bool) -> str:
         clauses = [clause.split(PART) for clause in found.group().strip(EDGE).split(EDGE * 2)]
         is_public = head[2] == "pub " and not is_private
-        stands = [self.stand(file, condition) for kind, _, condition in clauses if kind == "requires" and is_public]
+        replacements = [self.replacement(file, condition) for kind, _, condition in clauses if kind == "requires" and is_public]
         indent = head[1]
         start = ABOVE.search(text, 0, head.start()).start()
         above = text[start : head.start()].splitlines()
         comments = [line for line in above if line.strip().startswith("//")]
         attributes = [line for line in above if not line.strip().startswith("//")]
         is_doc = is_public or any(comment.strip().startswith("///") for comment in comments)
-        comments += [f"{indent}{line}".rstrip() for line in as_comment(clauses, stands, is_doc, bool(comments))]
+        comments += [f"{indent}{line}".rstrip() for line in as_comment(clauses, replacements, is_doc, bool(comments))]
         checks = [
-            f"\n{indent}    {stand.check}" for stand in dict.fromkeys(stands) if not isinstance(stand, Unsafe) and stand.check
+            f"\n{indent}    {replacement.check}"
+            for replacement in dict.fromkeys(replacements)
+            if not isinstance(replacement, Unsafe) and replacement.check
         ]
         signature = text[head.start() : found.start()]
-        if any(isinstance(stand, Unsafe) for stand in stands):
+        if any(isinstance(replacement, Unsafe) for replacement in replacements):
             signature = re.sub(r"\bfn ", "unsafe fn ", signature, count=1)
-        behind = re.sub(r"\A\s*\{", " {" + "".join(checks), text[found.end() :])
-        return text[:start] + "\n".join([*comments, *attributes, signature]) + behind
+        after = re.sub(r"\A\s*\{", " {" + "".join(checks), text[found.end() :])
+        return text[:start] + "\n".join([*comments, *attributes, signature]) + after
 
-    def stand(self, file: str, condition: str) -> Panics | Unsafe:
-        """What stands for a condition of a public function."""
-        if (file, condition) not in STANDS_FOR:
-            raise Stopped(f"{file}: nothing stands for what a public function requires: {condition}")
+    def replacement(self, file: str, condition: str) -> Panics | Unsafe:
+        """What replaces a condition of a public function."""
+        if (file, condition) not in REPLACEMENTS:
+            raise Stopped(f"{file}: nothing replaces what a public function requires: {condition}")
         self.used.add((file, condition))
-        return STANDS_FOR[file, condition]
+        return REPLACEMENTS[file, condition]
 
     def finish(self) -> None:
-        for file, condition in STANDS_FOR.keys() - self.used:
+        for file, condition in REPLACEMENTS.keys() - self.used:
             raise Stopped(f"{file}: no public function requires {condition}")
 
 
@@ -69,16 +71,16 @@ def is_open(between: str) -> bool:
     return not re.search(r"[;{}]", re.sub(r"\[[^\]]*\]|\{\w+\}", "", between))
 
 
-def as_comment(clauses: list[list[str]], stands: list[Panics | Unsafe], is_doc: bool, is_behind_text: bool) -> list[str]:
-    """The lines that tell a contract, and when a public function panics or is safe to call."""
+def as_comment(clauses: list[list[str]], replacements: list[Panics | Unsafe], is_doc: bool, is_after_text: bool) -> list[str]:
+    """The lines of a comment with a contract, and when a public function panics or is safe to call."""
     lines = [f"{kind} {label + ' ' if label else ''}{{ {condition} }}" for kind, label, condition in clauses]
     if not is_doc:
         return ["// Proved:", *(f"//     {line}" for line in lines)]
-    told = ["# Contract", "", "```text", *lines, "```"]
-    for stand in dict.fromkeys(stands):
-        if isinstance(stand, Unsafe):
-            told += ["", "# Safety", "", stand.condition]
-    panics = [stand.when for stand in dict.fromkeys(stands) if not isinstance(stand, Unsafe)]
+    doc = ["# Contract", "", "```text", *lines, "```"]
+    for replacement in dict.fromkeys(replacements):
+        if isinstance(replacement, Unsafe):
+            doc += ["", "# Safety", "", replacement.condition]
+    panics = [replacement.when for replacement in dict.fromkeys(replacements) if not isinstance(replacement, Unsafe)]
     if panics:
-        told += ["", "# Panics", "", f"Where {' or '.join(panics)}."]
-    return [f"/// {line}" for line in ([""] if is_behind_text else []) + told]
+        doc += ["", "# Panics", "", f"Where {' or '.join(panics)}."]
+    return [f"/// {line}" for line in ([""] if is_after_text else []) + doc]

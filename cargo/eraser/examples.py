@@ -6,7 +6,7 @@ from eraser import Stopped
 
 EXAMPLE = re.compile(r"^( *)/// ```rust\n((?: *///(?! ```).*\n)+) */// ```\n", re.M)
 
-# Where the names that examples use stand.
+# The modules of the names that examples use.
 NAMES = {
     "tinystr": "ParseError TinyAsciiStr TinyStr4 TinyStr8 TinyStr16 UnvalidatedTinyAsciiStr Question Case tinystr",
     "tinystr::forms": "BytesReadError FormWriteError",

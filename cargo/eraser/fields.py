@@ -38,7 +38,7 @@ class Fields:
         """Each literal of a text as a call of the function that makes all, and the one of this function as unsafe."""
         for found in reversed(list(LITERAL.finditer(code_of(text)))):
             tokens = Tokens(text[found.end() :])
-            end = tokens.behind_bracket(0)
+            end = tokens.after_bracket(0)
             inside = VALUE.fullmatch(tokens.joined(1, end - 1))
             if not inside:
                 raise Stopped(f"{file}:{line_of(text, found.start())}: a text is made of more than `bytes`")

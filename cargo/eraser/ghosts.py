@@ -2,7 +2,7 @@
 
 from lib.rattle import Tokens, clause_at, end_of_tactic
 
-# A clause stands between two of the first, its kind, its label and its condition parted by the second.
+# The first is before and after a clause, and the second between its kind, its label and its condition.
 EDGE, PART = "\0", "\1"
 
 
@@ -28,7 +28,7 @@ def without_ghosts(text: str) -> str:
 
 
 def drop_line(tokens: Tokens, kept: list[str], end: int) -> int:
-    """Takes off the indentation in front of an item that is left out, and the end of its line behind it."""
+    """Takes off the indentation before an item that is left out, and the end of its line after it."""
     if kept and kept[-1].isspace():
         space = kept.pop()
         kept.append(space[: space.rfind("\n") + 1])

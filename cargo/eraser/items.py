@@ -37,17 +37,17 @@ def without_items(text: str, file: str) -> str:
     for head in LEFT_OUT.get(file, {}):
         text, count = without_item(text, f"^{re.escape(head)}\\b")
         if count != 1:
-            raise Stopped(f"{file}: `{head}` stands {count} times, and not once")
+            raise Stopped(f"{file}: `{head}` is there {count} times, and not once")
     return without_item(text, KIT_IMPL)[0]
 
 
 def without_item(text: str, head: str) -> tuple[str, int]:
-    """Leaves out each item that begins so, and tells how many there were."""
+    """Leaves out each item that begins so, and returns their number."""
     count = 0
     while found := re.search(ABOVE + head, text, re.M):
         tokens = Tokens(text[found.end() :])
         body = tokens.next_mark(0, "{")
-        rest = tokens.joined(tokens.behind_bracket(body), len(tokens))
+        rest = tokens.joined(tokens.after_bracket(body), len(tokens))
         text = text[: found.start()] + rest.lstrip("\n")
         count += 1
     return text, count
@@ -113,7 +113,7 @@ DERIVED = {
 
 
 def with_ordered_subtag(text: str, file: str) -> str:
-    """`derive_where` of a struct with one field and a `PhantomData`: Rust's own derives would ask them of the kind."""
+    """`derive_where` of a struct with one field and a `PhantomData`: Rust's own derives would require them of the kind."""
     found = WHERE.search(text)
     if not found:
         if "derive_where" in text:

@@ -1,4 +1,4 @@
-"""Where the crates stand in the one that is made, and what its functions are called by."""
+"""The modules of the crates in the one that is made, and the heads of its functions."""
 
 import re
 from collections import Counter
@@ -15,10 +15,10 @@ MODULES = {
     "tinystr_hashed": "hashed",
 }
 
-# Crates whose functions no caller reaches: the module is private, so what they require is met by the proved callers.
+# Crates whose module is private: only the proved functions call theirs, and meet what these require.
 PRIVATE = {"tinystr_words"}
 
-# Functions whose bodies Rust can run at compile time, by file: each as often as it stands there.
+# Functions whose bodies Rust can run at compile time, by file: each as often as it is there.
 CONST = {
     "tinystr/ascii.rt": ["default() -> Self"],
     "tinystr/ascii/views.rt": ["is_empty(", "get_byte(", "all_bytes("],
@@ -48,7 +48,7 @@ CONST = {
     "tinystr_words/question.rt": ["of_later_words(", "of_later_words("],
 }
 
-# Calls of the one `unsafe fn`, by file: their number. Each stands where the proof has shown its condition, or in an example.
+# The number of calls of the one `unsafe fn`, by file. The condition of each is proved, except in an example.
 UNSAFE_CALLS = {"tinystr/ascii/readers.rt": 1, "tinystr_packed/table.rt": 2}
 UNSAFE_CALL = re.compile(r"(?<!Unvalidated)\bTinyAsciiStr::from_utf8_unchecked(\([^()]*\))")
 
@@ -79,7 +79,7 @@ def with_signatures(text: str, file: str, is_private: bool) -> str:
     for function, times in Counter(CONST.get(file, [])).items():
         text, count = re.subn(rf"(pub(?:\(crate\))? )((?:unsafe )?fn {re.escape(function)})", r"\1const \2", text)
         if count != times:
-            raise Stopped(f"{file}: `pub fn {function}` stands {count} times, and not {times}")
+            raise Stopped(f"{file}: `pub fn {function}` is there {count} times, and not {times}")
     text, count = UNSAFE_CALL.subn(r"unsafe { TinyAsciiStr::from_utf8_unchecked\1 }", text)
     if count != UNSAFE_CALLS.get(file, 0):
         raise Stopped(f"{file}: {count} calls of `from_utf8_unchecked`, and not {UNSAFE_CALLS.get(file, 0)}")
@@ -87,6 +87,6 @@ def with_signatures(text: str, file: str, is_private: bool) -> str:
 
 
 def must_use(found: re.Match) -> str:
-    """The function with `#[must_use]`, where it gives something that Rust doesn't ask to be used already."""
-    is_told = found["result"].startswith(("Result<", "[Result<")) or "&mut " in found[0]
-    return found[0] if is_told else f"{found[1]}#[must_use]\n{found[0]}"
+    """The function with `#[must_use]`, where the type of its result doesn't have that already."""
+    is_enough = found["result"].startswith(("Result<", "[Result<")) or "&mut " in found[0]
+    return found[0] if is_enough else f"{found[1]}#[must_use]\n{found[0]}"

@@ -1,4 +1,4 @@
-"""Names that a function of the type may not have: those of `str`, before which it would stand where `Deref` gives them."""
+"""Names that a function of the type may not have: those of `str`, which it would hide from callers of `Deref`."""
 
 import re
 
@@ -26,4 +26,4 @@ def stop_at_names_of_str(text: str, file: str) -> None:
     for block in IMPL.finditer(text):
         for name in METHOD.findall(block[0]):
             if name in OF_STR - OF_THE_ORIGINAL:
-                raise Stopped(f"{file}: `{name}` would stand before that of `str`: it has to have another name by a rule")
+                raise Stopped(f"{file}: `{name}` would hide that of `str`: it must get another name by a rule")

@@ -21,8 +21,6 @@ LEFT_OUT = {
     "tinystr/macros.rt": "`constants.rs` has `tinystr!` as a constant",
     **{f"{crate}/laws.rt": "laws are for proofs" for crate in MODULES},
 }
-# The crate's first lines, by hand, which stand in the place of those of its source.
-FRONT = "lib.rs"
 # A link to another page of the repository, which isn't in the package.
 LINK = re.compile(r"\[([^\]]*)\]\((?!http|#)[^)]*\)")
 
@@ -39,7 +37,7 @@ class Package:
         self.tests = []
 
     def files(self) -> dict[str, str]:
-        """All files: those that are made, those by hand, and the copies of what stands elsewhere in the repository."""
+        """All files: those that are made, those by hand, and the copies of what is elsewhere in the repository."""
         made = {}
         left_out = set(LEFT_OUT)
         for crate in MODULES:
@@ -54,13 +52,7 @@ class Package:
         self.fields.finish()
         made["src/words/examples.rs"] = module_of_tests(self.tests)
         made["src/words.rs"] += "\npub mod in_constants;\n\n#[cfg(test)]\nmod examples;\n"
-        made["src/lib.rs"] = read(self.by_hand / FRONT) + made["src/lib.rs"].partition("\n\n")[2]
-        for path in sorted(path for path in self.by_hand.rglob("*") if path.is_file()):
-            inner = path.relative_to(self.by_hand)
-            if inner.parts[0] == "package":
-                made[str(inner.relative_to("package"))] = read(path)
-            elif str(inner) != FRONT:
-                made[f"src/{inner}"] = read(path)
+        add_by_hand(made, self.by_hand)
         made[constants.FRAME] = self.rules.apply(constants.with_functions(made[constants.FRAME], made), constants.NAME)
         self.rules.finish()
         made["LICENSE"] = read(self.top / "LICENSE")
@@ -101,8 +93,20 @@ def read(path: Path) -> str:
         raise Stopped(f"{path}: can't be read: {why}") from None
 
 
+def add_by_hand(made: dict[str, str], folder: Path) -> None:
+    """Adds the files that are written by hand, in `package/` at the package's top, and replaces the first lines of the crate."""
+    for path in sorted(path for path in folder.rglob("*") if path.is_file()):
+        inner = path.relative_to(folder)
+        if inner.parts[0] == "package":
+            made[str(inner.relative_to("package"))] = read(path)
+        elif str(inner) == "lib.rs":
+            made["src/lib.rs"] = read(path) + made["src/lib.rs"].partition("\n\n")[2]
+        else:
+            made[f"src/{inner}"] = read(path)
+
+
 def place_of(file: str) -> str:
-    """Where the Rust of a source stands in the package."""
+    """The path of the Rust of a source in the package."""
     crate, _, inner = file.partition("/")
     inner = Path(inner).with_suffix(".rs")
     module = MODULES[crate]
@@ -112,7 +116,7 @@ def place_of(file: str) -> str:
 
 
 def tidy(text: str) -> str:
-    """Without the empty lines that what is left out leaves."""
+    """Without the empty lines around omitted items."""
     text = re.sub(r"[ \t]+\n", "\n", text)
     text = re.sub(r"\n{3,}", "\n\n", text)
     text = re.sub(r"\{\n\n+", "{\n", text)

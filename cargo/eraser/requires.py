@@ -1,4 +1,4 @@
-"""What stands for each `requires` of a public function, since nothing proves it at a call in Rust.
+"""What replaces each `requires` of a public function, since nothing proves it at a call in Rust.
 
 The keys are a file and a clause, since a clause of the same words may need a check in one place and none in another.
 """
@@ -34,7 +34,7 @@ NO_VALUE = asserted("M > 0", "`M` is 0", "a value has at least one byte")
 NO_LONGER_N = asserted("N <= isize::MAX as usize", "`N` is above `isize::MAX`", "no array is so long")
 NO_LONGER_M = asserted("M <= isize::MAX as usize", "`M` is above `isize::MAX`", "no array is so long")
 
-STANDS_FOR = {
+REPLACEMENTS = {
     ("tinystr/ascii/readers.rt", "IsTextByte replacement"): asserted(
         CHARACTER.format("replacement"), "the replacement isn't from 1 to 127", NO_CHARACTER.format("replacement")
     ),
@@ -44,9 +44,9 @@ STANDS_FOR = {
     ("tinystr/ascii/concat.rt", "IsTextByte separator"): asserted(
         CHARACTER.format("separator"), "the separator isn't from 1 to 127", NO_CHARACTER.format("separator")
     ),
-    # without a check a range that begins behind its end would give a text
+    # without a check a range that begins after its end would give a text
     ("tinystr/ascii/slicing.rt", "range.start ≤ range.end"): asserted(
-        "range.start <= range.end", "the range begins behind its end", "the range begins behind its end"
+        "range.start <= range.end", "the range begins after its end", "the range begins after its end"
     ),
     # its index panics
     ("tinystr/forms.rt", "N ≤ length out.old"): Panics("the slice has fewer than `N` bytes"),
@@ -55,8 +55,8 @@ STANDS_FOR = {
     # its `unwrap` panics
     ("tinystr_packed/table.rt", "index < length self.now"): Panics("the index isn't below the number of texts"),
     # its index panics, in both cases
-    ("tinystr_packed/table.rt", "range.start ≤ range.end"): Panics("the range begins behind its end"),
-    ("tinystr_packed/table.rt", "range.end ≤ length self.now"): Panics("the range ends behind the last text"),
+    ("tinystr_packed/table.rt", "range.start ≤ range.end"): Panics("the range begins after its end"),
+    ("tinystr_packed/table.rt", "range.end ≤ length self.now"): Panics("the range ends after the last text"),
     ("tinystr_packed/sorted.rt", "0 < N"): NO_RECORD,
     ("tinystr_packed/sorted.rt", "N < 2 ^ 63"): NO_LONGER_N,
     ("tinystr_packed/sorted.rt", "M < 2 ^ 63"): NO_LONGER_M,

@@ -1,7 +1,7 @@
 """What Rattle writes and Rust writes otherwise: the old text, the new one, and why.
 
-A rule of `EVERYWHERE` is a pattern, and has to fit somewhere. One of a file is the text itself, and has to stand there
-as often as it says.
+A rule of `EVERYWHERE` is a pattern, and must fit somewhere. One of a file is the text itself, and must be there as often as it
+says.
 """
 
 import re
@@ -18,6 +18,14 @@ class Rule:
     why: str
     times: int = 1
 
+
+OF_ALLOCATOR = "Rust's vectors and maps name no allocator"
+WANT_OF_MEMORY = "want of memory ends a program in Rust, and is no error"
+# Calls that fail only if an allocation fails: of the kit's vectors and maps, and of private functions.
+ALLOCATING = (
+    "with_capacity|extend_from_slice|push|resize|insert|collect|vec!"
+    "|repeated|pack_with_seed|displacements|table_bytes|sorted_hashes|largest_first"
+)
 
 EVERYWHERE = [
     Rule(
@@ -38,15 +46,21 @@ EVERYWHERE = [
         "a law's call brings a fact into a proof, and does nothing",
     ),
     Rule(r"^pub mod (?:laws|macros);\n", "", "files that are left out"),
+    Rule(r"^use std::alloc::(?:\{AllocError, )?Global\}?;\n", "use alloc::vec::Vec;\n", OF_ALLOCATOR),
+    Rule(r"^use std::collections::", "use alloc::collections::", OF_ALLOCATOR),
+    Rule(r"^    alloc: Global,\n", "", OF_ALLOCATOR),
+    Rule(r"\(alloc(?:: Global)?(?:, |(?=\)))", "(", OF_ALLOCATOR),
+    Rule(r"vec!\[in alloc; ", "vec![", OF_ALLOCATOR),
+    Rule(rf"(\b(?:{ALLOCATING})[\[(].*[\])])\?", r"\1", WANT_OF_MEMORY),
+    Rule(r"Result<(.*), AllocError>", r"\1", WANT_OF_MEMORY),
+    Rule(r" It fails only if an allocation fails\.", "", WANT_OF_MEMORY),
     Rule(r'(tinystr!\(\d+, "[^"]*"\))(?:\?|\.unwrap\(\))', r"\1", "`tinystr!` gives the text, and refuses at compile time"),
     Rule(r"\bstd::", "core::", "the crate is `no_std`"),
 ]
 
 OF_FEATURE = "what allocates is feature `alloc`"
-OF_ALLOCATOR = "Rust's vectors and maps name no allocator"
-WANT_OF_MEMORY = "want of memory ends a program in Rust, and is no error"
 NOT_PROVED_HERE = "in Rust nothing proves a condition at a call"
-AT_ROOT = "so that the documentation tells of it at its root"
+AT_ROOT = "so that the documentation has it at its root"
 IN_CONSTANTS = "a `const fn` calls no trait, so it has neither an index by a range nor `min`"
 OF_CONSTANTS = "`in_constants.rs` calls it"
 OF_CONST_CALLS = "the same function as constants can call it"
@@ -55,17 +69,23 @@ OF_WIDTHS = "in `in_constants.rs` each width has its own functions"
 WORDS = ("u32", "u64", "u128")
 TWIN_MAKES = "`constants.rs` makes one at compile time"
 HINTED = "the compiler is given a hint that the text is no error and not `None`, which share its bytes"
-BELOW_128 = "a type that knows that each byte is below 128 leaves room for `None`"
+BELOW_128 = "a type whose bytes are each below 128 has another value for `None`"
 OF_BYTES = "the derived equality of a text is that of its bytes, and the proved one is theirs"
 IN_WORDS = "without vectors a form in words of 64 bits takes fewer steps"
 NAMED_AS_STR = "`Deref` to `str` has this name, and the original's callers use that"
 
+
+def at_root(*modules: str) -> list[Rule]:
+    return [Rule(f"pub use {module}::", f"#[doc(inline)]\npub use {module}::", AT_ROOT) for module in modules]
+
+
+def of_feature(*modules: str) -> list[Rule]:
+    heads = [head for module in modules for head in (f"mod {module};", f"pub use {module}::")]
+    return [Rule(head, f'#[cfg(feature = "alloc")]\n{head}', OF_FEATURE) for head in heads]
+
+
 IN_FILE = {
-    "tinystr/lib.rt": [
-        Rule("pub use ascii::", "#[doc(inline)]\npub use ascii::", AT_ROOT),
-        Rule("pub use error::", "#[doc(inline)]\npub use error::", AT_ROOT),
-        Rule("pub use unvalidated::", "#[doc(inline)]\npub use unvalidated::", AT_ROOT),
-    ],
+    "tinystr/lib.rt": at_root("ascii", "error", "unvalidated"),
     "tinystr/error.rt": [Rule("pub enum ParseError", "#[non_exhaustive]\npub enum ParseError", "as in the original")],
     "tinystr/ascii.rt": [
         Rule(
@@ -163,13 +183,7 @@ IN_FILE = {
         Rule("tag.split_once(", "tag.split_once_byte(", NAMED_AS_STR, 2),
         Rule("self.find(separator)", "self.find_byte(separator)", NAMED_AS_STR),
     ],
-    "subtags/lib.rt": [
-        Rule("pub use error::", "#[doc(inline)]\npub use error::", AT_ROOT),
-        Rule("pub use lang_id::", "#[doc(inline)]\npub use lang_id::", AT_ROOT),
-        Rule("pub use language::", "#[doc(inline)]\npub use language::", AT_ROOT),
-        Rule("pub use region::", "#[doc(inline)]\npub use region::", AT_ROOT),
-        Rule("pub use script::", "#[doc(inline)]\npub use script::", AT_ROOT),
-    ],
+    "subtags/lib.rt": at_root("error", "lang_id", "language", "region", "script"),
     "subtags/places.rt": [
         Rule(".find(b'-')", ".find_byte(b'-')", NAMED_AS_STR),
         Rule("text.get(place)", "text.get_byte(place)", NAMED_AS_STR),
@@ -181,118 +195,30 @@ IN_FILE = {
             "what a kind gives is proved of the three that there are, so no caller adds one",
         ),
     ],
-    "tinystr_packed/lib.rt": [
-        Rule("mod counting;", '#[cfg(feature = "alloc")]\nmod counting;', OF_FEATURE),
-        Rule("pub use counting::", '#[cfg(feature = "alloc")]\npub use counting::', OF_FEATURE),
-        Rule("mod packing;", '#[cfg(feature = "alloc")]\nmod packing;', OF_FEATURE),
-        Rule("mod sorting;", '#[cfg(feature = "alloc")]\nmod sorting;', OF_FEATURE),
-        Rule("pub use packing::", '#[cfg(feature = "alloc")]\npub use packing::', OF_FEATURE),
-        Rule("pub use sorting::", '#[cfg(feature = "alloc")]\npub use sorting::', OF_FEATURE),
-    ],
+    "tinystr_packed/lib.rt": of_feature("counting", "packing", "sorting"),
     "tinystr_packed/counting.rt": [
         Rule("use std::alloc::{AllocError, Global};\n", "", OF_ALLOCATOR),
-        Rule(" It fails only if an allocation fails.", "", WANT_OF_MEMORY),
-        Rule("use std::collections::BTreeMap;", "use alloc::collections::BTreeMap;", OF_ALLOCATOR),
-        Rule("    alloc: Global,\n", "", OF_ALLOCATOR),
-        Rule("BTreeMap::new(alloc)", "BTreeMap::new()", OF_ALLOCATOR),
-        Rule("insert(*text, count + 1)?;", "insert(*text, count + 1);", WANT_OF_MEMORY),
-        Rule("Result<BTreeMap<TinyAsciiStr<N>, usize>, AllocError>", "BTreeMap<TinyAsciiStr<N>, usize>", WANT_OF_MEMORY),
         Rule("    Ok(counts)\n", "    counts\n", WANT_OF_MEMORY),
     ],
     "tinystr_packed/packing.rt": [
-        Rule("use std::alloc::{AllocError, Global};\n", "use alloc::vec::Vec;\n", OF_ALLOCATOR),
-        Rule(" It fails only if an allocation fails.", "", WANT_OF_MEMORY, 4),
-        Rule("use std::collections::BTreeMap;", "use alloc::collections::BTreeMap;", OF_ALLOCATOR),
-        Rule("    alloc: Global,\n", "", OF_ALLOCATOR, 3),
-        Rule("(alloc: Global, ", "(", OF_ALLOCATOR),
-        Rule("with_capacity(alloc, ", "with_capacity(", OF_ALLOCATOR, 6),
-        Rule("texts.len() * N)?;", "texts.len() * N);", WANT_OF_MEMORY),
-        Rule("saturating_mul(N))?;", "saturating_mul(N));", WANT_OF_MEMORY, 2),
-        Rule("saturating_mul(M))?;", "saturating_mul(M));", WANT_OF_MEMORY, 2),
-        Rule("table.len())?;", "table.len());", WANT_OF_MEMORY),
-        Rule("all_bytes())?;", "all_bytes());", WANT_OF_MEMORY, 4),
-        Rule("extend_from_slice(value)?;", "extend_from_slice(value);", WANT_OF_MEMORY),
-        Rule("push(text)?;", "push(text);", WANT_OF_MEMORY),
-        Rule("Result<Vec<u8>, AllocError>", "Vec<u8>", WANT_OF_MEMORY),
-        Rule("Result<Vec<TinyAsciiStr<N>>, AllocError>", "Vec<TinyAsciiStr<N>>", WANT_OF_MEMORY),
-        Rule("Result<(Vec<u8>, Vec<u8>), AllocError>", "(Vec<u8>, Vec<u8>)", WANT_OF_MEMORY, 2),
         Rule("    Ok(bytes)\n", "    bytes\n", WANT_OF_MEMORY),
         Rule("    Ok(texts)\n", "    texts\n", WANT_OF_MEMORY),
         Rule("    Ok((keys, values))\n", "    (keys, values)\n", WANT_OF_MEMORY, 2),
     ],
-    "tinystr_packed/sorting.rt": [
-        Rule(" It fails only if an allocation fails.", "", WANT_OF_MEMORY),
-        Rule("use std::alloc::{AllocError, Global};\n", "use alloc::vec::Vec;\n", OF_ALLOCATOR),
-        Rule("    alloc: Global,\n", "", OF_ALLOCATOR),
-        Rule("Vec::new(alloc)", "Vec::new()", OF_ALLOCATOR),
-        Rule("pack(alloc, ", "pack(", OF_ALLOCATOR),
-        Rule("extend_from_slice(texts)?;", "extend_from_slice(texts);", WANT_OF_MEMORY),
-        Rule("Result<Vec<u8>, AllocError>", "Vec<u8>", WANT_OF_MEMORY),
-    ],
     "tinystr_hashed/lib.rt": [
-        Rule("mod packing;", '#[cfg(feature = "alloc")]\nmod packing;', OF_FEATURE),
-        Rule("mod packing_maps;", '#[cfg(feature = "alloc")]\nmod packing_maps;', OF_FEATURE),
+        *of_feature("packing", "packing_maps"),
         Rule("mod placing;", '#[cfg(feature = "alloc")]\nmod placing;', OF_FEATURE),
-        Rule("pub use packing::", '#[cfg(feature = "alloc")]\npub use packing::', OF_FEATURE),
-        Rule("pub use packing_maps::", '#[cfg(feature = "alloc")]\npub use packing_maps::', OF_FEATURE),
     ],
     "tinystr_hashed/packing.rt": [
-        Rule("use std::alloc::{AllocError, Global};\n", "use alloc::vec::Vec;\n", OF_ALLOCATOR),
         Rule("    /// An allocation failed.\n    Memory,\n", "", WANT_OF_MEMORY),
-        Rule("    alloc: Global,\n", "", OF_ALLOCATOR, 4),
-        Rule("Vec::new(alloc)", "Vec::new()", OF_ALLOCATOR),
-        Rule("with_capacity(alloc, len)?;", "with_capacity(len);", OF_ALLOCATOR),
-        Rule("repeated(alloc, texts)?", "repeated(texts)", OF_ALLOCATOR),
-        Rule(
-            "pack_with_seed(alloc, texts, index.wrapping_mul(OF_SEEDS))?",
-            "pack_with_seed(texts, index.wrapping_mul(OF_SEEDS))",
-            OF_ALLOCATOR,
-        ),
-        Rule("displacements(alloc, texts, seed)?", "displacements(texts, seed)", OF_ALLOCATOR),
-        Rule(
-            "table_bytes(alloc, texts, seed, displacements.as_slice())?",
-            "table_bytes(texts, seed, displacements.as_slice())",
-            OF_ALLOCATOR,
-        ),
-        Rule("extend_from_slice(texts)?;", "extend_from_slice(texts);", WANT_OF_MEMORY),
-        Rule("to_le_bytes())?;", "to_le_bytes());", WANT_OF_MEMORY, 4),
-        Rule("resize(len, 0)?;", "resize(len, 0);", WANT_OF_MEMORY),
-        Rule("Result<Option<TinyAsciiStr<N>>, AllocError>", "Option<TinyAsciiStr<N>>", WANT_OF_MEMORY),
-        Rule("Result<Option<Vec<u8>>, AllocError>", "Option<Vec<u8>>", WANT_OF_MEMORY),
-        Rule("Result<Vec<u8>, AllocError>", "Vec<u8>", WANT_OF_MEMORY),
         Rule("    Ok(first_repeated(sorted.as_slice()))\n", "    first_repeated(sorted.as_slice())\n", WANT_OF_MEMORY),
         Rule("return Ok(None);", "return None;", WANT_OF_MEMORY),
         Rule("        Ok(Some(bytes))\n", "        Some(bytes)\n", WANT_OF_MEMORY),
         Rule("        Ok(None)\n", "        None\n", WANT_OF_MEMORY),
         Rule("    Ok(bytes)\n}", "    bytes\n}", WANT_OF_MEMORY),
     ],
-    "tinystr_hashed/packing_maps.rt": [
-        Rule("use std::alloc::Global;\n", "use alloc::vec::Vec;\n", OF_ALLOCATOR),
-        Rule("use std::collections::BTreeMap;", "use alloc::collections::BTreeMap;", OF_ALLOCATOR),
-        Rule("    alloc: Global,\n", "", OF_ALLOCATOR, 3),
-        Rule("packed_keys(alloc, map)?", "packed_keys(map)?", OF_ALLOCATOR, 2),
-        Rule("with_capacity(alloc, ", "with_capacity(", OF_ALLOCATOR, 2),
-        Rule("saturating_mul(M))?;", "saturating_mul(M));", WANT_OF_MEMORY, 2),
-        Rule("extend_from_slice(&map[&key])?;", "extend_from_slice(&map[&key]);", WANT_OF_MEMORY),
-        Rule("all_bytes())?;", "all_bytes());", WANT_OF_MEMORY),
-        Rule("collect(alloc)?;", "collect();", WANT_OF_MEMORY),
-        Rule("pack_hashed(alloc, keys.as_slice())", "pack_hashed(keys.as_slice())", OF_ALLOCATOR),
-    ],
     "tinystr_hashed/placing.rt": [
         Rule("use std::alloc::{AllocError, Global};\n", "use alloc::vec;\nuse alloc::vec::Vec;\n", OF_ALLOCATOR),
-        Rule("    alloc: Global,\n", "", OF_ALLOCATOR, 2),
-        Rule("(alloc: Global, ", "(", OF_ALLOCATOR),
-        Rule("vec![in alloc; 0; count]?", "vec![0; count]", OF_ALLOCATOR),
-        Rule("vec![in alloc; false; texts.len()]?", "vec![false; texts.len()]", OF_ALLOCATOR),
-        Rule("sorted_hashes(alloc, texts, seed)?", "sorted_hashes(texts, seed)", OF_ALLOCATOR),
-        Rule("largest_first(alloc, hashes.as_slice(), count)?", "largest_first(hashes.as_slice(), count)", OF_ALLOCATOR),
-        Rule("with_capacity(alloc, texts.len())?;", "with_capacity(texts.len());", OF_ALLOCATOR),
-        Rule("Vec::new(alloc)", "Vec::new()", OF_ALLOCATOR),
-        Rule("all_bytes()))?;", "all_bytes()));", WANT_OF_MEMORY),
-        Rule("push(part)?;", "push(part);", WANT_OF_MEMORY),
-        Rule("Result<Option<Vec<u32>>, AllocError>", "Option<Vec<u32>>", WANT_OF_MEMORY),
-        Rule("Result<Vec<u64>, AllocError>", "Vec<u64>", WANT_OF_MEMORY),
-        Rule("Result<Vec<&[u64]>, AllocError>", "Vec<&[u64]>", WANT_OF_MEMORY),
         Rule("return Ok(None);", "return None;", WANT_OF_MEMORY),
         Rule("    Ok(Some(displacements))\n", "    Some(displacements)\n", WANT_OF_MEMORY),
         Rule("    Ok(hashes)\n", "    hashes\n", WANT_OF_MEMORY),
@@ -427,7 +353,7 @@ IN_FILE = {
     ],
 }
 
-# What may not stand in code that is made: whatever is left of Rattle.
+# What code that is made may not have: words of Rattle.
 LEFT = re.compile(
     r"\b(?:ghost|requires|ensures|tactic|invariant|Model|AsStr|AsSlice|AllocError|Global|derive_where|thiserror|serde_json"
     r"|std|rt|tinystr_words|tinystr_packed|tinystr_hashed)\b|[^\x00-\x7f]"
@@ -435,7 +361,7 @@ LEFT = re.compile(
 
 
 class Rules:
-    """Applies the rules, and tells which fitted."""
+    """Applies the rules, and keeps which fitted."""
 
     def __init__(self, in_file: dict[str, list[Rule]] | None = None, everywhere: list[Rule] | None = None) -> None:
         self.in_file = IN_FILE if in_file is None else in_file
@@ -447,7 +373,7 @@ class Rules:
         for rule in self.in_file.get(file, []):
             count = text.count(rule.old)
             if count != rule.times:
-                raise Stopped(f"{file}: a rule's text stands {count} times, and not {rule.times}: {rule.old!r}")
+                raise Stopped(f"{file}: a rule's text is there {count} times, and not {rule.times}: {rule.old!r}")
             text = text.replace(rule.old, rule.new)
         self.used.add(file)
         for rule in self.everywhere:

@@ -1,4 +1,4 @@
-"""The list of differences: what it says of files, of the text, and of what stands for each `requires`.
+"""The list of differences: what it says of files, of the text, and of what replaces each `requires`.
 
 An entry of the text is a line 'once: OLD', 'N times: OLD' or 'wherever: OLD' (once or more), or 'N times in FILE: OLD' and
 so on, and below it '    becomes NEW' or '    goes'. What is new alone is 'once added in FILE: NEW', with no line below. `…`
@@ -19,7 +19,7 @@ FILE = re.compile(r"(left out|by hand): (\S+)")
 AGAIN = re.compile(r"again in (?P<file>\S+), of (?P<source>\S+\.rt)(?:, (?P<item>.*))?: (?P<names>[\w ]+)")
 MAKER = re.compile(r"texts are made by (?P<function>\w+) of (?P<file>\S+\.rt), which requires (?P<said>.*?), with (?P<call>.*)")
 PRIVATE = re.compile(r"private module: (\w+), of which callers have (.*)")
-STANDS = ("panics first with", "panics in its body at", "is unsafe")
+KINDS = ("panics first with", "panics in its body at", "is unsafe")
 
 
 @dataclass
@@ -37,8 +37,8 @@ class Entry:
 
 
 @dataclass
-class Stand:
-    """What stands for a `requires`: one of `STANDS`, and the text of the made function."""
+class Replacement:
+    """What replaces a `requires`: one of `KINDS`, and the text of the made function."""
 
     line: int
     kind: str
@@ -72,7 +72,7 @@ class Listed:
     left_out: list = field(default_factory=list)
     by_hand: list = field(default_factory=list)
     entries: list = field(default_factory=list)
-    stands: dict = field(default_factory=dict)
+    replacements: dict = field(default_factory=dict)
     private: dict = field(default_factory=dict)
     again: list = field(default_factory=list)
     maker: Maker | None = None
@@ -123,10 +123,12 @@ def read_list(path: Path) -> Listed:
             listed.entries.append(open_entry)
             open_entry = None
         elif line.startswith("    ") and open_requires:
-            kind = next((kind for kind in STANDS if line.strip().startswith(kind)), None)
+            kind = next((kind for kind in KINDS if line.strip().startswith(kind)), None)
             if kind is None:
-                raise Unreadable(f"{path.name}:{number}: it doesn't begin with one of: {', '.join(STANDS)}")
-            listed.stands.setdefault(open_requires, []).append(Stand(number, kind, line.strip().removeprefix(kind).strip()))
+                raise Unreadable(f"{path.name}:{number}: it doesn't begin with one of: {', '.join(KINDS)}")
+            listed.replacements.setdefault(open_requires, []).append(
+                Replacement(number, kind, line.strip().removeprefix(kind).strip())
+            )
             open_requires = None
         elif open_entry or open_requires:
             raise Unreadable(f"{path.name}:{number}: what becomes of the line above isn't said")

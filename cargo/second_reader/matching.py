@@ -1,4 +1,4 @@
-"""Where the tokens of an entry stand in a text, and what becomes of them."""
+"""Finds the tokens of an entry in a text, and replaces them."""
 
 from collections.abc import Iterator
 from difflib import SequenceMatcher
@@ -10,7 +10,7 @@ HOLE = "…"
 
 
 def match(tokens: list[str], at: int, pattern: list[str]) -> tuple[int, list[list[str]]] | None:
-    """The place behind a pattern at a place, and what stands in its holes; None where it doesn't stand there."""
+    """The place after a pattern at a place, and what is in its holes; None where the pattern isn't there."""
     for number, wanted in enumerate(pattern):
         if wanted == HOLE:
             for end in hole_ends(tokens, at):
@@ -57,7 +57,7 @@ def replaced(text: Text, entry: Entry) -> None:
 
 
 def differences(proved: Text, made: Text, most: int = 8) -> str | None:
-    """What differs between two lists of tokens, in words, with what stands around it; None where nothing does."""
+    """What differs between two lists of tokens, in words, with the tokens around it; None where nothing does."""
     if proved.tokens == made.tokens:
         return None
     said = [f"{proved.name} and {made.name} differ in what isn't listed:"]

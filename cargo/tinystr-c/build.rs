@@ -1,4 +1,4 @@
-//! The name by which programs ask for the shared object, and the library that has its `memcpy` and `memset`.
+//! The name by which programs load the shared object, and the library that has its `memcpy` and `memset`.
 
 fn main() {
     println!("cargo::rerun-if-changed=build.rs");

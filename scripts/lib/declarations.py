@@ -33,7 +33,7 @@ def declarations(path: Path) -> list[Item]:
     return items_of(text_of(path))
 
 
-def is_reached(item: Item) -> bool:
+def can_be_named(item: Item) -> bool:
     """Whether callers can name an item of a public module."""
     is_of_kind = item.kind in ("struct", "enum", "trait", "type", "fn")
     return item.kind in ("impl", "macro_rules") or is_of_kind and item.is_public
@@ -49,10 +49,10 @@ def public_declarations(library: str) -> Iterator[tuple[str, Item]]:
     for module in [item for item in root if item.kind == "mod" and not item.body]:
         file = folder / f"{module.name}.rt"
         if module.is_public:
-            yield from ((f"{file.stem}::", item) for item in declarations(file) if is_reached(item))
+            yield from ((f"{file.stem}::", item) for item in declarations(file) if can_be_named(item))
             for submodule in sorted((folder / module.name).glob("*.rt")):
                 is_public = f"pub mod {submodule.stem};" in text_of(file).splitlines()
-                found = [item for item in declarations(submodule) if (is_reached(item) if is_public else item.kind == "impl")]
+                found = [item for item in declarations(submodule) if (can_be_named(item) if is_public else item.kind == "impl")]
                 yield from ((f"{submodule.stem}::", item) for item in found)
         elif module.name in reexported:
             yield from (("", item) for item in declarations(file) if item.name in reexported[module.name])

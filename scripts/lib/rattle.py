@@ -18,8 +18,8 @@ TOKEN = re.compile(
     """,
     re.X,
 )
-# What may be in front of the word that tells the kind of an item.
-IN_FRONT = ("pub", "const", "unsafe", "extern")
+# Words that may be before the one that names the kind of an item.
+QUALIFIERS = ("pub", "const", "unsafe", "extern")
 # Items that end with a semicolon, whatever braces are in them, and those that have items in them.
 STATEMENTS = ("use", "const", "static", "type", "ghost")
 GROUPS = ("impl", "trait", "mod")
@@ -41,14 +41,14 @@ class Tokens:
     def is_word(self, at: int, word: str) -> bool:
         return at < len(self) and self.kinds[at] == "word" and self.texts[at] == word
 
-    def behind_space(self, at: int) -> int:
+    def after_space(self, at: int) -> int:
         """The next place from `at` on that isn't space."""
         while self.kinds[at] == "space":
             at += 1
         return at
 
-    def behind_bracket(self, at: int) -> int:
-        """The place behind the bracket that closes the one at `at`."""
+    def after_bracket(self, at: int) -> int:
+        """The place after the bracket that closes the one at `at`."""
         depth = 0
         while True:
             if self.kinds[at] == "mark":
@@ -60,7 +60,7 @@ class Tokens:
     def next_mark(self, at: int, marks: str) -> int:
         """The next place of one of some marks, outside of brackets."""
         while not (self.kinds[at] == "mark" and self.texts[at] in marks):
-            at = self.behind_bracket(at) if self.texts[at] in "([{" else at + 1
+            at = self.after_bracket(at) if self.texts[at] in "([{" else at + 1
         return at
 
     def joined(self, start: int, end: int) -> str:
@@ -153,7 +153,7 @@ def items_between(text: str, tokens: Tokens, at: int, end: int) -> Iterator[Item
                 above = tokens.starts[at]
             elif not is_above and (kind != "space" or token.count("\n") > 1):
                 above = None
-            at = tokens.behind_bracket(tokens.next_mark(at, "[")) if token == "#" else at + 1
+            at = tokens.after_bracket(tokens.next_mark(at, "[")) if token == "#" else at + 1
         else:
             item, at = item_at(text, tokens, at, above)
             yield item
@@ -161,7 +161,7 @@ def items_between(text: str, tokens: Tokens, at: int, end: int) -> Iterator[Item
 
 
 def item_at(text: str, tokens: Tokens, at: int, above: int | None) -> tuple[Item, int]:
-    """The item that begins at a token, and the token behind it."""
+    """The item that begins at a token, and the token after it."""
     start, word = tokens.starts[at], kind_at(tokens, at)
     kind, clauses, body, inner = tokens.texts[word], [], None, []
     if kind in STATEMENTS:
@@ -173,9 +173,9 @@ def item_at(text: str, tokens: Tokens, at: int, above: int | None) -> tuple[Item
                 clause, end = clause_at(tokens, end)
                 clauses.append(clause)
             else:
-                end = tokens.behind_bracket(end) if tokens.texts[end] in ("(", "[") else end + 1
+                end = tokens.after_bracket(end) if tokens.texts[end] in ("(", "[") else end + 1
         if tokens.texts[end] == "{":
-            opened, end = end, tokens.behind_bracket(end)
+            opened, end = end, tokens.after_bracket(end)
             body = tokens.starts[opened], tokens.starts[end]
             inner = list(items_between(text, tokens, opened + 1, end - 1)) if kind in GROUPS else []
         else:
@@ -184,33 +184,33 @@ def item_at(text: str, tokens: Tokens, at: int, above: int | None) -> tuple[Item
 
 
 def clause_at(tokens: Tokens, at: int) -> tuple[Clause, int]:
-    """The clause that begins at a token, and the token behind it."""
+    """The clause that begins at a token, and the token after it."""
     opened = tokens.next_mark(at, "{")
-    end = tokens.behind_bracket(opened)
+    end = tokens.after_bracket(opened)
     label, condition = tokens.joined(at + 1, opened), tokens.joined(opened + 1, end - 1)
     return Clause(tokens.texts[at], label.strip(), condition.strip()), end
 
 
 def kind_at(tokens: Tokens, at: int) -> int:
-    """Where the word is that tells the kind of the item at a token, as `fn` in `pub const fn`."""
-    while tokens.texts[at] in IN_FRONT:
-        behind = tokens.behind_space(at + 1)
-        if tokens.texts[at] == "pub" and tokens.texts[behind] == "(":
-            behind = tokens.behind_space(tokens.behind_bracket(behind))
+    """The place of the word that names the kind of the item at a token, as `fn` in `pub const fn`."""
+    while tokens.texts[at] in QUALIFIERS:
+        after = tokens.after_space(at + 1)
+        if tokens.texts[at] == "pub" and tokens.texts[after] == "(":
+            after = tokens.after_space(tokens.after_bracket(after))
         if tokens.texts[at] == "extern":
-            behind = tokens.behind_space(behind + 1)
-        if tokens.texts[at] == "const" and not tokens.is_word(behind, "fn"):
+            after = tokens.after_space(after + 1)
+        if tokens.texts[at] == "const" and not tokens.is_word(after, "fn"):
             return at
-        at = behind
+        at = after
     return at
 
 
 def end_of_tactic(tokens: Tokens, at: int) -> int | None:
-    """The token behind `#[tactic(..)]` or `#![tactic(..)]`, if one begins at a token."""
+    """The token after `#[tactic(..)]` or `#![tactic(..)]`, if one begins at a token."""
     if tokens.texts[at] != "#":
         return None
     bracket = at + 2 if tokens.texts[at + 1] == "!" else at + 1
-    return tokens.behind_bracket(bracket) if tokens.is_word(bracket + 1, "tactic") else None
+    return tokens.after_bracket(bracket) if tokens.is_word(bracket + 1, "tactic") else None
 
 
 def lines_for_the_prover(text: str) -> set[int]:
@@ -221,7 +221,7 @@ def lines_for_the_prover(text: str) -> set[int]:
             # what is ghost in a type or a value ends with a comma
             end = tokens.next_mark(at, ";,") + 1
         elif tokens.kinds[at] == "word" and tokens.texts[at] in CLAUSES:
-            end = tokens.behind_bracket(tokens.next_mark(at, "{"))
+            end = tokens.after_bracket(tokens.next_mark(at, "{"))
         else:
             end = end_of_tactic(tokens, at)
         if end:

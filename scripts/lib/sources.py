@@ -1,4 +1,4 @@
-"""Reads crates.txt, the texts of a crate, and what of a source a wrong body can turn. It prints nothing."""
+"""Reads crates.txt, the texts of a crate, and the items of a source that a wrong body can change. It prints nothing."""
 
 import functools
 import re
@@ -43,12 +43,12 @@ class Item:
             head = bare
         trait, _, owner = re.sub(r"\bwhere\b.*|\{$|&(?:'\w+ )?|: .*", "", head).rpartition(" for ")
         trait, owner = (re.split(r"::", path.strip())[-1].lower() for path in (trait, owner))
-        # a method's module is that of its type, wherever the impl stands
+        # a method's module is that of its type, wherever the impl is
         of = before[-1].lower() if before else ""
         return of.startswith(owner + trait) if trait else of.partition("+")[0] == owner
 
 
-# (each edit of a source asks for them)
+# (cached, since it is called for each edit of a source)
 @functools.cache
 def items(file: str, text: str) -> tuple[Item, ...]:
     """The functions with a body, the laws, and the constants, of a source."""
@@ -88,7 +88,7 @@ def libraries() -> dict[str, list[str]]:
 
 
 def below(crate: str) -> list[str]:
-    """The libraries of the repository that a crate stands on, each after those that it uses."""
+    """The libraries of the repository that a crate depends on, each after those that it uses."""
     uses, found = libraries(), []
     for used in uses[crate]:
         found += [lower for lower in [*below(used), used] if lower not in found]
@@ -96,7 +96,7 @@ def below(crate: str) -> list[str]:
 
 
 def arms(texts: dict[str, str]) -> list[tuple[str, int, tuple[int, int], str]]:
-    """The arms of each match on a width, a question or a case: file, line, where the arm stands, and its first line."""
+    """The arms of each match on a width, a question or a case: file, line, where the arm begins and ends, and its first line."""
     found = []
     for file, text in texts.items():
         at = 0

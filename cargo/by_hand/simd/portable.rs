@@ -122,7 +122,7 @@ pub fn shuffle(a: [u8; 16], places: [u8; 16]) -> [u8; 16] {
 pub fn text_len(bytes: &[u8]) -> usize {
     let ones = |word: u64| nonzero_low_bits(word) >> 7 & ONES;
     let mut len = 0;
-    // a byte has room for the sum of so many
+    // a sum of 240 ones fits in a byte
     for part in bytes.chunks(240) {
         let (words, rest) = part.as_chunks();
         let mut sum = ones(last_bytes(part, rest.len()));

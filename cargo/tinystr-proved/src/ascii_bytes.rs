@@ -25,7 +25,7 @@ enum AsciiByte {
 ///
 /// A constant is a pattern if each type in it derives `PartialEq`. This derive marks each `AsciiBytes<N, E>` as such a type,
 /// and gives it an `==` where `E` has one. That `==` compares byte by byte. `Proved` has none, and `AsciiBytes<N>` has the
-/// proved `==` of `ascii/order.rs`, which gives the same and compares all bytes at once.
+/// proved `==` of `ascii/order.rs`, which returns the same and compares words or vectors of bytes.
 #[derive(Clone, Copy, PartialEq)]
 #[repr(transparent)]
 pub(crate) struct AsciiBytes<const N: usize, E = Proved>([AsciiByte; N], PhantomData<E>);

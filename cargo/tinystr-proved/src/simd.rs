@@ -38,7 +38,7 @@ pub type u64x2 = Lanes<u64, 2>;
 #[derive(Clone, Copy, Debug)]
 pub struct Mask16([u8; 16]);
 
-/// A truth for each of eight lanes: 255 or 0 in the first eight, and behind them 0.
+/// A truth for each of eight lanes: 255 or 0 in the first eight, and then 0.
 #[derive(Clone, Copy, Debug)]
 pub struct Mask8([u8; 16]);
 
@@ -53,7 +53,7 @@ impl<T: Copy, const L: usize> Lanes<T, L> {
         self.0
     }
 
-    /// The first `L` of at least as many: fewer panic.
+    /// The first `L` elements of a slice: it panics where there are fewer.
     #[inline(always)]
     pub fn from_slice(slice: &[T]) -> Self {
         Lanes(*slice.first_chunk().unwrap())
@@ -164,7 +164,7 @@ impl u8x8 {
         Lanes(places.map(|place| self.0[place]))
     }
 
-    /// Its bytes, and zeros behind them.
+    /// Its bytes, and then zeros.
     #[inline(always)]
     fn widened(self) -> [u8; 16] {
         u128::from(u64::from_le_bytes(self.0)).to_le_bytes()
@@ -204,7 +204,7 @@ impl u8x16 {
         Lanes(places.map(|place| self.0[place]))
     }
 
-    /// The lanes at these places of this and the other, one behind the other.
+    /// The lanes at these places of this vector followed by the other.
     #[inline(always)]
     pub fn shuffle(self, other: Self, places: [usize; 16]) -> Self {
         if matches!(places, [1, 2, 3, 4, 5, 6, 7, 8, 9, 10, 11, 12, 13, 14, 15, 16]) {
@@ -226,7 +226,7 @@ impl u8x16 {
     }
 }
 
-// All lanes at once.
+// Compares all lanes in one step.
 impl PartialEq for u8x16 {
     #[inline(always)]
     fn eq(&self, other: &Self) -> bool {

@@ -1,4 +1,4 @@
-//! Calls of `str` by `Deref`, as programs for the original have them. None of the type's own calls stands before one.
+//! Calls of `str` by `Deref`, as programs for the original have them. None of the type's own calls hides one.
 
 use tinystr::{TinyAsciiStr, tinystr};
 

@@ -1,7 +1,7 @@
 """Reads the wrong bodies of a crate, and writes a goal into one.
 
-Those of src/PATH.rt stand in wrong-bodies/PATH.edits, a block each, with an empty line between two. What is written
-otherwise is Unreadable, by its name and its line.
+Those of src/PATH.rt are in wrong-bodies/PATH.edits, a block each, with an empty line between two. Any other form is
+Unreadable, with its name and its line.
 """
 
 import re
@@ -60,7 +60,7 @@ def read_blocks(crate: str) -> list[Edit]:
             continue
         file = f"src/{place.with_suffix('.rt')}"
         if path.suffix != ".edits":
-            raise Unreadable(f"{path.relative_to(TOP)}: blocks stand in a file named as their source, and .edits")
+            raise Unreadable(f"{path.relative_to(TOP)}: blocks are in a file named as their source, and .edits")
         if not (folder / file).is_file():
             raise Unreadable(f"{path.relative_to(TOP)}: there is no {file}")
         found += edits_of(path, file)
@@ -78,7 +78,7 @@ def named_once(edits: list[Edit]) -> list[Edit]:
 
 
 def write_goal(edit: Edit, function: str, goal: str) -> None:
-    """Writes the goal that refuses an edit into its block, where that stands."""
+    """Writes the goal that rejects an edit into its block, in place of the one that is there."""
     with WRITING:
         blocks = [block for _, block in blocks_of(edit.path)]
         at = next(at for at, block in enumerate(blocks) if block.startswith(f"{edit.name}\n"))

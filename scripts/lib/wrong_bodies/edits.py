@@ -23,7 +23,7 @@ def is_clause(goal: str) -> bool:
 @dataclass
 class Edit:
     """A wrong body, or a control: where it is written, the source that it changes, all that is written of it, the
-    function and the goal that have to refuse it, why that is no clause, and pairs of an old and a new text."""
+    function and the goal that must reject it, why that is no clause, and pairs of an old and a new text."""
 
     name: str
     path: Path
@@ -37,27 +37,27 @@ class Edit:
 
     @property
     def is_control(self) -> bool:
-        """Whether it is no wrong body, but tells whether the check that tries it can be trusted."""
+        """Whether it is no wrong body, but shows whether the check that tries it can be trusted."""
         return self.kind != "refused"
 
     def target(self, texts: dict[str, str]) -> Item | None:
-        """What it turns: the function that it names, or the only one or constant in which its first old text stands."""
+        """What it changes: the function that it names, or the only one or constant that has its first old text."""
         text, old = texts[self.file], self.pairs[0][0]
         inside = [item for item in items(self.file, text) if old in text[item.start : item.end]]
         named = [item for item in inside if item.is_named_by(self.function)]
         return named[0] if named else inside[0] if len(inside) == 1 else None
 
-    def turns_contract(self, item: Item, texts: dict[str, str]) -> bool:
-        """Whether it turns what a law with a body says, which its callers see."""
+    def changes_contract(self, item: Item, texts: dict[str, str]) -> bool:
+        """Whether it changes what a law with a body says, which its callers see."""
         head = texts[self.file][item.start : item.code]
         return item.code < item.end and any(old in head for old, _ in self.pairs)
 
     def place(self, texts: dict[str, str]) -> tuple[int, str]:
-        """Where it stands among its source's edits: by what it turns, and then by its name."""
+        """Its place in the order of its source's edits: by what it changes, and then by its name."""
         target = self.target(texts)
         return target.start if target else texts[self.file].find(self.pairs[0][0]), self.name
 
-    def names_what_it_turns(self, target: Item | None, texts: dict[str, str]) -> bool:
+    def names_what_it_changes(self, target: Item | None, texts: dict[str, str]) -> bool:
         """Whether the function that it names is its target or, where that is a constant, is there: a function of the
         crate, or a file of its lemmas."""
         if not self.function or not target:
@@ -70,14 +70,14 @@ class Edit:
         return any(item.is_named_by(self.function) for file, text in sources for item in items(file, text))
 
     def changes(self, texts: dict[str, str], target: Item | None) -> list[tuple[int, int, str]]:
-        """What it changes in its source: where each old text begins and ends, and the new one. Each old text stands once
+        """What it changes in its source: where each old text begins and ends, and the new one. Each old text is there once,
         in its target's body or, where it has none, in the file."""
         text, found = texts[self.file], []
         start, end = (target.start, target.end) if target else (0, len(text))
         for old, new in self.pairs:
             if (count := text.count(old, start, end)) != 1:
                 where = target.name if target else self.file
-                raise Unreadable(f"{self.name}: an old text stands {count} times in {where}: {old}")
+                raise Unreadable(f"{self.name}: an old text is {count} times in {where}: {old}")
             at = text.index(old, start, end)
             found.append((at, at + len(old), new))
         return found

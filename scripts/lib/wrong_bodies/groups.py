@@ -1,8 +1,8 @@
-"""Groups of a crate's edits, each of which one check tries: no two edits of a group reach one function, one arm of the
+"""Groups of a crate's edits, each of which one check tries: no two edits of a group affect one function, one arm of the
 match in which a body ends, or one file of lemmas.
 
-A function is checked against contracts alone, so the edit of a body reaches that function, or one arm of it; that of a
-constant or of what a law with a body says reaches what names these too. One that reaches contracts, or turns what is no
+A function is checked against contracts alone, so the edit of a body affects that function, or one arm of it; that of a
+constant or of what a law with a body says affects what names these too. One that affects contracts, or changes what is no
 function's body, is alone. Groups of several have neutral and disturbed edits as controls.
 """
 
@@ -11,16 +11,16 @@ from dataclasses import dataclass
 
 from lib.sources import Item
 from lib.wrong_bodies.edits import Edit, Unreadable, applied
-from lib.wrong_bodies.reach import reach_of
+from lib.wrong_bodies.effects import effect_of
 from lib.wrong_bodies.searches import Search
 
 
 @dataclass(frozen=True)
 class Group:
-    """Edits that one check tries, controls among them, each with what it reaches (none: it is alone)."""
+    """Edits that one check tries, controls among them, each with what it affects (none: it is alone)."""
 
     edits: tuple
-    reached: tuple
+    effects: tuple
 
     @property
     def bodies(self) -> list[Edit]:
@@ -45,7 +45,7 @@ class Group:
 
     def of(self, bodies: list[Edit]) -> "Group":
         """The group of some of its wrong bodies, and its controls."""
-        kept = [(edit, reach) for edit, reach in zip(self.edits, self.reached) if edit in bodies or edit.is_control]
+        kept = [(edit, effect) for edit, effect in zip(self.edits, self.effects) if edit in bodies or edit.is_control]
         return Group(*zip(*kept))
 
     def parts(self, disturbed: Iterable[Edit]) -> "list[Group]":
@@ -68,34 +68,32 @@ def groups_of(edits: list[Edit], texts: dict[str, str], only: Iterable[str] = ()
 
 
 def grouped(edits: list[Edit], controls: list[Edit], texts: dict[str, str]) -> list[Group]:
-    """The groups of a crate's wrong bodies and controls: two that reach one part of a function are in two groups."""
-    reached = {edit.name: reach_of(edit, target_of(edit, texts), texts) for edit in [*edits, *controls]}
-    alone = [edit for edit in edits if reached[edit.name] is None]
+    """The groups of a crate's wrong bodies and controls: two that affect one part of a function are in two groups."""
+    effects = {edit.name: effect_of(edit, target_of(edit, texts), texts) for edit in [*edits, *controls]}
+    alone = [edit for edit in edits if effects[edit.name] is None]
     left, groups = [edit for edit in edits if edit not in alone], []
     while left:
         taken, new = controls_of(len(groups), controls), []
         for edit in left:
-            if not any(reached[edit.name].meets(reached[other.name]) for other in [*taken, *new]):
+            if not any(effects[edit.name].meets(effects[other.name]) for other in [*taken, *new]):
                 new.append(edit)
         # one alone can't be disturbed
         group = [*taken, *new] if len(new) > 1 else new or left[:1]
         left = [edit for edit in left if edit not in group]
-        groups.append(Group(tuple(group), tuple(reached[edit.name] for edit in group)))
+        groups.append(Group(tuple(group), tuple(effects[edit.name] for edit in group)))
     return groups + [Group((edit,), (None,)) for edit in alone]
 
 
 def controls_of(number: int, controls: list[Edit]) -> list[Edit]:
-    """The controls of a group: a half of all for each of the first two, and then one, by turns, since each stands in the
-    way of the edits of its function."""
-    if number < 2 or not controls:
-        return controls[number::2]
-    return [controls[number % len(controls)]]
+    """The controls of a group: a half of all for each of the first two, and then one, each time the next, since a group with
+    a control can't have the edits of its function."""
+    return controls[number::2] if number < 2 or not controls else [controls[number % len(controls)]]
 
 
 def target_of(edit: Edit, texts: dict[str, str]) -> Item | None:
-    """What an edit turns, where it can be applied and names that."""
+    """What an edit changes, where it can be applied and names that."""
     item = edit.target(texts)
     edit.changes(texts, item)
-    if not edit.names_what_it_turns(item, texts):
-        raise Unreadable(f"{edit.name} names {edit.function}, and turns {item.name} of {item.file}")
+    if not edit.names_what_it_changes(item, texts):
+        raise Unreadable(f"{edit.name} names {edit.function}, and changes {item.name} of {item.file}")
     return item

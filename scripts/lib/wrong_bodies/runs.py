@@ -1,4 +1,4 @@
-"""One run over some crates: what it takes from earlier runs, and the checks that it makes, of each crate the longest first.
+"""One run over some crates: what it takes from earlier runs, and the checks that it makes, the longest of each crate first.
 
 A group in which one edit may have disturbed another is tried again in parts, down to a single wrong body.
 """
@@ -13,16 +13,15 @@ from pathlib import Path
 from lib.sources import texts_of
 from lib.wrong_bodies.blocks import read_blocks
 from lib.wrong_bodies.groups import Group, groups_of
-from lib.wrong_bodies.judging import Judged, Verdict, judge
+from lib.wrong_bodies.judging import Judged, Verdict, judge, record
 from lib.wrong_bodies.keeping import Kept
-from lib.wrong_bodies.recording import record
-from lib.wrong_bodies.rooms import Room
 from lib.wrong_bodies.searches import Search, searches_of, with_searches
+from lib.wrong_bodies.workspace import Workspace
 
 
 @dataclass
 class Trial:
-    """A group of a crate: what an earlier run kept of it, or the check that is under way."""
+    """A group of a crate: what an earlier run kept of it, or its running check."""
 
     crate: str
     kept: list[tuple[str, str]] | None = None
@@ -37,11 +36,10 @@ class Trial:
 
 
 class Run:
-    """One run: in a folder that is empty yet, as the words of the command say. Where it ends early, checks that wait don't
-    begin."""
+    """One run: in an empty folder, with the options of the command. Where it ends early, no waiting check begins."""
 
     def __init__(self, folder: str, given: Namespace) -> None:
-        self.folder, self.given, self.room = Path(folder), given, None
+        self.folder, self.given, self.workspace = Path(folder), given, None
         self.pool = ThreadPoolExecutor(given.jobs)
         self.version = subprocess.run(["rt", "version"], capture_output=True, text=True, check=True).stdout
 
@@ -58,14 +56,14 @@ class Run:
         lines = [None if self.given.anew else kept.lines(group) for group in groups]
         searches = set()
         if None in lines:
-            self.room = self.room or Room(self.folder)
-            self.room.begin(crate)
+            self.workspace = self.workspace or Workspace(self.folder)
+            self.workspace.begin(crate)
             # (beside a wrong callee a goal is tried by its short search alone, so a group of several needs these)
             is_of_several = any(len(group.edits) > 1 for group, line in zip(groups, lines) if line is None)
             if is_of_several and not (self.given.record or self.given.whole):
-                searches = self.room.proved(crate, searches_of(edits, texts), texts)
+                searches = self.workspace.proved(crate, searches_of(edits, texts), texts)
         left = [number for number, line in enumerate(lines) if line is None]
-        # a long check that is left to the end is waited for alone
+        # the longest first, so that none of them is still running when the others have ended
         left.sort(key=lambda number: len(groups[number].edits), reverse=True)
         args = (texts, kept, searches)
         checks = {number: self.pool.submit(self.check, crate, number, groups[number], *args) for number in left}
@@ -77,7 +75,7 @@ class Run:
         """Checks a group, with short searches for the goals that it names, and its parts where it is disturbed. What
         passes is kept."""
         named = filter(group.names, searches)
-        output = self.room.try_group(crate, number, with_searches(crate, named, group.texts(texts)))
+        output = self.workspace.try_group(crate, number, with_searches(crate, named, group.texts(texts)))
         if self.given.output:
             Path(self.given.output, f"{crate}-{number}.txt").write_text(output, encoding="utf-8")
         verdicts, wrong = judge(group, output)
@@ -94,7 +92,7 @@ class Run:
 
     def said_of(self, crate: str) -> str:
         """How many checks a crate's groups took in this run, and the processor time of these and of the first one."""
-        tried, seconds = (self.room.tried, self.room.seconds) if self.room else ({}, {})
+        tried, seconds = (self.workspace.tried, self.workspace.seconds) if self.workspace else ({}, {})
         return f"{tried.get(crate, 0)} checks in this run, {seconds.get(crate, 0):.0f} processor seconds"
 
 

@@ -1,5 +1,5 @@
 """Short searches for the goals that wrong bodies break. Where no file of proofs answers a goal, the prover tries four ways
-to prove it, each longer than the one before, and then tells how an answer would begin. In the copies of a crate such a
+to prove it, each longer than the one before, and then prints how an answer would begin. In the copies of a crate such a
 goal gets an answer that tries the first two ways. It prints nothing."""
 
 import re
@@ -9,7 +9,7 @@ from dataclasses import dataclass
 from lib.sources import Item, items
 from lib.wrong_bodies.edits import Edit
 
-# Imports for each search, and those with which a goal is told by its operators.
+# Imports for each search, and those by which the prover prints a goal with its operators.
 WORDS = ["use Rattle.std.proofs.Common as common", "use Rattle.std.proofs.lemmas.Grind as grinding"]
 OPERATORS = "use Rattle.std.proofs.Common.{◌≡◌, ◌+◌, ◌-◌, ◌*◌, ◌/◌, ◌%◌, ◌<◌, ◌≤◌, ◌++◌, length, take, drop, IsTrue}"
 # The lines of comments and attributes above a function, and the lemmas that one names for its goals.
@@ -21,8 +21,8 @@ GENERIC = re.compile(r"(?:pub )?trait\b|(?:impl|fn \w+)<(?:'\w+, )*[^'>]")
 
 @dataclass(frozen=True)
 class Search:
-    """A goal of a function; whether that, or the impl or trait in which it stands, has parameters of types or constants;
-    and the lemmas that it names for its goals."""
+    """A goal of a function; whether that, or its impl or trait, has parameters of types or constants; and the lemmas that
+    it names for its goals."""
 
     function: str
     goal: str

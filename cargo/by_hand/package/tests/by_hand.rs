@@ -58,7 +58,7 @@ const CODES: [TinyAsciiStr<3>; 2] = [tinystr!(3, "CHF"), EURO];
 const FIRST: Option<u8> = EURO.get_byte(0);
 
 #[test]
-fn constants_stand_in_any_place() {
+fn constants_are_allowed_in_any_place() {
     assert!(EMPTY.is_empty() && EMPTY == TinyAsciiStr::default());
     assert_eq!(CODES.map(|code| code.len()), [3, 3]);
     assert_eq!(FIRST, Some(b'E'));
@@ -96,32 +96,32 @@ fn an_error_is_one_of_std() {
     assert_eq!(texts[2], "attempted to construct TinyAsciiStr from a non-ASCII string");
 }
 
-fn told(error: impl Error) -> String {
+fn message(error: impl Error) -> String {
     error.to_string()
 }
 
 #[test]
-fn each_error_tells_what_is_wrong() {
-    let read = |bytes| TinyAsciiStr::<4>::read_bytes(bytes).map_err(told).unwrap_err();
+fn each_error_says_what_is_wrong() {
+    let read = |bytes| TinyAsciiStr::<4>::read_bytes(bytes).map_err(message).unwrap_err();
     assert_eq!(read(b"EUR"), "there are fewer than 4 bytes");
     assert_eq!(read(b"G\0B\0"), "a byte other than NUL stands behind a NUL");
     assert_eq!(read(b"caf\xe9"), "a byte is above 127");
-    let written = UnvalidatedTinyAsciiStr::from_utf8_unchecked(*b"\0GB").to_bytes().map_err(told);
+    let written = UnvalidatedTinyAsciiStr::from_utf8_unchecked(*b"\0GB").to_bytes().map_err(message);
     assert_eq!(written, Err("the bytes aren't a text and then NULs".into()));
-    let table = |bytes| Table::<3>::new(bytes).map_err(told).map(|table| table.len());
+    let table = |bytes| Table::<3>::new(bytes).map_err(message).map(|table| table.len());
     assert_eq!(table(b"EURJP"), Err("5 bytes can't be divided into records".into()));
     let fault = "record 1: attempted to construct TinyAsciiStr from a non-ASCII string";
     assert_eq!(table(b"EURJP\xff"), Err(fault.into()));
-    let sorted = SortedTable::new(Table::<3>::new(b"CHFJPYEUR").unwrap()).map_err(told).map(|table| table.table().len());
+    let sorted = SortedTable::new(Table::<3>::new(b"CHFJPYEUR").unwrap()).map_err(message).map(|table| table.table().len());
     assert_eq!(sorted, Err("record 2 isn't above the one before it".into()));
-    let opened = |bytes| SortedTable::<3>::from_bytes(bytes).map_err(told).map(|table| table.table().len());
+    let opened = |bytes| SortedTable::<3>::from_bytes(bytes).map_err(message).map(|table| table.table().len());
     assert_eq!(opened(b"EURJP"), Err("5 bytes can't be divided into records".into()));
     assert_eq!(opened(b"JPYEUR"), Err("record 1 isn't above the one before it".into()));
-    let map = |keys, values| PackedMap::<3, 1>::new(keys, values).map_err(told).map(|map| map.len());
+    let map = |keys, values| PackedMap::<3, 1>::new(keys, values).map_err(message).map(|map| map.len());
     assert_eq!(map(b"EU", &[2]), Err("keys: 2 bytes can't be divided into records".into()));
     assert_eq!(map(b"JPYEUR", &[0, 2]), Err("keys: record 1 isn't above the one before it".into()));
     assert_eq!(map(b"EURJPY", &[2]), Err("1 bytes aren't a value for each of 2 keys".into()));
-    let texts = |keys, values| TextMap::<2, 3>::new(keys, values).map_err(told).map(|map| map.len());
+    let texts = |keys, values| TextMap::<2, 3>::new(keys, values).map_err(message).map(|map| map.len());
     assert_eq!(texts(b"CHJ", b"CHF"), Err("keys: 3 bytes can't be divided into records".into()));
     assert_eq!(texts(b"JPCH", b"JPYCHF"), Err("keys: record 1 isn't above the one before it".into()));
     assert_eq!(texts(b"CHJP", b"CHFJP"), Err("values: 5 bytes can't be divided into records".into()));
@@ -129,8 +129,8 @@ fn each_error_tells_what_is_wrong() {
 }
 
 #[test]
-fn each_error_of_a_hashed_table_tells_what_is_wrong() {
-    let table = |bytes: &[u8]| HashedTable::<3>::from_bytes(bytes).map_err(told).map(|table| table.len());
+fn each_error_of_a_hashed_table_says_what_is_wrong() {
+    let table = |bytes: &[u8]| HashedTable::<3>::from_bytes(bytes).map_err(message).map(|table| table.len());
     assert_eq!(table(b"EUR"), Err("3 bytes are fewer than the sixteen of a header".into()));
     assert_eq!(table(&[[2, 0, 0, 0]; 4].concat()), Err("the version is 2, and not 1".into()));
     let two = [&[1, 0, 0, 0, 2, 0, 0, 0], [0; 8].as_slice(), b"EUR"].concat();
@@ -139,13 +139,13 @@ fn each_error_of_a_hashed_table_tells_what_is_wrong() {
     assert_eq!(table(&hashed), Ok(2));
     assert_eq!(table(&hashed[..21]), Err("5 bytes can't be divided into records".into()));
     assert_eq!(table(&sorted), Err("record 0 isn't at the place of its hash".into()));
-    let map = |keys: &[u8], values: &[u8]| HashedMap::<3, 1>::new(keys, values).map_err(told).map(|map| map.len());
+    let map = |keys: &[u8], values: &[u8]| HashedMap::<3, 1>::new(keys, values).map_err(message).map(|map| map.len());
     assert_eq!(map(b"EUR", &[2]), Err("keys: 3 bytes are fewer than the sixteen of a header".into()));
     assert_eq!(map(&one, &[2, 0]), Err("2 bytes aren't a value for each of 1 keys".into()));
-    let texts = |keys: &[u8], values: &[u8]| HashedTextMap::<3, 2>::new(keys, values).map_err(told).map(|map| map.len());
+    let texts = |keys: &[u8], values: &[u8]| HashedTextMap::<3, 2>::new(keys, values).map_err(message).map(|map| map.len());
     assert_eq!(texts(b"EUR", b"EU"), Err("keys: 3 bytes are fewer than the sixteen of a header".into()));
     assert_eq!(texts(&one, b"E"), Err("values: 1 bytes can't be divided into records".into()));
     assert_eq!(texts(&one, b"EUUS"), Err("2 values aren't one for each of 1 keys".into()));
-    assert_eq!(pack_hashed(&[EURO, EURO]).map_err(told), Err("a text occurs twice: EUR".into()));
-    assert_eq!(told(PackHashedError::<3>::NoSeed), "no seed gives each text a place of its own");
+    assert_eq!(pack_hashed(&[EURO, EURO]).map_err(message), Err("a text occurs twice: EUR".into()));
+    assert_eq!(message(PackHashedError::<3>::NoSeed), "no seed gives each text a place of its own");
 }

@@ -1,4 +1,4 @@
-//! What stands for a condition that is proved at each call in Rattle: a panic.
+//! A call panics where it doesn't meet a condition that is proved at each call in Rattle.
 
 use std::panic::catch_unwind;
 use tinystr::hashed::{self, HashedMap, HashedTable, HashedTextMap};
@@ -13,8 +13,8 @@ const REFUSED: &[(&str, fn())] = &[
     ("from_utf16_lossy by 255", || ignore(TinyAsciiStr::<2>::from_utf16_lossy(&[0x61], 255))),
     ("join by 0", || ignore(TinyAsciiStr::join::<4>(&[tinystr!(2, "a")], 0))),
     ("join of nothing by 128", || ignore(TinyAsciiStr::<2>::join::<4>(&[], 128))),
-    ("slice that begins behind its end", || ignore(tinystr!(4, "Latn").slice::<4>(backward(2, 1)))),
-    ("slice that begins behind its end, past the text", || ignore(tinystr!(16, "Latn").slice::<4>(backward(9, 8)))),
+    ("slice that begins after its end", || ignore(tinystr!(4, "Latn").slice::<4>(backward(2, 1)))),
+    ("slice that begins after its end, past the text", || ignore(tinystr!(16, "Latn").slice::<4>(backward(9, 8)))),
     ("write_bytes to fewer", || tinystr!(4, "GB").write_bytes(&mut [0; 3])),
     ("validate_bytes at 0", || ignore(TinyAsciiStr::<0>::validate_bytes(b""))),
     ("validate_bytes at 0 of a byte", || ignore(TinyAsciiStr::<0>::validate_bytes(b"a"))),
@@ -27,7 +27,7 @@ const REFUSED: &[(&str, fn())] = &[
     ("SortedTable::from_bytes at 0", || ignore(SortedTable::<0>::from_bytes(b""))),
     ("text_at past the end", || ignore(table().text_at(2))),
     ("slice of a table past the end", || ignore(table().slice(1..3))),
-    ("slice of a table that begins behind its end", || ignore(table().slice(backward(2, 1)))),
+    ("slice of a table that begins after its end", || ignore(table().slice(backward(2, 1)))),
     ("slice of a table wholly past the end", || ignore(table().slice(3..3))),
     ("PackedMap::new of keys at 0", || ignore(PackedMap::<0, 1>::new(b"", &[]))),
     ("PackedMap::new of values at 0", || ignore(PackedMap::<3, 0>::new(b"EUR", &[]))),

@@ -114,7 +114,7 @@ const EDGES: [u8; 15] = *b"\0\x01/09:@AZ[`az{\x7f";
 /// What a constant has of one text: its answers, and its changes of case.
 type Facts<const N: usize> = ([bool; 9], [TinyAsciiStr<N>; 3]);
 
-/// What constants have of texts of at most two bytes of `EDGES`, behind as many letters as fit at `N`.
+/// What constants have of texts of at most two bytes of `EDGES`, after the most letters that fit at `N`.
 const fn edge_facts<const N: usize>() -> [[Option<Facts<N>>; 15]; 15] {
     let mut facts = [[None; 15]; 15];
     let mut at = 0;

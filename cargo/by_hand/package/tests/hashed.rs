@@ -1,4 +1,4 @@
-//! Hashed tables and maps give what sets and maps of std give, and changed bytes are refused or are those of another table.
+//! Hashed tables and maps return what sets and maps of std return, and changed bytes are rejected or are those of another table.
 #![cfg(feature = "alloc")]
 
 use std::collections::{BTreeMap, HashMap, HashSet};
@@ -100,7 +100,7 @@ fn a_text_that_occurs_twice_is_not_packed() {
     assert_eq!(pack_hashed(&[none, none]), Err(PackHashedError::Duplicate { text: none }));
 }
 
-/// Changed bytes are refused, and no look-up in them leaves the records, or they are a table of the texts in their records.
+/// Changed bytes are rejected, and no look-up in them leaves the records, or they are a table of the texts in their records.
 fn changed_bytes_are_read<const N: usize>(bytes: &[u8], keys: &[TinyAsciiStr<N>]) -> Result<(), HashedError> {
     for key in keys {
         assert!(in_place::position(bytes, key).is_none_or(|index| index < bytes.len() / N));

@@ -28,11 +28,11 @@ impl<const N: usize> TinyAsciiStr<N> {
     ///
     /// # Panics
     ///
-    /// Where the range begins behind its end.
+    /// Where the range begins after its end.
     #[inline]
     #[must_use]
     pub fn slice<const M: usize>(&self, range: Range<usize>) -> TinyAsciiStr<M> {
-        assert!(range.start <= range.end, "the range begins behind its end");
+        assert!(range.start <= range.end, "the range begins after its end");
         self.suffix::<M>(range.start)
             .prefix(range.end - range.start)
     }

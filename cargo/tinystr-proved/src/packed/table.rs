@@ -162,7 +162,7 @@ impl<'a, const N: usize> Table<'a, N> {
     ///
     /// # Panics
     ///
-    /// Where the range begins behind its end or the range ends behind the last text.
+    /// Where the range begins after its end or the range ends after the last text.
     #[must_use]
     pub fn slice(&self, range: Range<usize>) -> Table<'a, N> {
         let records = self.records;

@@ -1,9 +1,9 @@
-//! Each call gives in each lane what `std::simd` says of it: calls on bytes at all bytes that a lane can hold, masks at all
-//! masks, shuffles at each place in each lane. `machine` and `portable` are asked alike.
+//! Each call returns in each lane what `std::simd` says of it: calls on bytes at all bytes that a lane can hold, masks at all
+//! masks, shuffles at each place in each lane. `machine` and `portable` are tested alike.
 
 use super::*;
 
-/// The calls of `machine` and of `portable`, side by side.
+/// A pair of these has a call of `machine` and the same call of `portable`.
 type Binary = fn([u8; 16], [u8; 16]) -> [u8; 16];
 
 const STEP: usize = 4099;
@@ -139,8 +139,8 @@ fn even_and_next() {
     });
 }
 
-/// The length of each text, in arrays of sizes on both sides of those that are summed at once, and of sixteen bytes by the bits
-/// of its NULs too.
+/// The length of each text, in arrays just below and above the sizes that are summed in one step, and of sixteen bytes by the
+/// bits of its NULs too.
 #[test]
 fn lengths() {
     for size in (0..=40).chain(236..=250).chain(476..=484) {

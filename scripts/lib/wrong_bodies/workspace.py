@@ -1,5 +1,5 @@
-"""A folder with copies of the crates. Each is checked there as it stands, and then copies of it, each with the edits of
-a group, over what the first check proved. The crates as they stand stay, for the gate's checks that come after."""
+"""A folder with copies of the crates. Each is checked there unchanged, and then copies of it, each with the edits of a
+group, on top of what the first check proved. The unchanged crates are kept, for later checks of the gate."""
 
 import os
 import re
@@ -11,12 +11,12 @@ from pathlib import Path
 
 from lib.copies import READ_BY_RT, copy_all
 from lib.sources import below
-from lib.wrong_bodies.refusals import refusals
+from lib.wrong_bodies.open_goals import open_goals
 from lib.wrong_bodies.searches import Search, with_searches
 
 
-class Room:
-    """A copy of the crates in a new folder, below which groups are checked."""
+class Workspace:
+    """A copy of the crates in a new folder, in which groups are checked."""
 
     def __init__(self, folder: Path) -> None:
         self.folder, self.lock = folder, threading.Lock()
@@ -26,7 +26,7 @@ class Room:
         copy_all(self.base)
 
     def check(self, crate: str, top: Path, *first: str) -> str:
-        """Checks a crate below a folder, by a command with some first words, and returns what is said."""
+        """Checks a crate below a folder, by a command with some first words, and returns its output."""
         words = [*first, "rt", "check", "--jobs", "1"]
         how = {"cwd": top / "crates" / crate, "stdin": subprocess.DEVNULL, "stderr": subprocess.STDOUT}
         with open(top / "said", "w+", encoding="utf-8", errors="replace") as said:
@@ -39,31 +39,30 @@ class Room:
         return output
 
     def begin(self, crate: str) -> None:
-        """Checks the crate as it stands, and keeps what the groups begin with."""
+        """Checks the unchanged crate, and keeps what the groups begin with."""
         output = self.check(crate, self.base)
         if not re.search(r"^logic=proved ", output, re.M):
-            sys.exit(f"{crate} isn't proved as it stands:\n" + "\n".join(output.splitlines()[-20:]))
+            sys.exit(f"{crate} isn't proved without edits:\n" + "\n".join(output.splitlines()[-20:]))
         linked(self.base / "crates" / crate / "out/incremental", self.folder / "seeds" / crate)
 
     def proved(self, crate: str, searches: set[Search], texts: dict[str, str]) -> set[Search]:
-        """Those of some searches that prove their goals in the crate as it stands."""
+        """Those of some searches that prove their goals in the unchanged crate."""
         output = self.try_group(crate, "searches", with_searches(crate, searches, texts), is_waited_for=True)
         if not re.search(r"^logic=(proved |not-proved)", output, re.M):
             return set()
-        is_open = {(refusal.function, refusal.goal) for refusal in refusals(output)}
+        is_open = {(goal.function, goal.name) for goal in open_goals(output)}
         # (an error that names no goal may keep a file from being read)
         unread = re.findall(r"^(?:\./)?(proofs/\S+/Answers\.antt):\d+:\d+: error: (?!`)", output, re.M)
         return {search for search in searches if (search.function, search.goal) not in is_open and search.file not in unread}
 
     def try_group(self, crate: str, number: int | str, texts: dict[str, str], is_waited_for: bool = False) -> str:
-        """Checks a copy of the crate with these texts, on what other programs leave free of the processors where nothing
-        waits for it."""
+        """Checks a copy of the crate with these texts, with a low priority where nothing waits for it."""
         top = self.folder / f"{crate}-{number}"
         top.mkdir()
         shutil.copy(self.base / "HANDLES", top)
         lines = (self.base / "crates.txt").read_text(encoding="utf-8").splitlines()
         names = {*below(crate), crate}
-        # a line begins with the crate's name, behind which `staticlib` may stand
+        # a line begins with the crate's name, and `staticlib` may follow
         kept = [line for line in lines if ":" in line and line.partition(":")[0].split()[0] in names]
         (top / "crates.txt").write_text("\n".join(kept), encoding="utf-8")
         for lower in below(crate):

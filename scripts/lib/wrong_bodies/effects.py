@@ -1,4 +1,4 @@
-"""What an edit reaches: the functions, or arms of them, and the files of lemmas whose goals may be open because of it. It
+"""What an edit affects: the functions, or arms of them, and the files of lemmas whose goals may be open because of it. It
 reads the texts of a crate, and prints nothing."""
 
 import re
@@ -8,7 +8,7 @@ from os.path import commonprefix
 
 from lib.sources import Item, items
 from lib.wrong_bodies.edits import Edit
-from lib.wrong_bodies.refusals import Refusal
+from lib.wrong_bodies.open_goals import OpenGoal
 
 COMMENT_OR_IMPORT = re.compile(r"^ *(?://.*$|(?:pub )?use [^;]*;)", re.M)
 PROOF = re.compile(r"proofs/(.+?)(?:/(?:Answers|Invariants|Proof))?\.antt")
@@ -36,41 +36,41 @@ class Part:
 
 
 @dataclass(frozen=True)
-class Reach:
+class Effect:
     """Parts of functions and laws, and the names that the prover has for files of proofs."""
 
     parts: frozenset
     files: frozenset = frozenset()
 
     def holds(self, path: str, goal: str = "") -> bool:
-        """Whether a goal of a function, or a file of lemmas, as the prover names it, is reached."""
+        """Whether a goal of a function, or a file of lemmas, as the prover names it, is affected."""
         return path in self.files or any(part.may_open(path, goal) for part in self.parts)
 
-    def meets(self, other: "Reach") -> bool:
-        """Whether two edits reach one goal or file."""
+    def meets(self, other: "Effect") -> bool:
+        """Whether two edits affect one goal or file."""
         if any(one.meets(another) for one in self.parts for another in other.parts):
             return True
         return any(map(other.holds, self.files)) or any(map(self.holds, other.files))
 
 
-def own_of(reach: Reach | None, refusals: list[Refusal]) -> list[Refusal]:
-    """The refusals that an edit may have caused: those of what it reaches, or all where that isn't known."""
-    return [refusal for refusal in refusals if reach is None or reach.holds(refusal.function, refusal.goal)]
+def own_of(effect: Effect | None, goals: list[OpenGoal]) -> list[OpenGoal]:
+    """The open goals that an edit may have caused: those of what it affects, or all where that isn't known."""
+    return [goal for goal in goals if effect is None or effect.holds(goal.function, goal.name)]
 
 
-def reach_of(edit: Edit, item: Item | None, texts: dict[str, str]) -> Reach | None:
-    """What an edit of an item reaches; None where it turns no function's body, or reaches a contract or a constant."""
+def effect_of(edit: Edit, item: Item | None, texts: dict[str, str]) -> Effect | None:
+    """What an edit of an item affects; None where it changes no function's body, or affects a contract or a constant."""
     if not item:
         return None
     if item.is_constant:
         name = re.compile(rf"\b{item.name}\b")
         cited = re.compile(rf"\.TheConstants\.(?:\{{[^}}]*)?\b{item.name}\b")
-    elif edit.turns_contract(item, texts):
+    elif edit.changes_contract(item, texts):
         name, cited = re.compile(rf"\blaws::{item.name}\b"), re.compile(rf"\blaws\.{item.name}\b")
     else:
         text = texts[item.file]
         places = [text.find(old, item.start) + len(commonprefix((old, new))) for old, new in edit.pairs]
-        return Reach(widened(parts_at(item, text, places), edit))
+        return Effect(widened(parts_at(item, text, places), edit))
     sources = [(file, text) for file, text in texts.items() if file.startswith("src/")]
     naming = {item for file, text in sources for item in items_that_name(name, file, text)} - {item}
     is_cited = any(cited.search(text) for file, text in texts.items() if file.startswith("specs/"))
@@ -80,7 +80,7 @@ def reach_of(edit: Edit, item: Item | None, texts: dict[str, str]) -> Reach | No
     for user in naming:
         places = [found.start() for found in name.finditer(texts[user.file], user.start, user.end)]
         parts |= parts_at(user, texts[user.file], places)
-    return Reach(widened(parts, edit), frozenset(files_that_cite(cited, texts)))
+    return Effect(widened(parts, edit), frozenset(files_that_cite(cited, texts)))
 
 
 def widened(parts: frozenset[Part], edit: Edit) -> frozenset[Part]:
@@ -90,15 +90,15 @@ def widened(parts: frozenset[Part], edit: Edit) -> frozenset[Part]:
 
 
 def parts_at(function: Item, text: str, places: Iterable[int]) -> frozenset[Part]:
-    """The parts of a function in which some places of its source stand: the whole where one is in no arm."""
+    """The parts of a function that have some places of its source: the whole where one is in no arm."""
     arms = list(last_arms(function, text))
     found = {next((name for name, start, end in arms if start <= place < end), "") for place in places}
     return frozenset(Part(function, arm) for arm in ([""] if "" in found else found))
 
 
 def last_arms(function: Item, text: str) -> Iterator[tuple[str, int, int]]:
-    """The arms of the match in which a function's body ends: the name of each, as the prover has it, and where what stands
-    behind its pattern begins and ends."""
+    """The arms of the match in which a function's body ends: the name of each, as the prover has it, and where the text
+    after its pattern begins and ends."""
     lines = text[function.code : function.end].split("\n")
     indent = re.match(" *", lines[-1])[0] + 4 * " "
     begins = [at for at, line in enumerate(lines) if line.startswith(f"{indent}match ") and line.endswith("{")]
@@ -124,7 +124,7 @@ def items_that_name(name: re.Pattern, file: str, text: str) -> Iterator[Item | N
 
 
 def files_that_cite(cited: re.Pattern, texts: dict[str, str]) -> set[str]:
-    """The files of proofs that cite something, and those that import them in turn."""
+    """The files of proofs that cite something, and those that import them, directly or not."""
     proofs = {PROOF.fullmatch(file)[1].replace("/", "::"): text for file, text in texts.items() if PROOF.fullmatch(file)}
     found, new = set(), {file for file, text in proofs.items() if cited.search(text)}
     while new:
