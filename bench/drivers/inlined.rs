@@ -5,6 +5,7 @@ mod batch;
 mod callgrind;
 mod machine;
 mod measure;
+mod questions;
 #[path = "../../diff/drivers/random.rs"]
 mod random;
 mod row;
@@ -18,6 +19,7 @@ use random::Random;
 use row::{Answers, Contender, HERE, Row, THERE};
 use std::collections::{BTreeSet, HashSet};
 use theirs::original::numbers::*;
+use theirs::original::questions::QUESTIONS;
 use theirs::original::{self, COUNT};
 use theirs::single::{self as their_single, CALLS};
 
@@ -66,6 +68,16 @@ impl Bench {
         take!("resize to 2N", resize(n, to)(&given.texts) -> (texts));
         take!("concat to 2N", concat(n, to)(&given.texts, &given.others) -> (texts));
         take!("Display", display(n)(&given.texts) -> (texts));
+    }
+
+    fn take_failing_questions(&mut self, random: &mut Random, n: usize) {
+        for question in QUESTIONS {
+            let texts = questions::failing(question, random, n, n..=n);
+            self.take("Questions, full texts that fail at their first byte", question.call, n, &[
+                (HERE, &|rounds, answers| ours::ask(n, question.number, rounds, &texts, &mut answers.marks)),
+                (THERE, &|rounds, answers| original::ask(n, question.number, rounds, &texts, &mut answers.marks)),
+            ]);
+        }
     }
 
     fn take_single(&mut self, table: &str, given: &Batch) {
@@ -122,6 +134,7 @@ fn main() {
         bench.take_batch("Mixed texts", &mixed);
         bench.take_single("Full texts, one at a time", &full);
         bench.take_single("Mixed texts, one at a time", &mixed);
+        bench.take_failing_questions(&mut random, n);
     }
     for records in RECORDS {
         bench.take_searches(&mut random, records);

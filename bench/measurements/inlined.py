@@ -5,6 +5,7 @@ from collections.abc import Iterable
 
 from measurements.heat_map import Rows, heat_map
 from measurements.plot import HeatMap
+from measurements.ratios import FAILING, named_slowest, ratios_of_kind
 from measurements.results import Results
 from measurements.tables import aligned, geometric, type_tables
 
@@ -18,16 +19,19 @@ CAPACITIES = ["3", "4", "8", "12", "16", "24", "32", "64"]
 
 
 def rows_by_suffix(results: Results) -> dict[str, Rows]:
-    """The rows of lists, and those of single values, by the suffix of their calls."""
+    """The rows of lists, and those of single values, by the suffix of their calls. The questions that fail are a row of lists
+    of full texts."""
     found = {}
     for index, suffix in enumerate(SUFFIXES):
         of_kinds = {kind: results.ratios_by_call(results.cells(tables[index])) for kind, tables in TABLES.items()}
         found[suffix] = {call: {kind: of_kinds[kind][call] for kind in TABLES} for call in of_kinds["full"]}
+    found[""] |= {call: {"full": ratios} for call, ratios in ratios_of_kind(results, "failing").items()}
     return found
 
 
 def mean_of_kind(rows: Rows, kind: str) -> float:
-    return geometric([ratio for row in rows.values() for ratio in row[kind].values()])
+    """The mean of the calls on both kinds of texts."""
+    return geometric([ratio for row in rows.values() if len(row) == len(TABLES) for ratio in row[kind].values()])
 
 
 def slowest_of(rows: Iterable[dict[str, dict[str, float]]]) -> str:
@@ -46,7 +50,8 @@ def inlined_table(x86_64: Results, v2: Results) -> str:
     for suffix in SUFFIXES:
         rows = {processor: of_suffixes[suffix] for processor, of_suffixes in by_processor.items()}
         for call in rows["x86-64"]:
-            means = [f"{geometric(rows[processor][call][kind].values()):.2f}" for processor, kind in columns]
+            of_columns = [rows[processor][call].get(kind, {}).values() for processor, kind in columns]
+            means = [f"{geometric(ratios):.2f}" if ratios else "" for ratios in of_columns]
             lines.append([call + suffix, *means, slowest_of(of_calls[call] for of_calls in rows.values())])
         means = [f"{mean_of_kind(rows[processor], kind):.2f}" for processor, kind in columns]
         lines.append(["geometric mean" + suffix, *means, ""])
@@ -66,8 +71,8 @@ def means_of(results: Results) -> list[list[float]]:
 def cargo_plot(results: Results) -> HeatMap:
     (full, mixed), (full_alone, mixed_alone) = means_of(results)
     title = f"Crate for Cargo: calls over lists take {full:.2f} of the Rust crate's time on full texts, {mixed:.2f} on mixed"
-    note = f"Calls of one value at a time take {full_alone:.2f} on full texts, and {mixed_alone:.2f} on mixed ones. No"
-    note += " question that fails is timed."
+    note = f"Calls of one value at a time take {full_alone:.2f} on full texts, and {mixed_alone:.2f} on mixed ones. The"
+    note += " means are without the question that fails, which is the slowest of nine."
     return heat_map(title, note, CAPACITIES, rows_by_suffix(results))
 
 
@@ -79,7 +84,7 @@ def cargo_headline(x86_64: Results, v2: Results) -> str:
         f"- A call, made over a list, takes {full:.2f} of the Rust crate's time on texts that fill their capacity, and"
         f" {mixed:.2f} on texts of all lengths.\n"
         f"- A call of one value takes {full_alone:.2f} and {mixed_alone:.2f}. (These are geometric means.)\n"
-        f"- The worst case, `{call}` at capacity {capacity}, takes {ratio:.1f} times as long.\n"
+        f"- The worst case, {named_slowest(call)}, takes {ratio:.1f} times as long at capacity {capacity}.\n"
     )
 
 

@@ -15,7 +15,7 @@ from measurements.machine import machine
 from measurements.many_keys import many_keys_plot, many_keys_tables
 from measurements.other_tables import all_cells, c_headline, lines, loops, types
 from measurements.plot import Plot
-from measurements.ratios import FAILING, mean_of, slowest_of
+from measurements.ratios import FAILING, mean_of, named_slowest, slowest_of
 from measurements.results import THERE, Results
 from measurements.tables import range_text
 
@@ -27,7 +27,7 @@ BLOCK = re.compile(r"(<!-- bench/report (.+?) -->\n).*?(<!-- end -->\n)", re.DOT
 def headline(calls: Results, jobs: Results) -> str:
     """The means over all rows, whole jobs, and the slowest row, in three items."""
     ratio, call, capacity, kind = slowest_of(calls)
-    slowest = "a question that fails at its first byte" if call == FAILING else f"`{call.partition(',')[0]}` of {kind} texts"
+    slowest = named_slowest(call.partition(",")[0]) + f" of {kind} texts" * (call != FAILING)
     return (
         f"- A call takes {mean_of(calls, 'full'):.2f} of the Rust crate's time on texts that fill their capacity, and"
         f" {mean_of(calls, 'mixed'):.2f} on texts of all lengths. (These are geometric means.)\n"

@@ -34,6 +34,11 @@ def ratios_of_kind(results: Results, kind: str) -> dict[str, dict[str, float]]:
     return {FAILING: {capacity: max(row[capacity] for row in rows.values()) for capacity in capacities}}
 
 
+def named_slowest(call: str) -> str:
+    """How a sentence names the call that is the slowest."""
+    return "a question that fails at its first byte" if call == FAILING else f"`{call}`"
+
+
 def mean_of(results: Results, kind: str) -> float:
     """The mean over all calls and capacities of a kind."""
     return geometric([ratio for row in ratios_of_kind(results, kind).values() for ratio in row.values()])
