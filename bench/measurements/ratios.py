@@ -31,7 +31,7 @@ def ratios_of_kind(results: Results, kind: str) -> dict[str, dict[str, float]]:
     if kind != "failing":
         return rows
     capacities = dict.fromkeys(capacity for row in rows.values() for capacity in row)
-    return {FAILING: {capacity: max(row[capacity] for row in rows.values()) for capacity in capacities}}
+    return {FAILING: {capacity: max(row[capacity] for row in rows.values()) for capacity in capacities}} if rows else {}
 
 
 def named_slowest(call: str) -> str:

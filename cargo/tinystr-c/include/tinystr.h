@@ -13,7 +13,7 @@
  *     results and the number after it name this number of results, in at most SSIZE_MAX bytes.
  *   - No byte that a call may write is a byte that another argument names: `out` overlaps no input.
  *   - While the call runs, no other thread writes these bytes, or reads those that the call may write. Then any calls may
- *     run at once, in signal handlers too.
+ *     run concurrently, in signal handlers too.
  * A table that was never checked, or was changed since, breaks nothing: a search returns a place inside it, or that
  * there is none, which may be wrong.
  *
@@ -23,7 +23,7 @@
  *        is `out_len`), a size of values, a question and a case.
  *     2. the bytes, in the order of the parameters, and of a hashed table in that of its parts: their number first, then
  *        the bytes, and then the order or the places of the texts. The records and the hashed table of a search pass.
- *     3. the room: NO_ROOM.
+ *     3. the length of `out`: NO_ROOM.
  *   Each function below lists OK first, and NOT_FOUND if it may return it, and then the codes of its checks in this order.
  *   NUL and NON_ASCII are one check. It finds the first byte that is above 127, or is a character after a NUL. The code
  *   is NON_ASCII if this byte is above 127, and NUL otherwise. If there is no such byte, but a NUL at the end, the bytes
@@ -54,7 +54,7 @@ extern "C" {
 enum tinystr_code {
     TINYSTR_OK = 0,
     TINYSTR_TOO_LONG = 1,           /* more bytes than the capacity */
-    TINYSTR_NUL = 2,                /* a NUL in a text, or in front of a character in a padded text */
+    TINYSTR_NUL = 2,                /* a NUL in a text, or before a character in a padded text */
     TINYSTR_NON_ASCII = 3,          /* a byte above 127 */
     TINYSTR_INVALID_LANGUAGE = 4,   /* the first subtag isn't a language */
     TINYSTR_INVALID_SUBTAG = 5,     /* the first subtag is one, and a later one isn't accepted */
@@ -107,7 +107,7 @@ typedef struct tinystr_range {
 /* The version of the library that is linked, as TINYSTR_VERSION. */
 uint32_t tinystr_version(void);
 
-/* Room for each canonical text, and a NUL after it. */
+/* The length of `out` that holds any canonical text, and a NUL after it. */
 #define TINYSTR_LANGID_ROOM 18
 
 /* Reads a language identifier: a language of 2, 3 or 5 to 8 letters, and then a script of 4 letters, a region of 2
@@ -128,7 +128,7 @@ tinystr_result tinystr_langid(const void *input, size_t input_len, void *out, si
  * With any code but OK, `out` is as it was. */
 tinystr_result tinystr_read(const void *input, size_t input_len, void *out, size_t out_len);
 
-/* Asks a text of at most 16 bytes, padded or not, a question.
+/* Answers a question about a text of at most 16 bytes, padded or not.
  *   OK                 value: 1 for yes, 0 for no.
  *   BAD_ARGUMENT       value: the question, which is no number of tinystr_question.
  *   BAD_ARGUMENT       value: `text_len`, which is above 16.

@@ -21,7 +21,7 @@ pub enum ParseError {
         /// How many code units there are.
         len: usize,
     },
-    /// A character stands behind a NUL, or NULs stand at the end and the reader accepts none.
+    /// A character follows a NUL, or NULs are at the end and the reader accepts none.
     ContainsNull,
     /// A code unit is above 127.
     NonAscii,

@@ -16,7 +16,7 @@ use crate::unvalidated::UnvalidatedTinyAsciiStr;
 pub enum BytesReadError {
     /// There are fewer than `expected` bytes.
     Length { expected: usize },
-    /// A byte other than NUL stands behind a NUL.
+    /// A byte other than NUL follows a NUL.
     Null,
     /// A byte is above 127.
     NonAscii,
@@ -91,8 +91,8 @@ impl<const N: usize> TinyAsciiStr<N> {
 
     /// Reads the first `N` bytes, a text and then NULs, and gives the text and the rest of the input.
     ///
-    /// The error is the fault of the first of `N` positions that has one: the input has ended (`Length`), a byte behind
-    /// a NUL isn't NUL (`Null`), or a byte is above 127 (`NonAscii`). A byte with both of the last two faults is
+    /// The error is the fault of the first of `N` positions that has one: the input has ended (`Length`), a byte after a
+    /// NUL isn't NUL (`Null`), or a byte is above 127 (`NonAscii`). A byte with both of the last two faults is
     /// `Null`.
     ///
     /// ```
@@ -177,7 +177,7 @@ impl<const N: usize> UnvalidatedTinyAsciiStr<N> {
 }
 
 // The fault at the first of `expected` positions that has one. Bytes are read in order, so the end of the input is a
-// fault where it comes, and a byte above 127 behind a NUL is `Null`. `ascii::strict::find_fault` gives the first fault
+// fault where it comes, and a byte above 127 after a NUL is `Null`. `ascii::strict::find_fault` gives the first fault
 // of code units that were counted before, and has `NonAscii` before `ContainsNull`.
 // Proved:
 //     ensures { option_map byte_fault_of result ≡ byte_fault expected input.now }

@@ -1,11 +1,11 @@
-//! Packed records: padded texts of `N` bytes, one behind another, which are checked once and then read in place. ULE is
+//! Packed records: padded texts of `N` bytes, one after another, which are checked once and then read in place. ULE is
 //! zerovec's word for such a form: unaligned, little-endian.
 
 use crate::ascii::{TinyAsciiStr, are_padded};
 use crate::error::ParseError;
 use crate::unvalidated::UnvalidatedTinyAsciiStr;
 
-// How many records are asked together: enough that the compiler takes several at once, and few to search for a bad one.
+// The number of records in a block: enough that the compiler tests several in one step, and few to search for a bad one.
 const BLOCK: usize = 64;
 
 /// Why bytes aren't packed records.
@@ -78,7 +78,7 @@ impl<const N: usize> TinyAsciiStr<N> {
         Ok(())
     }
 
-    // How many records at the beginning are padded texts, as far as whole blocks tell.
+    // The number of records in the blocks before the first block that has a record that isn't a padded text.
     // Proved:
     //     ensures inside { result ≤ length records.now }
     //     ensures padded { All (λ raw. IsPaddedText raw N) (take result records.now) }

@@ -80,16 +80,16 @@ impl<const N: usize> TinyAsciiStr<N> {
     pub fn join<const Q: usize>(texts: &[Self], separator: u8) -> Option<TinyAsciiStr<Q>> {
         assert!(matches!(separator, 1..=127), "separator must be a non-null ASCII byte (1..=127)");
         match texts.split_first() {
-            Some((first, rest)) => Self::join_behind(first.try_resize()?, rest, separator),
+            Some((first, rest)) => Self::join_after(first.try_resize()?, rest, separator),
             None => Some(TinyAsciiStr::default()),
         }
     }
 
-    // A text, and behind it each of the others with the separator in front, all in the bytes of the first.
+    // Appends each of the others to the first text, with the separator before it, in the bytes of the first.
     // Proved:
     //     requires { IsTextByte separator }
     //     ensures { SomeIff result (length (join_with_byte separator (first.entry ∷ others.now)) ≤ Q) (join_with_byte separator (first.entry ∷ others.now)) }
-    fn join_behind<const Q: usize>(
+    fn join_after<const Q: usize>(
         first: TinyAsciiStr<Q>,
         others: &[Self],
         separator: u8,
@@ -98,14 +98,14 @@ impl<const N: usize> TinyAsciiStr<N> {
         let mut len = first.len();
         let mut bytes = *first.bytes.as_array();
         for text in others {
-            len = separator.put_behind(&mut bytes[..], len)?;
-            len = text.put_behind(&mut bytes[..], len)?;
+            len = separator.append_to(&mut bytes[..], len)?;
+            len = text.append_to(&mut bytes[..], len)?;
         }
         Some(TinyAsciiStr::from_padded(bytes))
     }
 
-    // Puts the text behind another of `len` bytes, and tells how long both are, or `None` where there is no room. A short
-    // array is copied whole where it fits, with the NULs behind its text: a copy of a known length takes one or two moves.
+    // Appends the text to another of `len` bytes, and returns the length of both, or `None` if they don't fit. A short array
+    // is copied whole where it fits, with the NULs after its text: a copy of a known length takes one or two moves.
     // Proved:
     //     requires padded { IsPadded bytes.old }
     //     requires at_end { len ≡ length (text_of bytes.old) }
@@ -114,13 +114,13 @@ impl<const N: usize> TinyAsciiStr<N> {
     //     ensures padded { IsPadded bytes.new }
     //     ensures text { len + length self.now ≤ length bytes.old → text_of bytes.new ≡ text_of bytes.old ++ self.now }
     #[inline(always)]
-    fn put_behind(&self, bytes: &mut [u8], len: usize) -> Option<usize> {
-        let room = bytes.len() - len;
+    fn append_to(&self, bytes: &mut [u8], len: usize) -> Option<usize> {
+        let free = bytes.len() - len;
         let text_len = self.len();
-        if text_len > room {
+        if text_len > free {
             return None;
         }
-        if N <= 16 && N <= room {
+        if N <= 16 && N <= free {
             bytes[len..len + N].copy_from_slice(self.bytes.as_array());
         } else {
             bytes[len..len + text_len].copy_from_slice(self.as_utf8());

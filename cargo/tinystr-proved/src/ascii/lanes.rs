@@ -1,4 +1,4 @@
-//! Sixteen bytes at once.
+//! The first sixteen bytes of a text, in a vector.
 
 use crate::ascii::TinyAsciiStr;
 use crate::simd::*;

@@ -26,7 +26,7 @@ impl TinyAsciiStr<8> {
     #[inline]
     #[must_use]
     pub fn read_letters(code_units: &[u8]) -> (Self, usize) {
-        // the bit that an uppercase letter lacks makes a letter of no other byte
+        // 0x20 lowercases A to Z, and turns no other byte into a letter
         let lowered = front_lanes(code_units) | u8x8::splat(0x20);
         let len = lowercase_lanes(lowered);
         let letters = first_lanes_of_eight(lowered, len).to_array();
@@ -43,7 +43,7 @@ fn front_lanes(units: &[u8]) -> u8x8 {
     u8x8::from_array(<u64 as Word<8>>::load(front).to_le_bytes())
 }
 
-// How many lanes in front are lowercase letters. From 'a' to 'z' are 25 steps.
+// The number of leading lanes that are lowercase letters. From 'a' to 'z' are 25 steps.
 // Proved:
 //     ensures len { result ≡ prefix_len is_lower lanes }
 //     ensures fits { result ≤ 8 }

@@ -9,7 +9,7 @@ impl<const N: usize> TinyAsciiStr<N> {
     /// Reads a string of at most `N` bytes, each from 1 to 127.
     ///
     /// The error is `TooLong` if there are more than `N` bytes. Else it is the fault of the first byte that is above
-    /// 127 (`NonAscii`) or is a character behind a NUL (`ContainsNull`). If the only fault is NULs at the end, it is
+    /// 127 (`NonAscii`) or is a character after a NUL (`ContainsNull`). If the only fault is NULs at the end, it is
     /// `ContainsNull`.
     ///
     /// ```
@@ -83,7 +83,7 @@ impl<const N: usize> TinyAsciiStr<N> {
 
     /// Reads all `N` bytes: a text and then NULs.
     ///
-    /// The error is the fault of the first byte that is above 127 (`NonAscii`) or is a character behind a NUL
+    /// The error is the fault of the first byte that is above 127 (`NonAscii`) or is a character after a NUL
     /// (`ContainsNull`). It is never `TooLong`.
     ///
     /// ```

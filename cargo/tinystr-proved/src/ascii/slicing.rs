@@ -58,8 +58,8 @@ impl<const N: usize> TinyAsciiStr<N> {
         self.prefix(len)
     }
 
-    // What stands behind the first bytes, as much as there is room for. Where `M` bytes of the array stand there, they are
-    // copied at once. Up to sixteen others stay in a vector.
+    // The text from `start` on, truncated to `M` bytes. Where the array has `M` bytes from there on, one copy takes them.
+    // Otherwise up to sixteen bytes stay in a vector.
     // Proved:
     //     ensures { result ≡ take M (drop start self.now) }
     #[inline(always)]

@@ -17,8 +17,8 @@ use crate::words::word::Word;
 /// ```
 #[derive(Clone)]
 pub struct Parts<'a, const N: usize> {
-    // what stands behind the parts that were handed out, if there is another: at capacities up to 8 the text itself, and
-    // else all bytes, with the NULs behind the text
+    // the remainder after the parts that were returned, if there is another part: at capacities up to 8 it is the text
+    // `short`, and otherwise the padded bytes `rest`
     short: Option<TinyAsciiStr<8>>,
     rest: Option<&'a [u8]>,
     separator: u8,
@@ -53,7 +53,7 @@ impl<const N: usize> TinyAsciiStr<N> {
         found
     }
 
-    /// The text before the first separator and the text behind it, or `None` if there is no separator.
+    /// The text before the first separator and the text after it, or `None` if there is no separator.
     ///
     /// ```
     /// use tinystr::tinystr;
@@ -74,13 +74,13 @@ impl<const N: usize> TinyAsciiStr<N> {
     pub fn split_once_byte(&self, separator: u8) -> Option<(Self, Self)> {
         let at = self.find_byte(separator)?;
         if N <= 8 {
-            let (before, behind) = split_around(self.resize(), at);
-            return Some((before.resize().hinted(), behind.resize().hinted()));
+            let (before, after) = split_around(self.resize(), at);
+            return Some((before.resize().hinted(), after.resize().hinted()));
         }
         Some((self.take(at).hinted(), self.suffix(at + 1).hinted()))
     }
 
-    /// The parts before, between and behind the separators, in order. A text without a separator is a single part, and
+    /// The parts before, between and after the separators, in order. A text without a separator is a single part, and
     /// so is the empty text.
     ///
     /// ```
@@ -137,8 +137,8 @@ impl<'a, const N: usize> Iterator for Parts<'a, N> {
     }
 }
 
-// The first part of a text of at most eight bytes, and what stands behind its separator, if there is one. Both stay in
-// registers: a short rest is dear to load.
+// The first part of a text of at most eight bytes, and the text after its separator, if there is one. Both stay in
+// registers: to load a short remainder is slow.
 // Proved:
 //     ensures parts { slice_split (λ b. b == separator) text ≡ result.0 ∷ parts_left separator result.1 }
 //     ensures part { length result.0 ≤ length text }
@@ -157,8 +157,8 @@ fn split_first_of_eight(
     }
 }
 
-// Where the byte first stands. The first byte is asked by itself, so that what stands behind an empty part waits for no
-// search.
+// The index of the first such byte. The first byte of the text is compared by itself, so that the remainder after an
+// empty part doesn't wait for a search.
 // Proved:
 //     ensures place { result ≡ position (λ b. b == byte) text }
 //     ensures inside { IfSome result (λ at. at < 8) }
@@ -170,7 +170,7 @@ fn find_in_eight(text: TinyAsciiStr<8>, byte: u8) -> Option<usize> {
     }
 }
 
-// What stands in front of a byte, and what stands behind it, by shifts of the word.
+// The text before the byte at an index, and the text after it, by shifts of the word.
 // Proved:
 //     requires { at < 8 }
 //     ensures part { result.0 ≡ take at text }
@@ -187,7 +187,7 @@ fn split_around(text: TinyAsciiStr<8>, at: usize) -> (TinyAsciiStr<8>, TinyAscii
     )
 }
 
-// The first part of padded bytes, and what stands behind its separator, if there is one. A part that ends in the first
+// The first part of padded bytes, and the bytes after its separator, if there is one. A part that ends in the first
 // sixteen bytes stays in a vector.
 // Proved:
 //     requires padded { IsPadded bytes.now }
@@ -227,7 +227,7 @@ fn split_first_by_copy<const N: usize>(
     }
 }
 
-// Where the byte first stands in the text, by sixteen bytes at once. The first sixteen were asked already.
+// The index of the first such byte in the text, sixteen bytes at a time. None of the first sixteen is it.
 // Proved:
 //     requires padded { IsPadded bytes.now }
 //     requires missed { position (λ b. b == byte) (take 16 (text_of bytes.now)) ≡ None }
@@ -243,8 +243,8 @@ fn find_past_sixteen(bytes: &[u8], byte: u8) -> Option<usize> {
     None
 }
 
-// Where the byte first stands in a text of at most sixteen bytes, all asked at once. NULs stand only behind the text, so
-// a NUL isn't found.
+// The index of the first such byte in a text of at most sixteen bytes, all compared in one step. A NUL isn't found, since
+// NULs are only after the text.
 // Proved:
 //     requires len { length lanes ≡ 16 }
 //     requires padded { IsPadded lanes }

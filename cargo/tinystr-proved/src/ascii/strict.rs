@@ -7,7 +7,7 @@ use crate::words::padded::{self, Width, resize_at_once, width_of};
 use crate::words::{CodeUnit, are_characters};
 
 /// The text of the code units, or their fault. The value is made where its bytes are: an array in an `Option` or a
-/// `Result` of its own would be moved once more.
+/// `Result` of its own would be copied once more.
 ///
 /// # Contract
 ///
@@ -52,7 +52,7 @@ pub(crate) fn read<U: CodeUnit, const N: usize>(units: &[U]) -> Result<TinyAscii
 #[inline(always)]
 pub(crate) fn read_padded<const N: usize>(raw: [u8; N]) -> Result<TinyAsciiStr<N>, ParseError> {
     match width_of(N) {
-        // 9 to 16 bytes: the word's own, since the array would be moved in pieces that fit no register
+        // 9 to 16 bytes: those of the word, since the array would be copied in pieces that fit no register
         Width::Sixteen => {
             if let Some(text) = Aligned16::try_from_padded(&raw[..]) {
                 return Ok(TinyAsciiStr::from_padded(resize_at_once(&text.to_bytes())));
@@ -68,7 +68,7 @@ pub(crate) fn read_padded<const N: usize>(raw: [u8; N]) -> Result<TinyAsciiStr<N
     Err(fault::<u8, N>(&raw[..]))
 }
 
-/// Whether all records are padded texts. There is no early exit, so that the compiler asks several at once.
+/// Whether all records are padded texts. There is no early exit, so that the compiler tests several in one step.
 ///
 /// # Contract
 ///
@@ -84,8 +84,8 @@ pub(crate) fn are_padded<const N: usize>(records: &[[u8; N]]) -> bool {
     are_padded
 }
 
-// The text of the code units, read by pieces, or its fault. A refusal stands where it is found: one for both ways, at the
-// end, made texts that fill their capacity slower.
+// The text of the code units, read by pieces, or its fault. Each way returns its own error: a single return, at the end,
+// made texts that fill their capacity slower.
 // Proved:
 //     ensures accepted { IsOk result ↔ IsStrictText (map U.number units.now) N }
 //     ensures text { IfOk result (λ t. t ≡ map U.number units.now) }
@@ -110,7 +110,7 @@ fn read_pieces<U: CodeUnit, const N: usize>(units: &[U]) -> Result<TinyAsciiStr<
 }
 
 // The fault at the first position whose code unit is above 127, or is a character after a NUL. A code unit above 127
-// behind a NUL is `NonAscii`: `forms::find_byte_fault` has the other order, that of the byte form.
+// after a NUL is `NonAscii`: `forms::find_byte_fault` has the other order, that of the byte form.
 // Proved:
 //     ensures { option_map fault_of result ≡ first_fault (map U.number units.now) }
 fn find_fault<U: CodeUnit>(units: &[U]) -> Option<ParseError> {

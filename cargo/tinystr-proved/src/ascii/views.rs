@@ -60,7 +60,7 @@ impl<const N: usize> TinyAsciiStr<N> {
         Some(self.bytes.as_array()[index])
     }
 
-    /// Borrows the bytes of the text, without the NULs behind it.
+    /// Borrows the bytes of the text, without the NULs after it.
     ///
     /// ```
     /// use tinystr::tinystr;

@@ -1,7 +1,6 @@
 //! What a code unit is, a byte or a 16-bit number: its value, its low byte, and whether it is a character.
 //! `padded::code_units` reads many of them into arrays.
 
-use crate::words::word::Word;
 use crate::simd::*;
 
 /// A code unit that a reader takes: a byte, or a 16-bit number.
@@ -138,12 +137,12 @@ impl CodeUnit for u16 {
     fn eight_low_bytes(units: &[u16]) -> [u8; 8] {
         let bytes = u16x8::from_slice(units).to_le_bytes();
         let word = u64x1::from_le_bytes(bytes.swizzle([0, 2, 4, 6, 8, 10, 12, 14])).to_array()[0];
-        Word::to_bytes_in_registers(word)
+        word.to_le_bytes()
     }
 }
 
 /// Whether all code units are characters. There is no early exit, so that the compiler can test a known number of them
-/// at once.
+/// in one step.
 ///
 /// # Contract
 ///

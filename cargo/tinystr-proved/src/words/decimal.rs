@@ -71,7 +71,7 @@ fn four_pairs(number: u32) -> u64 {
 }
 
 /// The values of eight digits, leading zeros included, the first in the lowest lane. The caller adds 0x30 to each. All
-/// pairs are divided at once: below 100, `n / 10` is `n * 103 / 1024`, and no product leaves its lane.
+/// pairs are divided in one step: below 100, `n / 10` is `n * 103 / 1024`, and no product leaves its lane.
 ///
 /// # Contract
 ///

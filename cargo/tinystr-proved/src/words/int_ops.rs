@@ -1,4 +1,4 @@
-//! Texts in one word each, asked and changed by a few sums over the whole word.
+//! Texts in one word each. Questions and case changes take a few sums over the whole word.
 
 use crate::words::code_unit::{CodeUnit, is_text};
 use crate::words::decimal::{decimal_fits, decimal_word, eight_digits};
@@ -218,7 +218,7 @@ impl<T: Word<LEN>, const LEN: usize> Aligned<T, LEN> {
     }
 }
 
-// What stands from here on is there for `padded`, and for the strict readers, `split` and `find` of `tinystr`.
+// The functions from here on are for `padded`, and for the strict readers, `split` and `find` of `tinystr`.
 impl<T: Word<LEN>, const LEN: usize> Aligned<T, LEN> {
     /// Takes at most `LEN` bytes, which must be a text and then NULs.
     ///
@@ -467,7 +467,7 @@ impl Aligned<u128, 16> {
         }
     }
 
-    /// The last `count` digits of a number that has more. While they are made, a 1 in front of them keeps their zeros.
+    /// The last `count` digits of a number that has more. While they are made, a 1 before them keeps their zeros.
     ///
     /// # Contract
     ///

@@ -1,9 +1,9 @@
-//! The kernels: a word of lanes is asked and changed by a few sums over the whole word. Most formulas are those of
+//! The kernels test and change all lanes of a word by a few sums over the whole word. Most formulas are those of
 //! `int_ops.rs` in ICU4X's `tinystr` 0.8.5.
 
 use crate::words::word::Word;
 
-/// A range of bytes below 0x80, as two constants. The high bit of a byte's sum with each tells where the byte lies.
+/// A range of bytes below 0x80, as two constants. The high bits of a byte's sums with them show whether it is in the range.
 #[derive(Clone, Copy)]
 pub struct Range {
     /// 0x80 less the range's first byte: the sum has its high bit from that byte on.

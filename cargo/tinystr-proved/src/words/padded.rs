@@ -14,7 +14,7 @@ mod words;
 
 use crate::words::decimal::decimal_fits;
 use crate::words::int_ops::{Aligned4, Aligned8, Aligned16};
-use crate::words::{Case, Question};
+use crate::words::question::{Case, Question};
 pub use code_units::{lossy, low_bytes, read_all};
 use concatenation::{concat_in_memory, concat_in_vectors, concat_in_word, fit_vectors};
 pub use copying::{resize, resize_at_once};
@@ -22,7 +22,7 @@ pub use first_lanes::{first_lanes_of_eight, first_lanes_of_sixteen};
 pub use order::{compare, number};
 
 /// The words that take padded bytes: the narrowest that holds them all, since it takes the fewest steps to load and to
-/// ask.
+/// test.
 #[derive(Clone, Copy)]
 pub enum Width {
     /// One of 32 bits.
@@ -31,7 +31,7 @@ pub enum Width {
     Eight,
     /// One of 128 bits, the widest integer.
     Sixteen,
-    /// As many of 128 bits as the bytes fill.
+    /// Several of 128 bits.
     Many,
 }
 
@@ -85,7 +85,7 @@ pub fn is_padded<const N: usize>(bytes: &[u8; N]) -> bool {
 pub fn decimal<const N: usize>(number: u32) -> Result<[u8; N], [u8; N]> {
     let fits = decimal_fits(number, N);
     match width_of(N) {
-        // 5 to 8 digits, made at once
+        // 5 to 8 digits, made in one step
         Width::Eight => {
             let digits = resize_at_once(&Aligned8::from_number(number, N).to_bytes());
             if fits { Ok(digits) } else { Err(digits) }

@@ -1,6 +1,6 @@
 //! The questions and the case changes, by name.
 
-/// A question that a text is asked: whether each byte is in a class. The titlecase ones have a class of their own for
+/// A question about a text: whether each byte is in a class. The titlecase ones have a class of their own for
 /// the first byte.
 ///
 /// ```text

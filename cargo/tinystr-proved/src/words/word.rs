@@ -112,7 +112,7 @@ pub trait Word<const LEN: usize>: Copy {
     /// ```
     fn high_bits_as_case_bits(self) -> Self;
 
-    /// Each lane one place lower, without the lowest.
+    /// Shifts right by one byte.
     ///
     /// # Contract
     ///
@@ -185,7 +185,7 @@ impl Word<4> for u32 {
             | u32::from(src[last].low_byte()) << (8 * last)
     }
 
-    // Only NULs stand above the text's last byte.
+    // Only NULs are above the text's last byte.
     #[inline]
     fn text_len(self) -> usize {
         4 - u32::leading_zeros(self) as usize / 8
@@ -243,7 +243,7 @@ impl Word<8> for u64 {
         u64::to_le_bytes(self)
     }
 
-    // Four code units are two pieces too, as `is_text` tests them: so their length is asked once where both are done.
+    // Four code units are two pieces too, as in `is_text`, so that a caller of both tests the length once.
     #[inline(always)]
     fn load<U: CodeUnit>(src: &[U]) -> u64 {
         let len = src.len();
@@ -255,7 +255,7 @@ impl Word<8> for u64 {
         u64::from(low) + ((u64::from(high) >> (8 * (8 - len))) << 32)
     }
 
-    // One more bit, below all, keeps the processor's count from a test for 0. There is room, since no byte is above 0x7f.
+    // One more bit, below all, so that the count needs no test for 0. It fits, since no byte is above 0x7f.
     #[inline]
     fn text_len(self) -> usize {
         let bits = 63 - u64::leading_zeros(2 * self + 1) as usize;

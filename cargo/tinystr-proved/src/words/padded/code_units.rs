@@ -1,7 +1,7 @@
 //! Readers: many code units into an array of bytes, by pieces of a known length. `code_unit` says what one of them is.
 
-use super::replacing::lossy_word;
-use crate::words::CodeUnit;
+use crate::words::code_unit::CodeUnit;
+use crate::words::padded::replacing::lossy_word;
 
 // The byte of a character, or the replacement.
 // Proved:
@@ -16,7 +16,7 @@ fn byte_or<U: CodeUnit>(unit: U, replacement: u8) -> u8 {
 }
 
 // Reads `K` code units into the bytes at the same places, with the replacement for each that isn't a character, and
-// tells whether all are characters. There is no early exit, so that the compiler can take all code units at once.
+// returns whether all are characters. There is no early exit, so that the compiler can read all of them in one step.
 // Proved:
 //     requires inside { at + K ≤ length units.now }
 //     requires room { length units.now ≤ length bytes.old }
@@ -70,7 +70,7 @@ fn read_many<U: CodeUnit>(bytes: &mut [u8], units: &[U], replacement: u8) -> boo
 }
 
 /// Reads all code units in the largest pieces that fit, writes the replacement for each that isn't a character, and
-/// tells whether all are characters.
+/// returns whether all are characters.
 ///
 /// # Contract
 ///
@@ -81,16 +81,16 @@ fn read_many<U: CodeUnit>(bytes: &mut [u8], units: &[U], replacement: u8) -> boo
 /// ```
 #[inline(always)]
 pub fn read_all<U: CodeUnit>(bytes: &mut [u8], units: &[U], replacement: u8) -> bool {
-    // The room is known at compile time: no code is left of what it has no place for.
-    let room = bytes.len();
+    // The capacity is known at compile time, so no code is built for pieces that are longer.
+    let capacity = bytes.len();
     let len = units.len();
-    if room >= 32 && len >= 32 {
+    if capacity >= 32 && len >= 32 {
         read_many(bytes, units, replacement)
-    } else if room >= 16 && len >= 16 {
+    } else if capacity >= 16 && len >= 16 {
         read_pair::<U, 16>(bytes, units, replacement)
-    } else if room >= 8 && len >= 8 {
+    } else if capacity >= 8 && len >= 8 {
         read_pair::<U, 8>(bytes, units, replacement)
-    } else if room >= 4 && len >= 4 {
+    } else if capacity >= 4 && len >= 4 {
         read_pair::<U, 4>(bytes, units, replacement)
     } else if len >= 2 {
         read_pair::<U, 2>(bytes, units, replacement)

@@ -1,8 +1,8 @@
 //! The ways to join two texts in an array. `padded::concat` takes the first that applies.
 
-use super::copying::{append, put, resize, resize_at_once};
-use super::words;
 use crate::words::int_ops::{Aligned8, Aligned16};
+use crate::words::padded::copying::{append, put, resize, resize_at_once};
+use crate::words::padded::words;
 use crate::simd::*;
 
 /// How many bytes a vector has.
@@ -12,10 +12,10 @@ const LANES: usize = 16;
 /// than the store-forwarding stall that they avoid.
 const LONGEST: usize = 2 * LANES;
 
-// What stands in the table before the lanes' own places: as many as `moved` looks back over.
-const NULS_IN_FRONT: usize = 3 * LANES;
+// The number of NULs before the lanes in the table: `shifted` begins at most this far before them.
+const NULS_BEFORE: usize = 3 * LANES;
 
-// The lane that each byte of `moved` takes. 128 takes none, and gives a NUL.
+// The lane that each byte of `shifted` takes. 128 takes none, and gives a NUL.
 static TAKEN_LANES: [u8; 7 * LANES] = [
     128, 128, 128, 128, 128, 128, 128, 128, 128, 128, 128, 128, 128, 128, 128, 128, //
     128, 128, 128, 128, 128, 128, 128, 128, 128, 128, 128, 128, 128, 128, 128, 128, //
@@ -99,14 +99,14 @@ pub(crate) fn concat_in_vectors<const Q: usize>(first: &[u8], second: &[u8]) -> 
 #[inline(always)]
 fn joined_from(first: &[u8], first_len: usize, second: &[u8], at: usize) -> u8x16 {
     let mut lanes = lanes_from(first, at);
-    // the second text's first vector ends at most one behind the longest first text
+    // the second text's first vector ends at most `LANES` bytes after the longest first text
     if at < LONGEST + LANES {
-        lanes = lanes | moved(lanes_from(second, 0), NULS_IN_FRONT + at - first_len);
+        lanes = lanes | shifted(lanes_from(second, 0), NULS_BEFORE + at - first_len);
     }
-    // and its second stands behind its first
+    // its second vector follows its first
     if 0 < at && at < 2 * LONGEST {
-        let start = NULS_IN_FRONT - LANES + at - first_len;
-        lanes = lanes | moved(lanes_from(second, LANES), start);
+        let start = NULS_BEFORE - LANES + at - first_len;
+        lanes = lanes | shifted(lanes_from(second, LANES), start);
     }
     lanes
 }
@@ -122,17 +122,17 @@ fn lanes_from(bytes: &[u8], at: usize) -> u8x16 {
     Aligned16::from_padded(&bytes[start..start + count]).to_lanes()
 }
 
-// Of `NULS_IN_FRONT` NULs, the lanes and then NULs, the sixteen bytes from `start` on.
+// The sixteen bytes from `start` on of `NULS_BEFORE` NULs, the lanes and then NULs.
 // Proved:
 //     requires len { length lanes ≡ 16 }
 //     requires start { start ≤ 6 * LANES }
-//     ensures { result ≡ sixteen_from (replicate NULS_IN_FRONT 0 ++ lanes) start }
+//     ensures { result ≡ sixteen_from (replicate NULS_BEFORE 0 ++ lanes) start }
 #[inline(always)]
-fn moved(lanes: u8x16, start: usize) -> u8x16 {
+fn shifted(lanes: u8x16, start: usize) -> u8x16 {
     lanes.swizzle_dyn(u8x16::from_slice(&TAKEN_LANES[start..]))
 }
 
-/// The first `Q` bytes of the two texts joined, the second stored behind the first: for an array of more than `LONGEST`
+/// The first `Q` bytes of the two texts joined, the second stored after the first: for an array of more than `LONGEST`
 /// bytes.
 ///
 /// # Contract
@@ -161,7 +161,7 @@ pub(crate) fn concat_in_memory<const N: usize, const M: usize, const Q: usize>(
     bytes
 }
 
-// Copies the bytes of one and then of another, as far as there is room.
+// Copies the bytes of one and then of another, as far as they fit.
 // Proved:
 //     ensures { bytes.new ≡ take (length bytes.old) (first.now ++ second.now) ++ drop (length (first.now ++ second.now)) bytes.old }
 #[inline(always)]

@@ -1,8 +1,8 @@
-//! Bytes copied into arrays, also behind a text. `put` and `append` copy the same bytes, and so do `resize` and
+//! Bytes copied into arrays, also after a text. `put` and `append` copy the same bytes, and so do `resize` and
 //! `resize_at_once`: the compiler makes different code of them.
 
 /// Copies the bytes that both have, eight at a time: where their number is known at compile time they go through
-/// registers, and a copy of all at once would keep the value in memory.
+/// registers, and one copy of all would keep the value in memory.
 ///
 /// # Contract
 ///
@@ -69,10 +69,10 @@ pub fn resize_at_once<const M: usize>(padded: &[u8]) -> [u8; M] {
 /// ```
 #[inline(always)]
 pub(crate) fn append(bytes: &mut [u8], len: usize, padded: &[u8]) {
-    let room = bytes.len() - len;
-    if padded.len() <= room {
+    let free = bytes.len() - len;
+    if padded.len() <= free {
         bytes[len..len + padded.len()].copy_from_slice(padded);
-    } else if room > 0 {
-        bytes[len..].copy_from_slice(&padded[..room]);
+    } else if free > 0 {
+        bytes[len..].copy_from_slice(&padded[..free]);
     }
 }

@@ -1,9 +1,9 @@
-//! The first lanes of a vector, and NULs behind them, by a table: it takes fewer instructions than to compare the place of
-//! each lane with their number.
+//! The first lanes of a vector and then NULs, by a table: it takes fewer instructions than to compare the place of each
+//! lane with their number.
 
 use crate::simd::*;
 
-// From place 16 - n on, n lanes are kept, and those behind them are cleared.
+// From place 16 - n on, n lanes are kept, and those after them are cleared.
 static KEPT_LANES: [u8; 32] = [
     255, 255, 255, 255, 255, 255, 255, 255, 255, 255, 255, 255, 255, 255, 255, 255, //
     0, 0, 0, 0, 0, 0, 0, 0, 0, 0, 0, 0, 0, 0, 0, 0, //

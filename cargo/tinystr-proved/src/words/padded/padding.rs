@@ -24,7 +24,7 @@ pub(crate) fn is_padded(bytes: &[u8]) -> bool {
     are_sixteen_padded(bytes, start) & are_sixteen_padded(bytes, start + 16)
 }
 
-// Whether sixteen bytes are below 128, and behind each NUL among them stands another. Bytes past the last are NULs.
+// Whether sixteen bytes are below 128, and another NUL follows each NUL among them. Bytes past the last are NULs.
 // Proved:
 //     requires { start ≤ length bytes.now }
 //     ensures { IsTrue result ↔ ArePaddedFrom bytes.now start 16 }

@@ -1,9 +1,9 @@
 //! At most sixteen bytes in a vector, with a replacement for those that aren't characters. They are loaded in
 //! registers: a load of bytes that were stored in pieces would wait for them.
 
-use super::copying::resize;
-use super::first_lanes::first_lanes_of_sixteen;
 use crate::words::code_unit::CHARACTERS;
+use crate::words::padded::copying::resize;
+use crate::words::padded::first_lanes::first_lanes_of_sixteen;
 use crate::words::word::{Word, lanes};
 use crate::simd::*;
 

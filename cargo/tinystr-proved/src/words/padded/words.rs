@@ -1,9 +1,9 @@
 //! Padded bytes of any length, by words of sixteen bytes.
 
 use crate::words::int_ops::Aligned16;
-use crate::words::{Case, Question};
+use crate::words::question::{Case, Question};
 
-// The first sixteen bytes as a word, and the bytes behind them.
+// The first sixteen bytes as a word, and the bytes after them.
 // Proved:
 //     requires { IsPadded bytes.now }
 //     ensures { MatchOption result (length bytes.now < 16) (λ parts. IsFirstWord bytes.now parts.0 parts.1.now) }
@@ -35,7 +35,7 @@ pub(crate) fn len(bytes: &[u8]) -> usize {
     sum + Aligned16::from_padded(rest).len()
 }
 
-/// Whether each word passes the question; the later words are asked as the rest of a text.
+/// Whether each word passes the question; the later words are tested as the rest of a text.
 ///
 /// # Contract
 ///
@@ -57,7 +57,7 @@ pub(crate) fn ask(bytes: &[u8], question: Question) -> bool {
     Aligned16::from_padded(rest).ask(asked)
 }
 
-/// Changes each word in place; the later words are changed as the rest of a text. The NULs behind the text stay.
+/// Changes each word in place; the later words are changed as the rest of a text. The NULs after the text stay.
 ///
 /// # Contract
 ///
