@@ -27,7 +27,7 @@ BLOCK = re.compile(r"(<!-- bench/report (.+?) -->\n).*?(<!-- end -->\n)", re.DOT
 def headline(calls: Results, jobs: Results) -> str:
     """The means over all rows, whole jobs, and the slowest row, in three items."""
     ratio, call, capacity, kind = slowest_of(calls)
-    slowest = named_slowest(call.partition(",")[0]) + f" of {kind} texts" * (call != FAILING)
+    slowest = named_slowest(call) + f" of {kind} texts" * (call != FAILING)
     return (
         f"- A call takes {mean_of(calls, 'full'):.2f} of the Rust crate's time on texts that fill their capacity, and"
         f" {mean_of(calls, 'mixed'):.2f} on texts of all lengths. (These are geometric means.)\n"

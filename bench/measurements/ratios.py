@@ -36,7 +36,7 @@ def ratios_of_kind(results: Results, kind: str) -> dict[str, dict[str, float]]:
 
 def named_slowest(call: str) -> str:
     """How a sentence names the call that is the slowest."""
-    return "a question that fails at its first byte" if call == FAILING else f"`{call}`"
+    return "a question that fails at its first byte" if call == FAILING else f"`{call.partition(',')[0]}`"
 
 
 def mean_of(results: Results, kind: str) -> float:
