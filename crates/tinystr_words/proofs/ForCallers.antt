@@ -30,7 +30,7 @@ use Rattle.tinystr_words.specs.Words.{lane, word}
 use Rattle.tinystr_words.specs.declared.question.Case.TheVariants.{Title}
 use Rattle.tinystr_words.proofs.Order.OfLists.{before_not_same, before_one_way, before_or_same, before_padded, cmp_is_before, cmp_is_same}
 use Rattle.tinystr_words.proofs.Reading.ByteForms.{byte_fault-first_padded, byte_fault-padded}
-use Rattle.tinystr_words.proofs.Cases.Changes.{All-differs, IsStrictText-map, IsStrictText-titlecase, IsText-asked, IsText-list_all, ask-joined, ask-map, ask-titlecase, lowercase-alone, lowercase-titlecase, map-map_same, position-missed, titlecase-alone, titlecase-lowercase, titlecase-twice, titlecase-uppercase, uppercase-alone, uppercase-titlecase}
+use Rattle.tinystr_words.proofs.Cases.Changes.{All-differs, IsStrictText-map, IsStrictText-titlecase, IsText-ask, IsText-list_all, ask-joined, ask-map, ask-titlecase, lowercase-alone, lowercase-titlecase, map-map_same, position-missed, titlecase-alone, titlecase-lowercase, titlecase-twice, titlecase-uppercase, uppercase-alone, uppercase-titlecase}
 use Rattle.tinystr_words.proofs.Parts.Found.{All-absent, Contains-joined, before_first-absent, byte_position-none, byte_position-some, split-whole, text_position-at, text_position-distinct, text_position-none, text_position-some}
 use Rattle.tinystr_words.proofs.Parts.Prefixes.{lowercase-take, take_join_cut, titlecase-take, uppercase-take}
 use Rattle.tinystr_words.proofs.Decimals.Shortest.{IsDecimalOf-decimal, IsDecimalOf-only, IsText-decimal, length-decimal-le_ten}
@@ -308,22 +308,22 @@ pub ruleset strict_parts = (strict_parts_front, strict_parts_back, strict_parts_
 
 -- A list of letters, of digits, of both, or of letters in a case is a text.
 pub class_texts_alphanumeric : (t : List ℕ) → IsTrue (ask is_alphanumeric is_alphanumeric t) → IsText t
-class_texts_alphanumeric t h = IsText-asked is_alphanumeric is_alphanumeric (λ b k. grind (arith, nat_tests)) (λ b k. grind (arith, nat_tests)) t h
+class_texts_alphanumeric t h = IsText-ask is_alphanumeric is_alphanumeric (λ b k. grind (arith, nat_tests)) (λ b k. grind (arith, nat_tests)) t h
 
 pub class_texts_alphabetic : (t : List ℕ) → IsTrue (ask is_alphabetic is_alphabetic t) → IsText t
-class_texts_alphabetic t h = IsText-asked is_alphabetic is_alphabetic (λ b k. grind (arith, nat_tests)) (λ b k. grind (arith, nat_tests)) t h
+class_texts_alphabetic t h = IsText-ask is_alphabetic is_alphabetic (λ b k. grind (arith, nat_tests)) (λ b k. grind (arith, nat_tests)) t h
 
 pub class_texts_digit : (t : List ℕ) → IsTrue (ask is_digit is_digit t) → IsText t
-class_texts_digit t h = IsText-asked is_digit is_digit (λ b k. grind (arith, nat_tests)) (λ b k. grind (arith, nat_tests)) t h
+class_texts_digit t h = IsText-ask is_digit is_digit (λ b k. grind (arith, nat_tests)) (λ b k. grind (arith, nat_tests)) t h
 
 pub class_texts_lower : (t : List ℕ) → IsTrue (ask is_lower is_lower t) → IsText t
-class_texts_lower t h = IsText-asked is_lower is_lower (λ b k. grind (arith, nat_tests)) (λ b k. grind (arith, nat_tests)) t h
+class_texts_lower t h = IsText-ask is_lower is_lower (λ b k. grind (arith, nat_tests)) (λ b k. grind (arith, nat_tests)) t h
 
 pub class_texts_title : (t : List ℕ) → IsTrue (ask is_upper is_lower t) → IsText t
-class_texts_title t h = IsText-asked is_upper is_lower (λ b k. grind (arith, nat_tests)) (λ b k. grind (arith, nat_tests)) t h
+class_texts_title t h = IsText-ask is_upper is_lower (λ b k. grind (arith, nat_tests)) (λ b k. grind (arith, nat_tests)) t h
 
 pub class_texts_upper : (t : List ℕ) → IsTrue (ask is_upper is_upper t) → IsText t
-class_texts_upper t h = IsText-asked is_upper is_upper (λ b k. grind (arith, nat_tests)) (λ b k. grind (arith, nat_tests)) t h
+class_texts_upper t h = IsText-ask is_upper is_upper (λ b k. grind (arith, nat_tests)) (λ b k. grind (arith, nat_tests)) t h
 
 pub ruleset class_texts = (class_texts_alphanumeric, class_texts_alphabetic, class_texts_digit, class_texts_lower, class_texts_title, class_texts_upper)
 

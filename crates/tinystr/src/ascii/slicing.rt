@@ -1,4 +1,4 @@
-//! Parts of a text by their places.
+//! Parts of a text, by index.
 
 ghost use Rattle.std.specs.Prelude.{◌≡◌, ◌≤◌, ◌-◌, take, drop};
 

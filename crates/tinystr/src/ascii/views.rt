@@ -1,4 +1,4 @@
-//! What a value shows of its text.
+//! Views of a text: its length, its bytes and its string.
 
 ghost use Rattle.std.specs.Prelude.{◌≡◌, ◌≤◌, [], length, ◌↔◌, IsTrue, slice_get};
 ghost use Rattle.tinystr_words.specs.Text.{pad, text_of, IsText, IsStrictText, IsPaddedText};

@@ -132,9 +132,9 @@ IsText-list_all p each [] h = All-nil IsTextByte
 IsText-list_all p each (b ∷ t) h = All-cons IsTextByte b t (each b (grind arith)) (IsText-list_all p each t (grind arith))
 
 -- so are the first byte and the others
-pub IsText-asked : (first others : ℕ → Bool) → ((b : ℕ) → first b ≡ true → IsTextByte b) → ((b : ℕ) → others b ≡ true → IsTextByte b) → (t : List ℕ) → ask first others t ≡ true → IsText t
-IsText-asked first others one each [] h = All-nil IsTextByte
-IsText-asked first others one each (b ∷ t) h = All-cons IsTextByte b t (one b (grind arith)) (IsText-list_all others each t (grind arith))
+pub IsText-ask : (first others : ℕ → Bool) → ((b : ℕ) → first b ≡ true → IsTextByte b) → ((b : ℕ) → others b ≡ true → IsTextByte b) → (t : List ℕ) → ask first others t ≡ true → IsText t
+IsText-ask first others one each [] h = All-nil IsTextByte
+IsText-ask first others one each (b ∷ t) h = All-cons IsTextByte b t (one b (grind arith)) (IsText-list_all others each t (grind arith))
 
 -- no byte of a class is a byte that isn't
 pub All-differs : (p : ℕ → Bool) (c : ℕ) (t : List ℕ) → list_all p t ≡ true → p c ≡ false → All (λ b. b ≢ c) t

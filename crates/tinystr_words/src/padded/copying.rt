@@ -32,8 +32,8 @@ pub fn resize<const M: usize>(bytes: &[u8]) -> [u8; M]
     resized
 }
 
-/// The same of a padded text, by one copy: for bytes that a word has just given, in pieces, which the compiler takes
-/// apart as they were made. `resize` copies those in memory.
+/// The same of a padded text, by one copy: for bytes that a word has just returned, in pieces, along which the compiler
+/// splits the copy. `resize` copies bytes in memory.
 #[inline(always)]
 pub fn resize_at_once<const M: usize>(padded: &[u8]) -> [u8; M]
     requires { IsPadded padded.now }

@@ -7,8 +7,8 @@ use Rattle.tinystr_words.proofs.padded.words.ask.Given as goal
 abbrev pub invariant-loop-word : goal.invariant-loop-word
 invariant-loop-word l = record {
   padded : IsPadded l.rest;
-  later : later_question l.asked ≡ later_question l.question;
-  left : ask_question l.asked (text_of l.rest) ≡ ask_question l.question (text_of l.fn.bytes);
+  later : later_question l.current ≡ later_question l.question;
+  left : ask_question l.current (text_of l.rest) ≡ ask_question l.question (text_of l.fn.bytes);
 }
 
 abbrev pub decreases-loop-word : goal.decreases-loop-word
