@@ -1,7 +1,7 @@
 use Rattle.std.proofs.Common.{◌*◌, ◌∙◌, ℕ, [], arith}
 use Rattle.std.proofs.lemmas.List.{length-set}
 use Rattle.tinystr_packed.specs.Rising.{text_at}
-use Rattle.tinystr_packed.proofs.SideBySide.{so_far-set}
+use Rattle.tinystr_packed.proofs.EightSearches.{so_far-set}
 use Rattle.tinystr_c.specs.Codes.{answer}
 use Rattle.tinystr_c.specs.Tables.{Searches}
 use Rattle.tinystr_c.specs.declared.answer.TinystrResult.{TinystrResult}
