@@ -16,8 +16,9 @@ CONTRACTS = {
     "tinystr_c": CRATES / "tinystr_c/src/lib.rt",
 }
 HEAD = re.compile(r"(?:\w+ )?pub (?:record |data )?(?!mod |use )([^\s({]+) ")
-# What in a clause is no word of a definition: its own name, an import, and a field of a value.
-NO_WORD = re.compile(r"^ *ghost use .*|\b(?:requires|ensures)(?: \w+)? \{|\.[a-z]\w*")
+# What in a clause is no word of a definition: its own name, an import, and a field of a value. A definition may have the name
+# before it under which its module is imported, `Spec`.
+NO_WORD = re.compile(r"^ *ghost use .*|\b(?:requires|ensures)(?: \w+)? \{|(?<!\bSpec)\.[a-z]\w*")
 WORD = re.compile(r"[A-Za-z_]\w*")
 
 

@@ -14,12 +14,12 @@ use Rattle.tinystr_c.specs.Codes.{OK, NO_ROOM, answer, search_answer}
 use Rattle.tinystr_c.specs.Tables.{Searches, SearchesEach}
 use Rattle.tinystr_c.specs.declared.answer.TinystrResult.{TinystrResult}
 
--- what a search for a text gives is its answer
+-- what a search for a text returns is its answer
 pub Searches-found : (bytes key : List ℕ) (n : ℕ) (s : Result ℕ ℕ) → IsStrictText key n → IfOk s (λ index. index < length bytes / n) → IfErr s (λ place. place ≤ length bytes / n)
     → ((texts : List (List ℕ)) → ArePackedRising texts bytes n → IsSearched key texts s) → Searches (search_answer s) bytes key n
 Searches-found bytes key n s strict inside bound searched = record { refused = λ no. absurd (no strict); answered = λ _. (s, refl, inside, bound, searched) }
 
--- what is so of the elements before m, which stay, and of the eight from m on is so of all of them
+-- what holds for the elements before m, which stay, and for the eight from m on holds for all of them
 pub eight_more : {X : Type 0} (d : X) (P : ℕ → X → Type 0) (xs ys : List X) (m : ℕ) → ((i : ℕ) → i < m → P i (get_or xs i d)) → ((i : ℕ) → i < m → get_or ys i d ≡ get_or xs i d)
     → ((i : ℕ) → i < 8 → P (m + i) (get_or ys (m + i) d)) → (i : ℕ) → i < m + 8 → P i (get_or ys i d)
 eight_more d P xs ys m so_far stay eight i within = elim (cases_lt i m) [
@@ -31,7 +31,7 @@ eight_more d P xs ys m so_far stay eight i within = elim (cases_lt i m) [
 count : (texts : List (List ℕ)) (keys : List ℕ) (n : ℕ) → 0 < n → All (λ t. IsStrictText t n) texts → keys ≡ flat_map (λ t. pad t n) texts → length keys / n ≡ length texts
 count texts keys n some strict joined = rw (joined, length-joined n texts strict) (mul-div_cancel (length texts) some)
 
--- there is no room for an answer for each text
+-- there are fewer places than texts
 pub SearchesEach-no_room : (texts : List (List ℕ)) (old : List TinystrResult) (bytes keys : List ℕ) (n : ℕ) → 0 < n → All (λ t. IsStrictText t n) texts → keys ≡ flat_map (λ t. pad t n) texts
     → length old < length texts → SearchesEach (answer NO_ROOM (length texts)) old old bytes keys n
 SearchesEach-no_room texts old bytes keys n some strict joined less =
@@ -39,19 +39,19 @@ SearchesEach-no_room texts old bytes keys n some strict joined less =
     record {
       refused = λ no. absurd (no (record { texts = texts; each = strict; joined = joined }));
       no_room = λ _ _. (ap (answer NO_ROOM) (sym counted), refl);
-      answered = λ _ room. absurd (omega (arith, counted, less, room));
+      answered = λ _ fits. absurd (omega (arith, counted, less, fits));
     }
 
--- each text has its answer, with the old places behind
+-- each text has its answer, and the other places are unchanged
 pub SearchesEach-answered : (texts : List (List ℕ)) (old front back : List TinystrResult) (bytes keys : List ℕ) (n : ℕ) → 0 < n → All (λ t. IsStrictText t n) texts → keys ≡ flat_map (λ t. pad t n) texts
     → length texts ≤ length old → length front ≡ length texts → back ≡ drop (length texts) old → ((i : ℕ) → i < length texts → Searches (get_or front i (answer 0 0)) bytes (text_at texts i) n)
     → SearchesEach (answer OK (length texts)) old (front ++ back) bytes keys n
-SearchesEach-answered texts old front back bytes keys n some strict joined room long behind each =
+SearchesEach-answered texts old front back bytes keys n some strict joined fits long after each =
     let counted = count texts keys n some strict joined in
-    let all : length (front ++ back) ≡ length old = omega (arith, length-append front back, ap (λ (l : List TinystrResult). length l) behind, length-drop (length texts) old, long, room) in
+    let all : length (front ++ back) ≡ length old = omega (arith, length-append front back, ap (λ (l : List TinystrResult). length l) after, length-drop (length texts) old, long, fits) in
     record {
       refused = λ no. absurd (no (record { texts = texts; each = strict; joined = joined }));
-      no_room = λ _ less. absurd (omega (arith, counted, less, room));
+      no_room = λ _ less. absurd (omega (arith, counted, less, fits));
       answered = λ packed _. (
         ap (answer OK) (sym counted),
         all,
@@ -59,6 +59,6 @@ SearchesEach-answered texts old front back bytes keys n some strict joined room 
             let inside : i < length texts = omega (arith, counted, within) in
             let same = packed_injective n packed.texts texts some packed.each strict (sym packed.joined ∙ joined) in
             rw (get_or_append_left front back (answer 0 0) i (omega (arith, long, inside)), same) (each i inside),
-        rw counted (drop_at front back (length texts) long ∙ behind),
+        rw counted (drop_at front back (length texts) long ∙ after),
       );
     }

@@ -67,7 +67,7 @@ BAD_DISPLACEMENTS = 14
 abbrev pub MISPLACED : ℕ
 MISPLACED = 15
 
--- ---- and what stands with them
+-- ---- and what is returned with them
 
 abbrev pub answer : ℕ → ℕ → TinystrResult
 answer code value = record { value = value; code = code }
@@ -81,11 +81,11 @@ fault_code (too_long max len) = TOO_LONG
 fault_code contains_null = NUL
 fault_code non_ascii = NON_ASCII
 
--- where the first NUL stands
+-- the index of the first NUL
 abbrev pub first_nul : List ℕ → Option ℕ
 first_nul u = position (λ b. b == 0) u
 
--- where the first byte above 127 stands
+-- the index of the first byte above 127
 abbrev pub first_non_ascii : List ℕ → Option ℕ
 first_non_ascii u = position (λ b. nat_lt 127 b) u
 

@@ -54,7 +54,7 @@ pub record Searches (r : TinystrResult) (bytes key : List ℕ) (n : ℕ) : Type 
       × IfOk s (λ index. index < length bytes / n) × IfErr s (λ place. place ≤ length bytes / n)
       × ((texts : List (List ℕ)) → ArePackedRising texts bytes n → IsSearched key texts s)
 
--- the keys are rejected, or they are packed and there is no room for their answers, and nothing is changed; or each key
+-- the keys are rejected, or they are packed and there are fewer places than keys, and nothing is changed; or each key
 -- has an answer that Searches allows, and what is after the answers isn't changed. Where the bytes are packed records
 -- that are strictly ascending, Searches allows one; else any place inside them, so that the answer may differ from that
 -- of a search for the key alone

@@ -17,12 +17,12 @@ use Rattle.tinystr_c.specs.declared.answer.TinystrResult.{TinystrResult}
 abbrev pub is_langid : List ℕ → Bool
 is_langid u = is_lang_id (subtags_of (fold_text u))
 
--- the length of the canonical text, where it is a language identifier, and whether there is room for it; else why it is
--- none, whatever room there is
+-- the length of the canonical text, where it is a language identifier, and whether it is at most `len`; else why it is none,
+-- whatever `len` is
 abbrev pub langid_answer : List ℕ → ℕ → TinystrResult
-langid_answer u room =
+langid_answer u len =
     if is_langid u
-    then (if nat_le (length (canonical_text u)) room then answer OK (length (canonical_text u)) else answer NO_ROOM (length (canonical_text u)))
+    then (if nat_le (length (canonical_text u)) len then answer OK (length (canonical_text u)) else answer NO_ROOM (length (canonical_text u)))
     else answer (refusal_code (refusal_of u)) 0
 
 abbrev pub langid_bytes : List ℕ → List ℕ → List ℕ
@@ -45,7 +45,7 @@ read_bytes u old =
     then old
     else (if is_strict_text u (length old) then pad u (length old) else old)
 
--- ---- texts of at most 16 bytes, with NULs behind them up to 16, or with fewer or none
+-- ---- texts of at most 16 bytes, with NULs after them up to 16, or with fewer or none
 
 -- in the order of their numbers
 abbrev pub question_of : ℕ → Option Question

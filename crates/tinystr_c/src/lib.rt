@@ -41,7 +41,7 @@ pub extern "C" fn tinystr_langid(input: &[u8], out: &mut [u8]) -> TinystrResult
     texts::langid(input, out)
 }
 
-/// Reads a text of at most as many bytes as `out` has, and writes it with NULs up to the end of `out`. An error leaves `out`
+/// Reads a text that isn't longer than `out`, and writes it with NULs up to the end of `out`. An error leaves `out`
 /// as it was.
 #[unsafe(no_mangle)]
 pub extern "C" fn tinystr_read(input: &[u8], out: &mut [u8]) -> TinystrResult
@@ -51,7 +51,7 @@ pub extern "C" fn tinystr_read(input: &[u8], out: &mut [u8]) -> TinystrResult
     texts::read(input, out)
 }
 
-/// Asks a text, padded or not, a question.
+/// The answer to a question about a text, padded or not.
 #[unsafe(no_mangle)]
 pub extern "C" fn tinystr_ask(text: &[u8], question: u32) -> TinystrResult
     ensures { result ≡ ask_answer text.now question }

@@ -56,7 +56,7 @@ pub fn read(input: &[u8], out: &mut [u8]) -> TinystrResult
     }
 }
 
-/// Asks a text a question.
+/// The answer to a question about a text.
 #[inline]
 pub fn ask(text: &[u8], question: u32) -> TinystrResult
     ensures { result ≡ ask_answer text.now question }
@@ -88,7 +88,7 @@ pub fn change_case(text: &mut [u8], case: u32) -> TinystrResult
     }
 }
 
-// Writes a text, and NULs behind it: all `N` bytes at once where there is room.
+// Writes a text, and NULs up to the end of `out`: all `N` bytes in one step where they fit.
 #[inline]
 #[tactic(auto, using(crate::proofs::Putting::putting))]
 fn put<const N: usize>(text: &TinyAsciiStr<N>, out: &mut [u8])
@@ -96,9 +96,9 @@ fn put<const N: usize>(text: &TinyAsciiStr<N>, out: &mut [u8])
     ensures { out.new ≡ pad text.now (length out.old) }
 {
     let bytes = text.all_bytes();
-    let room = out.len();
-    if room < N {
-        out.copy_from_slice(&bytes[..room]);
+    let len = out.len();
+    if len < N {
+        out.copy_from_slice(&bytes[..len]);
         return;
     }
     let (front, back) = out.split_at_mut(N);
@@ -106,7 +106,7 @@ fn put<const N: usize>(text: &TinyAsciiStr<N>, out: &mut [u8])
     back.fill(0);
 }
 
-// The text of at most 16 bytes, with NULs behind it or without.
+// The text of at most 16 bytes, with NULs after it or without.
 #[inline]
 fn read_padded(text: &[u8]) -> Result<TinyAsciiStr<16>, TinystrResult>
     ensures read { result ≡ padded_read text.now }

@@ -38,7 +38,7 @@ hash-whole seed raw rest pieces i h are long none end made =
     let count : (length raw + 15) / 16 ≡ length raw / 16 = omega arith in
     made ∙ rw (end, take_all (length pieces) pieces (omega arith), are, count) refl
 
--- and what is left after them
+-- and the remainder after them
 pub hash-rest : (seed : ℕ) (raw rest : List ℕ) (pieces : List (List ℕ)) (i h r : ℕ) → pieces ≡ first_chunks 16 (length raw / 16) raw → rest ≡ drop (length raw / 16 * 16) raw → length rest ≡ length raw % 16 → 0 < length rest
     → i ≡ length pieces → h ≡ fold hash_on seed (take i pieces) → r ≡ hash_on h rest → r ≡ hash_of seed raw
 hash-rest seed raw rest pieces i h r are after long some end made last =

@@ -46,7 +46,7 @@ no_other made texts t distinct count all found other =
     length-le_from_is_member nat_list_eq_equiv (texts ++ t ∷ []) made more (λ q here. is_text made q (one_of made texts t q all found (has_text (texts ++ t ∷ []) q here))) in
     omega (arith, length-append texts (t ∷ []))
 
--- so a table of as many texts, which has each of them, has no other
+-- so a table of the same number of texts, which has each of them, has no other
 pub packed : (made texts : List (List ℕ)) (bytes : List ℕ) (n : ℕ) → IsHashed made bytes n → length made ≡ length texts → All (λ s. Contains made s) texts → IsDistinct bytes_eq texts → ArePackedHashed texts bytes n
 packed made texts bytes n hashed count all distinct = record {
   made = made;
@@ -56,7 +56,7 @@ packed made texts bytes n hashed count all distinct = record {
   distinct = distinct;
 }
 
--- and a table of exactly the texts has each of them, and as many
+-- and a table of exactly the texts has each of them, and the same number
 pub has_each : (made texts : List (List ℕ)) (bytes : List ℕ) (n : ℕ) → 0 < n → IsHashed made bytes n → ArePackedHashed texts bytes n → All (λ s. Contains made s) texts
 has_each made texts bytes n some hashed packed =
     let same = hashed_once n made packed.made bytes some hashed packed.hashed in

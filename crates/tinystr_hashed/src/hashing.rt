@@ -2,7 +2,7 @@
 
 ghost use Rattle.std.specs.Prelude.{◌≡◌, ◌≤◌, length, map, IsNone, IfSome};
 ghost use Rattle.tinystr_words.specs.Words.{word};
-ghost use Rattle.tinystr_hashed.specs.Hashing.{folded, hash_on, hash_of, scaled, displaced, displacement_of, place_of, ArePlaced, IsFirstMisplaced};
+ghost use Rattle.tinystr_hashed.specs.Hashing as Spec;
 
 use tinystr_words::word::Word;
 
@@ -23,7 +23,7 @@ impl<'a> Places<'a> {
     #[inline(always)]
     #[tactic(auto, unfolding(crate::specs::Hashing::place_of))]
     pub(crate) fn place<const N: usize>(&self, raw: &[u8; N], count: usize) -> usize
-        ensures { result ≡ place_of self.now.seed (map word self.now.displacements.now) count raw.now }
+        ensures { result ≡ Spec.place_of self.now.seed (map word self.now.displacements.now) count raw.now }
     {
         let hash = hash_of(self.seed, raw);
         displaced(hash, self.displacement(hash), count)
@@ -32,7 +32,7 @@ impl<'a> Places<'a> {
     // The displacement of a hash, 0 where there are none.
     #[inline(always)]
     fn displacement(&self, hash: u64) -> u32
-        ensures { result ≡ displacement_of (map word self.now.displacements.now) hash }
+        ensures { result ≡ Spec.displacement_of (map word self.now.displacements.now) hash }
     {
         let bucket = scaled(hash, self.displacements.len());
         match self.displacements.get(bucket) {
@@ -43,10 +43,10 @@ impl<'a> Places<'a> {
 
     /// The index of the first record that isn't at its place.
     pub(crate) fn first_misplaced<const N: usize>(&self, records: &[[u8; N]]) -> Option<usize>
-        ensures none { IsNone result → ArePlaced
-            (place_of self.now.seed (map word self.now.displacements.now) (length records.now)) records.now }
-        ensures first { IfSome result (λ index. IsFirstMisplaced
-            (place_of self.now.seed (map word self.now.displacements.now) (length records.now)) records.now index) }
+        ensures none { IsNone result → Spec.ArePlaced
+            (Spec.place_of self.now.seed (map word self.now.displacements.now) (length records.now)) records.now }
+        ensures first { IfSome result (λ index. Spec.IsFirstMisplaced
+            (Spec.place_of self.now.seed (map word self.now.displacements.now) (length records.now)) records.now index) }
     {
         for (index, raw) in records.iter().enumerate() {
             if self.place(raw, records.len()) != index {
@@ -60,7 +60,7 @@ impl<'a> Places<'a> {
 /// The hash of a record.
 #[inline(always)]
 pub(crate) fn hash_of<const N: usize>(seed: u64, raw: &[u8; N]) -> u64
-    ensures { result ≡ hash_of seed raw.now }
+    ensures { result ≡ Spec.hash_of seed raw.now }
 {
     let bytes = &raw[..];
     let (pieces, rest) = bytes.as_chunks::<16>();
@@ -79,7 +79,7 @@ pub(crate) fn hash_of<const N: usize>(seed: u64, raw: &[u8; N]) -> u64
 #[inline(always)]
 fn hash_on(hash: u64, piece: &[u8]) -> u64
     requires { length piece.now ≤ 16 }
-    ensures { result ≡ hash_on hash piece.now }
+    ensures { result ≡ Spec.hash_on hash piece.now }
 {
     let (low, high) = piece.split_at(piece.len().min(8));
     folded(hash ^ number(low), OF_HASHES ^ number(high))
@@ -106,7 +106,7 @@ pub(crate) fn short_number(bytes: &[u8]) -> u32
 // Both halves of a product, as one number.
 #[inline(always)]
 fn folded(a: u64, b: u64) -> u64
-    ensures { result ≡ folded a b }
+    ensures { result ≡ Spec.folded a b }
 {
     let product = u128::from(a) * u128::from(b);
     (product % (1 << 64)) as u64 ^ (product >> 64) as u64
@@ -115,7 +115,7 @@ fn folded(a: u64, b: u64) -> u64
 /// A hash scaled to a number of places, below that number if it isn't 0.
 #[inline(always)]
 pub(crate) fn scaled(hash: u64, count: usize) -> usize
-    ensures { result ≡ scaled hash count }
+    ensures { result ≡ Spec.scaled hash count }
 {
     ((u128::from(hash) * count as u128) >> 64) as usize
 }
@@ -124,7 +124,7 @@ pub(crate) fn scaled(hash: u64, count: usize) -> usize
 #[inline(always)]
 #[tactic(auto, unfolding(crate::specs::Hashing::displaced))]
 pub(crate) fn displaced(hash: u64, displacement: u32, count: usize) -> usize
-    ensures { result ≡ displaced hash displacement count }
+    ensures { result ≡ Spec.displaced hash displacement count }
 {
     scaled(folded(hash ^ u64::from(displacement), OF_PLACES), count)
 }

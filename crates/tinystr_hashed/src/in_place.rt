@@ -1,7 +1,8 @@
 //! Look-ups in the bytes of a hashed table that were checked before, and aren't checked again. For any other bytes a look-up
 //! returns a place inside them, or none.
 
-ghost use Rattle.std.specs.Prelude.{◌≡◌, ◌<◌, ◌/◌, List, ℕ, IfSome, length, position};
+ghost use Rattle.std.specs.Prelude.{◌≡◌, ◌<◌, ◌/◌, List, ℕ, IfSome, length};
+ghost use Rattle.std.specs.List as list;
 ghost use Rattle.std.specs.Str.{bytes_eq};
 ghost use Rattle.tinystr_hashed.specs.Reading.{IsHashed, records_in};
 
@@ -20,7 +21,7 @@ pub fn position<const N: usize>(bytes: &[u8], key: &TinyAsciiStr<N>) -> Option<u
     requires { 0 < N }
     ensures inside { IfSome result (λ index. index < length (records_in bytes.now) / N) }
     ensures position { (texts : List (List ℕ)) → IsHashed texts bytes.now N
-        → result ≡ position (bytes_eq key.now) texts }
+        → result ≡ list.position (bytes_eq key.now) texts }
 {
     let Ok(parts) = Parts::of(bytes) else {
         return None;

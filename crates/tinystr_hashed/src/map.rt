@@ -5,7 +5,7 @@ ghost use Rattle.std.specs.Iterator.{YieldsFirstBy, item_count};
 ghost use Rattle.std.specs.Map.{keys_of, values_of};
 ghost use Rattle.std.specs.Option.{option_copied};
 ghost use Rattle.std.specs.Result.{result_ok};
-ghost use Rattle.tinystr_packed.specs.Map.{get};
+ghost use Rattle.tinystr_packed.specs.Map as Spec;
 ghost use Rattle.tinystr_hashed.specs.Hashing.{AreDistinct};
 ghost use Rattle.tinystr_hashed.specs.Map.{AreHashed, RefusesHashedMap, hashed_map_of};
 
@@ -105,7 +105,7 @@ impl<'a, const N: usize, const M: usize> HashedMap<'a, N, M> {
 
     /// The value of a key, or `None` if the map doesn't have the key. No key takes longer than another.
     pub fn get(&self, key: &TinyAsciiStr<N>) -> Option<&'a [u8; M]>
-        ensures value { option_copied result ≡ get self.now key.now }
+        ensures value { option_copied result ≡ Spec.get self.now key.now }
         ensures distinct { AreDistinct (keys_of self.now) }
     {
         match self.keys.position(key) {
@@ -116,7 +116,7 @@ impl<'a, const N: usize, const M: usize> HashedMap<'a, N, M> {
 
     /// Whether the map has a key.
     pub fn contains_key(&self, key: &TinyAsciiStr<N>) -> bool
-        ensures { result ≡ is_some (get self.now key.now) }
+        ensures { result ≡ is_some (Spec.get self.now key.now) }
     {
         self.keys.contains(key)
     }
@@ -150,7 +150,7 @@ impl<'a, const N: usize, const M: usize> HashedMap<'a, N, M> {
     }
 }
 
-/// An iterator over the entries of a map, in the order of its keys. A contract sees it as the list of those that are left.
+/// An iterator over the entries of a map, in the order of its keys. A contract sees it as the list of the remaining ones.
 ///
 /// ```rust
 /// let keys = b"\x01\0\0\0\0\0\0\0\0\0\0\0\0\0\0\0EUR";

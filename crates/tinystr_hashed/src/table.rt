@@ -1,7 +1,8 @@
 //! Hashed tables, and the look-up in them.
 
-ghost use Rattle.std.specs.Prelude.{◌≡◌, ◌<◌, ◌^◌, ◌↔◌, ℕ, List, [], IsOk, IsSome, IsTrue, IfOk, IfErr, IfSome, Some, Contains, length, map, slice_get, position};
+ghost use Rattle.std.specs.Prelude.{◌≡◌, ◌<◌, ◌^◌, ◌↔◌, ℕ, List, [], IsOk, IsSome, IsTrue, IfOk, IfErr, IfSome, Some, Contains, length, map, slice_get};
 ghost use Rattle.tinystr_words.specs.Words.{word};
+ghost use Rattle.std.specs.List as list;
 ghost use Rattle.std.specs.Result.{result_ok};
 ghost use Rattle.std.specs.Str.{bytes_eq};
 ghost use Rattle.tinystr_hashed.specs.Hashing.{AreDistinct};
@@ -130,7 +131,7 @@ impl<'a, const N: usize> HashedTable<'a, N> {
     pub fn position(&self, key: &TinyAsciiStr<N>) -> Option<usize>
         ensures found { IfSome result (λ index. slice_get self.now index ≡ Some key.now) }
         ensures exact { IsSome result ↔ Contains self.now key.now }
-        ensures position { result ≡ position (bytes_eq key.now) self.now }
+        ensures position { result ≡ list.position (bytes_eq key.now) self.now }
         ensures distinct { AreDistinct self.now }
     {
         let place = self.places.place(key.all_bytes(), self.table.len());
@@ -188,7 +189,7 @@ pub(crate) struct Parts<'a> {
 }
 
 impl<'a> Parts<'a> {
-    /// Those of bytes that have a header and all displacements. It is inlined, so that a loop over keys of the same bytes
+    /// The parts of bytes that have a header and all displacements. It is inlined, so that a loop over keys of the same bytes
     /// reads the header once.
     #[inline(always)]
     pub(crate) fn of(bytes: &'a [u8]) -> Result<Self, HashedError>

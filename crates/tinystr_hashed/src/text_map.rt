@@ -3,7 +3,7 @@
 ghost use Rattle.std.specs.Prelude.{◌≡◌, ◌<◌, ◌^◌, ◌↔◌, [], List, ℕ, is_some, length, IsOk, IsTrue, IfOk, IfErr};
 ghost use Rattle.std.specs.Map.{keys_of, values_of};
 ghost use Rattle.std.specs.Result.{result_ok};
-ghost use Rattle.tinystr_packed.specs.Map.{get};
+ghost use Rattle.tinystr_packed.specs.Map as Spec;
 ghost use Rattle.tinystr_hashed.specs.Hashing.{AreDistinct};
 ghost use Rattle.tinystr_hashed.specs.TextMap.{AreHashedTexts, RefusesHashedTextMap, hashed_text_map_of};
 
@@ -107,7 +107,7 @@ impl<'a, const N: usize, const M: usize> HashedTextMap<'a, N, M> {
 
     /// The value of a key, or `None` if the map doesn't have the key. No key takes longer than another.
     pub fn get(&self, key: &TinyAsciiStr<N>) -> Option<TinyAsciiStr<M>>
-        ensures value { result ≡ get self.now key.now }
+        ensures value { result ≡ Spec.get self.now key.now }
         ensures distinct { AreDistinct (keys_of self.now) }
     {
         match self.keys.position(key) {
@@ -118,7 +118,7 @@ impl<'a, const N: usize, const M: usize> HashedTextMap<'a, N, M> {
 
     /// Whether the map has a key.
     pub fn contains_key(&self, key: &TinyAsciiStr<N>) -> bool
-        ensures { result ≡ is_some (get self.now key.now) }
+        ensures { result ≡ is_some (Spec.get self.now key.now) }
     {
         self.keys.contains(key)
     }

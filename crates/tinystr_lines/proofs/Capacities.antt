@@ -15,7 +15,7 @@ pub call_reply-too_long : (n : ℕ) (call : TextCall) (units : List ℕ) → n <
 unfolding call_reply fault_in
 call_reply-too_long n call units long = grind (arith, nat_tests)
 
--- the units behind a capacity are left out, whether there or before
+-- the units after a capacity are left out, whether there or before
 pub lossy-take : (n m : ℕ) (units : List ℕ) → n ≤ m → lossy (take (min n (length units)) units) replacement m ≡ lossy units replacement n
 lossy-take n m units le =
     let kept = length-take n units in

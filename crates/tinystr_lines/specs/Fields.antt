@@ -1,4 +1,4 @@
--- The capacities and the commands, and the fields that stand for them in a line.
+-- The capacities and the commands, and the fields that represent them in a line.
 use Rattle.std.specs.Prelude.{ℕ, List, [], ◌∷◌, Option, option_map, codes}
 use Rattle.std.specs.Str.{bytes_eq}
 use Rattle.std.specs.List.{find}
@@ -8,7 +8,7 @@ use Rattle.tinystr_lines.specs.declared.command.Command.{Command}
 use Rattle.tinystr_lines.specs.declared.command.Command.TheVariants.{OnText, Lossy, Records, Locale}
 use Rattle.tinystr_lines.specs.declared.command.TextCall.TheVariants.{Text, Len, Ask, Change}
 
--- what a field stands for in a table
+-- what a field represents in a table
 abbrev pub named : {A : Type 0} → List (List ℕ × A) → List ℕ → Option A
 named {A} table field = option_map (λ row. row.1) (find (λ (row : List ℕ × A). bytes_eq field row.0) table)
 

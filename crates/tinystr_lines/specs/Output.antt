@@ -25,6 +25,6 @@ reply_line line = reply line ++ 10 ∷ []
 unfoldable pub output_of : List ℕ → List ℕ
 output_of input = flat_map reply_line (lines_of input)
 
--- what a writer holds grows by a beginning of the bytes; where it doesn't tell what it holds, nothing is said
+-- what a writer holds grows by a beginning of the bytes; where what it holds isn't known, nothing is said
 abbrev pub AppendsBeginning : Option (List ℕ) → Option (List ℕ) → List ℕ → Type 0
 AppendsBeginning old new bytes = (n : ℕ) × Appends old new (take n bytes)

@@ -37,7 +37,7 @@ unfoldable pub call_reply : ℕ → TextCall → List ℕ → List ℕ
 call_reply n call units =
     if is_strict_text units n then answer_of call units else fault_text (fault_in n units)
 
--- what stands for a code unit that isn't a character: `?`
+-- what replaces a code unit that isn't a character: `?`
 abbrev pub replacement : ℕ
 replacement = 63
 

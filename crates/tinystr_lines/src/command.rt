@@ -1,7 +1,7 @@
 //! The commands of a line, and the fields that name them.
 
 ghost use Rattle.std.specs.Prelude.{◌≡◌, length};
-ghost use Rattle.tinystr_lines.specs.Fields.{named, command_of};
+ghost use Rattle.tinystr_lines.specs.Fields as Spec;
 
 use self::Command::{Locale, Lossy, OnText, Records};
 use self::TextCall::{Ask, Change, Len, Text};
@@ -12,7 +12,7 @@ use tinystr::Question::{
 };
 use tinystr::{Case, Question};
 
-/// What a line asks for.
+/// The command of a line.
 #[derive(Clone, Copy)]
 pub enum Command {
     /// A call on the text that the strict reader takes.
@@ -77,7 +77,7 @@ const NAMES_OF_20: [([u8; 20], Command); 3] = [
 #[inline(always)]
 fn named<const N: usize>(mut table: &[([u8; N], Command)], field: &[u8]) -> Option<Command>
     requires { length field.now ≡ N }
-    ensures { result ≡ named table.entry.now field.now }
+    ensures { result ≡ Spec.named table.entry.now field.now }
 {
     let field = field.first_chunk::<N>()?;
     while let [row, rest @ ..] = table {
@@ -93,7 +93,7 @@ impl Command {
     /// The command that a field names, by its one spelling in lowercase.
     #[tactic(auto, unfolding(crate::specs::Fields::command_of))]
     pub fn parse(field: &[u8]) -> Option<Command>
-        ensures { result ≡ command_of field.now }
+        ensures { result ≡ Spec.command_of field.now }
     {
         match field.len() {
             3 => named(&NAMES_OF_3, field),

@@ -32,7 +32,7 @@ impl From<AllocError> for RunError {
     }
 }
 
-// What memory was refused for.
+// What an allocation failed for.
 #[derive(Drop)]
 enum Refused {
     /// What was read.
@@ -68,8 +68,8 @@ fn push_output_of_input(out: &mut Vec<u8>, input: &[u8]) -> Result<(), AllocErro
     Ok(())
 }
 
-// What ends with the last line feed, and what follows it. Thirty-two bytes without one are passed at once.
-fn split_behind_last_line(piece: &[u8]) -> Option<(&[u8], &[u8])>
+// Splits after the last line feed, if there is one. Thirty-two bytes without one are passed in one step.
+fn split_after_last_line(piece: &[u8]) -> Option<(&[u8], &[u8])>
     ensures some { IfSome result (λ parts. (head : List ℕ)
         × (parts.0.now ≡ head ++ 10 ∷ [])
         × (piece.now ≡ parts.0.now ++ parts.1.now)) }
@@ -116,11 +116,11 @@ fn push_output_of_piece(out: &mut Vec<u8>, begun: &mut Vec<u8>, piece: &[u8]) ->
     // No more than a line is begun.
     ensures line { OnOk result (list_any is_line_feed begun.old.items ≡ false
         → list_any is_line_feed begun.new.items ≡ false) }
-    // Where memory for input is refused, `begun` isn't longer. Where memory for a reply is refused, it is, by the lines.
+    // If an allocation for input fails, `begun` isn't longer. If one for a reply fails, it is longer, by the lines.
     ensures input { IfErr result (λ e. e ≡ Refused.Input → vec_len begun.new ≤ vec_len begun.old) }
     ensures reply { IfErr result (λ e. e ≡ Refused.Reply → vec_len begun.old < vec_len begun.new) }
 {
-    let Some((lines, rest)) = split_behind_last_line(piece) else {
+    let Some((lines, rest)) = split_after_last_line(piece) else {
         return keep(begun, piece);
     };
     keep(begun, lines)?;
@@ -130,8 +130,8 @@ fn push_output_of_piece(out: &mut Vec<u8>, begun: &mut Vec<u8>, piece: &[u8]) ->
     Ok(())
 }
 
-// Why a run fails where memory for a reply was refused. The rest is read and kept first, so that a read that fails then is
-// told before the want of memory.
+// Why a run fails after a failed allocation for a reply. The remaining input is read and kept first, so that a read error takes
+// precedence over the allocation failure.
 #[cold]
 fn read_on<R: Read>(reader: &mut R, begun: Vec<u8>, piece: &mut [u8]) -> RunError
     ensures { result ≢ RunError.Write }
@@ -150,7 +150,7 @@ fn read_on<R: Read>(reader: &mut R, begun: Vec<u8>, piece: &mut [u8]) -> RunErro
     }
 }
 
-// Why a run fails where memory was refused: for input immediately, and for a reply as `read_on` says.
+// Why a run fails after a failed allocation: for input immediately, and for a reply as `read_on` says.
 #[cold]
 fn failure<R: Read>(refused: Refused, reader: &mut R, begun: Vec<u8>, piece: &mut [u8]) -> RunError
     ensures input { refused ≡ Refused.Input → result ≡ RunError.Memory }
@@ -162,7 +162,7 @@ fn failure<R: Read>(refused: Refused, reader: &mut R, begun: Vec<u8>, piece: &mu
     }
 }
 
-// Reads all that the reader has, and gives its output.
+// Reads all that the reader has, and returns its output.
 fn read_output<R: Read>(alloc: Global, reader: &mut R) -> Result<Vec<u8>, RunError>
     ensures output { IfOk result (λ out. (input : List ℕ)
         × Consumes (R.remaining reader.old) (R.remaining reader.new) input
@@ -210,7 +210,7 @@ fn write_output<W: Write>(writer: &mut W, output: &[u8]) -> Result<(), RunError>
 
 /// Reads the reader to its end, then writes the replies to the lines read, each followed by a line feed, and flushes.
 /// It allocates from `alloc` to hold all replies and, of the input, at most a line and the bytes of one read. After an
-/// allocation for a reply has failed, it holds what was left to read. An interrupted read or write counts as failed,
+/// allocation for a reply has failed, it holds the remaining input. An interrupted read or write counts as failed,
 /// and isn't tried again.
 pub fn run<R: Read, W: Write>(alloc: Global, r: &mut R, w: &mut W) -> Result<(), RunError>
     // It reads to the end before it writes.

@@ -20,7 +20,7 @@ use tinystr::{ParseError, TinyAsciiStr};
 // What the lossy reader puts for a code unit that isn't a character.
 const REPLACEMENT: u8 = b'?';
 
-// Calls a function at the capacity that a field spells, or gives another value.
+// Calls a function at the capacity that a field spells, or returns another value.
 macro_rules! at_capacity {
     ($field:expr, $call:ident, $other:expr, $($argument:expr),*) => {
         match $field {
@@ -61,7 +61,7 @@ fn push_text<const N: usize>(out: &mut Vec<u8>, text: TinyAsciiStr<N>) -> Result
     push_beginning(out, text.all_bytes(), text.len())
 }
 
-/// Appends the digits of a number. One below 2^32 is made at once, without the steps of `write!`, since that is faster.
+/// Appends the digits of a number. Those of a number below 2^32 are made without `write!`, since that is faster.
 #[inline(never)]
 pub fn push_large_number(out: &mut Vec<u8>, number: usize) -> Result<(), AllocError>
     ensures { OnOk result (out.new.items ≡ out.old.items ++ decimal number) }
@@ -74,7 +74,7 @@ pub fn push_large_number(out: &mut Vec<u8>, number: usize) -> Result<(), AllocEr
     write!(out, "{number}").or(Err(AllocError))
 }
 
-// Most numbers are below a hundred, and their digits are appended at once.
+// Speed: most numbers are below a hundred, and their digits are appended in one step.
 fn push_number(out: &mut Vec<u8>, number: usize) -> Result<(), AllocError>
     ensures { OnOk result (out.new.items ≡ out.old.items ++ decimal number) }
 {
@@ -113,7 +113,7 @@ fn push_fault(out: &mut Vec<u8>, fault: ParseError) -> Result<(), AllocError>
     }
 }
 
-// Appends what a call on a text gives.
+// Appends what a call on a text returns.
 fn push_answer<const N: usize>(
     out: &mut Vec<u8>,
     call: TextCall,
@@ -129,7 +129,7 @@ fn push_answer<const N: usize>(
     }
 }
 
-// Appends what a call gives of the text that the code units are, or their fault.
+// Appends what a call returns of the text that the code units are, or their fault.
 #[tactic(auto, unfolding(crate::specs::Reply::call_reply))]
 fn push_call_reply_at_const<const N: usize>(
     out: &mut Vec<u8>,
@@ -146,8 +146,8 @@ fn push_call_reply_at_const<const N: usize>(
     }
 }
 
-// Does the same at a capacity that no type tells. A text that isn't too long gets the same at each capacity that holds it,
-// so two stand for all: that is faster than a choice among all.
+// Does the same at a run-time capacity. A text that isn't too long gets the same reply at each capacity that holds it, so code
+// for two of them suffices, and is faster than a choice among all.
 fn push_call_reply_at_run_time(
     out: &mut Vec<u8>,
     capacity: usize,

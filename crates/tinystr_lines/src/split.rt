@@ -5,7 +5,7 @@ ghost use Rattle.std.specs.List.{before_first, after_first, list_any, position_o
 
 use std::simd::prelude::*;
 
-/// The index of the first such byte among thirty-two, all asked at once, or 32 if there is none.
+/// The index of the first such byte among thirty-two, which are compared in one step, or 32 if there is none.
 #[inline(always)]
 pub fn place_in_lanes(lanes: &[u8; 32], byte: u8) -> usize
     ensures { result ≡ position_or_len (λ b. b == byte) lanes.now }
@@ -19,14 +19,14 @@ pub fn place_in_lanes(lanes: &[u8; 32], byte: u8) -> usize
     equal.trailing_zeros() as usize
 }
 
-// Where the byte first stands, by one byte after another.
+// The index of the first such byte. The bytes are compared one by one.
 fn find_by_one(text: &[u8], byte: u8) -> Option<usize>
     ensures { result ≡ position (λ b. b == byte) text.now }
 {
     text.iter().position(|b| *b == byte)
 }
 
-// Where the byte first stands, in thirty-two bytes at once while there are as many.
+// The index of the first such byte. Thirty-two bytes are compared in one step, while thirty-two remain.
 #[inline(never)]
 fn find(text: &[u8], byte: u8) -> Option<usize>
     ensures { result ≡ position (λ b. b == byte) text.now }
@@ -45,8 +45,8 @@ fn find(text: &[u8], byte: u8) -> Option<usize>
     Some(start + at)
 }
 
-// Where the byte first stands in a text with which `ahead` begins. What follows the text there lets thirty-two bytes be
-// asked at once where the text itself is shorter.
+// The index of the first such byte of a text that `ahead` begins with. Thirty-two bytes of `ahead` are compared in one step,
+// though the text may be shorter.
 #[inline(always)]
 fn find_ahead(text: &[u8], ahead: &[u8], byte: u8) -> Option<usize>
     requires { text.now ≡ take (length text.now) ahead.now }
@@ -65,8 +65,8 @@ fn find_ahead(text: &[u8], ahead: &[u8], byte: u8) -> Option<usize>
     find(text, byte)
 }
 
-/// The parts before and behind the first such byte, if there is one, of a text that `ahead` begins with; the third
-/// value begins with the part behind it.
+/// The parts before and after the first such byte, if there is one, of a text that `ahead` begins with; the third
+/// value begins with the part after it.
 #[inline(always)]
 #[tactic(auto, using(crate::proofs::Splits::split_steps))]
 pub fn split_once<'a>(
@@ -85,7 +85,7 @@ pub fn split_once<'a>(
     Some((&text[..end], &text[end + 1..], &ahead[end + 1..]))
 }
 
-/// The parts before and behind the first such byte, of a text that `ahead` begins with. If there is no such byte, they
+/// The parts before and after the first such byte, of a text that `ahead` begins with. If there is no such byte, they
 /// are the whole text and the empty text.
 #[inline(always)]
 #[tactic(auto, using(crate::proofs::Splits::split_steps))]

@@ -1,5 +1,5 @@
 -- What `map` and `collect` make of the results of `binary_search_each`, and of any other iterator that a contract sees as the
--- list of what is left. Callers cite these lemmas.
+-- list of the remainder. Callers cite these lemmas.
 use Rattle.std.proofs.Common.{◌≡◌, ℕ, List, map}
 use Rattle.std.proofs.lemmas.Iterator.{IsCollectResult, YieldsList-from_map, items_from_collect, maps}
 use Rattle.std.proofs.lemmas.Iterator.Consumers.{YieldsList-from_first}

@@ -1,4 +1,4 @@
--- The tests of packed and of rising texts compute what tables and maps accept, and what these are.
+-- The tests of packed and of strictly ascending texts compute what tables and maps accept, and what these are.
 use Rattle.std.proofs.Common.{◌≡◌, ℕ, suc, zero, ◌+◌, ◌<◌, ◌*◌, ◌/◌, ◌==◌, ◌&&◌, false, List, [], ◌∷◌, length, zip, Some, None, refl, ap, ◌∙◌, arith}
 use Rattle.std.specs.Bool.{Decides, one_answer}
 use Rattle.std.specs.Map.{keys_of}
@@ -18,7 +18,7 @@ use Rattle.tinystr_packed.proofs.PackedMaps.{ArePacked-new, length-ArePacked}
 use Rattle.tinystr_packed.proofs.PackedTexts.{packed, texts_of-packed}
 use Rattle.tinystr_packed.proofs.RisingTexts.{Less-from_is_lt}
 
--- ---- texts that rise
+-- ---- strictly ascending texts
 
 IsRising-cons : (t s : List ℕ) (ts : List (List ℕ)) → order t s ≡ Less → IsRising (s ∷ ts) → IsRising (t ∷ s ∷ ts)
 IsRising-cons t s ts first rest zero inside = first
@@ -30,7 +30,7 @@ IsRising-tail t ts up k inside = let next : suc k + 1 ≡ suc (k + 1) = omega ar
 is_lt-Decides : (o : Ordering) → Decides (is_lt o) (o ≡ Less)
 is_lt-Decides o = (λ yes. Less-from_is_lt o yes, λ e. rw e refl)
 
--- the test tells
+-- the test decides
 pub is_rising-Decides : (ts : List (List ℕ)) → Decides (is_rising ts) (IsRising ts)
 is_rising-Decides [] = (λ _ k inside. absurd (omega arith), λ _. refl)
 is_rising-Decides (t ∷ []) = (λ _ k inside. absurd (omega arith), λ _. refl)
@@ -56,7 +56,7 @@ table_of-other bytes n some other =
 
 -- ---- a sorted table
 
--- texts that rise are sorted as they are
+-- strictly ascending texts are a sorted table
 pub sorted_of-rising : (ts : List (List ℕ)) → IsRising ts → Some ts ≡ sorted_of ts
 sorted_of-rising ts up = rw ((is_rising-Decides ts).1 up) refl
 
@@ -71,7 +71,7 @@ sorted_of-other ts other =
 abbrev Entries : Type 0
 Entries = List (List ℕ × List ℕ)
 
--- keys that are packed and rise, with m bytes for each
+-- keys that are packed and strictly ascending, with m bytes for each
 ArePacked-zip : (keys values : List ℕ) (n m : ℕ) → 0 < n → 0 < m → IsPacked keys n → IsRising (texts_of n keys) → length values ≡ length (texts_of n keys) * m
     → ArePacked (zip (texts_of n keys) (records_of m values)) keys values n m
 ArePacked-zip keys values n m some more h up long =
@@ -81,7 +81,7 @@ ArePacked-zip keys values n m some more h up long =
     let count : length values / m ≡ length (texts_of n keys) = rw long (mul-div_cancel (length (texts_of n keys)) more) in
     ArePacked-new (texts_of n keys) (records_of m values) keys values n m (length values / m) strict up joined (rw count long) count refl
 
--- the keys of entries are packed and rise, with m bytes for each
+-- the keys of entries are packed and strictly ascending, with m bytes for each
 IsPacked-keys : (es : Entries) (keys values : List ℕ) (n m : ℕ) → 0 < n → ArePacked es keys values n m → (IsPacked keys n × IsRising (texts_of n keys)) × (length values ≡ length (texts_of n keys) * m)
 IsPacked-keys es keys values n m some h =
     let texts = texts_of-joined keys (keys_of es) n some h.strict h.joined_keys in

@@ -26,7 +26,7 @@ here ts i k t is = elim_at (bytes_eq k t) refl where
   elim_at true e = (bytes_eq-Decides t (get_or ts i k)).1 (sym ((bytes_eq-Decides k t).0 e) ∙ is)
   elim_at false e = false_from_ne_true (bytes_eq t (get_or ts i k)) (λ yes. false≢true (sym e ∙ (bytes_eq-Decides k t).1 (is ∙ sym ((bytes_eq-Decides t (get_or ts i k)).0 yes))))
 
--- what m tells of each text becomes what n tells, where k is counted once more
+-- the counts n are the counts m, where k is counted once more
 abbrev pub Counts : (List ℕ → Option ℕ) → (List ℕ → Option ℕ) → List ℕ → ℕ → Type 0
 Counts m n k count = (t : List ℕ) → n t ≡ cond (is_at (slice_cmp nat_cmp k) t) (Some (count + 1)) (m t)
 

@@ -10,7 +10,7 @@ pub mod Prefixes
 pub mod RecordOrder
 pub mod RisingTexts
 pub mod Searches
-pub mod SideBySide
+pub mod EightSearches
 pub mod SortedPacks
 pub mod Computed
 pub mod ForCallers

@@ -18,11 +18,11 @@ use Rattle.tinystr_packed.specs.Rising.{ArePackedRising, IsRising}
 abbrev Entries : Type 0
 Entries = List (List ℕ × List ℕ)
 
--- packed keys, if they rise
+-- packed keys, if they are strictly ascending
 abbrev ArePackedRisingIf : Entries → List ℕ → ℕ → Type 0
 ArePackedRisingIf entries keys n = IsRising (keys_of entries) → ArePackedRising (keys_of entries) keys n
 
--- the entries that are packed, in front of those that are left: each value is of a kind, and is packed in a form
+-- the entries that are packed, before the remaining ones: each value is of a kind, and is packed in a form
 pub record PacksFirst (entries rest : Entries) (keys values : List ℕ) (n : ℕ) (IsValue : List ℕ → Type 0) (form : List ℕ → List ℕ) : Type 0 where
   pub done : Entries
   pub split : entries ≡ done ++ rest
@@ -72,11 +72,11 @@ PacksFirst-all entries rest keys values n IsValue form h none =
     let all : entries ≡ h.done = h.split ∙ ap (λ (l : Entries). h.done ++ l) none ∙ append-nil h.done in
     rw all ((λ up. record { strict = h.strict; rising = up; joined = h.joined_keys }), (h.each, h.joined_values))
 
--- the keys of a map rise
+-- the keys of a map are strictly ascending
 pub IsRising-keys : (ks : List (List ℕ)) → IsStrictlySortedBy (slice_cmp nat_cmp) ks → IsRising ks
 IsRising-keys ks sorted = λ k inside. Less-from_sorted (slice_cmp nat_cmp) ks k (k + 1) [] sorted (omega arith) inside
 
--- lists of m bytes are told by what they join to
+-- lists of m bytes are determined by what they join to
 pub same_values : (vs ws : List (List ℕ)) (m : ℕ) → All (λ (v : List ℕ). length v ≡ m) vs → All (λ (v : List ℕ). length v ≡ m) ws → length vs ≡ length ws
     → flat_map (λ (v : List ℕ). v) vs ≡ flat_map (λ (v : List ℕ). v) ws → vs ≡ ws
 same_values [] [] m h k same e = refl
@@ -92,7 +92,7 @@ same_values (v ∷ vs) (w ∷ ws) m h k same e =
     let rest = same_values vs ws m (All-tail P v vs h) (All-tail P w ws k) (omega arith) others in
     rw (first, rest) refl
 
--- entries are told by their keys and values
+-- entries are determined by their keys and values
 pub same_entries : (es fs : Entries) → keys_of es ≡ keys_of fs → values_of es ≡ values_of fs → es ≡ fs
 same_entries [] [] h k = refl
 same_entries [] (f ∷ fs) h k = cc

@@ -7,7 +7,7 @@ use Rattle.std.proofs.lemmas.List.{take-take}
 use Rattle.tinystr_words.specs.Text.{IsPaddedText}
 use Rattle.tinystr_packed.specs.Private.Numbers.{number_at, pair_at, IsRecord, AreRisingRecords, BeginAlike}
 use Rattle.tinystr_packed.specs.Rising.{order, text_at, IsFirstNotBelow}
-use Rattle.tinystr_packed.specs.Private.SideBySide.{AreNumbered, DoNotFall, IsPlaceWithin}
+use Rattle.tinystr_packed.specs.Private.EightSearches.{AreNumbered, AreAscendingBy, IsPlaceWithin}
 use Rattle.tinystr_packed.proofs.RecordOrder.{Less-pair, turned, same-pair, is_lt-short, not_below-short, pair_at-parts}
 use Rattle.tinystr_packed.proofs.RisingTexts.{Less-from_is_lt, below_from_rising}
 
@@ -43,11 +43,11 @@ not_below-by_number xs ys n fits x y le = elim (cases_lt 8 n) [
       not_below-short xs ys n short x y (omega (arith, left, right, le)))
 ]
 
--- the numbers of records that rise don't fall
-DoNotFall-rising : (records : List (List ℕ)) (key : List ℕ) (n s : ℕ) → s ≤ n - 8 → AreRisingRecords n records → BeginAlike s key records → DoNotFall (pair_at s) records
-DoNotFall-rising records key n s fits h alike = record {
+-- the numbers of strictly ascending records are ascending, and may repeat
+AreAscendingBy-rising : (records : List (List ℕ)) (key : List ℕ) (n s : ℕ) → s ≤ n - 8 → AreRisingRecords n records → BeginAlike s key records → AreAscendingBy (pair_at s) records
+AreAscendingBy-rising records key n s fits h alike = record {
   each = λ i j le inside. elim (cases_lt (pair_at s (text_at records j)) (pair_at s (text_at records i))) [
-    | inl falls ↦ (let less = Less-by_number (text_at records j) (text_at records i) n s fits (h.each j inside) (h.each i (omega arith)) (alike.each j inside ∙ sym (alike.each i (omega arith))) falls in
+    | inl lesser ↦ (let less = Less-by_number (text_at records j) (text_at records i) n s fits (h.each j inside) (h.each i (omega arith)) (alike.each j inside ∙ sym (alike.each i (omega arith))) lesser in
         let below = below_from_rising records (text_at records i) i j h.rising le inside less in
         let tied = tied_itself nat_list_cmp_total (text_at records i) in
         absurd cc)
@@ -55,9 +55,9 @@ DoNotFall-rising records key n s fits h alike = record {
   ];
 }
 
--- so padded records that rise are numbered
+-- so padded, strictly ascending records are numbered
 pub AreNumbered-rising : (records : List (List ℕ)) (key : List ℕ) (n s : ℕ) → s ≤ n - 8 → All (λ raw. IsPaddedText raw n) records → AreRisingRecords n records → BeginAlike s key records → AreNumbered n s records
-AreNumbered-rising records key n s fits padded h alike = record { padded = padded; rising = DoNotFall-rising records key n s fits h alike }
+AreNumbered-rising records key n s fits padded h alike = record { padded = padded; rising = AreAscendingBy-rising records key n s fits h alike }
 
 -- where a number is all of a record, its place is that of the record
 pub IsFirstNotBelow-number : (records : List (List ℕ)) (key : List ℕ) (n i : ℕ) → n ≤ 16 → AreRisingRecords n records → IsRecord n key → AreNumbered n 0 records → IsPlaceWithin n 0 records (pair_at 0 key) i i → IsFirstNotBelow key records i
@@ -67,7 +67,7 @@ IsFirstNotBelow-number records key n i fits h is_record numbered place = record 
   not_below = λ k from inside. not_below-by_number (text_at records k) key n fits (h.each k inside) is_record (place.not_below numbered k from inside);
 }
 
--- and elsewhere, where no record of the key's number that is below the key stands there
+-- of other records it is that if no record there has the key's number and is below the key
 pub IsFirstNotBelow-tested : (records : List (List ℕ)) (key : List ℕ) (n s i : ℕ) → s ≤ n - 8 → AreRisingRecords n records → IsRecord n key → BeginAlike s key records → AreNumbered n s records → IsPlaceWithin n s records (pair_at s key) i i
     → (i < length records → pair_at s (text_at records i) ≡ pair_at s key → order (text_at records i) key ≢ Less) → IsFirstNotBelow key records i
 IsFirstNotBelow-tested records key n s i fits h is_record alike numbered place other = record {

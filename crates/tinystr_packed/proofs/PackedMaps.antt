@@ -40,7 +40,7 @@ All-first_chunks m zero xs e = All-nil (λ (v : List ℕ). length v ≡ m)
 All-first_chunks m (suc k) xs e =
     All-cons (λ (v : List ℕ). length v ≡ m) (take m xs) (first_chunks m k (drop m xs)) (omega (arith, length-take m xs, suc-mul k m)) (All-first_chunks m k (drop m xs) (omega (arith, length-drop m xs, suc-mul k m)))
 
--- the value of a key stands at its place
+-- the value of a key is at its place
 pub get-found : (es : List (List ℕ × List ℕ)) (key : List ℕ) (i : ℕ) → IsRising (keys_of es) → slice_get (keys_of es) i ≡ Some key → get es key ≡ slice_get (values_of es) i
 get-found es key i up here =
     let inside : i < length es = omega (arith, slice_get_within (keys_of es) i key here, length-keys_of es) in
@@ -72,7 +72,7 @@ same_from_iff true false h k = sym (k.1 (h.0 refl))
 same_from_iff false true h k = h.1 (k.0 refl)
 same_from_iff false false h k = refl
 
--- an answer that tells the keys tells the values
+-- whether the keys have a key is whether it has a value
 pub is_some-get : (es : List (List ℕ × List ℕ)) (key : List ℕ) (b : Bool) → (IsTrue b ↔ Contains (keys_of es) key) → b ≡ is_some (get es key)
 is_some-get es key b h =
     let eq = eq_by_cmp_equiv nat_list_cmp_total in
@@ -113,11 +113,11 @@ length-ArePacked es keys values n m h =
 keys_of-ArePacked : (es : List (List ℕ × List ℕ)) (ks : List (List ℕ)) (keys values : List ℕ) (n m : ℕ) → 0 < n → AllStrict n ks → keys ≡ packed n ks → ArePacked es keys values n m → keys_of es ≡ ks
 keys_of-ArePacked es ks keys values n m some strict joined h = packed_injective n (keys_of es) ks some h.strict strict (sym h.joined_keys ∙ joined)
 
--- where these don't rise, there are no such entries
+-- where these aren't strictly ascending, there are no such entries
 pub unsorted-no_entries : (ks : List (List ℕ)) (keys values : List ℕ) (n m : ℕ) → 0 < n → AllStrict n ks → keys ≡ packed n ks → ¬ IsRising ks
     → ¬ ((es : List (List ℕ × List ℕ)) × ArePacked es keys values n m)
-unsorted-no_entries ks keys values n m some strict joined falls found =
-    falls (rw (← keys_of-ArePacked found.0 ks keys values n m some strict joined found.1) found.1.rising)
+unsorted-no_entries ks keys values n m some strict joined other found =
+    other (rw (← keys_of-ArePacked found.0 ks keys values n m some strict joined found.1) found.1.rising)
 
 -- nor where there aren't m bytes for each
 pub unmatched-no_entries : (ks : List (List ℕ)) (keys values : List ℕ) (n m : ℕ) → 0 < n → AllStrict n ks → keys ≡ packed n ks → length values ≢ length ks * m

@@ -11,7 +11,7 @@ use Rattle.tinystr_packed.proofs.PackedTexts.{packed, packed_injective}
 use Rattle.tinystr_packed.specs.Rising.{ArePackedRising}
 use Rattle.tinystr_packed.specs.TextMap.{ArePackedTexts}
 
--- as many values as keys
+-- the same number of values and keys
 pub ArePackedTexts-new : (ks vs : List (List ℕ)) (keys values : List ℕ) (n m : ℕ) → ArePackedRising ks keys n → AllStrict m vs → values ≡ packed m vs → length vs ≡ length ks → ArePackedTexts (zip ks vs) keys values n m
 ArePackedTexts-new ks vs keys values n m rising strict joined same =
     let ks_are = keys_of-zip ks vs same in

@@ -21,7 +21,7 @@ use Rattle.tinystr_packed.proofs.RisingTexts.{IsRecordOf-at, IsRecord-padded, ra
 abbrev pub begins : List ℕ → List ℕ → Bool
 begins p t = starts_with nat_eq t p
 
--- NULs behind a text don't matter to a text that it begins with
+-- a text with NULs after it begins with the same texts
 begins-nuls : (p t : List ℕ) (k : ℕ) → IsText p → begins p (t ++ NULS k) ≡ begins p t
 begins-nuls [] t k h = refl
 begins-nuls (x ∷ p) [] zero h = refl
@@ -70,14 +70,14 @@ begins-between (x ∷ p) (z ∷ t) (y ∷ s) low high h =
       ]
     ]
 
--- ---- among texts that rise
+-- ---- among strictly ascending texts
 
 begins-text : (records ts : List (List ℕ)) (p d : List ℕ) (n k : ℕ) → All (λ r. IsPaddedText r n) records → map text_of records ≡ ts → IsText p → k < length records → begins p (get_or records k d) ≡ begins p (text_at ts k)
 begins-text records ts p d n k h view text inside =
     let here = IsRecordOf-at records ts (get_or records k d) n k h view inside (get_or_default records k d [] inside) in
     begins-padded p (get_or records k d) n text here.padded ∙ ap (λ (l : List ℕ). begins p l) here.text
 
--- from the first text that isn't below p on, those that begin with p stand in front
+-- from the first text that isn't below p on, those that begin with p are the first ones
 pub IsPartitionedBy-begins : (records rest ts : List (List ℕ)) (p : List ℕ) (n i : ℕ) → All (λ r. IsPaddedText r n) records → map text_of records ≡ ts → IsText p → IsRising ts → IsFirstNotBelow p ts i → rest ≡ drop i records → IsPartitionedBy (begins p) rest
 IsPartitionedBy-begins records rest ts p n i h view text up first cut j k d le inside here =
     let long : length records ≡ length ts = rw (← view) (sym (length-map records text_of)) in
@@ -87,8 +87,8 @@ IsPartitionedBy-begins records rest ts p n i h view text up first cut j k d le i
     rw (cut, get_or-drop) (begins-text records ts p d n (i + j) h view text (omega arith) ∙ near)
 
 -- no record is below the padded text from its place on
-pub IsFirstNotBelow-behind : (records rest ts : List (List ℕ)) (p : List ℕ) (n i : ℕ) → All (λ r. IsPaddedText r n) records → map text_of records ≡ ts → IsStrictText p n → IsFirstNotBelow p ts i → rest ≡ drop i records → IsFirstNotBelow (pad p n) rest 0
-IsFirstNotBelow-behind records rest ts p n i h view strict first cut = record {
+pub IsFirstNotBelow-rest : (records rest ts : List (List ℕ)) (p : List ℕ) (n i : ℕ) → All (λ r. IsPaddedText r n) records → map text_of records ≡ ts → IsStrictText p n → IsFirstNotBelow p ts i → rest ≡ drop i records → IsFirstNotBelow (pad p n) rest 0
+IsFirstNotBelow-rest records rest ts p n i h view strict first cut = record {
   inside = omega arith;
   below = λ k before. absurd (omega arith);
   not_below = λ k from inside.
@@ -172,7 +172,7 @@ begins-below_raised (x ∷ p) (z ∷ t) k (suc i) last long low less =
       ]
     ]
 
--- so its place is behind those that begin with the text
+-- so its place is after those that begin with the text
 pub IsPartitionPoint-raised : (records : List (List ℕ)) (p : List ℕ) (n i m : ℕ) → AreRisingRecords n records → IsFirstNotBelow (pad p n) records 0 → length p ≡ i + 1 → length p ≤ n
     → IsFirstNotBelow (raised (pad p n) i) records m → IsPartitionPoint (λ r. begins p r ≡ true) (λ r. begins p r ≡ false) records m
 IsPartitionPoint-raised records p n i m h low last fits found =
@@ -180,8 +180,8 @@ IsPartitionPoint-raised records p n i m h low last fits found =
       λ j d from before.
           let inside : j < length records = omega (arith, found.inside) in
           rw (get_or_default records j d [] inside) (begins-below_raised p (text_at records j) k i last (omega (arith, (h.each j inside).long)) (low.not_below j (omega arith) inside) (found.below j before)),
-      λ j d behind inside.
-          rw (get_or_default records j d [] inside) (false_from_ne_true (begins p (text_at records j)) (λ yes. found.not_below j behind inside (below_raised p (text_at records j) k i (omega arith) yes))),
+      λ j d after inside.
+          rw (get_or_default records j d [] inside) (false_from_ne_true (begins p (text_at records j)) (λ yes. found.not_below j after inside (below_raised p (text_at records j) k i (omega arith) yes))),
     )
 
 -- ---- what a filter keeps of a list of three parts
@@ -196,11 +196,11 @@ filter-all f (x ∷ xs) d h = let first : f x ≡ true = h 0 (omega arith) in rw
 
 filter-middle : {X : Type 0} (f : X → Bool) (xs : List X) (d : X) (i m : ℕ) → ((k : ℕ) → k < i → k < length xs → f (get_or xs k d) ≡ false) → ((k : ℕ) → i ≤ k → k < i + m → k < length xs → f (get_or xs k d) ≡ true)
     → ((k : ℕ) → i + m ≤ k → k < length xs → f (get_or xs k d) ≡ false) → take m (drop i xs) ≡ filter f xs
-filter-middle f xs d i m before inside behind =
+filter-middle f xs d i m before inside after =
     let rest = drop i xs in
     let front = filter-none f (take i xs) d (λ k below. rw (get_or-take i xs k d (omega (arith, length-take i xs))) (before k (omega (arith, length-take i xs)) (omega (arith, length-take i xs)))) in
     let middle = filter-all f (take m rest) d (λ k below. rw (get_or-take m rest k d (omega (arith, length-take m rest)), get_or-drop) (inside (i + k) (omega arith) (omega (arith, length-take m rest)) (omega (arith, length-take m rest, length-drop i xs)))) in
-    let back = filter-none f (drop m rest) d (λ k below. rw (get_or-drop, get_or-drop) (behind (i + (m + k)) (omega arith) (omega (arith, length-drop m rest, length-drop i xs)))) in
+    let back = filter-none f (drop m rest) d (λ k below. rw (get_or-drop, get_or-drop) (after (i + (m + k)) (omega arith) (omega (arith, length-drop m rest, length-drop i xs)))) in
     sym (ap (λ l. filter f l) (sym (take-append-drop i xs)) ∙ filter-append f (take i xs) rest
     ∙ rw front (ap (λ l. filter f l) (sym (take-append-drop m rest)) ∙ filter-append f (take m rest) (drop m rest) ∙ rw (middle, back) (append-nil (take m rest))))
 

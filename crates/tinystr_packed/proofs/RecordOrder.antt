@@ -12,7 +12,7 @@ use Rattle.std.specs.Cmp.{nat_cmp_is}
 use Rattle.std.proofs.lemmas.Nat.{be_bytes_8}
 use Rattle.std.proofs.Math.Seq.{take-add}
 use Rattle.tinystr_words.specs.Text.{pad}
-use Rattle.tinystr_packed.specs.Private.Numbers.{number_at, pair_at, IsRecord, AreRisingRecords, AreToldApart, BeginAlike, Tells}
+use Rattle.tinystr_packed.specs.Private.Numbers.{number_at, pair_at, IsRecord, AreRisingRecords, AreDistinguished, BeginAlike, AreOrderedBy}
 use Rattle.tinystr_packed.specs.Rising.{order, text_at}
 use Rattle.tinystr_packed.proofs.Numbers.{number_at-short, number_at-long}
 use Rattle.tinystr_packed.proofs.RisingTexts.{Less-from_is_lt}
@@ -58,9 +58,9 @@ Equal-from_is_eq Greater h = cc
 pub is_eq-Decides : (xs ys : List ℕ) → (is_eq (order xs ys) ≡ true → xs ≡ ys) × (xs ≡ ys → is_eq (order xs ys) ≡ true)
 is_eq-Decides xs ys = (λ yes. (cmp_is_same xs ys).0 (Equal-from_is_eq (order xs ys) yes), λ same. rw (same, tied_itself nat_list_cmp_total ys) refl)
 
--- their numbers tell them apart
-pub Tells-short : (records : List (List ℕ)) (key : List ℕ) (n : ℕ) → n ≤ 8 → AreRisingRecords n records → IsRecord n key → Tells (number_at 0) key records
-Tells-short records key n short h is_record = record {
+-- records of at most eight bytes are compared with a key by one number
+pub AreOrderedBy-short : (records : List (List ℕ)) (key : List ℕ) (n : ℕ) → n ≤ 8 → AreRisingRecords n records → IsRecord n key → AreOrderedBy (number_at 0) key records
+AreOrderedBy-short records key n short h is_record = record {
   below = λ k inside less.
       let test = is_lt-short (text_at records k) key n short (h.each k inside) is_record in
       Less-from_is_lt (order (text_at records k) key) (sym test ∙ lt-ltb (number_at 0 (text_at records k)) (number_at 0 key) less);
@@ -71,7 +71,7 @@ Tells-short records key n short h is_record = record {
 pub not_below_same-short : (records : List (List ℕ)) (key : List ℕ) (n : ℕ) → n ≤ 8 → AreRisingRecords n records → IsRecord n key → (k : ℕ) → k < length records → number_at 0 (text_at records k) ≡ number_at 0 key → order (text_at records k) key ≢ Less
 not_below_same-short records key n short h is_record k inside same = not_below-short (text_at records k) key n short (h.each k inside) is_record (omega (arith, same))
 
--- ---- records that eight bytes tell apart
+-- ---- records compared by eight bytes
 
 -- what both begin with doesn't matter
 slice_cmp-same_start : (s : ℕ) (xs ys : List ℕ) → take s xs ≡ take s ys → slice_cmp nat_cmp xs ys ≡ slice_cmp nat_cmp (drop s xs) (drop s ys)
@@ -107,9 +107,9 @@ turned xs ys above less =
     let other = nat_list_cmp_total.antisymm xs ys in
     cc
 
--- of records that begin alike, the numbers that follow tell them apart
-pub Tells-long : (records : List (List ℕ)) (key : List ℕ) (n s : ℕ) → s + 8 ≤ n → AreRisingRecords n records → IsRecord n key → BeginAlike s key records → Tells (number_at s) key records
-Tells-long records key n s fits h is_record alike = record {
+-- records that begin alike are compared with a key by the number of the next eight bytes
+pub AreOrderedBy-long : (records : List (List ℕ)) (key : List ℕ) (n s : ℕ) → s + 8 ≤ n → AreRisingRecords n records → IsRecord n key → BeginAlike s key records → AreOrderedBy (number_at s) key records
+AreOrderedBy-long records key n s fits h is_record alike = record {
   below = λ k inside less. Less-long (text_at records k) key n s fits (h.each k inside) is_record (alike.each k inside) less;
   above = λ k inside more. turned (text_at records k) key (Less-long key (text_at records k) n s fits is_record (h.each k inside) (sym (alike.each k inside)) more);
 }
@@ -142,7 +142,7 @@ begin_alike-next xs ys n s next fits le x y same number =
     let more = alike-long xs ys n s fits x y same number in
     rw (← take-take next (s + 8) xs le, ← take-take next (s + 8) ys le, more) refl
 
--- ---- records that sixteen bytes tell apart
+-- ---- records compared by sixteen bytes
 
 pub pair_at-parts : (raw : List ℕ) (n s : ℕ) → IsRecord n raw → pair_at s raw ≡ number_at s raw * 18446744073709551616 + number_at (min (s + 8) (n - 8)) raw
 unfolding pair_at
@@ -162,8 +162,8 @@ Less-pair xs ys n s fits x y same less =
           Less-long xs ys n next inside x y (begin_alike-next xs ys n s next fits (omega arith) x y same tied) (omega (arith, less, left, right, tied)))
     ]
 
-pub Tells-pair : (records : List (List ℕ)) (key : List ℕ) (n s : ℕ) → s + 8 ≤ n → AreRisingRecords n records → IsRecord n key → BeginAlike s key records → Tells (pair_at s) key records
-Tells-pair records key n s fits h is_record alike = record {
+pub AreOrderedBy-pair : (records : List (List ℕ)) (key : List ℕ) (n s : ℕ) → s + 8 ≤ n → AreRisingRecords n records → IsRecord n key → BeginAlike s key records → AreOrderedBy (pair_at s) key records
+AreOrderedBy-pair records key n s fits h is_record alike = record {
   below = λ k inside less. Less-pair (text_at records k) key n s fits (h.each k inside) is_record (alike.each k inside) less;
   above = λ k inside more. turned (text_at records k) key (Less-pair key (text_at records k) n s fits is_record (h.each k inside) (sym (alike.each k inside)) more);
 }
@@ -188,38 +188,38 @@ not_below_same-pair records key n long short h is_record k inside is less =
     let tied = tied_itself nat_list_cmp_total key in
     cc
 
--- ---- what tells records from a key
+-- ---- the numbers by which records are compared with a key
 
--- at most eight bytes do as one number
-pub AreToldApart-short : (records : List (List ℕ)) (key : List ℕ) (n : ℕ) → n ≤ 8 → AreRisingRecords n records → IsRecord n key → AreToldApart n (number_at 0) key records
-AreToldApart-short records key n short up k = record {
+-- one number of records of at most eight bytes
+pub AreDistinguished-short : (records : List (List ℕ)) (key : List ℕ) (n : ℕ) → n ≤ 8 → AreRisingRecords n records → IsRecord n key → AreDistinguished n (number_at 0) key records
+AreDistinguished-short records key n short up k = record {
   rising = up.rising;
-  tells = Tells-short records key n short up k;
+  ordered = AreOrderedBy-short records key n short up k;
   whole = λ _. not_below_same-short records key n short up k;
 }
 
--- at most sixteen as two
-pub AreToldApart-pair : (records : List (List ℕ)) (key : List ℕ) (n : ℕ) → 8 < n → n ≤ 16 → AreRisingRecords n records → IsRecord n key → AreToldApart n (pair_at 0) key records
-AreToldApart-pair records key n long short up k =
+-- two numbers of records of at most sixteen bytes
+pub AreDistinguished-pair : (records : List (List ℕ)) (key : List ℕ) (n : ℕ) → 8 < n → n ≤ 16 → AreRisingRecords n records → IsRecord n key → AreDistinguished n (pair_at 0) key records
+AreDistinguished-pair records key n long short up k =
     let alike : BeginAlike 0 key records = record { each = λ i inside. refl } in
     record {
       rising = up.rising;
-      tells = Tells-pair records key n 0 (omega arith) up k alike;
+      ordered = AreOrderedBy-pair records key n 0 (omega arith) up k alike;
       whole = λ _. not_below_same-pair records key n long short up k;
     }
 
--- longer ones behind what they share by eight bytes
-pub AreToldApart-long : (records : List (List ℕ)) (key : List ℕ) (n i : ℕ) → 16 < n → i ≤ n - 8 → AreRisingRecords n records → IsRecord n key → BeginAlike i key records → AreToldApart n (number_at i) key records
-AreToldApart-long records key n i long fits up k alike = record {
+-- of longer records, the number of the eight bytes after those that they share
+pub AreDistinguished-long : (records : List (List ℕ)) (key : List ℕ) (n i : ℕ) → 16 < n → i ≤ n - 8 → AreRisingRecords n records → IsRecord n key → BeginAlike i key records → AreDistinguished n (number_at i) key records
+AreDistinguished-long records key n i long fits up k alike = record {
   rising = up.rising;
-  tells = Tells-long records key n i (omega arith) up k alike;
+  ordered = AreOrderedBy-long records key n i (omega arith) up k alike;
   whole = λ short. absurd (omega arith);
 }
 
--- and by sixteen
-pub AreToldApart-long_pair : (records : List (List ℕ)) (key : List ℕ) (n i : ℕ) → 16 < n → i ≤ n - 8 → AreRisingRecords n records → IsRecord n key → BeginAlike i key records → AreToldApart n (pair_at i) key records
-AreToldApart-long_pair records key n i long fits up k alike = record {
+-- and that of sixteen bytes
+pub AreDistinguished-long_pair : (records : List (List ℕ)) (key : List ℕ) (n i : ℕ) → 16 < n → i ≤ n - 8 → AreRisingRecords n records → IsRecord n key → BeginAlike i key records → AreDistinguished n (pair_at i) key records
+AreDistinguished-long_pair records key n i long fits up k alike = record {
   rising = up.rising;
-  tells = Tells-pair records key n i (omega arith) up k alike;
+  ordered = AreOrderedBy-pair records key n i (omega arith) up k alike;
   whole = λ short. absurd (omega arith);
 }

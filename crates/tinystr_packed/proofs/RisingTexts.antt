@@ -1,4 +1,4 @@
--- Texts that rise.
+-- Strictly ascending texts.
 use Rattle.std.proofs.Common.{◌≡◌, ◌≢◌, ℕ, ◌+◌, ◌-◌, ◌<◌, ◌≤◌, List, [], ◌∷◌, length, map, take, drop, get_or, slice_set, refl, ap, sym, ◌∙◌, arith, add-one, Bool, false, true, inl, inr}
 use Rattle.std.specs.Cmp.Lexicographic.{slice_cmp}
 use Rattle.std.specs.Ordering.{nat_cmp, is_lt, ordering_index}
@@ -49,9 +49,9 @@ has_text records ts raw key n i b h view inside is test =
       λ found. test ∙ (bytes_eq-Decides (text_of raw) key).1 (here.text ∙ get_or_from_slice_get ts i key [] found),
     )
 
--- a record behind the first
-pub IsRecordOf-behind : (records rest ts : List (List ℕ)) (first raw : List ℕ) (n i : ℕ) → All (λ r. IsPaddedText r n) records → map text_of records ≡ ts → records ≡ first ∷ rest → i < length rest → raw ≡ get_or rest i raw → IsRecordOf raw ts n (i + 1)
-IsRecordOf-behind records rest ts first raw n i h view cut inside is =
+-- a record after the first
+pub IsRecordOf-rest : (records rest ts : List (List ℕ)) (first raw : List ℕ) (n i : ℕ) → All (λ r. IsPaddedText r n) records → map text_of records ≡ ts → records ≡ first ∷ rest → i < length rest → raw ≡ get_or rest i raw → IsRecordOf raw ts n (i + 1)
+IsRecordOf-rest records rest ts first raw n i h view cut inside is =
     IsRecordOf-at records ts raw n (i + 1) h view (rw cut (omega arith)) (rw (cut, add-one) (is ∙ get_or_default rest i raw [] inside))
 
 -- records are in the order of their texts
@@ -59,13 +59,13 @@ pub order-records : (xs ys : List ℕ) (ts : List (List ℕ)) (n i j : ℕ) → 
 order-records xs ys ts n i j h k =
     rw (← h.text, ← k.text) (cmp-IsPaddedText xs ys n h.padded k.padded (length-padded xs n h.padded) (length-padded ys n k.padded))
 
--- the first texts rise
+-- the first texts are strictly ascending
 pub IsRising-take : (ts : List (List ℕ)) (m : ℕ) → ((k : ℕ) → k + 1 < m → order (text_at ts k) (text_at ts (k + 1)) ≡ Less) → IsRising (take m ts)
 IsRising-take ts m up k inside =
     let short : k + 1 < m = omega (arith, length-take m ts) in
     rw (get_or-take m ts k [] (omega arith), get_or-take m ts (k + 1) [] short) (up k short)
 
--- texts that fall somewhere don't rise
+-- texts of which one isn't above the one before it aren't strictly ascending
 pub not_rising : (ts : List (List ℕ)) (i : ℕ) → IsFirstFall ts i → ¬ IsRising ts
 not_rising ts i h up =
     let next : i - 1 + 1 ≡ i = omega (arith, h.behind) in
@@ -73,12 +73,12 @@ not_rising ts i h up =
 
 -- the first text that isn't above the one before it
 pub IsFirstFall-next : (ts : List (List ℕ)) (i : ℕ) → i + 1 < length ts → ((k : ℕ) → k < i → order (text_at ts k) (text_at ts (k + 1)) ≡ Less) → is_lt (order (text_at ts i) (text_at ts (i + 1))) ≡ false → IsFirstFall ts (i + 1)
-IsFirstFall-next ts i inside up falls =
+IsFirstFall-next ts i inside up fails =
     let before : i + 1 - 1 ≡ i = omega arith in
     record {
       behind = omega arith;
       inside = inside;
-      falls = rw before (λ less. absurd (false≢true (rw less at (sym falls))));
+      falls = rw before (λ less. absurd (false≢true (rw less at (sym fails))));
       before = IsRising-take ts (i + 1) (λ k short. up k (omega arith));
     }
 
@@ -88,13 +88,13 @@ Less-from_is_lt Less h = refl
 Less-from_is_lt Equal h = cc
 Less-from_is_lt Greater h = cc
 
--- rising texts are sorted
+-- strictly ascending texts are sorted
 IsSortedBy-rising : (ts : List (List ℕ)) → IsRising ts → IsSortedBy (λ (t s : List ℕ). is_lt (order t s)) ts
 IsSortedBy-rising ts up k d from inside =
     let less : order (get_or ts k d) (get_or ts (k + 1) d) ≡ Less = rw (get_or_default ts k d [] (omega arith), get_or_default ts (k + 1) d [] inside) (up k inside) in
     ap is_lt (nat_list_cmp_total.antisymm (get_or ts (k + 1) d) (get_or ts k d)) ∙ rw less refl
 
--- so their order beside a key doesn't fall
+-- so the indices of their orders to a key are ascending
 pub order-rising : (ts : List (List ℕ)) (key : List ℕ) (i j : ℕ) → IsRising ts → i ≤ j → j < length ts → ordering_index (order (text_at ts i) key) ≤ ordering_index (order (text_at ts j) key)
 order-rising ts key i j up le inside = searchable_from_sorted nat_list_cmp_total (λ (t : List ℕ). t) ts key (IsSortedBy-rising ts up) i j [] le inside
 
@@ -139,7 +139,7 @@ IsRecord-raised raw n i h = record {
   bytes = λ j. let one = ascii-padded raw n i h in let other = ascii-padded raw n j h in grind (arith, common_steps);
 }
 
--- records of rising texts rise
+-- records of strictly ascending texts are strictly ascending
 pub AreRisingRecords-texts : (records ts : List (List ℕ)) (n : ℕ) → All (λ r. IsPaddedText r n) records → map text_of records ≡ ts → IsRising ts → AreRisingRecords n records
 AreRisingRecords-texts records ts n h view up = record {
   each = λ k inside. IsRecord-padded (text_at records k) n (h k [] inside);
@@ -162,10 +162,10 @@ IsFirstNotBelow-texts records ts key bytes n i h view padded text place =
     record {
       inside = omega (arith, place.inside);
       below = λ k before. sym (order-key records ts key bytes n k h view padded text (omega (arith, place.inside))) ∙ place.below k before;
-      not_below = λ k behind inside less. place.not_below k behind (omega arith) (order-key records ts key bytes n k h view padded text (omega arith) ∙ less);
+      not_below = λ k after inside less. place.not_below k after (omega arith) (order-key records ts key bytes n k h view padded text (omega arith) ∙ less);
     }
 
--- records that rise are cut in two by that test
+-- strictly ascending records are cut in two by that test
 pub IsPartitionedBy-rising : (records : List (List ℕ)) (key : List ℕ) → IsRising records → IsPartitionedBy (is_below_key key) records
 IsPartitionedBy-rising records key up i j d le inside below =
     let far = Less-from_is_lt (order (text_at records j) key) (rw (get_or_default records j d [] inside) at below) in
@@ -177,7 +177,7 @@ pub IsFirstNotBelow-cut : (records : List (List ℕ)) (key : List ℕ) (i : ℕ)
 IsFirstNotBelow-cut records key i fits cut = record {
   inside = fits;
   below = λ k before. Less-from_is_lt (order (text_at records k) key) (cut.0 k [] (omega arith) before);
-  not_below = λ k behind inside less. absurd (false≢true (sym (cut.1 k [] behind inside) ∙ rw less refl));
+  not_below = λ k after inside less. absurd (false≢true (sym (cut.1 k [] after inside) ∙ rw less refl));
 }
 
 -- an order that is neither below nor equal
@@ -191,15 +191,15 @@ pub IsPlaceFor-missed : (ts : List (List ℕ)) (key : List ℕ) (i : ℕ) → Is
 IsPlaceFor-missed ts key i up h other = record {
   inside = h.inside;
   below = h.below;
-  above = λ k behind inside.
+  above = λ k after inside.
       let here : order (text_at ts i) key ≡ Greater = Greater-from_others (order (text_at ts i) key) (h.not_below i (omega arith) (omega arith)) (λ same. other (omega arith) ((cmp_is_same (text_at ts i) key).0 same)) in
-      let no_less = rw here at (order-rising ts key i k up behind inside) in
+      let no_less = rw here at (order-rising ts key i k up after inside) in
       grind arith;
 }
 
 -- ---- some of the texts
 
--- these stand side by side from i on
+-- the part is that of the texts from i on
 pub record IsPart (ts part : List (List ℕ)) (i : ℕ) : Type 0 where
   pub inside : i + length part ≤ length ts
   pub each : (k : ℕ) → k < length part → text_at part k ≡ text_at ts (i + k)
@@ -212,14 +212,14 @@ IsPart-range ts part i m inside is =
       each = λ k within. rw (is, get_or-take m (drop i ts) k [] (omega (arith, length-take m (drop i ts), length-drop i ts, long)), get_or-drop) refl;
     }
 
--- as all from i on do
-pub IsPart-behind : (ts rest : List (List ℕ)) (i : ℕ) → i ≤ length ts → rest ≡ drop i ts → IsPart ts rest i
-IsPart-behind ts rest i inside is = record {
+-- all texts from i on are such a part
+pub IsPart-rest : (ts rest : List (List ℕ)) (i : ℕ) → i ≤ length ts → rest ≡ drop i ts → IsPart ts rest i
+IsPart-rest ts rest i inside is = record {
   inside = rw is (omega (arith, length-drop i ts));
   each = λ k within. rw (is, get_or-drop) refl;
 }
 
--- a part of records that rise
+-- a part of strictly ascending records
 pub AreRisingRecords-part : (records part : List (List ℕ)) (n i : ℕ) → AreRisingRecords n records → IsPart records part i → AreRisingRecords n part
 AreRisingRecords-part records part n i h p = record {
   each = λ k within. rw (p.each k within) (h.each (i + k) (omega (arith, p.inside)));
@@ -228,17 +228,17 @@ AreRisingRecords-part records part n i h p = record {
       rw (p.each k (omega arith), p.each (k + 1) within, next) (h.rising (i + k) (omega (arith, p.inside)));
 }
 
--- a range of texts that rise
+-- a range of strictly ascending texts
 pub IsRising-range : (ts : List (List ℕ)) (i m : ℕ) → i + m ≤ length ts → IsRising ts → IsRising (take m (drop i ts))
 IsRising-range ts i m inside up k within =
     let p = IsPart-range ts (take m (drop i ts)) i m inside refl in
     let next : i + (k + 1) ≡ i + k + 1 = omega arith in
     rw (p.each k (omega arith), p.each (k + 1) within, next) (up (i + k) (omega (arith, p.inside)))
 
--- a place in a part, where those before the part are below the key and those behind it aren't
+-- a place in a part, where the texts before the part are below the key and those after it aren't
 pub IsFirstNotBelow-part : (ts part : List (List ℕ)) (key : List ℕ) (i m : ℕ) → IsRising ts → IsPart ts part i → ((k : ℕ) → k < i → order (text_at ts k) key ≡ Less)
     → (i + length part < length ts → order (text_at ts (i + length part)) key ≢ Less) → IsFirstNotBelow key part m → IsFirstNotBelow key ts (i + m)
-IsFirstNotBelow-part ts part key i m up p before behind found =
+IsFirstNotBelow-part ts part key i m up p before after found =
     let same : (k : ℕ) → i ≤ k → k < i + length part → order (text_at part (k - i)) key ≡ order (text_at ts k) key =
     λ k from within.
     let place : i + (k - i) ≡ k = omega arith in
@@ -251,21 +251,21 @@ IsFirstNotBelow-part ts part key i m up p before behind found =
       ];
       not_below = λ k from inside less. elim (cases_lt k (i + length part)) [
         | inl within ↦ found.not_below (k - i) (omega arith) (omega arith) (same k (omega arith) within ∙ less)
-        | inr past ↦ behind (omega arith) (below_from_rising ts key (i + length part) k up past inside less)
+        | inr past ↦ after (omega arith) (below_from_rising ts key (i + length part) k up past inside less)
       ];
     }
 
 -- the same of a range
 pub IsFirstNotBelow-range : (ts : List (List ℕ)) (key : List ℕ) (i j m : ℕ) → IsRising ts → i ≤ j → j ≤ length ts → ((k : ℕ) → k < i → order (text_at ts k) key ≡ Less)
     → (j < length ts → order (text_at ts j) key ≢ Less) → IsFirstNotBelow key (take (j - i) (drop i ts)) m → IsFirstNotBelow key ts (i + m)
-IsFirstNotBelow-range ts key i j m up le inside before behind found =
+IsFirstNotBelow-range ts key i j m up le inside before after found =
     let part = take (j - i) (drop i ts) in
     let long : i + length part ≡ j = omega (arith, length-take (j - i) (drop i ts), length-drop i ts) in
-    IsFirstNotBelow-part ts part key i m up (IsPart-range ts part i (j - i) (omega arith) refl) before (rw long behind) found
+    IsFirstNotBelow-part ts part key i m up (IsPart-range ts part i (j - i) (omega arith) refl) before (rw long after) found
 
 -- ---- a range that holds a place
 
--- all texts do
+-- the range of all texts does
 pub IsFirstNotBelowWithin-all : (ts : List (List ℕ)) (key : List ℕ) → IsFirstNotBelowWithin key ts 0 (length ts)
 IsFirstNotBelowWithin-all ts key = record {
   ordered = omega arith;
@@ -282,7 +282,7 @@ IsFirstNotBelow-empty ts key i j h same = record {
   not_below = λ k from inside. h.not_below k (omega arith) inside;
 }
 
--- the front of a range goes where a text is below
+-- a range without the texts up to one that is below the key
 pub IsFirstNotBelowWithin-from : (ts : List (List ℕ)) (key : List ℕ) (i j m n : ℕ) → IsRising ts → IsFirstNotBelowWithin key ts i j → m < length ts → order (text_at ts m) key ≡ Less → n ≤ m + 1 → n ≤ j → IsFirstNotBelowWithin key ts n j
 IsFirstNotBelowWithin-from ts key i j m n up h inside less before within = record {
   ordered = within;
@@ -291,22 +291,22 @@ IsFirstNotBelowWithin-from ts key i j m n up h inside less before within = recor
   not_below = h.not_below;
 }
 
--- and what is behind goes where one isn't
+-- a range without the texts from one on that isn't below the key
 pub IsFirstNotBelowWithin-to : (ts : List (List ℕ)) (key : List ℕ) (i j m n : ℕ) → IsRising ts → IsFirstNotBelowWithin key ts i j → order (text_at ts m) key ≢ Less → m ≤ n → i ≤ n → n ≤ length ts → IsFirstNotBelowWithin key ts i n
-IsFirstNotBelowWithin-to ts key i j m n up h other behind within inside = record {
+IsFirstNotBelowWithin-to ts key i j m n up h other after within inside = record {
   ordered = within;
   inside = inside;
   below = h.below;
   not_below = λ k from last less. other (below_from_rising ts key m k up (omega arith) last less);
 }
 
--- what is left of a range whose text at m is below the key
-pub IsFirstNotBelow-behind_middle : (ts : List (List ℕ)) (key : List ℕ) (i j m n : ℕ) → IsRising ts → IsFirstNotBelowWithin key ts i j → m < j → order (text_at ts m) key ≡ Less → IsFirstNotBelow key (take (j - (m + 1)) (drop (m + 1) ts)) n → IsFirstNotBelow key ts (m + 1 + n)
-IsFirstNotBelow-behind_middle ts key i j m n up h inside less found =
+-- the place in the remainder of a range whose text at m is below the key
+pub IsFirstNotBelow-after_middle : (ts : List (List ℕ)) (key : List ℕ) (i j m n : ℕ) → IsRising ts → IsFirstNotBelowWithin key ts i j → m < j → order (text_at ts m) key ≡ Less → IsFirstNotBelow key (take (j - (m + 1)) (drop (m + 1) ts)) n → IsFirstNotBelow key ts (m + 1 + n)
+IsFirstNotBelow-after_middle ts key i j m n up h inside less found =
     let left = IsFirstNotBelowWithin-from ts key i j m (m + 1) up h (omega (arith, h.inside)) less (omega arith) (omega arith) in
     IsFirstNotBelow-range ts key (m + 1) j n up left.ordered left.inside left.below (λ within. left.not_below j (omega arith) within) found
 
--- or isn't
+-- and where that text isn't below the key
 pub IsFirstNotBelow-before_middle : (ts : List (List ℕ)) (key : List ℕ) (i j m n : ℕ) → IsRising ts → IsFirstNotBelowWithin key ts i j → i ≤ m → m < j → order (text_at ts m) key ≢ Less → IsFirstNotBelow key (take (m - i) (drop i ts)) n → IsFirstNotBelow key ts (i + n)
 IsFirstNotBelow-before_middle ts key i j m n up h from inside other found =
     let left = IsFirstNotBelowWithin-to ts key i j m m up h other (omega arith) from (omega (arith, h.inside)) in

@@ -37,7 +37,7 @@ other_text t key other = false_from_ne_true (bytes_eq key t) (λ same.
 count_by-cons : (p : List ℕ → Bool) (t : List ℕ) (ts : List (List ℕ)) → count_by p (t ∷ ts) ≡ cond (p t) 1 0 + count_by p ts
 count_by-cons p t ts = sum_by-cons (λ t. cond (p t) 1 0) t ts
 
--- where the first texts pass a test and the others don't, so many pass it
+-- where the first i texts pass a test and the others don't, i texts pass it
 count_by-cut : (p : List ℕ → Bool) (ts : List (List ℕ)) (i : ℕ) → i ≤ length ts → ((k : ℕ) → k < i → p (get_or ts k []) ≡ true) → ((k : ℕ) → i ≤ k → k < length ts → p (get_or ts k []) ≡ false) → count_by p ts ≡ i
 count_by-cut p [] i fits front back = omega arith
 count_by-cut p (t ∷ ts) zero fits front back =
@@ -87,7 +87,7 @@ first_or_later : (p : List ℕ → Bool) (t : List ℕ) (ts : List (List ℕ)) (
 first_or_later p t ts zero first later = first
 first_or_later p t ts (suc k) first later = later k refl
 
--- where the texts that pass a test stand in front, as many of the first pass it as do at all
+-- where the texts that pass a test are the first ones, each up to their number passes it
 count_by-front : (p : List ℕ → Bool) (ts : List (List ℕ)) → ((i j : ℕ) → i ≤ j → j < length ts → p (get_or ts j []) ≡ true → p (get_or ts i []) ≡ true) → (k : ℕ) → k < count_by p ts → p (get_or ts k []) ≡ true
 count_by-front p [] front k few = absurd (omega arith)
 count_by-front p (t ∷ ts) front k few =
@@ -107,10 +107,10 @@ is_le-from_not_above Less h = refl
 is_le-from_not_above Equal h = refl
 is_le-from_not_above Greater h = absurd (h refl)
 
--- what a search gives, as the place behind the key or for it
-abbrev pub place_behind : Result ℕ ℕ → ℕ
-place_behind (Ok i) = i + 1
-place_behind (Err i) = i
+-- what a search returns, as the place after the key, or its place
+abbrev pub place_after : Result ℕ ℕ → ℕ
+place_after (Ok i) = i + 1
+place_after (Err i) = i
 
 -- no text before that is above the key
 abbrev pub AreNotAbove : List (List ℕ) → List ℕ → ℕ → Type 0
@@ -126,7 +126,7 @@ not_above_missed ts key up =
       λ k before. is_le-from_is_lt (order (text_at ts k) key) (count_by-front below ts (λ i j le inside passes. ap is_lt (below_from_rising ts key i j up le inside (Less-from_is_lt (order (text_at ts j) key) passes))) k before),
     )
 
-pub not_above_before : (ts : List (List ℕ)) (key : List ℕ) (r : Result ℕ ℕ) → IsRising ts → r ≡ search_result ts key → AreNotAbove ts key (place_behind r)
+pub not_above_before : (ts : List (List ℕ)) (key : List ℕ) (r : Result ℕ ℕ) → IsRising ts → r ≡ search_result ts key → AreNotAbove ts key (place_after r)
 unfolding search_result
 not_above_before ts key r up is =
     let i = position_or_len (bytes_eq key) ts in
@@ -210,11 +210,11 @@ later_fails p t ts zero some fails = absurd (omega arith)
 later_fails p t ts (suc k) some fails = let e : suc k - 1 ≡ k = omega arith in rw e at fails
 
 -- where the texts that pass a test are the first ones, none from their number on passes it
-count_by-behind : (p : List ℕ → Bool) (ts : List (List ℕ)) → ((i j : ℕ) → i ≤ j → j < length ts → p (get_or ts j []) ≡ true → p (get_or ts i []) ≡ true) → (k : ℕ) → count_by p ts ≤ k → k < length ts → p (get_or ts k []) ≡ false
-count_by-behind p [] front k many inside = absurd (omega arith)
-count_by-behind p (t ∷ ts) front k many inside = elim (cases_Bool (p t)) [
+count_by-after : (p : List ℕ → Bool) (ts : List (List ℕ)) → ((i j : ℕ) → i ≤ j → j < length ts → p (get_or ts j []) ≡ true → p (get_or ts i []) ≡ true) → (k : ℕ) → count_by p ts ≤ k → k < length ts → p (get_or ts k []) ≡ false
+count_by-after p [] front k many inside = absurd (omega arith)
+count_by-after p (t ∷ ts) front k many inside = elim (cases_Bool (p t)) [
   | inl passes ↦ (let count : count_by p (t ∷ ts) ≡ 1 + count_by p ts = count_by-cons p t ts ∙ rw passes refl in
-      later_fails p t ts k (omega (arith, many, count)) (count_by-behind p ts (λ i j le within. front (suc i) (suc j) (omega arith) (omega arith)) (k - 1) (omega (arith, many, count)) (omega (arith, many, count, inside))))
+      later_fails p t ts k (omega (arith, many, count)) (count_by-after p ts (λ i j le within. front (suc i) (suc j) (omega arith) (omega arith)) (k - 1) (omega (arith, many, count)) (omega (arith, many, count, inside))))
   | inr fails ↦ false_from_ne_true (p (get_or (t ∷ ts) k [])) (λ passes. false≢true (sym fails ∙ front 0 k (omega arith) inside passes))
 ]
 
@@ -230,7 +230,7 @@ search_result-place ts t i up is =
           let first : IsFirstNotBelow t ts e = record {
             inside = count_by-le-length below ts;
             below = λ k before. Less-from_is_lt (order (text_at ts k) t) (count_by-front below ts front k before);
-            not_below = λ k from within less. false≢true (sym (count_by-behind below ts front k from within) ∙ ap is_lt less);
+            not_below = λ k from within less. false≢true (sym (count_by-after below ts front k from within) ∙ ap is_lt less);
           } in
           let other : e < length ts → text_at ts e ≢ t = λ within same. false≢true (sym (fails_before_first (bytes_eq t) ts e [] (omega arith)) ∙ (bytes_eq-Decides t (text_at ts e)).1 (sym same)) in
           subst (λ (x : ℕ). IsPlaceFor t ts x) missed (IsPlaceFor-missed ts t e up first other))

@@ -19,7 +19,7 @@ use Rattle.tinystr_words.proofs.Reading.Records.{AllStrict}
 use Rattle.tinystr_packed.specs.Rising.{ArePackedRising, IsRising}
 use Rattle.tinystr_packed.specs.Sorting.{ArePackedInOrder}
 
--- texts that are sorted, each kept once, rise
+-- sorted texts, each kept once, are strictly ascending
 IsRising-dedup : (texts : List (List ℕ)) → IsSorted (slice_cmp nat_cmp) texts → IsRising (dedup bytes_eq texts)
 IsRising-dedup texts sorted =
     let strict = IsStrictlySortedBy-dedup nat_list_cmp_total (λ x y. sym (is_eq-slice_cmp x y)) texts sorted in
@@ -41,7 +41,7 @@ ArePackedInOrder-packed items (Ok made) texts sorted kept n moved up is strict j
   joined = joined;
 }
 
--- texts that don't rise aren't those of a sorted table
+-- texts that aren't strictly ascending aren't those of a sorted table
 pub unsorted-not_packed : (ts : List (List ℕ)) (bytes : List ℕ) (n : ℕ) → 0 < n → AllStrict n ts → bytes ≡ packed n ts → ¬ IsRising ts → ¬ ((ss : List (List ℕ)) × ArePackedRising ss bytes n)
-unsorted-not_packed ts bytes n some strict joined falls found =
-    falls (rw (← packed_injective n found.0 ts some found.1.strict strict (sym found.1.joined ∙ joined)) found.1.rising)
+unsorted-not_packed ts bytes n some strict joined other found =
+    other (rw (← packed_injective n found.0 ts some found.1.strict strict (sym found.1.joined ∙ joined)) found.1.rising)

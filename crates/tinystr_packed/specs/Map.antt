@@ -17,8 +17,8 @@ use Rattle.tinystr_packed.specs.declared.map.MapError.TheVariants.{Keys, Order, 
 abbrev pub get : List (List ℕ × List ℕ) → List ℕ → Option (List ℕ)
 get entries key = lookup (is_at (slice_cmp nat_cmp key)) entries
 
--- the keys are texts of at most n bytes and rise, and each value has m bytes; the bytes are the padded keys, joined, and
--- the values, joined
+-- the keys are strictly ascending texts of at most n bytes, and each value has m bytes; the bytes are the padded keys,
+-- joined, and the values, joined
 pub record ArePacked (entries : List (List ℕ × List ℕ)) (keys values : List ℕ) (n m : ℕ) : Type 0 where
   pub strict : All (λ t. IsStrictText t n) (keys_of entries)
   pub rising : IsRising (keys_of entries)
@@ -26,8 +26,8 @@ pub record ArePacked (entries : List (List ℕ × List ℕ)) (keys values : List
   pub joined_keys : keys ≡ flat_map (λ t. pad t n) (keys_of entries)
   pub joined_values : values ≡ flat_map (λ v. v) (values_of entries)
 
--- the keys aren't packed, for this fault; or they are, and this is the first that doesn't rise; or all rise, and there
--- aren't m bytes for each
+-- the keys aren't packed, for this fault; or they are, and this is the first that isn't above the one before it; or they
+-- are strictly ascending, and there aren't m bytes for each
 abbrev pub RefusesMap : MapError → List ℕ → List ℕ → ℕ → ℕ → Type 0
 RefusesMap (Keys fault) keys values n m = RefusesRecords fault keys n
 RefusesMap (Order fault) keys values n m = (packed : IsPacked keys n) × IsFirstFall packed.texts fault.index

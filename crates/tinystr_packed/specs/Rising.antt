@@ -1,4 +1,4 @@
--- Texts that rise, and places among them.
+-- Strictly ascending texts, and places among them.
 use Rattle.std.specs.Prelude.{◌≡◌, ◌≢◌, ◌↔◌, ℕ, ◌+◌, ◌-◌, ◌<◌, ◌≤◌, ◌&&◌, Bool, true, false, List, [], ◌∷◌, length, take, slice_index_or, slice_get, nat_eq, All, Contains, Result, Some, IsOk, IfOk, IfErr}
 use Rattle.std.specs.Cmp.Lexicographic.{slice_cmp}
 use Rattle.std.specs.List.{flat_map, starts_with}
@@ -44,7 +44,7 @@ pub record IsFirstNotBelow (t : List ℕ) (texts : List (List ℕ)) (i : ℕ) : 
   pub below : (k : ℕ) → k < i → order (text_at texts k) t ≡ Less
   pub not_below : (k : ℕ) → i ≤ k → k < length texts → order (text_at texts k) t ≢ Less
 
--- the first text that isn't below t stands from i to j, where j may be past all
+-- the index of the first text that isn't below t is i to j, where j may be past all
 pub record IsFirstNotBelowWithin (t : List ℕ) (texts : List (List ℕ)) (i j : ℕ) : Type 0 where
   pub ordered : i ≤ j
   pub inside : j ≤ length texts
@@ -59,7 +59,7 @@ pub record IsPrefixRange (p : List ℕ) (texts : List (List ℕ)) (i j : ℕ) : 
   pub within : (k : ℕ) → i ≤ k → k < j → starts_with nat_eq (text_at texts k) p ≡ true
   pub behind : (k : ℕ) → j ≤ k → k < length texts → starts_with nat_eq (text_at texts k) p ≡ false
 
--- the bytes are the padded forms of these texts, of at most n bytes each, which rise
+-- the bytes are the padded forms of these strictly ascending texts, of at most n bytes each
 pub record ArePackedRising (texts : List (List ℕ)) (bytes : List ℕ) (n : ℕ) : Type 0 where
   pub strict : All (λ t. IsStrictText t n) texts
   pub joined : bytes ≡ flat_map (λ t. pad t n) texts

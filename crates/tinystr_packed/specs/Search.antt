@@ -1,4 +1,4 @@
--- What a search for a key gives.
+-- What a search for a key returns.
 use Rattle.std.specs.Prelude.{ℕ, List}
 use Rattle.std.specs.List.{count_by, position, slice_get}
 use Rattle.std.specs.Option.{ok_or}
@@ -14,7 +14,7 @@ use Rattle.tinystr_packed.specs.Rising.{order}
 unfoldable pub search_result : List (List ℕ) → List ℕ → Result ℕ ℕ
 search_result texts key = ok_or (position (bytes_eq key) texts) (count_by (λ t. is_lt (order t key)) texts)
 
--- the value at what a search gives, of values in the order of their keys
+-- the value at what a search returns, of values in the order of their keys
 abbrev pub value_at : List (List ℕ) → Result ℕ ℕ → Option (List ℕ)
 value_at values (Ok i) = slice_get values i
 value_at values (Err i) = None

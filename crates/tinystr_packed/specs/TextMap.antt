@@ -10,7 +10,7 @@ use Rattle.tinystr_packed.specs.Sorting.{RefusesSorted}
 use Rattle.tinystr_packed.specs.declared.text_map.TextMapError.{TextMapError}
 use Rattle.tinystr_packed.specs.declared.text_map.TextMapError.TheVariants.{Keys, Values, Count}
 
--- the keys are texts of at most n bytes and rise, and the values are texts of at most m bytes; the bytes are the padded
+-- the keys are strictly ascending texts of at most n bytes, and the values are texts of at most m bytes; the bytes are the padded
 -- keys, joined, and the padded values, joined
 pub record ArePackedTexts (entries : List (List ℕ × List ℕ)) (keys values : List ℕ) (n m : ℕ) : Type 0 where
   pub rising_keys : ArePackedRising (keys_of entries) keys n

@@ -13,7 +13,7 @@ use std::marker::Model;
 use tinystr::TinyAsciiStr;
 
 /// What `SortedTable::binary_search` returns for each of many keys, in their order. A contract sees it as the list of the
-/// answers that are left.
+/// remaining answers.
 ///
 /// ```rust
 /// let codes = SortedTable::new(Table::<3>::new(b"CHFEURJPYUSD").unwrap()).unwrap();
@@ -41,7 +41,7 @@ impl<'a, 'k, const N: usize> Model for BinarySearchEach<'a, 'k, N> {
     ghost use Rattle.tinystr_words.specs.Text.{IsPaddedText, text_of};
     ghost use Rattle.tinystr_packed.specs.Rising.{IsRising};
     ghost use Rattle.tinystr_packed.specs.Search.{search_result};
-    ghost use Rattle.tinystr_packed.specs.Private.SideBySide.{AreReady, IsLast};
+    ghost use Rattle.tinystr_packed.specs.Private.EightSearches.{AreReady, IsLast};
 
     ghost Value = { List (Result ℕ ℕ) };
 

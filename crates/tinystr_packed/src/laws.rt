@@ -46,7 +46,7 @@ pub fn map_len()
         ArePacked entries keys values n m → length values ≡ length entries * m }
 {}
 
-/// A search finds a text exactly if the list has it, and gives the index that `position` gives. Among texts that are
+/// A search finds a text exactly if the list has it, and returns the index that `position` returns. Among texts that are
 /// strictly ascending this is the text's only index; if the list doesn't have the text, the error is the place where it
 /// belongs.
 #[tactic(auto, using(crate::proofs::ForCallers::search_found))]
@@ -75,7 +75,7 @@ pub fn tests_decide()
         ↔ ((entries : List (List ℕ × List ℕ)) × ArePacked entries keys values n m) }
 {}
 
-/// The texts of a sorted table fit in `N` bytes and rise.
+/// The texts of a sorted table fit in `N` bytes and are strictly ascending.
 #[inline]
 pub fn sorted_texts<const N: usize>(sorted: &SortedTable<'_, N>)
     ensures strict { All (λ t. IsStrictText t N) sorted.now }
@@ -84,7 +84,7 @@ pub fn sorted_texts<const N: usize>(sorted: &SortedTable<'_, N>)
     let _ = sorted.table().len();
 }
 
-/// The keys of a map fit in `N` bytes and rise, and a text that doesn't fit has no value.
+/// The keys of a map fit in `N` bytes and are strictly ascending, and a text that doesn't fit has no value.
 pub fn map_keys<const N: usize, const M: usize>(map: &PackedMap<'_, N, M>)
     ensures strict { All (λ t. IsStrictText t N) (keys_of map.now) }
     ensures rising { IsRising (keys_of map.now) }
@@ -93,8 +93,8 @@ pub fn map_keys<const N: usize, const M: usize>(map: &PackedMap<'_, N, M>)
     sorted_texts(map.keys());
 }
 
-/// The keys of a map of texts fit in `N` bytes and rise, a text that doesn't fit has no value, and the map's texts fit in
-/// `M` bytes.
+/// The keys of a map of texts fit in `N` bytes and are strictly ascending, a text that doesn't fit has no value, and the map's
+/// texts fit in `M` bytes.
 pub fn text_map_texts<const N: usize, const M: usize>(map: &TextMap<'_, N, M>)
     ensures strict { All (λ t. IsStrictText t N) (keys_of map.now) }
     ensures rising { IsRising (keys_of map.now) }

@@ -6,7 +6,7 @@ ghost use Rattle.std.specs.List.{starts_with};
 ghost use Rattle.std.specs.Map.{keys_of, values_of};
 ghost use Rattle.std.specs.Option.{option_copied};
 ghost use Rattle.std.specs.Result.{result_ok};
-ghost use Rattle.tinystr_packed.specs.Map.{ArePacked, RefusesMap, get};
+ghost use Rattle.tinystr_packed.specs.Map as Spec;
 ghost use Rattle.tinystr_packed.specs.Reading.{map_of};
 ghost use Rattle.tinystr_packed.specs.Rising.{IsRising};
 
@@ -34,7 +34,7 @@ pub enum MapError {
     Values { keys: usize, len: usize },
 }
 
-/// A map from texts of at most `N` bytes, which rise, to values of `M` bytes. A contract sees it as the entries of a
+/// A map from strictly ascending texts of at most `N` bytes to values of `M` bytes. A contract sees it as the entries of a
 /// `BTreeMap`.
 ///
 /// ```rust
@@ -63,7 +63,8 @@ impl<'a, const N: usize, const M: usize> PackedMap<'a, N, M> {
     /// Reads a map from the bytes of its keys and those of its values, which only this call checks. `N` and `M` must be
     /// above 0.
     ///
-    /// The error is `Keys` if the keys aren't packed records, else `Order` if they don't rise, else `Values`.
+    /// The error is `Keys` if the keys aren't packed records, else `Order` if they aren't strictly ascending, else
+    /// `Values`.
     ///
     /// ```rust
     /// assert!(rt; PackedMap::<3, 1>::new(b"EURJPY", &[2, 0]).is_ok());
@@ -74,9 +75,9 @@ impl<'a, const N: usize, const M: usize> PackedMap<'a, N, M> {
         requires keys { 0 < N }
         requires values { 0 < M }
         ensures accepted { IsOk result
-            ↔ ((entries : List (List ℕ × List ℕ)) × ArePacked entries keys.now values.now N M) }
-        ensures entries { IfOk result (λ map. ArePacked map keys.now values.now N M) }
-        ensures fault { IfErr result (λ e. RefusesMap e keys.now values.now N M) }
+            ↔ ((entries : List (List ℕ × List ℕ)) × Spec.ArePacked entries keys.now values.now N M) }
+        ensures entries { IfOk result (λ map. Spec.ArePacked map keys.now values.now N M) }
+        ensures fault { IfErr result (λ e. Spec.RefusesMap e keys.now values.now N M) }
         ensures value { result_ok result ≡ map_of N M keys.now values.now }
     {
         let table = match Table::new(keys) {
@@ -121,7 +122,7 @@ impl<'a, const N: usize, const M: usize> PackedMap<'a, N, M> {
 
     /// The value of a key, or `None` if the map doesn't have the key.
     pub fn get(&self, key: &TinyAsciiStr<N>) -> Option<&'a [u8; M]>
-        ensures { option_copied result ≡ get self.now key.now }
+        ensures { option_copied result ≡ Spec.get self.now key.now }
     {
         match self.keys.binary_search(key) {
             Ok(index) => self.values.get(index),
@@ -129,7 +130,7 @@ impl<'a, const N: usize, const M: usize> PackedMap<'a, N, M> {
         }
     }
 
-    /// What `get` gives for each of many keys, in their order. `SortedTable::binary_search_each` tells how the keys are
+    /// What `get` returns for each of many keys, in their order. `SortedTable::binary_search_each` documents how the keys are
     /// looked up.
     ///
     /// ```rust
@@ -141,7 +142,7 @@ impl<'a, const N: usize, const M: usize> PackedMap<'a, N, M> {
     /// assert_eq!(rt; values.next(), None);
     /// ```
     pub fn get_each<'k>(&self, keys: &'k [TinyAsciiStr<N>]) -> GetEach<'a, 'k, N, M>
-        ensures values { result ≡ map (get self.now) keys.now }
+        ensures values { result ≡ map (Spec.get self.now) keys.now }
         ensures rising { IsRising (keys_of self.now) }
     {
         GetEach {
@@ -152,7 +153,7 @@ impl<'a, const N: usize, const M: usize> PackedMap<'a, N, M> {
 
     /// Whether the map has a key.
     pub fn contains_key(&self, key: &TinyAsciiStr<N>) -> bool
-        ensures { result ≡ is_some (get self.now key.now) }
+        ensures { result ≡ is_some (Spec.get self.now key.now) }
     {
         self.keys.contains(key)
     }
@@ -206,8 +207,8 @@ impl<'a, const N: usize, const M: usize> PackedMap<'a, N, M> {
     }
 }
 
-/// An iterator over the entries of a map, in the order of their keys. A contract sees it as the list of those that are
-/// left.
+/// An iterator over the entries of a map, in the order of their keys. A contract sees it as the list of the
+/// remaining ones.
 ///
 /// ```rust
 /// let places = PackedMap::<3, 1>::new(b"EURJPY", &[2, 0]).unwrap();
@@ -251,8 +252,8 @@ impl<'a, const N: usize, const M: usize> Iterator for Entries<'a, N, M> {
     }
 }
 
-/// What `PackedMap::get` gives for each of many keys, in their order. A contract sees it as the list of the values
-/// that are left.
+/// What `PackedMap::get` returns for each of many keys, in their order. A contract sees it as the list of the remaining
+/// values.
 ///
 /// ```rust
 /// let places = PackedMap::<3, 1>::new(b"EURJPY", &[2, 0]).unwrap();

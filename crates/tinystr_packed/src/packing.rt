@@ -68,7 +68,7 @@ pub fn pack_map<const N: usize, const M: usize>(
 ) -> Result<(Vec<u8>, Vec<u8>), AllocError>
     ensures { IfOk result (λ made. ArePacked map.now.entries made.0.items made.1.items N M) }
 {
-    // Its contract says that the keys rise.
+    // Its contract says that the keys are strictly ascending.
     let count = map.len();
     let mut keys = Vec::with_capacity(alloc, count.saturating_mul(N))?;
     let mut values = Vec::with_capacity(alloc, count.saturating_mul(M))?;
@@ -97,7 +97,7 @@ pub fn pack_text_map<const N: usize, const M: usize>(
 ) -> Result<(Vec<u8>, Vec<u8>), AllocError>
     ensures { IfOk result (λ made. ArePackedTexts map.now.entries made.0.items made.1.items N M) }
 {
-    // Its contract says that the keys rise.
+    // Its contract says that the keys are strictly ascending.
     let count = map.len();
     let mut keys = Vec::with_capacity(alloc, count.saturating_mul(N))?;
     let mut values = Vec::with_capacity(alloc, count.saturating_mul(M))?;

@@ -5,7 +5,7 @@ ghost use Rattle.std.specs.Cmp.Lexicographic.{slice_cmp};
 ghost use Rattle.std.specs.Ordering.{nat_cmp, is_lt};
 ghost use Rattle.tinystr_words.specs.Text.{IsPaddedText};
 ghost use Rattle.tinystr_packed.specs.Private.Numbers as Spec;
-ghost use Rattle.tinystr_packed.specs.Private.SideBySide.{paired, IsPairOfText};
+ghost use Rattle.tinystr_packed.specs.Private.EightSearches.{paired, IsPairOfText};
 
 use std::cmp::Ordering;
 use tinystr_words::padded;
@@ -70,7 +70,7 @@ pub(crate) trait Number<const N: usize>: Copy + Drop {
 
     ghost spelled: { ℕ → List ℕ → ℕ };
 
-    /// That of a record from `start` on.
+    /// The number of a record from `start` on.
     fn at(raw: &[u8; N], start: usize) -> Self
         requires { start ≤ N - 8 }
         ensures { value result ≡ spelled start raw.now };
@@ -136,7 +136,7 @@ pub(crate) struct Pair {
 }
 
 impl Pair {
-    /// That of a record from `start` on.
+    /// The pair of a record from `start` on.
     #[inline(always)]
     pub(crate) fn at<const N: usize>(raw: &[u8; N], start: usize) -> Pair
         requires { start ≤ N - 8 }
@@ -167,7 +167,7 @@ pub(crate) fn bit_below<const N: usize>(pair: Pair, other: Pair) -> u64
 }
 
 // 1 if a number is below the sum of another and `more`, else 0.
-// Speed: it is the highest bit of the difference, since a comparison would be compiled to a branch.
+// Speed: the highest bit of the difference, since LLVM emits a branch for a comparison.
 #[inline(always)]
 fn borrow(number: u64, other: u64, more: u64) -> u64
     ensures bound { result ≤ 1 }

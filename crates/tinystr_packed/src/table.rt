@@ -151,7 +151,7 @@ impl<'a, const N: usize> Table<'a, N> {
     }
 
     // The index of the first text that isn't above the one before it.
-    pub(crate) fn first_fall(&self) -> Option<usize>
+    pub(crate) fn first_not_above(&self) -> Option<usize>
         ensures rising { IsNone result ↔ IsRising self.now }
         ensures first { IfSome result (λ index. IsFirstFall self.now index) }
     {
@@ -181,7 +181,7 @@ impl<'a, const N: usize> Table<'a, N> {
     }
 }
 
-/// An iterator over the texts of a table, in order. A contract sees it as the list of those that are left.
+/// An iterator over the texts of a table, in order. A contract sees it as the list of the remaining ones.
 ///
 /// ```rust
 /// let table = Table::<3>::new(b"EURGB\0").unwrap();

@@ -5,7 +5,7 @@ ghost use Rattle.std.specs.Iterator.{YieldsFirst, item_count};
 ghost use Rattle.std.specs.List.{starts_with};
 ghost use Rattle.std.specs.Map.{keys_of, values_of};
 ghost use Rattle.std.specs.Result.{result_ok};
-ghost use Rattle.tinystr_packed.specs.Map.{get};
+ghost use Rattle.tinystr_packed.specs.Map as Spec;
 ghost use Rattle.tinystr_packed.specs.Reading.{text_map_of};
 ghost use Rattle.tinystr_packed.specs.Rising.{IsRising};
 ghost use Rattle.tinystr_packed.specs.TextMap.{ArePackedTexts, RefusesTextMap};
@@ -33,7 +33,7 @@ pub enum TextMapError {
     Count { keys: usize, values: usize },
 }
 
-/// A map from texts of at most `N` bytes, which rise, to texts of at most `M` bytes. A contract sees it as the entries
+/// A map from strictly ascending texts of at most `N` bytes to texts of at most `M` bytes. A contract sees it as the entries
 /// of a `BTreeMap`.
 ///
 /// ```rust
@@ -116,7 +116,7 @@ impl<'a, const N: usize, const M: usize> TextMap<'a, N, M> {
 
     /// The value of a key, or `None` if the map doesn't have the key.
     pub fn get(&self, key: &TinyAsciiStr<N>) -> Option<TinyAsciiStr<M>>
-        ensures { result ≡ get self.now key.now }
+        ensures { result ≡ Spec.get self.now key.now }
     {
         match self.keys.binary_search(key) {
             Ok(index) => self.values.get(index),
@@ -126,7 +126,7 @@ impl<'a, const N: usize, const M: usize> TextMap<'a, N, M> {
 
     /// Whether the map has a key.
     pub fn contains_key(&self, key: &TinyAsciiStr<N>) -> bool
-        ensures { result ≡ is_some (get self.now key.now) }
+        ensures { result ≡ is_some (Spec.get self.now key.now) }
     {
         self.keys.contains(key)
     }
@@ -176,8 +176,8 @@ impl<'a, const N: usize, const M: usize> TextMap<'a, N, M> {
     }
 }
 
-/// An iterator over the entries of a map, in the order of their keys. A contract sees it as the list of those that are
-/// left.
+/// An iterator over the entries of a map, in the order of their keys. A contract sees it as the list of the
+/// remaining ones.
 ///
 /// ```rust
 /// let currencies = TextMap::<2, 3>::new(b"CHJP", b"CHFJPY").unwrap();

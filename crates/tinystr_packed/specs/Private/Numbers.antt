@@ -5,12 +5,12 @@ use Rattle.tinystr_words.specs.Text.{pad}
 use Rattle.std.specs.declared.cmp.Ordering.TheVariants.{Less}
 use Rattle.tinystr_packed.specs.Rising.{order, text_at, IsRising}
 
--- so many bytes
+-- a record of n bytes
 pub record IsRecord (n : ℕ) (raw : List ℕ) : Type 0 where
   pub long : length raw ≡ n
   pub bytes : (i : ℕ) → slice_index_or raw i 0 < 256
 
--- records of so many bytes, each above the one before it
+-- records of n bytes, each above the one before it
 pub record AreRisingRecords (n : ℕ) (records : List (List ℕ)) : Type 0 where
   pub each : (k : ℕ) → k < length records → IsRecord n (text_at records k)
   pub rising : IsRising records
@@ -23,16 +23,16 @@ number_at i raw = from_be_bytes w64 (pad (take 8 (drop i raw)) 8)
 unfoldable pub pair_at : ℕ → List ℕ → ℕ
 pair_at i raw = number_at i raw * 2 ^ 64 + number_at (min (i + 8) (length raw - 8)) raw
 
--- a record of a lesser number than the key's is below the key, and one of a greater isn't
-pub record Tells (number : List ℕ → ℕ) (key : List ℕ) (records : List (List ℕ)) : Type 0 where
+-- a record of a lesser number than the key's is below the key, and one of a greater number isn't
+pub record AreOrderedBy (number : List ℕ → ℕ) (key : List ℕ) (records : List (List ℕ)) : Type 0 where
   pub below : (k : ℕ) → k < length records → number (text_at records k) < number key → order (text_at records k) key ≡ Less
   pub above : (k : ℕ) → k < length records → number key < number (text_at records k) → order (text_at records k) key ≢ Less
 
--- records that rise, told from the key by a number, and by nothing else where they have at most sixteen bytes: one of the
--- key's number isn't below it
-pub record AreToldApart (n : ℕ) (number : List ℕ → ℕ) (key : List ℕ) (records : List (List ℕ)) : Type 0 where
+-- strictly ascending records, which are compared with the key by a number; where they have at most sixteen bytes, it decides
+-- alone: a record of the key's number isn't below the key
+pub record AreDistinguished (n : ℕ) (number : List ℕ → ℕ) (key : List ℕ) (records : List (List ℕ)) : Type 0 where
   pub rising : IsRising records
-  pub tells : Tells number key records
+  pub ordered : AreOrderedBy number key records
   pub whole : n ≤ 16 → (k : ℕ) → k < length records → number (text_at records k) ≡ number key → order (text_at records k) key ≢ Less
 
 -- each record begins with the first bytes of the key

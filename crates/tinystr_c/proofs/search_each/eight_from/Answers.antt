@@ -1,7 +1,7 @@
 use Rattle.std.proofs.Common.{◌≡◌, ◌∙◌, ◌+◌, ℕ, List, [], arith}
 use Rattle.std.proofs.lemmas.List.{length-set}
 use Rattle.tinystr_packed.specs.Rising.{text_at}
-use Rattle.tinystr_packed.proofs.SideBySide.{so_far-set}
+use Rattle.tinystr_packed.proofs.EightSearches.{so_far-set}
 use Rattle.tinystr_c.proofs.search_each.eight_from.Goals as goal
 
 pub loop-lane-preserved : goal.loop-lane-preserved

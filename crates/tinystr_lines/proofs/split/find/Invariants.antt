@@ -4,7 +4,7 @@ use Rattle.tinystr_lines.proofs.split.find.Given as goal
 
 abbrev pub invariant-loop-lanes : goal.invariant-loop-lanes
 invariant-loop-lanes l = record {
-  room : l.start + length l.rest ≡ length l.text;
+  total : l.start + length l.rest ≡ length l.text;
   passed : position_or_len (λ b. nat_eq b l.byte) l.text ≡ l.start + position_or_len (λ b. nat_eq b l.byte) l.rest;
 }
 

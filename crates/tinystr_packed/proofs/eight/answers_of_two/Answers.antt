@@ -2,8 +2,8 @@ use Rattle.std.proofs.Common.{◌≡◌, ◌∙◌, [], sym, arith}
 use Rattle.std.proofs.lemmas.List.{get_or_default}
 use Rattle.std.proofs.lemmas.Slice.Eq.{bytes_eq-Decides}
 use Rattle.tinystr_packed.specs.Rising.{text_at}
-use Rattle.tinystr_packed.specs.Private.SideBySide.{IsAnswer}
-use Rattle.tinystr_packed.proofs.SideBySide.{AreAnswers-alternating}
+use Rattle.tinystr_packed.specs.Private.EightSearches.{IsAnswer}
+use Rattle.tinystr_packed.proofs.EightSearches.{AreAnswers-alternating}
 use Rattle.tinystr_packed.proofs.eight.answers_of_two.Goals.{then-eq, else-eq}
 use Rattle.tinystr_packed.proofs.eight.answers_of_two.Goals as goal
 

@@ -3,8 +3,8 @@ use Rattle.std.proofs.lemmas.List.{get_or_default, length-set}
 use Rattle.std.specs.declared.result.Result.{Result}
 use Rattle.std.specs.declared.result.Result.TheVariants.{Ok}
 use Rattle.tinystr_packed.specs.Rising.{text_at}
-use Rattle.tinystr_packed.specs.Private.SideBySide.{IsAnswer}
-use Rattle.tinystr_packed.proofs.SideBySide.{so_far-set}
+use Rattle.tinystr_packed.specs.Private.EightSearches.{IsAnswer}
+use Rattle.tinystr_packed.proofs.EightSearches.{so_far-set}
 use Rattle.tinystr_packed.proofs.eight.answers_one_by_one.Goals as goal
 
 pub loop-lane-preserved : goal.loop-lane-preserved

@@ -1,9 +1,9 @@
 use Rattle.std.proofs.Common.{◌≤◌, arith}
 use Rattle.std.proofs.lemmas.Bool.Decides.{nat_tests}
 use Rattle.tinystr_packed.specs.Private.Numbers.{pair_at}
-use Rattle.tinystr_packed.specs.Private.SideBySide.{wanted}
+use Rattle.tinystr_packed.specs.Private.EightSearches.{wanted}
 use Rattle.tinystr_packed.specs.Rising.{text_at}
-use Rattle.tinystr_packed.proofs.SideBySide.{DoNotFallInTurn-later}
+use Rattle.tinystr_packed.proofs.EightSearches.{AreAscending-later}
 use Rattle.tinystr_packed.proofs.eight.are_at_most.Goals as goal
 
 pub returns-else-index-records : goal.returns-else-index-records
@@ -11,4 +11,4 @@ returns-else-index-records g c is numbered i k lane from inside =
     let w = wanted c.args.pairs.now.firsts c.args.pairs.now.nexts in
     let bit = c.bit_below_at.ensures.bit numbered in
     let other : w 7 ≤ pair_at c.args.start (text_at c.args.records.now c.args.index) = grind (arith, nat_tests, bit, is) in
-    omega (arith, other, DoNotFallInTurn-later w c.requires.in_turn i 7 (omega arith) (omega arith), numbered.rising.each c.args.index k from inside)
+    omega (arith, other, AreAscending-later w c.requires.in_turn i 7 (omega arith) (omega arith), numbered.rising.each c.args.index k from inside)

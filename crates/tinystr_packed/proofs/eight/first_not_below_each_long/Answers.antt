@@ -7,10 +7,10 @@ use Rattle.std.proofs.lemmas.List.{get_or_default, get_or-set_other, get_or-set_
 use Rattle.tinystr_words.specs.Text.{IsPaddedText, pad}
 use Rattle.tinystr_packed.specs.Private.Numbers.{AreRisingRecords, pair_at}
 use Rattle.tinystr_packed.specs.Rising.{order, text_at, IsFirstNotBelow}
-use Rattle.tinystr_packed.specs.Private.SideBySide.{IsPlaceWithin}
+use Rattle.tinystr_packed.specs.Private.EightSearches.{IsPlaceWithin}
 use Rattle.tinystr_packed.proofs.NumberPlaces.{AreNumbered-rising, IsFirstNotBelow-tested}
 use Rattle.tinystr_packed.proofs.RisingTexts.{IsRecord-padded}
-use Rattle.tinystr_packed.proofs.SideBySide.{so_far-set, still-set}
+use Rattle.tinystr_packed.proofs.EightSearches.{so_far-set, still-set}
 use Rattle.tinystr_packed.proofs.eight.first_not_below_each_long.Goals.{then-is_tied_below, else-is_tied_below}
 use Rattle.tinystr_packed.proofs.eight.first_not_below_each_long.Goals as goal
 

@@ -3,7 +3,7 @@ use Rattle.std.specs.List.{slice_index}
 use Rattle.tinystr_words.specs.Text.{IsPaddedText, pad}
 use Rattle.tinystr_packed.specs.Private.Numbers.{AreRisingRecords, pair_at}
 use Rattle.tinystr_packed.specs.Rising.{text_at, IsFirstNotBelow}
-use Rattle.tinystr_packed.specs.Private.SideBySide.{IsPlaceWithin}
+use Rattle.tinystr_packed.specs.Private.EightSearches.{IsPlaceWithin}
 use Rattle.tinystr_packed.proofs.eight.first_not_below_each_long.Given as goal
 
 abbrev pub invariant-loop-lane : goal.invariant-loop-lane

@@ -1,7 +1,7 @@
 use Rattle.std.proofs.Common.{arith}
 use Rattle.std.proofs.lemmas.Bool.Decides.{nat_tests}
-use Rattle.tinystr_packed.specs.Private.SideBySide.{paired}
-use Rattle.tinystr_packed.proofs.SideBySide.{IsPlaceWithin-halved}
+use Rattle.tinystr_packed.specs.Private.EightSearches.{paired}
+use Rattle.tinystr_packed.proofs.EightSearches.{IsPlaceWithin-halved}
 use Rattle.tinystr_packed.proofs.eight.halved.Goals as goal
 
 pub returns : goal.returns

@@ -3,7 +3,7 @@ use Rattle.std.proofs.lemmas.List.{get_or_default, length-set}
 use Rattle.tinystr_packed.specs.Rising.{text_at}
 use Rattle.tinystr_packed.specs.Private.Numbers.{pair_at}
 use Rattle.tinystr_words.specs.Text.{pad}
-use Rattle.tinystr_packed.proofs.SideBySide.{IsNumberOf, so_far-set_both}
+use Rattle.tinystr_packed.proofs.EightSearches.{IsNumberOf, so_far-set_both}
 use Rattle.tinystr_packed.proofs.eight.pairs_of.Goals as goal
 
 pub loop-lane-preserved : goal.loop-lane-preserved

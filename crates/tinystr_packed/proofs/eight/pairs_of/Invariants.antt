@@ -1,7 +1,7 @@
 use Rattle.std.proofs.Common.{◌≡◌, ℕ, ◌<◌, length}
 use Rattle.std.specs.List.{slice_index}
 use Rattle.tinystr_packed.specs.Rising.{text_at}
-use Rattle.tinystr_packed.proofs.SideBySide.{IsNumberOf}
+use Rattle.tinystr_packed.proofs.EightSearches.{IsNumberOf}
 use Rattle.tinystr_packed.proofs.eight.pairs_of.Given as goal
 
 abbrev pub invariant-loop-lane : goal.invariant-loop-lane

@@ -1,6 +1,6 @@
 use Rattle.std.proofs.Common.{◌-◌, arith}
-use Rattle.tinystr_packed.proofs.SideBySide.{ArePlacesWithin-start}
-use Rattle.tinystr_packed.specs.Private.SideBySide.{wanted}
+use Rattle.tinystr_packed.proofs.EightSearches.{ArePlacesWithin-start}
+use Rattle.tinystr_packed.specs.Private.EightSearches.{wanted}
 use Rattle.tinystr_packed.proofs.eight.places_within.Goals as goal
 
 pub loop-size-init : goal.loop-size-init

@@ -1,4 +1,4 @@
-use Rattle.tinystr_packed.proofs.RecordOrder.{AreToldApart-long, AreToldApart-long_pair}
+use Rattle.tinystr_packed.proofs.RecordOrder.{AreDistinguished-long, AreDistinguished-long_pair}
 use Rattle.tinystr_packed.proofs.RisingTexts.{IsFirstNotBelowWithin-all}
 use Rattle.tinystr_packed.proofs.search.first_not_below_of_many.Goals as goal
 
@@ -9,6 +9,6 @@ returns-clause-place g c up one =
     let start = c.shared_len-start.result in
     let fits = c.shared_len-start.ensures.bound in
     let alike = c.shared_len-start.ensures.alike up one in
-    let eight = AreToldApart-long records key g.row.N start c.requires fits up one alike in
-    let sixteen = AreToldApart-long_pair records key g.row.N start c.requires fits up one alike in
+    let eight = AreDistinguished-long records key g.row.N start c.requires fits up one alike in
+    let sixteen = AreDistinguished-long_pair records key g.row.N start c.requires fits up one alike in
     c.first_not_below_within.ensures.place up.rising (c.narrow-range-2.ensures.within sixteen (c.narrow-range.ensures.within eight (IsFirstNotBelowWithin-all records key)))

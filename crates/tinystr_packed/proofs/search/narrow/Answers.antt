@@ -3,7 +3,7 @@ use Rattle.std.proofs.lemmas.Bool.{cases_lt, ltb-true}
 use Rattle.std.proofs.lemmas.List.{get_or_default}
 use Rattle.std.proofs.lemmas.Bool.Decides.{nat_tests}
 use Rattle.std.specs.declared.cmp.Ordering.TheVariants.{Less}
-use Rattle.tinystr_packed.specs.Private.Numbers.{AreToldApart}
+use Rattle.tinystr_packed.specs.Private.Numbers.{AreDistinguished}
 use Rattle.tinystr_packed.specs.Rising.{order, text_at, IsRising, IsFirstNotBelowWithin}
 use Rattle.tinystr_packed.proofs.RisingTexts.{IsFirstNotBelowWithin-from, IsFirstNotBelowWithin-to}
 use Rattle.tinystr_packed.proofs.search.narrow.Goals as goal
@@ -35,12 +35,12 @@ loop-size-preserved g c =
     let found = g.T.Number.value c.loop-size.number in
     let wanted = g.T.Number.value c.at-wanted.result in
     let inside : middle < length records = omega (arith, c.loop-size.invariant.inside, c.loop-size-test.true) in
-    let told = AreToldApart g.row.N number key records in
-    let less : told → c.is_below-is_below.result ≡ true → order (text_at records middle) key ≡ Less =
-    λ t b. t.tells.below middle inside (rw (← c.loop-size.invariant.number, ← c.at-wanted.ensures) (ltb-true (g.T.Number.value c.loop-size.number) (g.T.Number.value c.at-wanted.result) (sym c.is_below-is_below.ensures ∙ b))) in
-    let other : told → c.is_below-is_below.result ≡ false → order (text_at records middle) key ≢ Less =
+    let distinguished = AreDistinguished g.row.N number key records in
+    let less : distinguished → c.is_below-is_below.result ≡ true → order (text_at records middle) key ≡ Less =
+    λ t b. t.ordered.below middle inside (rw (← c.loop-size.invariant.number, ← c.at-wanted.ensures) (ltb-true (g.T.Number.value c.loop-size.number) (g.T.Number.value c.at-wanted.result) (sym c.is_below-is_below.ensures ∙ b))) in
+    let other : distinguished → c.is_below-is_below.result ≡ false → order (text_at records middle) key ≢ Less =
     λ t b. elim (cases_lt wanted found) [
-      | inl more ↦ t.tells.above middle inside (rw (← c.loop-size.invariant.number, ← c.at-wanted.ensures) more)
+      | inl more ↦ t.ordered.above middle inside (rw (← c.loop-size.invariant.number, ← c.at-wanted.ensures) more)
       | inr rest ↦ (let same : found ≡ wanted = grind (arith, nat_tests, sym c.is_below-is_below.ensures ∙ b) in
           elim c.else-this-gt16.branch [
             | else-this-gt16-via-then-this-gt16+else-is_same w ↦ absurd (grind (arith, nat_tests, w.is_same.ensures, w.if-is_same.false, same))

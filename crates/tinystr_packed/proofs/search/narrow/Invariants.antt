@@ -1,5 +1,5 @@
 use Rattle.std.proofs.Common.{◌≡◌, ◌+◌, ◌<◌, ◌≤◌, ◌/◌, length}
-use Rattle.tinystr_packed.specs.Private.Numbers.{AreToldApart}
+use Rattle.tinystr_packed.specs.Private.Numbers.{AreDistinguished}
 use Rattle.tinystr_packed.specs.Rising.{text_at, IsFirstNotBelowWithin}
 use Rattle.tinystr_packed.proofs.search.narrow.Given as goal
 
@@ -7,7 +7,7 @@ abbrev pub invariant-loop-size : goal.invariant-loop-size
 invariant-loop-size g l = record {
   some : 0 < l.size;
   inside : l.base + l.size ≤ length l.records;
-  within : AreToldApart g.row.N (g.T.Number.spelled l.start) l.key l.records → IsFirstNotBelowWithin l.key l.records l.fn.range.start l.fn.range.end → IsFirstNotBelowWithin l.key l.records l.base (l.base + l.size);
+  within : AreDistinguished g.row.N (g.T.Number.spelled l.start) l.key l.records → IsFirstNotBelowWithin l.key l.records l.fn.range.start l.fn.range.end → IsFirstNotBelowWithin l.key l.records l.base (l.base + l.size);
   number : g.T.Number.value l.number ≡ g.T.Number.spelled l.start (text_at l.records (l.base + l.size / 2));
 }
 

@@ -1,6 +1,6 @@
 use Rattle.std.proofs.Common.{◌∙◌, ◌-◌, arith, map, slice_index_or, sym, Ok}
 use Rattle.tinystr_words.specs.Text.{text_of}
-use Rattle.tinystr_packed.proofs.SideBySide.{AreReady-first, search_result-next}
+use Rattle.tinystr_packed.proofs.EightSearches.{AreReady-first, search_result-next}
 use Rattle.tinystr_packed.proofs.each.BinarySearchEachIterator.next.Goals as goal
 
 pub returns-then-self-gt0-clause-steps : goal.returns-then-self-gt0-clause-steps

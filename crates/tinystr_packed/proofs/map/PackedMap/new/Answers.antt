@@ -11,9 +11,9 @@ use Rattle.tinystr_packed.proofs.map.PackedMap.new.Goals as goal
 
 pub returns-in-Err-new-clause-accepted : goal.returns-in-Err-new-clause-accepted
 returns-in-Err-new-clause-accepted g c =
-    let falls : ¬ IsRising c.in-Ok.table = λ up. true≢false (sym (c.in-Err-new.ensures.rising.1 up)) in (
+    let unsorted : ¬ IsRising c.in-Ok.table = λ up. true≢false (sym (c.in-Err-new.ensures.rising.1 up)) in (
       λ e. absurd (true≢false (sym e)),
-      λ found. absurd (unsorted-no_entries c.in-Ok.table c.args.keys.now c.args.values.now g.row.N g.row.M c.requires.keys c.in-Ok.ensures.texts c.in-Ok.ensures.bytes falls found),
+      λ found. absurd (unsorted-no_entries c.in-Ok.table c.args.keys.now c.args.values.now g.row.N g.row.M c.requires.keys c.in-Ok.ensures.texts c.in-Ok.ensures.bytes unsorted found),
     )
 
 pub returns-in-Err-new-clause-fault : goal.returns-in-Err-new-clause-fault

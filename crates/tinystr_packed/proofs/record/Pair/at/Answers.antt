@@ -1,6 +1,6 @@
 use Rattle.std.proofs.Common.{◌≡◌, ◌-◌, ◌+◌, length, min, arith}
 use Rattle.tinystr_packed.specs.Private.Numbers.{pair_at}
-use Rattle.tinystr_packed.proofs.SideBySide.{number_at-fits}
+use Rattle.tinystr_packed.proofs.EightSearches.{number_at-fits}
 use Rattle.tinystr_packed.proofs.record.Pair.at.Goals as goal
 
 pub returns-clause-text : goal.returns-clause-text

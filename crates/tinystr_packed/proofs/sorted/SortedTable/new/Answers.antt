@@ -10,5 +10,5 @@ returns-in-None-clause-value g c =
 
 pub returns-in-Some-clause-value : goal.returns-in-Some-clause-value
 returns-in-Some-clause-value g c =
-    let falls : ¬ IsRising c.args.table = search rules in
-    sorted_of-other c.args.table falls
+    let unsorted : ¬ IsRising c.args.table = search rules in
+    sorted_of-other c.args.table unsorted

@@ -1,6 +1,6 @@
 use Rattle.std.proofs.Common.{◌∙◌, rules}
-use Rattle.tinystr_packed.proofs.Prefixes.{IsFirstNotBelow-behind, IsPrefixRange-counted}
-use Rattle.tinystr_packed.proofs.RisingTexts.{AreRisingRecords-texts, AreRisingRecords-part, IsFirstNotBelow-texts, IsPart-behind, IsRecord-padded}
+use Rattle.tinystr_packed.proofs.Prefixes.{IsFirstNotBelow-rest, IsPrefixRange-counted}
+use Rattle.tinystr_packed.proofs.RisingTexts.{AreRisingRecords-texts, AreRisingRecords-part, IsFirstNotBelow-texts, IsPart-rest, IsRecord-padded}
 use Rattle.tinystr_packed.proofs.sorted.SortedTable.prefix_range.Goals as goal
 
 pub count_with_prefix-len-requires : goal.count_with_prefix-len-requires
@@ -16,8 +16,8 @@ count_with_prefix-len-requires g c =
       (
         search rules,
         (
-          AreRisingRecords-part records rest g.row.N start up (IsPart-behind records rest start c.first_not_below-start.ensures.bound c.split_at.ensures.back),
-          IsFirstNotBelow-behind records rest c.args.self.now c.args.beginning.now g.row.N start c.records-records.ensures.padded texts c.fits.ensures first c.split_at.ensures.back,
+          AreRisingRecords-part records rest g.row.N start up (IsPart-rest records rest start c.first_not_below-start.ensures.bound c.split_at.ensures.back),
+          IsFirstNotBelow-rest records rest c.args.self.now c.args.beginning.now g.row.N start c.records-records.ensures.padded texts c.fits.ensures first c.split_at.ensures.back,
         ),
       ),
     )

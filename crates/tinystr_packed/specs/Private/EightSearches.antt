@@ -17,26 +17,26 @@ pub record IsPairOfText (n first next : ℕ) : Type 0 where
   pub next_fits : next < 2 ^ 63
   pub short : n ≤ 8 → first ≡ next
 
--- eight of them
+-- eight pairs
 pub record ArePairsOfTexts (n : ℕ) (first next : List ℕ) : Type 0 where
   pub each : (i : ℕ) → i < 8 → IsPairOfText n (slice_index first i) (slice_index next i)
 
--- one of them
+-- the number of one of eight pairs
 abbrev pub wanted : List ℕ → List ℕ → ℕ → ℕ
 wanted first next i = paired (slice_index first i) (slice_index next i)
 
--- the numbers of records don't fall
-pub record DoNotFall (number : List ℕ → ℕ) (records : List (List ℕ)) : Type 0 where
+-- the numbers of records are ascending, and may repeat
+pub record AreAscendingBy (number : List ℕ → ℕ) (records : List (List ℕ)) : Type 0 where
   pub each : (i j : ℕ) → i ≤ j → j < length records → number (text_at records i) ≤ number (text_at records j)
 
--- nor do eight numbers
-pub record DoNotFallInTurn (w : ℕ → ℕ) : Type 0 where
+-- eight numbers are ascending, and may repeat
+pub record AreAscending (w : ℕ → ℕ) : Type 0 where
   pub each : (i : ℕ) → i < 7 → w i ≤ w (i + 1)
 
--- the records are padded texts of n bytes, and their numbers from start on don't fall
+-- the records are padded texts of n bytes, and their numbers from start on are ascending, and may repeat
 pub record AreNumbered (n start : ℕ) (records : List (List ℕ)) : Type 0 where
   pub padded : All (λ raw. IsPaddedText raw n) records
-  pub rising : DoNotFall (pair_at start) records
+  pub rising : AreAscendingBy (pair_at start) records
 
 -- i to j is a range of records and, if these are numbered, the numbers of those before i are below w, and none from j on is
 pub record IsPlaceWithin (n start : ℕ) (records : List (List ℕ)) (w i j : ℕ) : Type 0 where
@@ -45,15 +45,15 @@ pub record IsPlaceWithin (n start : ℕ) (records : List (List ℕ)) (w i j : �
   pub below : AreNumbered n start records → (k : ℕ) → k < i → pair_at start (text_at records k) < w
   pub not_below : AreNumbered n start records → (k : ℕ) → j ≤ k → k < length records → w ≤ pair_at start (text_at records k)
 
--- so it is of eight numbers
+-- the same range for eight numbers
 pub record AreWithin (n start : ℕ) (records : List (List ℕ)) (w : ℕ → ℕ) (i j : ℕ) : Type 0 where
   pub each : (lane : ℕ) → lane < 8 → IsPlaceWithin n start records (w lane) i j
 
--- and each from its own place on
+-- a range of its own for each of eight numbers, all of one length
 pub record ArePlacesWithin (n start : ℕ) (records : List (List ℕ)) (w : ℕ → ℕ) (places : List ℕ) (size : ℕ) : Type 0 where
   pub each : (i : ℕ) → i < 8 → IsPlaceWithin n start records (w i) (slice_index places i) (slice_index places i + size)
 
--- an answer inside the records and, if these are padded texts of n bytes that rise, that for a key
+-- an answer inside the records and, if these are padded, strictly ascending texts of n bytes, that for a key
 pub record IsAnswer (n : ℕ) (key : List ℕ) (records : List (List ℕ)) (r : Result ℕ ℕ) : Type 0 where
   pub inside : IfOk r (λ index. index < length records)
   pub bound : IfErr r (λ place. place ≤ length records)

@@ -1,4 +1,4 @@
--- Searches side by side.
+-- Eight searches at a time.
 use Rattle.std.proofs.Common.{◌≡◌, ◌≢◌, ℕ, suc, zero, ◌+◌, ◌-◌, ◌/◌, ◌<◌, ◌≤◌, List, [], ◌∷◌, length, map, take, drop, get_or, slice_set, sym, ap, ◌∙◌, arith, nat_lt, cond, inl, inr}
 use Rattle.std.specs.Int.{from_be_bytes, w64}
 use Rattle.std.specs.declared.result.Result.{Result}
@@ -11,7 +11,7 @@ use Rattle.tinystr_words.proofs.Texts.{get_or-pad, length-pad}
 use Rattle.tinystr_packed.specs.Private.Numbers.{number_at, pair_at}
 use Rattle.tinystr_packed.specs.Rising.{text_at}
 use Rattle.tinystr_packed.specs.Search.{search_result}
-use Rattle.tinystr_packed.specs.Private.SideBySide.{paired, AreAnswers, IsPairOfText, IsAnswer, AreNumbered, AreReady, AreWithin, DoNotFallInTurn, IsPlaceWithin, ArePlacesWithin}
+use Rattle.tinystr_packed.specs.Private.EightSearches.{paired, AreAnswers, IsPairOfText, IsAnswer, AreNumbered, AreReady, AreWithin, AreAscending, IsPlaceWithin, ArePlacesWithin}
 use Rattle.tinystr_packed.proofs.RisingTexts.{ascii-padded}
 
 -- eight bytes of a text spell a number without its highest bit
@@ -40,31 +40,31 @@ IsPlaceWithin-halved n s records w base size taken h some le chosen = record {
   ];
 }
 
--- of eight numbers that rise, none is below one before it
-pub DoNotFallInTurn-later : (w : ℕ → ℕ) → DoNotFallInTurn w → (i j : ℕ) → i ≤ j → j < 8 → w i ≤ w j
-DoNotFallInTurn-later w up i zero le less =
+-- of eight ascending numbers, none is below one before it
+pub AreAscending-later : (w : ℕ → ℕ) → AreAscending w → (i j : ℕ) → i ≤ j → j < 8 → w i ≤ w j
+AreAscending-later w up i zero le less =
     let same : i ≡ 0 = omega arith in
     rw same (omega arith)
-DoNotFallInTurn-later w up i (suc j) le less = elim (cases_lt i (suc j)) [
+AreAscending-later w up i (suc j) le less = elim (cases_lt i (suc j)) [
   | inl before ↦ (let next : j + 1 ≡ suc j = omega arith in
-      omega (arith, DoNotFallInTurn-later w up i j (omega arith) (omega arith), rw next at (up.each j (omega arith))))
+      omega (arith, AreAscending-later w up i j (omega arith) (omega arith), rw next at (up.each j (omega arith))))
   | inr rest ↦ (let same : i ≡ suc j = omega arith in rw same (omega arith))
 ]
 
 -- ---- eight of something, of which one more is put in its place
 
--- what is so of those before it is so with it
+-- what holds for those before it, and for it, holds for all of these
 pub so_far-set : {X : Type 0} (d : X) (P : ℕ → X → Type 0) (xs : List X) (m : ℕ) (x : X) → m < length xs → ((i : ℕ) → i < m → P i (get_or xs i d)) → P m x → (i : ℕ) → i < m + 1 → P i (get_or (slice_set xs m x) i d)
 so_far-set d P xs m x inside before here i within = elim (cases_lt i m) [
   | inl less ↦ rw (get_or-set_other xs m i x d (λ e. absurd (omega arith))) (before i less)
   | inr rest ↦ (let same : i ≡ m = omega arith in rw (same, get_or-set_same xs m x d inside) here)
 ]
 
--- and what is so of those behind it stays
+-- and what holds for those after it still holds
 pub still-set : (P : ℕ → ℕ → Type 0) (xs : List ℕ) (m x : ℕ) → ((i : ℕ) → m ≤ i → i < 8 → P i (get_or xs i 0)) → (i : ℕ) → m + 1 ≤ i → i < 8 → P i (get_or (slice_set xs m x) i 0)
-still-set P xs m x behind i from within = rw (get_or-set_other xs m i x 0 (λ e. absurd (omega arith))) (behind i (omega arith) within)
+still-set P xs m x after i from within = rw (get_or-set_other xs m i x 0 (λ e. absurd (omega arith))) (after i (omega arith) within)
 
--- two lists at once
+-- the same for two lists
 pub so_far-set_both : (P : ℕ → ℕ → ℕ → Type 0) (xs ys : List ℕ) (m x y : ℕ) → m < length xs → m < length ys → ((i : ℕ) → i < m → P i (get_or xs i 0) (get_or ys i 0)) → P m x y
     → (i : ℕ) → i < m + 1 → P i (get_or (slice_set xs m x) i 0) (get_or (slice_set ys m y) i 0)
 so_far-set_both P xs ys m x y inside within before here i below = elim (cases_lt i m) [
@@ -79,7 +79,7 @@ pub record IsNumberOf (n start : ℕ) (key : List ℕ) (first next : ℕ) : Type
   pub number : paired first next ≡ pair_at start (pad key n)
   pub strict : IsStrictText key n
 
--- at first all stand at the start of a range
+-- at first all places are the start of a range
 pub ArePlacesWithin-start : (n s : ℕ) (records : List (List ℕ)) (w : ℕ → ℕ) (i j size : ℕ) → i + size ≡ j → AreWithin n s records w i j → ArePlacesWithin n s records w (i ∷ i ∷ i ∷ i ∷ i ∷ i ∷ i ∷ i ∷ []) size
 ArePlacesWithin-start n s records w i j size end h = record {
   each = λ lane within. rw (get_or-replicate {A = ℕ} 8 lane i 0 within, end) (h.each lane within);
@@ -106,6 +106,6 @@ AreReady-first texts keys answers m n some h =
     let b : 8 - n + 0 ≡ 8 - n = omega arith in
     rw (a, b) at (h 0 some)
 
--- the first of the answers that are left
+-- the first of the remaining answers
 pub search_result-next : (texts keys : List (List ℕ)) (m : ℕ) (r : Result ℕ ℕ) → m < length keys → r ≡ search_result texts (text_at keys m) → map (search_result texts) (drop m keys) ≡ r ∷ map (search_result texts) (drop (m + 1) keys)
 search_result-next texts keys m r inside is = at_drop_more (map (search_result texts)) keys m [] inside ∙ ap (λ (x : Result ℕ ℕ). x ∷ map (search_result texts) (drop (m + 1) keys)) (sym is)

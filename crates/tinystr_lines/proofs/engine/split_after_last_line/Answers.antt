@@ -2,7 +2,7 @@ use Rattle.std.proofs.Common.{◌-◌, arith}
 use Rattle.std.proofs.lemmas.List.{length-take-le}
 use Rattle.tinystr_lines.specs.Output.{is_line_feed}
 use Rattle.tinystr_lines.proofs.Splits.{none_from-lanes}
-use Rattle.tinystr_lines.proofs.engine.split_behind_last_line.Goals as goal
+use Rattle.tinystr_lines.proofs.engine.split_after_last_line.Goals as goal
 
 pub loop-lanes-preserved : goal.loop-lanes-preserved
 loop-lanes-preserved c =
@@ -13,5 +13,5 @@ loop-lanes-preserved c =
     let some = rw (length-take-le end piece given.inside) at chunk.0 in
     record {
       inside = omega (arith, given.inside);
-      behind = none_from-lanes is_line_feed (end - 32) end piece c.in-Some.lanes.now (omega (arith, some)) given.inside chunk.1.same (omega (arith, c.place_in_lanes.ensures, c.if-place_in_lanes-lt32.false)) given.behind;
+      after = none_from-lanes is_line_feed (end - 32) end piece c.in-Some.lanes.now (omega (arith, some)) given.inside chunk.1.same (omega (arith, c.place_in_lanes.ensures, c.if-place_in_lanes-lt32.false)) given.after;
     }
