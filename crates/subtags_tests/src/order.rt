@@ -74,11 +74,11 @@ fn a_hash_set_holds_each_value_once(rt: HostRuntime) -> Result<(), Fail> {
 fn are_of_two_values<T: FromStr<Err = LangIdError> + Eq + Hash + Copy>(
     alloc: Global,
     spellings: &[&str],
-    asked: &str,
+    other: &str,
 ) -> Result<bool, Fail> {
-    let asked = asked.parse::<T>()?;
+    let other = other.parse::<T>()?;
     let values = set_of(alloc, spellings)?;
-    Ok(values.len() == 2 && values.contains(&asked))
+    Ok(values.len() == 2 && values.contains(&other))
 }
 
 fn set_of<T: FromStr<Err = LangIdError> + Eq + Hash + Copy>(

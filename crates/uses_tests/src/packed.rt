@@ -47,11 +47,11 @@ fn texts_of_a_list_are_found_in_what_it_is_sorted_to(rt: HostRuntime) {
 }
 
 /// Whether each of these texts is found in the list, or none is.
-fn are_answered(alloc: Global, words: &str, asked: &str, is_one: bool) -> bool {
+fn are_answered(alloc: Global, words: &str, searched: &str, is_one: bool) -> bool {
     let Some(texts) = texts(alloc, words) else {
         return false;
     };
-    for word in asked.split('|') {
+    for word in searched.split('|') {
         if !is_answered(alloc, &texts, word, is_one) {
             return false;
         }

@@ -21,7 +21,7 @@ fn a_text_is_cut_to_another_capacity(rt: HostRuntime) -> Result<(), Fail> {
 // Whether the text, held at N, is found whole at M where it fits there, and is none where it doesn't.
 fn is_tried<const N: usize, const M: usize>(text: &str, fits: bool) -> bool
     requires held { N < 2 ^ 63 }
-    requires asked { M < 2 ^ 63 }
+    requires wanted { M < 2 ^ 63 }
 {
     match TinyAsciiStr::<N>::try_from_str(text) {
         Ok(value) => match value.try_resize::<M>() {

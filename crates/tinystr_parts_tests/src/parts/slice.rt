@@ -9,7 +9,7 @@ use tinystr::TinyAsciiStr;
 // Whether the bytes of the text, held at N, at a range of indices are these at M.
 fn is_cut<const N: usize, const M: usize>(text: &str, range: Range<usize>, part: &str) -> bool
     requires held { N < 2 ^ 63 }
-    requires asked { M < 2 ^ 63 }
+    requires wanted { M < 2 ^ 63 }
     requires order { range.start ≤ range.end }
 {
     match TinyAsciiStr::<N>::try_from_str(text) {
@@ -90,7 +90,7 @@ fn the_first_bytes_of_a_text(rt: HostRuntime) {
 // Whether the letters before a place and those from it on, of texts of each length up to N, are taken and cut at M.
 fn are_cut_anywhere<const N: usize, const M: usize>() -> bool
     requires held { N < 2 ^ 63 }
-    requires asked { M < 2 ^ 63 }
+    requires wanted { M < 2 ^ 63 }
 {
     let letters = letters::<N>();
     let letters = &letters[..];

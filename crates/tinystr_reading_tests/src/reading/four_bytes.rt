@@ -34,7 +34,7 @@ fn are_read_raw(bytes: [u8; 4], fault: Option<ParseError>) -> bool {
 }
 
 // Whether the reader of the byte form answers so.
-fn are_read_in_front(bytes: [u8; 4], fault: Option<BytesReadError>) -> bool {
+fn are_read_at_start(bytes: [u8; 4], fault: Option<BytesReadError>) -> bool {
     match TinyStr4::read_bytes(&bytes) {
         Ok((text, rest)) => fault.is_none() && text.all_bytes() == &bytes && rest.is_empty(),
         Err(found) => Some(found) == fault,
@@ -56,7 +56,7 @@ fn are_read_rightly(bytes: [u8; 4], byte: u8, at: usize) -> bool {
             Some(BytesReadError::NonAscii),
         ),
     };
-    are_read_strictly(bytes, strict) && are_read_raw(bytes, raw) && are_read_in_front(bytes, form)
+    are_read_strictly(bytes, strict) && are_read_raw(bytes, raw) && are_read_at_start(bytes, form)
 }
 
 #[test]

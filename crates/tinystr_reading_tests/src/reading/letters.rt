@@ -9,7 +9,7 @@ fn begins(code_units: &[u8], letters: &str) -> bool {
 }
 
 #[test]
-fn letters_in_front_are_read_in_lowercase(rt: HostRuntime) {
+fn letters_at_the_start_are_read_in_lowercase(rt: HostRuntime) {
     assert!(rt; begins(b"en", "en") && begins(b"ZH-hant", "zh") && begins(b"eN_us", "en"));
     assert!(rt; begins(b"abcdefgh", "abcdefgh") && begins(b"ABCDEFGHI", "abcdefgh"));
     assert!(rt; begins(b"STUVWXYZ", "stuvwxyz") && begins(b"stuvwxy-", "stuvwxy"));
