@@ -109,7 +109,7 @@ fn read_units<const N: usize>(codes: &[[u8; N]], random: &mut Random, digest: &m
     for code in codes {
         units.clear();
         units.extend(code.iter().take_while(|byte| **byte != 0).map(|byte| u16::from(*byte)));
-        if random.chance(50) {
+        if random.with_probability(50) {
             *units.last_mut().unwrap() = 0xd800;
         }
         match TinyAsciiStr::<N>::try_from_utf16(&units) {
@@ -138,11 +138,11 @@ fn near_identifier(random: &mut Random) -> ([u8; 48], usize) {
     let mut end = 0;
     for (accepted, most) in [(2, 9), (4, 5), (2, 4)] {
         bytes[end..end + 8].copy_from_slice(&letters_of(random.bits(), MIXED));
-        end += if random.chance(60) { accepted } else { 1 + random.below(most) };
-        if random.chance(30) {
+        end += if random.with_probability(60) { accepted } else { 1 + random.below(most) };
+        if random.with_probability(30) {
             break;
         }
-        bytes[end] = if random.chance(80) { b'-' } else { b'_' };
+        bytes[end] = if random.with_probability(80) { b'-' } else { b'_' };
         end += 1;
     }
     (bytes, end)

@@ -23,7 +23,7 @@ impl Random {
     }
 
     /// True with a probability of `percent` in a hundred.
-    pub fn chance(&mut self, percent: usize) -> bool {
+    pub fn with_probability(&mut self, percent: usize) -> bool {
         self.below(100) < percent
     }
 
