@@ -35,7 +35,8 @@ class Contracts:
     def place_one(self, text: str, found: re.Match, head: re.Match, file: str, is_private: bool) -> str:
         clauses = [clause.split(PART) for clause in found.group().strip(EDGE).split(EDGE * 2)]
         is_public = head[2] == "pub " and not is_private
-        replacements = [self.replacement(file, condition) for kind, _, condition in clauses if kind == "requires" and is_public]
+        required = [condition for kind, _, condition in clauses if kind == "requires" and is_public]
+        replacements = list(dict.fromkeys(self.replacement(file, condition) for condition in required))
         indent = head[1]
         start = ABOVE.search(text, 0, head.start()).start()
         above = text[start : head.start()].splitlines()
@@ -43,13 +44,10 @@ class Contracts:
         attributes = [line for line in above if not line.strip().startswith("//")]
         is_doc = is_public or any(comment.strip().startswith("///") for comment in comments)
         comments += [f"{indent}{line}".rstrip() for line in as_comment(clauses, replacements, is_doc, bool(comments))]
-        checks = [
-            f"\n{indent}    {replacement.check}"
-            for replacement in dict.fromkeys(replacements)
-            if not isinstance(replacement, Unsafe) and replacement.check
-        ]
+        panics = [replacement for replacement in replacements if isinstance(replacement, Panics)]
+        checks = [f"\n{indent}    {replacement.check}" for replacement in panics if replacement.check]
         signature = text[head.start() : found.start()]
-        if any(isinstance(replacement, Unsafe) for replacement in replacements):
+        if len(panics) < len(replacements):
             signature = re.sub(r"\bfn ", "unsafe fn ", signature, count=1)
         after = re.sub(r"\A\s*\{", " {" + "".join(checks), text[found.end() :])
         return text[:start] + "\n".join([*comments, *attributes, signature]) + after
@@ -77,10 +75,10 @@ def as_comment(clauses: list[list[str]], replacements: list[Panics | Unsafe], is
     if not is_doc:
         return ["// Proved:", *(f"//     {line}" for line in lines)]
     doc = ["# Contract", "", "```text", *lines, "```"]
-    for replacement in dict.fromkeys(replacements):
+    for replacement in replacements:
         if isinstance(replacement, Unsafe):
             doc += ["", "# Safety", "", replacement.condition]
-    panics = [replacement.when for replacement in dict.fromkeys(replacements) if not isinstance(replacement, Unsafe)]
+    panics = [replacement.when for replacement in replacements if isinstance(replacement, Panics)]
     if panics:
         doc += ["", "# Panics", "", f"Where {' or '.join(panics)}."]
     return [f"/// {line}" for line in ([""] if is_after_text else []) + doc]

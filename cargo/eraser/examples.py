@@ -93,7 +93,8 @@ def module_of_tests(tests: list[tuple[str, str]]) -> str:
     """The examples of a private module, each as a test."""
     functions = []
     for number, (name, body) in enumerate(tests, 1):
-        lines = [*uses(body, "crate"), "", *body.splitlines()] if uses(body, "crate") else body.splitlines()
+        imports = uses(body, "crate")
+        lines = [*imports, *([""] if imports else []), *body.splitlines()]
         is_tried = "?" in re.sub(r'"[^"]*"', "", body)
         head = f"fn {name}_{number}()" + (" -> Result<(), Box<dyn std::error::Error>>" if is_tried else "")
         inside = "".join(f"    {line}".rstrip() + "\n" for line in [*lines, *(["Ok(())"] if is_tried else [])])

@@ -3,7 +3,7 @@
 import re
 
 from eraser import Stopped
-from lib.rattle import Tokens, code_of, line_of, pieces
+from lib.rattle import Tokens, code_of, line_of, with_code
 
 # The field is private to these files, so no other one makes a text or reads the field.
 FILES = re.compile(r"tinystr/ascii(?:/.+)?\.rt")
@@ -30,9 +30,7 @@ class Fields:
         self.is_made = False
 
     def turn(self, text: str, file: str) -> str:
-        if not FILES.fullmatch(file):
-            return text
-        return with_reads(self.with_literals(text, file))
+        return with_code(self.with_literals(text, file), read_by_call) if FILES.fullmatch(file) else text
 
     def with_literals(self, text: str, file: str) -> str:
         """Each literal of a text as a call of the function that makes all, and the one of this function as unsafe."""
@@ -62,11 +60,6 @@ def function_at(text: str, at: int, file: str) -> str:
     if not names:
         raise Stopped(f"{file}:{line_of(text, at)}: a text is made in no function")
     return names[-1]
-
-
-def with_reads(text: str) -> str:
-    made = [piece if kind in ("comment", "string") else read_by_call(piece) for kind, piece in pieces(text)]
-    return "".join(made)
 
 
 def read_by_call(code: str) -> str:

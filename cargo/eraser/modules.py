@@ -4,7 +4,7 @@ import re
 from collections import Counter
 
 from eraser import Stopped
-from lib.rattle import pieces
+from lib.rattle import with_code
 
 # The module of each crate, in order. That of the type is the root.
 MODULES = {
@@ -58,16 +58,15 @@ FUNCTION = re.compile(rf"^( *)pub (?:const )?(?:unsafe )?fn \w+{SIGNATURE}*? -> 
 
 
 def with_paths(text: str, crate: str) -> str:
-    """The paths of the code, with `crate::` and the other crates' names as modules of the one crate."""
-    made = [piece if kind in ("comment", "string") else with_modules(piece, crate) for kind, piece in pieces(text)]
-    return "".join(made)
+    """The text whose code has `crate::` and the other crates' names as modules of the one crate."""
 
+    def changed(code: str) -> str:
+        code = re.sub(r"\bcrate::", path_of(crate), code)
+        for other in MODULES:
+            code = re.sub(rf"(?<![\w:]){other}::", path_of(other), code)
+        return code
 
-def with_modules(code: str, crate: str) -> str:
-    code = re.sub(r"\bcrate::", path_of(crate), code)
-    for other in MODULES:
-        code = re.sub(rf"(?<![\w:]){other}::", path_of(other), code)
-    return code
+    return with_code(text, changed)
 
 
 def path_of(crate: str) -> str:

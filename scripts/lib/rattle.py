@@ -5,7 +5,7 @@ sources with code of its own, since it checks what is made by this code.)
 """
 
 import re
-from collections.abc import Iterator
+from collections.abc import Callable, Iterator
 from dataclasses import dataclass, field
 
 TOKEN = re.compile(
@@ -254,6 +254,11 @@ def pieces(text: str) -> Iterator[tuple[str, str]]:
         else:
             code.append(token.group())
     yield "code", "".join(code)
+
+
+def with_code(text: str, change: Callable[[str], str]) -> str:
+    """The text with each piece of code changed, and its comments and strings kept."""
+    return "".join(change(piece) if kind == "code" else piece for kind, piece in pieces(text))
 
 
 def code_of(text: str) -> str:
