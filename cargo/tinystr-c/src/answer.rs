@@ -73,7 +73,7 @@ pub fn fault_code(fault: ParseError) -> u32 {
 
 /// A fault and its place: the index of the first NUL or of the first byte above 127, or the number of bytes if there
 /// are too many.
-// A text that is refused for a NUL or a byte above 127 has one, so a place is always found.
+// A text that is rejected for a NUL or a byte above 127 has one, so a place is always found.
 ///
 /// # Contract
 ///
@@ -102,7 +102,7 @@ fn first_non_ascii(bytes: &[u8]) -> Option<usize> {
     bytes.iter().position(|byte| *byte > 127)
 }
 
-/// The code of a refused language identifier.
+/// The code of a rejected language identifier.
 ///
 /// # Contract
 ///

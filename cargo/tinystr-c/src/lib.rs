@@ -59,7 +59,7 @@ pub unsafe extern "C" fn tinystr_langid(
     texts::langid(input, out)
 }
 
-/// Reads a text of at most as many bytes as `out` has, and writes it with NULs up to the end of `out`. An error leaves `out`
+/// Reads a text that isn't longer than `out`, and writes it with NULs up to the end of `out`. An error leaves `out`
 /// as it was.
 ///
 /// # Contract
@@ -86,7 +86,7 @@ pub unsafe extern "C" fn tinystr_read(
     texts::read(input, out)
 }
 
-/// Asks a text, padded or not, a question.
+/// The answer to a question about a text, padded or not.
 ///
 /// # Contract
 ///

@@ -8,7 +8,7 @@ use crate::numbers::{BAD_ARGUMENT, NOT_RISING, OK};
 use proved::TinyAsciiStr;
 use proved::packed::{PackedMap, SortedError, SortedTable, in_place};
 
-/// Calls a function at one of the capacities of records, or gives another value.
+/// Calls a function at one of the capacities of records, or returns another value.
 #[macro_export]
 macro_rules! at_capacity {
     ($capacity:expr, $call:ident, $other:expr, $($argument:expr),*) => {

@@ -8,7 +8,7 @@ use proved::TinyAsciiStr;
 use proved::packed::{Table, in_place};
 
 /// The number of keys, whose answers are put at the start of `out`, or why there are none. The keys are checked before
-/// the room for their answers.
+/// the length of `out`.
 ///
 /// # Contract
 ///
@@ -35,7 +35,7 @@ pub fn sorted_search_each<const N: usize>(
     answer(OK, count)
 }
 
-// Puts the answer for each key, for eight keys at a time, and for one where fewer are left.
+// Puts the answer for each key, for eight keys at a time, and for one at a time where fewer remain.
 // Proved:
 //     requires above { 0 < N }
 //     requires below { N ≤ 16 }
@@ -43,13 +43,13 @@ pub fn sorted_search_each<const N: usize>(
 //     ensures room { length out.new ≡ length out.old }
 //     ensures each { (i : ℕ) → i < length keys.now → Searches (slice_index_or out.new i (answer 0 0)) bytes.now (text_at keys.now i) N }
 fn search_each<const N: usize>(bytes: &[u8], keys: &Table<'_, N>, out: &mut [TinystrResult]) {
-    let eights = keys.len() / 8;
+    let blocks = keys.len() / 8;
     let mut near = 0;
-    for eight in 0..eights {
-        search_eight(bytes, keys, eight * 8, near, out);
-        near = out[eight * 8 + 7].value;
+    for block in 0..blocks {
+        search_eight(bytes, keys, block * 8, near, out);
+        near = out[block * 8 + 7].value;
     }
-    for index in eights * 8..keys.len() {
+    for index in blocks * 8..keys.len() {
         out[index] = search_answer(in_place::search(bytes, &keys.text_at(index)));
     }
 }

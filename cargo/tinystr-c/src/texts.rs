@@ -60,7 +60,7 @@ pub fn read(input: &[u8], out: &mut [u8]) -> TinystrResult {
     }
 }
 
-/// Asks a text a question.
+/// The answer to a question about a text.
 ///
 /// # Contract
 ///
@@ -100,16 +100,16 @@ pub fn change_case(text: &mut [u8], case: u32) -> TinystrResult {
     }
 }
 
-// Writes a text, and NULs behind it: all `N` bytes at once where there is room.
+// Writes a text, and NULs up to the end of `out`: all `N` bytes in one step where they fit.
 // Proved:
 //     requires { length text.now ≤ length out.old }
 //     ensures { out.new ≡ pad text.now (length out.old) }
 #[inline]
 fn put<const N: usize>(text: &TinyAsciiStr<N>, out: &mut [u8]) {
     let bytes = text.all_bytes();
-    let room = out.len();
-    if room < N {
-        out.copy_from_slice(&bytes[..room]);
+    let len = out.len();
+    if len < N {
+        out.copy_from_slice(&bytes[..len]);
         return;
     }
     let (front, back) = out.split_at_mut(N);
@@ -117,7 +117,7 @@ fn put<const N: usize>(text: &TinyAsciiStr<N>, out: &mut [u8]) {
     back.fill(0);
 }
 
-// The text of at most 16 bytes, with NULs behind it or without.
+// The text of at most 16 bytes, with NULs after it or without.
 // Proved:
 //     ensures read { result ≡ padded_read text.now }
 //     ensures fits { IfOk result (λ t. length t ≤ length text.now) }

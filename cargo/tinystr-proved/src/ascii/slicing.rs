@@ -1,4 +1,4 @@
-//! Parts of a text by their places.
+//! Parts of a text, by index.
 
 use crate::ascii::TinyAsciiStr;
 use crate::ascii::lanes::{first_sixteen, text_of_lanes};

@@ -1,4 +1,4 @@
-//! What a value shows of its text.
+//! Views of a text: its length, its bytes and its string.
 
 use crate::ascii::TinyAsciiStr;
 use crate::words::padded;

@@ -161,7 +161,7 @@ fn write_records<const N: usize>(
     }
 }
 
-// Whether bytes are a hashed table of as many texts as these, which has each of them.
+// Whether bytes are a hashed table of these texts: it has each of them, and the same number of texts.
 // Proved:
 //     requires some { 0 < N }
 //     requires distinct { IsDistinct bytes_eq texts.now }

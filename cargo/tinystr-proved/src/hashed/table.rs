@@ -140,7 +140,7 @@ impl<'a, const N: usize> HashedTable<'a, N> {
     /// ```text
     /// ensures found { IfSome result (λ index. slice_get self.now index ≡ Some key.now) }
     /// ensures exact { IsSome result ↔ Contains self.now key.now }
-    /// ensures position { result ≡ position (bytes_eq key.now) self.now }
+    /// ensures position { result ≡ list.position (bytes_eq key.now) self.now }
     /// ensures distinct { AreDistinct self.now }
     /// ```
     #[must_use]
@@ -221,7 +221,7 @@ pub(crate) struct Parts<'a> {
 }
 
 impl<'a> Parts<'a> {
-    /// Those of bytes that have a header and all displacements. It is inlined, so that a loop over keys of the same bytes
+    /// The parts of bytes that have a header and all displacements. It is inlined, so that a loop over keys of the same bytes
     /// reads the header once.
     ///
     /// # Contract

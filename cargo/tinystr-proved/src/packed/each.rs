@@ -6,7 +6,7 @@ use core::cmp::Ordering;
 use crate::TinyAsciiStr;
 
 /// What `SortedTable::binary_search` returns for each of many keys, in their order. A contract sees it as the list of the
-/// answers that are left.
+/// remaining answers.
 ///
 /// ```
 /// use tinystr::tinystr;

@@ -8,17 +8,18 @@ use crate::packed::search::{
 use core::ops::Range;
 use crate::TinyAsciiStr;
 
-// Keys in order are looked for first among so many records after the last place, and then among eight times as many.
+// The number of records after the last place in which keys in order are searched for first. The next range is eight times as
+// long.
 const FIRST_WINDOW: usize = 15;
 
-// The pairs of eight keys, as two arrays.
+// The pairs of eight keys, as a structure of arrays.
 #[derive(Clone, Copy)]
 struct EightPairs {
     firsts: [u64; 8],
     nexts: [u64; 8],
 }
 
-/// How many blocks of eight keys are searched for one key at a time, before eight searches are tried again.
+/// Back-off: the number of blocks of eight keys that are searched for one key at a time, before eight at a time are tried again.
 #[derive(Clone, Copy)]
 pub(crate) struct SingleBlocks {
     left: u8,
@@ -26,12 +27,12 @@ pub(crate) struct SingleBlocks {
 
 impl SingleBlocks {
     pub(crate) const NONE: SingleBlocks = SingleBlocks { left: 0 };
-    // After a block of which one key was searched for by itself.
+    // After a tie: a block of which one key was searched for by itself.
     const AFTER_A_TIE: SingleBlocks = SingleBlocks { left: 15 };
 }
 
-/// Puts the answers for the first eight keys into an array, and returns how many of the next blocks are searched for one key at
-/// a time. The index `near` is where keys in order are looked for first.
+/// Fills `answers` with those for the first eight keys, and returns the remaining back-off. Keys in order are searched for first
+/// after the index `near`.
 // Speed: it isn't inlined, so that a caller's loop stays short.
 ///
 /// # Contract
@@ -67,7 +68,7 @@ pub(crate) fn search_first_eight<const N: usize>(
     }
 }
 
-/// The answers among records of at most sixteen bytes. The index `near` is where keys in order are looked for first.
+/// The answers among records of at most sixteen bytes. Keys in order are searched for first after the index `near`.
 ///
 /// # Contract
 ///
@@ -180,7 +181,7 @@ fn bit_below_at<const N: usize>(
 }
 
 // A number if a bit is 1, else 0.
-// Speed: a choice would be compiled to a branch.
+// Speed: a mask instead of `if`, since LLVM emits a branch for `if`.
 // Proved:
 //     requires { bit ≤ 1 }
 //     ensures { result ≡ cond (nat_eq bit 1) number 0 }
@@ -189,8 +190,8 @@ fn number_if(number: usize, bit: u64) -> usize {
     number & (bit as usize).wrapping_neg()
 }
 
-// One step of a search: the middle of a range is below a pair, or it isn't. Half of the range is left, rounded down; of an even
-// number of records the middle may stay, though it is below.
+// One step of a search, by whether the middle of a range is below a pair. Half of the range remains, rounded down; if its length
+// is even, the middle may remain, though it is below.
 // Proved:
 //     requires start { start ≤ N - 8 }
 //     requires texts { IsPairOfText N number.first number.next }
@@ -234,10 +235,10 @@ fn pairs_of<const N: usize>(keys: &[TinyAsciiStr<N>], start: usize) -> EightPair
 // Whether each of eight pairs but the last is at most the next.
 // Proved:
 //     requires { ArePairsOfTexts N pairs.now.firsts pairs.now.nexts }
-//     ensures { IsTrue result → DoNotFallInTurn (wanted pairs.now.firsts pairs.now.nexts) }
+//     ensures { IsTrue result → AreAscending (wanted pairs.now.firsts pairs.now.nexts) }
 #[inline(always)]
-fn are_rising<const N: usize>(pairs: &EightPairs) -> bool {
-    let mut falls = 0u64;
+fn are_ascending<const N: usize>(pairs: &EightPairs) -> bool {
+    let mut descents = 0u64;
     for lane in 0..7usize {
         let number = Pair {
             first: pairs.firsts[lane],
@@ -247,9 +248,9 @@ fn are_rising<const N: usize>(pairs: &EightPairs) -> bool {
             first: pairs.firsts[lane + 1],
             next: pairs.nexts[lane + 1],
         };
-        falls += bit_below::<N>(other, number);
+        descents += bit_below::<N>(other, number);
     }
-    falls == 0
+    descents == 0
 }
 
 // One step of each of eight searches.
@@ -299,11 +300,11 @@ fn places_within<const N: usize>(
     places
 }
 
-// Whether eight places are at most an index, if the pairs don't fall: the last one decides.
+// Whether eight places of ascending pairs are at most an index: the last one decides.
 // Proved:
 //     requires start { start ≤ N - 8 }
 //     requires texts { ArePairsOfTexts N pairs.now.firsts pairs.now.nexts }
-//     requires in_turn { DoNotFallInTurn (wanted pairs.now.firsts pairs.now.nexts) }
+//     requires in_turn { AreAscending (wanted pairs.now.firsts pairs.now.nexts) }
 //     requires inside { index ≤ length records.now }
 //     ensures { IsTrue result → AreNumbered N start records.now → (i k : ℕ) → i < 8 → index ≤ k → k < length records.now → wanted pairs.now.firsts pairs.now.nexts i ≤ pair_at start (text_at records.now k) }
 #[inline(always)]
@@ -324,7 +325,7 @@ fn are_at_most<const N: usize>(
 // Proved:
 //     requires start { start ≤ N - 8 }
 //     requires texts { ArePairsOfTexts N pairs.now.firsts pairs.now.nexts }
-//     requires in_turn { DoNotFallInTurn (wanted pairs.now.firsts pairs.now.nexts) }
+//     requires in_turn { AreAscending (wanted pairs.now.firsts pairs.now.nexts) }
 //     requires inside { index ≤ length records.now }
 //     ensures { IsTrue result → AreNumbered N start records.now → (i k : ℕ) → i < 8 → k < index → pair_at start (text_at records.now k) < wanted pairs.now.firsts pairs.now.nexts i }
 #[inline(always)]
@@ -341,7 +342,7 @@ fn are_at_least<const N: usize>(
     index == 0 || bit_below_at(records, start, index - 1, first) == 1
 }
 
-// A range of records that holds eight places: if the pairs don't fall, the first window after an index, or one eight times as
+// A range of records that holds eight places: if the pairs are ascending, the first window after an index, or one eight times as
 // long, and so on, else all records.
 // Speed: a window of less than a quarter of all records saves steps, and no other is tried.
 // Proved:
@@ -356,7 +357,7 @@ fn range_near<const N: usize>(
     near: usize,
 ) -> Range<usize> {
     let len = records.len();
-    if !are_rising::<N>(pairs) {
+    if !are_ascending::<N>(pairs) {
         return 0..len;
     }
     let near = near.min(len);
@@ -410,7 +411,7 @@ fn shared_len_of_each<const N: usize>(records: &[[u8; N]], keys: &[TinyAsciiStr<
     len
 }
 
-// The places of eight keys among records of at most sixteen bytes. Keys in order are looked for first after the index `near`.
+// The places of eight keys among records of at most sixteen bytes. Keys in order are searched for first after the index `near`.
 // Proved:
 //     requires eight { 8 ≤ length keys.now }
 //     requires short { N ≤ 16 }
@@ -425,7 +426,7 @@ fn first_not_below_each_by_number<const N: usize>(
     places_by_numbers(records, keys, 0, near)
 }
 
-// The places of eight keys among records, and whether one of them was searched for by itself. Keys in order are looked for
+// The places of eight keys among records, and whether one of them was searched for by itself. Keys in order are searched for
 // first after the index `near`.
 // Proved:
 //     requires eight { 8 ≤ length keys.now }

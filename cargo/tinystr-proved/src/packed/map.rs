@@ -25,7 +25,7 @@ pub enum MapError {
     Values { keys: usize, len: usize },
 }
 
-/// A map from texts of at most `N` bytes, which rise, to values of `M` bytes. A contract sees it as the entries of a
+/// A map from strictly ascending texts of at most `N` bytes to values of `M` bytes. A contract sees it as the entries of a
 /// `BTreeMap`.
 ///
 /// ```
@@ -46,7 +46,8 @@ impl<'a, const N: usize, const M: usize> PackedMap<'a, N, M> {
     /// Reads a map from the bytes of its keys and those of its values, which only this call checks. `N` and `M` must be
     /// above 0.
     ///
-    /// The error is `Keys` if the keys aren't packed records, else `Order` if they don't rise, else `Values`.
+    /// The error is `Keys` if the keys aren't packed records, else `Order` if they aren't strictly ascending, else
+    /// `Values`.
     ///
     /// ```
     /// use tinystr::packed::{MapError, PackedMap};
@@ -61,9 +62,9 @@ impl<'a, const N: usize, const M: usize> PackedMap<'a, N, M> {
     /// ```text
     /// requires keys { 0 < N }
     /// requires values { 0 < M }
-    /// ensures accepted { IsOk result ↔ ((entries : List (List ℕ × List ℕ)) × ArePacked entries keys.now values.now N M) }
-    /// ensures entries { IfOk result (λ map. ArePacked map keys.now values.now N M) }
-    /// ensures fault { IfErr result (λ e. RefusesMap e keys.now values.now N M) }
+    /// ensures accepted { IsOk result ↔ ((entries : List (List ℕ × List ℕ)) × Spec.ArePacked entries keys.now values.now N M) }
+    /// ensures entries { IfOk result (λ map. Spec.ArePacked map keys.now values.now N M) }
+    /// ensures fault { IfErr result (λ e. Spec.RefusesMap e keys.now values.now N M) }
     /// ensures value { result_ok result ≡ map_of N M keys.now values.now }
     /// ```
     ///
@@ -126,7 +127,7 @@ impl<'a, const N: usize, const M: usize> PackedMap<'a, N, M> {
     /// # Contract
     ///
     /// ```text
-    /// ensures { option_copied result ≡ get self.now key.now }
+    /// ensures { option_copied result ≡ Spec.get self.now key.now }
     /// ```
     #[must_use]
     pub fn get(&self, key: &TinyAsciiStr<N>) -> Option<&'a [u8; M]> {
@@ -136,7 +137,7 @@ impl<'a, const N: usize, const M: usize> PackedMap<'a, N, M> {
         }
     }
 
-    /// What `get` gives for each of many keys, in their order. `SortedTable::binary_search_each` tells how the keys are
+    /// What `get` returns for each of many keys, in their order. `SortedTable::binary_search_each` documents how the keys are
     /// looked up.
     ///
     /// ```
@@ -154,7 +155,7 @@ impl<'a, const N: usize, const M: usize> PackedMap<'a, N, M> {
     /// # Contract
     ///
     /// ```text
-    /// ensures values { result ≡ map (get self.now) keys.now }
+    /// ensures values { result ≡ map (Spec.get self.now) keys.now }
     /// ensures rising { IsRising (keys_of self.now) }
     /// ```
     #[must_use]
@@ -170,7 +171,7 @@ impl<'a, const N: usize, const M: usize> PackedMap<'a, N, M> {
     /// # Contract
     ///
     /// ```text
-    /// ensures { result ≡ is_some (get self.now key.now) }
+    /// ensures { result ≡ is_some (Spec.get self.now key.now) }
     /// ```
     #[must_use]
     pub fn contains_key(&self, key: &TinyAsciiStr<N>) -> bool {
@@ -246,8 +247,8 @@ impl<'a, const N: usize, const M: usize> PackedMap<'a, N, M> {
     }
 }
 
-/// An iterator over the entries of a map, in the order of their keys. A contract sees it as the list of those that are
-/// left.
+/// An iterator over the entries of a map, in the order of their keys. A contract sees it as the list of the
+/// remaining ones.
 ///
 /// ```
 /// use tinystr::tinystr;
@@ -279,8 +280,8 @@ impl<'a, const N: usize, const M: usize> Iterator for Entries<'a, N, M> {
     }
 }
 
-/// What `PackedMap::get` gives for each of many keys, in their order. A contract sees it as the list of the values
-/// that are left.
+/// What `PackedMap::get` returns for each of many keys, in their order. A contract sees it as the list of the remaining
+/// values.
 ///
 /// ```
 /// use tinystr::tinystr;

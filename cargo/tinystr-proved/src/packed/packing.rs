@@ -83,7 +83,7 @@ pub fn unpack<const N: usize>(
 pub fn pack_map<const N: usize, const M: usize>(
     map: &BTreeMap<TinyAsciiStr<N>, [u8; M]>,
 ) -> (Vec<u8>, Vec<u8>) {
-    // Its contract says that the keys rise.
+    // Its contract says that the keys are strictly ascending.
     let count = map.len();
     let mut keys = Vec::with_capacity(count.saturating_mul(N));
     let mut values = Vec::with_capacity(count.saturating_mul(M));
@@ -120,7 +120,7 @@ pub fn pack_map<const N: usize, const M: usize>(
 pub fn pack_text_map<const N: usize, const M: usize>(
     map: &BTreeMap<TinyAsciiStr<N>, TinyAsciiStr<M>>,
 ) -> (Vec<u8>, Vec<u8>) {
-    // Its contract says that the keys rise.
+    // Its contract says that the keys are strictly ascending.
     let count = map.len();
     let mut keys = Vec::with_capacity(count.saturating_mul(N));
     let mut values = Vec::with_capacity(count.saturating_mul(M));

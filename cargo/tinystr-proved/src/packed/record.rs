@@ -75,7 +75,7 @@ pub(crate) fn number_at<const N: usize>(raw: &[u8; N], start: usize) -> u64 {
 
 /// The number that one search compares: `u64` has eight bytes of a record, and `u128` sixteen.
 pub(crate) trait Number<const N: usize>: Copy {
-    /// That of a record from `start` on.
+    /// The number of a record from `start` on.
     ///
     /// # Contract
     ///
@@ -148,7 +148,7 @@ pub(crate) struct Pair {
 }
 
 impl Pair {
-    /// That of a record from `start` on.
+    /// The pair of a record from `start` on.
     ///
     /// # Contract
     ///
@@ -186,7 +186,7 @@ pub(crate) fn bit_below<const N: usize>(pair: Pair, other: Pair) -> u64 {
 }
 
 // 1 if a number is below the sum of another and `more`, else 0.
-// Speed: it is the highest bit of the difference, since a comparison would be compiled to a branch.
+// Speed: the highest bit of the difference, since LLVM emits a branch for a comparison.
 // Proved:
 //     ensures bound { result ≤ 1 }
 //     ensures bit { number < 2 ^ 63 → other < 2 ^ 63 → more ≤ 1 → result ≡ cond (nat_lt number (other + more)) 1 0 }

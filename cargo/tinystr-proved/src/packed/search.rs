@@ -11,11 +11,12 @@ use crate::TinyAsciiStr;
 // first.
 const FEWEST_NARROWED: usize = 32;
 
-// Speed: so many records after the last place are compared with the next key, and at most a sixteenth of all, since a random
-// key is seldom there.
+// Speed: after the last place, the next key is compared with at most this number of records, and at most a sixteenth of all,
+// since a random key is seldom among them.
 const NEXT: usize = 15;
 
-// Speed: eight searches find a key sooner among fewer records of at most sixteen bytes, which a cache holds.
+// Speed: the fewest records of 9 to 16 bytes for which the records after the last place are tried. Fewer fit in a cache, and
+// eight searches at a time are faster.
 const MANY: usize = 65_536;
 
 /// How records of more than sixteen bytes are compared with a key. Shorter ones are compared as one number.
@@ -106,8 +107,8 @@ pub(crate) fn answer_at<const N: usize>(
 }
 
 /// The place of a key: the index of the first record that isn't below it, or the number of records.
-// One number is all of a record of at most sixteen bytes. Eight bytes after those that all records share tell a longer one from
-// most others, sixteen from most of the rest, and all bytes from the last few.
+// One number is all of a record of at most sixteen bytes. The eight bytes after those that all records share distinguish a longer
+// one from most others, sixteen from most of the remaining ones, and all bytes from the last few.
 ///
 /// # Contract
 ///
@@ -168,7 +169,7 @@ fn first_not_below_of_many<const N: usize>(records: &[[u8; N]], key: &[u8; N]) -
 }
 
 /// The place of a key that is above all records before an index, if it is that index or, among long records or many of more
-/// than eight bytes, at most a few indices after it.
+/// than eight bytes, a few indices after it.
 // Speed: these records are compared one after another, since a processor loads neighbours ahead.
 ///
 /// # Contract
@@ -213,17 +214,17 @@ pub(crate) fn is_below_at<const N: usize>(records: &[[u8; N]], index: usize, key
 }
 
 // Narrows a range that holds a key's place, by the numbers of its records from `start` on: to an empty range at the place or,
-// past sixteen bytes, to a range whose middle has the key's number and may still differ from the key. Of records that aren't in
-// order a part of the range is left.
-// Speed: no test of the order is a branch, and both records that the next step may compare are read before this step's test is
-// done.
+// past sixteen bytes, to a range whose middle has the key's number and may still differ from the key. For records that aren't in
+// order the result is some part of the range.
+// Speed: the order is tested without a branch, and both records that the next step may compare are loaded before this step's test
+// is done.
 // Proved:
 //     requires start { start ≤ N - 8 }
 //     requires ordered { range.start ≤ range.end }
 //     requires inside { range.end ≤ length records.now }
 //     ensures ordered { result.start ≤ result.end }
 //     ensures inside { result.end ≤ length records.now }
-//     ensures within { AreToldApart N (T.spelled start) key.now records.now → IsFirstNotBelowWithin key.now records.now range.start range.end → IsFirstNotBelowWithin key.now records.now result.start result.end }
+//     ensures within { AreDistinguished N (T.spelled start) key.now records.now → IsFirstNotBelowWithin key.now records.now range.start range.end → IsFirstNotBelowWithin key.now records.now result.start result.end }
 //     ensures place { N ≤ 16 → result.start ≡ result.end }
 #[inline(always)]
 fn narrow<const N: usize, T: Number<N>>(

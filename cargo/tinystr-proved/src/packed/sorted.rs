@@ -54,7 +54,7 @@ pub enum SortedError {
 }
 
 impl<'a, const N: usize> SortedTable<'a, N> {
-    /// Checks that each text is above the one before it, and gives the table. The error has the index of the first that
+    /// Checks that each text is above the one before it, and returns the table. The error has the index of the first that
     /// isn't.
     ///
     /// ```
@@ -73,7 +73,7 @@ impl<'a, const N: usize> SortedTable<'a, N> {
     /// ensures value { result_ok result ≡ sorted_of table.entry }
     /// ```
     pub fn new(table: Table<'a, N>) -> Result<Self, NotRising> {
-        match table.first_fall() {
+        match table.first_not_above() {
             None => Ok(SortedTable { table }),
             Some(index) => Err(NotRising { index }),
         }
@@ -148,9 +148,9 @@ impl<'a, const N: usize> SortedTable<'a, N> {
     /// What `binary_search` returns for each of many keys, in their order.
     ///
     /// A key that repeats, or whose place is next to the last one, needs no search. Other keys are searched for eight at a
-    /// time, so that each search waits for memory while the others do. Eight keys in order are looked for first in the records
-    /// after the last place. Of two alternating keys each is searched for once, and fewer than eight keys are searched for one
-    /// by one.
+    /// time, so that each search waits for memory while the others do. Eight keys in order are searched for first in the
+    /// records after the last place. Two alternating keys take two searches, and fewer than eight keys are searched for one by
+    /// one.
     ///
     /// ```
     /// use tinystr::tinystr;

@@ -198,7 +198,7 @@ impl<'a, const N: usize> Table<'a, N> {
     // Proved:
     //     ensures rising { IsNone result ↔ IsRising self.now }
     //     ensures first { IfSome result (λ index. IsFirstFall self.now index) }
-    pub(crate) fn first_fall(&self) -> Option<usize> {
+    pub(crate) fn first_not_above(&self) -> Option<usize> {
         let (first, rest) = self.records.split_first()?;
         let mut before = first;
         for (index, raw) in rest.iter().enumerate() {
@@ -232,7 +232,7 @@ impl<'a, const N: usize> Table<'a, N> {
     }
 }
 
-/// An iterator over the texts of a table, in order. A contract sees it as the list of those that are left.
+/// An iterator over the texts of a table, in order. A contract sees it as the list of the remaining ones.
 ///
 /// ```
 /// use tinystr::tinystr;

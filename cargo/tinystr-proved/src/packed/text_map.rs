@@ -24,7 +24,7 @@ pub enum TextMapError {
     Count { keys: usize, values: usize },
 }
 
-/// A map from texts of at most `N` bytes, which rise, to texts of at most `M` bytes. A contract sees it as the entries
+/// A map from strictly ascending texts of at most `N` bytes to texts of at most `M` bytes. A contract sees it as the entries
 /// of a `BTreeMap`.
 ///
 /// ```
@@ -123,7 +123,7 @@ impl<'a, const N: usize, const M: usize> TextMap<'a, N, M> {
     /// # Contract
     ///
     /// ```text
-    /// ensures { result ≡ get self.now key.now }
+    /// ensures { result ≡ Spec.get self.now key.now }
     /// ```
     #[must_use]
     pub fn get(&self, key: &TinyAsciiStr<N>) -> Option<TinyAsciiStr<M>> {
@@ -138,7 +138,7 @@ impl<'a, const N: usize, const M: usize> TextMap<'a, N, M> {
     /// # Contract
     ///
     /// ```text
-    /// ensures { result ≡ is_some (get self.now key.now) }
+    /// ensures { result ≡ is_some (Spec.get self.now key.now) }
     /// ```
     #[must_use]
     pub fn contains_key(&self, key: &TinyAsciiStr<N>) -> bool {
@@ -210,8 +210,8 @@ impl<'a, const N: usize, const M: usize> TextMap<'a, N, M> {
     }
 }
 
-/// An iterator over the entries of a map, in the order of their keys. A contract sees it as the list of those that are
-/// left.
+/// An iterator over the entries of a map, in the order of their keys. A contract sees it as the list of the
+/// remaining ones.
 ///
 /// ```
 /// use tinystr::tinystr;

@@ -132,7 +132,7 @@ impl CodeUnit for u16 {
         u32x1::from_le_bytes(bytes.swizzle([0, 2, 4, 6])).to_array()[0]
     }
 
-    // By way of a number: bytes of a vector would be put into the array one by one.
+    // Through a number, since the compiler would copy bytes of a vector into the array one by one.
     #[inline(always)]
     fn eight_low_bytes(units: &[u16]) -> [u8; 8] {
         let bytes = u16x8::from_slice(units).to_le_bytes();

@@ -37,8 +37,8 @@ pub const fn resize<const M: usize>(bytes: &[u8]) -> [u8; M] {
     resized
 }
 
-/// The same of a padded text, by one copy: for bytes that a word has just given, in pieces, which the compiler takes
-/// apart as they were made. `resize` copies those in memory.
+/// The same of a padded text, by one copy: for bytes that a word has just returned, in pieces, along which the compiler
+/// splits the copy. `resize` copies bytes in memory.
 ///
 /// # Contract
 ///

@@ -46,15 +46,15 @@ pub(crate) fn len(bytes: &[u8]) -> usize {
 #[inline(always)]
 pub(crate) fn ask(bytes: &[u8], question: Question) -> bool {
     let mut rest = bytes;
-    let mut asked = question;
+    let mut current = question;
     while let Some((word, after)) = split_word(rest) {
-        if !word.ask(asked) {
+        if !word.ask(current) {
             return false;
         }
         rest = after;
-        asked = question.of_later_words();
+        current = question.of_later_words();
     }
-    Aligned16::from_padded(rest).ask(asked)
+    Aligned16::from_padded(rest).ask(current)
 }
 
 /// Changes each word in place; the later words are changed as the rest of a text. The NULs after the text stay.
