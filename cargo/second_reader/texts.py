@@ -75,7 +75,8 @@ def read(name: str, text: str) -> Text:
 
 @dataclass
 class Clause:
-    """What a function requires or ensures: the word, and behind it the clause as it is written but for space."""
+    """What a function requires or ensures: the word, and behind it the clause as it is written but for space and the names
+    under which modules of definitions are imported."""
 
     kind: str
     said: str
@@ -84,7 +85,7 @@ class Clause:
 def without_ghosts(text: Text) -> tuple[Text, dict[int, list[Clause]]]:
     """A proved source without ghost items, contracts and tactics, and the clauses by the place where they stood."""
     kept, lines, clauses, at = [], [], {}, 0
-    tokens = text.tokens
+    tokens, modules = text.tokens, set()
     while at < len(tokens):
         start = at
         if tokens[at] == "ghost":
@@ -92,11 +93,16 @@ def without_ghosts(text: Text) -> tuple[Text, dict[int, list[Clause]]]:
             if found := CODE.intersection(tokens[start + 2 : at]):
                 place = f"{text.name}:{text.lines[start]}"
                 raise Unreadable(f"{place}: a ghost item has `{found.pop()}`, or doesn't end where it seems")
+            if tokens[at - 3] == "as":
+                modules.add(tokens[at - 2])
         elif tokens[at] == "#" and "tactic" in tokens[at + 1 : at + 4]:
             at = text.behind(tokens.index("[", at))
         elif tokens[at] in ("requires", "ensures"):
             at = text.behind(tokens.index("{", at))
-            clauses.setdefault(len(kept), []).append(Clause(tokens[start], " ".join(tokens[start + 1 : at])))
+            said = " ".join(tokens[start + 1 : at])
+            for module in modules:
+                said = said.replace(f" {module} . ", " ")
+            clauses.setdefault(len(kept), []).append(Clause(tokens[start], said))
         else:
             kept.append(tokens[at])
             lines.append(text.lines[at])
