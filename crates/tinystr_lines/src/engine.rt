@@ -1,4 +1,4 @@
-//! Reading the input, answering its lines, writing the output.
+//! Reads the input, makes the replies to its lines, and writes them.
 
 ghost use Rattle.std.specs.Prelude.{◌≡◌, ◌+◌, ◌<◌, ◌≤◌, ℕ, List, [], ◌∷◌, ◌++◌, ◌≢◌, OnOk, IfOk, OnErr, IfErr, IfSome, IsErrOf, false, is_some, length, take};
 ghost use Rattle.std.specs.List.{list_any};

@@ -1,4 +1,4 @@
-//! Lines answered: what the line program does with its input.
+//! The engine of the line program: it reads lines, and writes a reply to each.
 #![tactic(auto)]
 
 mod command;

@@ -296,7 +296,7 @@ fn push_fields_reply(
     }
 }
 
-/// Appends the reply to a line with which `ahead` begins, given and answered without its line feed.
+/// Appends the reply to a line that `ahead` begins with. Neither the line nor the reply has its line feed.
 #[tactic(auto, unfolding(crate::specs::Reply::reply))]
 pub fn push_line_reply(out: &mut Vec<u8>, line: &[u8], ahead: &[u8]) -> Result<(), AllocError>
     requires { line.now ≡ take (length line.now) ahead.now }
