@@ -1,10 +1,10 @@
-//! Batches of texts: what the calls are given.
+//! Batches of texts, the inputs of the calls.
 
 use crate::random::Random;
 use std::ops::RangeInclusive;
 use theirs::original::COUNT;
 
-/// Texts of small letters at a capacity.
+/// Texts of lowercase letters at a capacity.
 pub struct Batch {
     pub capacity: usize,
     pub texts: Vec<u8>,
@@ -55,7 +55,7 @@ impl Batch {
     }
 }
 
-/// The only one takes no random number.
+/// A random length of a range. If it has only one length, no random number is used.
 pub fn any_of(random: &mut Random, lengths: &RangeInclusive<usize>) -> usize {
     match lengths.end() - lengths.start() {
         0 => *lengths.start(),

@@ -1,5 +1,5 @@
-//! Calls at capacity 16 by vectors written by hand, in the shape of the library's exports: what the machine can do of
-//! texts that are known to be padded.
+//! Calls at capacity 16 by vectors written by hand, in the shape of the library's exports. They show what the
+//! machine can do with texts that are known to be padded.
 
 use crate::original::COUNT;
 use crate::original::numbers::*;
@@ -23,7 +23,7 @@ fn store(vector: __m128i) -> Bytes {
     bytes
 }
 
-/// All ones in each byte that is one of the 26 from `first` on.
+/// Sets all bits in each byte that is one of the 26 from `first` on.
 #[inline(always)]
 fn among_letters(vector: __m128i, first: u8) -> __m128i {
     unsafe {

@@ -214,7 +214,7 @@ impl Bench {
     }
 }
 
-/// Packed records of small letters, which fill them or have any length.
+/// Packed records of lowercase letters, which fill the capacity or have any length.
 fn packed(random: &mut Random, capacity: usize, is_full: bool) -> Vec<u8> {
     let mut bytes = Vec::with_capacity(RECORDS * capacity);
     for i in 1..=RECORDS {

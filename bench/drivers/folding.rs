@@ -1,5 +1,5 @@
-//! A hasher like that of the kit's maps: it has a fixed seed and folds the product of each eight bytes, so maps of both
-//! sides spend alike on hashing. (Rust's own, SipHash, guards against keys that an adversary picks, and takes longer.)
+//! A hasher like that of the kit's maps: it has a fixed seed and folds the product of each eight bytes, so hashing costs
+//! the maps of both sides the same. (Rust's own, SipHash, guards against keys that an adversary picks, and takes longer.)
 
 use std::collections::HashMap;
 use std::hash::{BuildHasherDefault, Hasher};

@@ -1,5 +1,5 @@
-//! The calls that bench/cargo times, over the crate that is called `tinystr` where this is built: each call is inlined here,
-//! as in a program of its user.
+//! The calls that bench/cargo times, over the crate with the name `tinystr` in the build of this file. Each call is inlined,
+//! as in a user's program.
 
 // printing in other forms, and some others, aren't timed
 #[allow(dead_code)]

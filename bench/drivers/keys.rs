@@ -43,7 +43,7 @@ impl Key for String {
     }
 }
 
-/// The letters stay where they were read, for ever.
+/// The letters are leaked, so that the key can borrow them.
 impl Key for &'static str {
     fn of(letters: &str) -> Self {
         Box::leak(letters.into())
@@ -118,7 +118,7 @@ impl Numbers {
     }
 }
 
-/// Keys of small letters, of which the last is one of the 26 from another on.
+/// Keys of lowercase letters. The last character is one of the 26 from `last` on.
 fn keys<K: Key>(count: usize, last: u8) -> Vec<K> {
     let mut numbers = Numbers(1);
     let mut key = || {
@@ -155,7 +155,7 @@ impl Row {
         self.sum = sum;
     }
 
-    /// How many calls there were.
+    /// The number of calls.
     fn calls(&self) -> usize {
         match self.call.as_str() {
             "bytes a key" => 1,

@@ -19,7 +19,7 @@ pub fn passing(question: &Question, random: &mut Random, capacity: usize, length
     texts
 }
 
-/// A batch of padded texts of which each passes but for its first byte.
+/// A batch of padded texts. Each fails only at its first byte.
 pub fn failing(question: &Question, random: &mut Random, capacity: usize, lengths: RangeInclusive<usize>) -> Vec<u8> {
     let mut texts = passing(question, random, capacity, lengths);
     for padded in texts.chunks_exact_mut(capacity) {

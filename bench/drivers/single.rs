@@ -1,4 +1,4 @@
-//! Calls on one value at a time: which value it is, and what is made of it, the compiler doesn't know.
+//! Calls on one value at a time. The compiler knows neither the value nor what is made of the result.
 
 use crate::original::COUNT;
 use std::hint::black_box;
@@ -33,7 +33,7 @@ fn batch<const N: usize>(call: usize, rounds: usize, texts: &[u8], answers: &mut
     true
 }
 
-/// Sums up what a call gives of each text.
+/// The sum of a call's results for all texts.
 pub fn single(capacity: usize, call: usize, rounds: usize, texts: &[u8], answers: &mut [u8]) -> bool {
     match capacity {
         3 => batch::<3>(call, rounds, texts, answers),

@@ -1,6 +1,6 @@
 //! The tables of bench/types: both crates' values compared with what one would use instead.
 
-// only mixed texts are taken here
+// only mixed texts are used here
 #[allow(dead_code)]
 mod batch;
 mod callgrind;
@@ -78,7 +78,7 @@ fn take_batch(measure: &mut Measure, table: &str, given: &Batch) {
     take!("clone", COUNT, change(n, COPY) (&given.texts) (texts), clone () (&left.units, &left.starts) (texts));
 }
 
-/// A value here is its bytes, as in the original.
+/// A value of this crate is its bytes, as in the original.
 fn print_sizes(table: &str, n: usize) {
     let all = TYPES.map(|name| (name, values::size(name, n)));
     for (whose, size) in [(HERE, n), (THERE, n)].into_iter().chain(all).filter(|(_, size)| *size > 0) {

@@ -11,7 +11,7 @@ pub const TYPES: [&str; 4] = ["ArrayString", "KString", "String", "&str"];
 
 /// A type of text.
 trait Value<'a>: Clone + Ord + Hash {
-    /// None where the bytes are no text of it.
+    /// None where the bytes are no text of this type.
     fn read(bytes: &'a [u8]) -> Option<Self>;
     fn letters(&self) -> &str;
 }
