@@ -12,7 +12,7 @@ TOKEN = re.compile(
     re.X,
 )
 OPENING, CLOSING = "([{", ")]}"
-# What stands in no ghost item.
+# What no ghost item has.
 CODE = {"use", "pub", "impl", "struct", "enum", "trait", "mod", "const", "static", "for", "while", "#"}
 
 
@@ -29,8 +29,8 @@ class Text:
     lines: list
     comments: dict
 
-    def behind(self, at: int) -> int:
-        """The place behind the bracket that closes the one at a place."""
+    def after_bracket(self, at: int) -> int:
+        """The place after the bracket that closes the one at a place."""
         depth = 0
         for place in range(at, len(self.tokens)):
             depth += (self.tokens[place] in OPENING) - (self.tokens[place] in CLOSING)
@@ -39,19 +39,19 @@ class Text:
         raise Unreadable(f"{self.name}:{self.lines[at]}: nothing closes this bracket")
 
     def next_of(self, at: int, marks: str | Iterable[str]) -> int:
-        """The next of some marks that stands in no bracket."""
+        """The next of some marks outside of brackets."""
         while self.tokens[at] not in marks:
-            at = self.behind(at) if self.tokens[at] in OPENING else at + 1
+            at = self.after_bracket(at) if self.tokens[at] in OPENING else at + 1
         return at
 
     def with_attributes(self, at: int) -> int:
         """Where the attributes above an item's first token begin."""
         while self.tokens[at - 1] == "]":
-            at = max(place for place in range(at - 1) if self.tokens[place] == "#" and self.behind(place + 1) == at)
+            at = max(place for place in range(at - 1) if self.tokens[place] == "#" and self.after_bracket(place + 1) == at)
         return at
 
     def said_above(self, at: int) -> str:
-        """The comments above an item's first token, between which attributes may stand."""
+        """The comments above an item's first token, with or without attributes between them."""
         line, said = self.lines[at] - 1, ""
         first = {line: token for token, line in zip(reversed(self.tokens), reversed(self.lines))}
         while line in self.comments or first.get(line) == "#":
@@ -75,15 +75,15 @@ def read(name: str, text: str) -> Text:
 
 @dataclass
 class Clause:
-    """What a function requires or ensures: the word, and behind it the clause as it is written but for space and the names
-    under which modules of definitions are imported."""
+    """What a function requires or ensures: the word, and the clause as it is written but for space and the names under which
+    modules of definitions are imported."""
 
     kind: str
     said: str
 
 
 def without_ghosts(text: Text) -> tuple[Text, dict[int, list[Clause]]]:
-    """A proved source without ghost items, contracts and tactics, and the clauses by the place where they stood."""
+    """A proved source without ghost items, contracts and tactics, and the clauses by the place where they were."""
     kept, lines, clauses, at = [], [], {}, 0
     tokens, modules = text.tokens, set()
     while at < len(tokens):
@@ -96,9 +96,9 @@ def without_ghosts(text: Text) -> tuple[Text, dict[int, list[Clause]]]:
             if tokens[at - 3] == "as":
                 modules.add(tokens[at - 2])
         elif tokens[at] == "#" and "tactic" in tokens[at + 1 : at + 4]:
-            at = text.behind(tokens.index("[", at))
+            at = text.after_bracket(tokens.index("[", at))
         elif tokens[at] in ("requires", "ensures"):
-            at = text.behind(tokens.index("{", at))
+            at = text.after_bracket(tokens.index("{", at))
             said = " ".join(tokens[start + 1 : at])
             for module in modules:
                 said = said.replace(f" {module} . ", " ")
@@ -112,7 +112,7 @@ def without_ghosts(text: Text) -> tuple[Text, dict[int, list[Clause]]]:
 
 @dataclass
 class Function:
-    """Its name, whether it is public by its own head or its trait's, where its head begins and its body stands."""
+    """Its name, whether it is public by its own head or its trait's, and where its head and its body begin and it ends."""
 
     name: str
     is_public: bool
@@ -127,7 +127,7 @@ def functions(text: Text) -> list[Function]:
     for at, token in enumerate(tokens):
         if token == "trait" and tokens[at - 1] == "pub":
             start = text.next_of(at, "{")
-            traits.append((start, text.behind(start)))
+            traits.append((start, text.after_bracket(start)))
         if token == "fn" and at + 1 < len(tokens) and re.match(r"\w", tokens[at + 1]):
             start = text.next_of(at, "{;")
             head = at
@@ -135,6 +135,6 @@ def functions(text: Text) -> list[Function]:
                 head -= 3 if tokens[head - 1] == ")" else 1
             in_trait = any(first < at < last for first, last in traits)
             is_public = in_trait or tokens[head] == "pub" and tokens[head + 1] != "("
-            end = text.behind(start) if tokens[start] == "{" else start + 1
+            end = text.after_bracket(start) if tokens[start] == "{" else start + 1
             found.append(Function(tokens[at + 1], is_public, head, start, end))
     return found
