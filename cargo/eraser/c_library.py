@@ -32,7 +32,7 @@ SLICES = {
 SAFETY = """///
 /// # Safety
 ///
-/// The caller has to keep what `tinystr.h` says that it owes.
+/// The caller must meet the conditions that `tinystr.h` documents.
 """
 
 
@@ -88,7 +88,7 @@ def export(found):
     if not slices:
         return f'pub extern "C" fn {name}({", ".join(taken)}) -> {result} {{\n'
     made = "".join(
-        "    // SAFETY: the caller keeps what `tinystr.h` says that it owes.\n"
+        "    // SAFETY: the caller meets the conditions that `tinystr.h` documents.\n"
         f"    let {it} = unsafe {{ slices::{function}({it}, {it}_len) }};\n"
         for it, function in slices
     )

@@ -16,7 +16,7 @@ class Panics:
 
 @dataclass(frozen=True)
 class Unsafe:
-    """The function is an `unsafe fn`, whose caller has to see to it."""
+    """The function is an `unsafe fn`, whose caller must ensure the condition."""
 
     condition: str
 

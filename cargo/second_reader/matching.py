@@ -36,7 +36,7 @@ def hole_ends(tokens: list[str], at: int) -> Iterator[int]:
 
 
 def replaced(text: Text, entry: Entry) -> None:
-    """The tokens and their lines with each place of an entry turned; counts them in the entry."""
+    """Replaces each place of an entry in the tokens and their lines, and counts them in the entry."""
     tokens, lines, at = [], [], 0
     while at < len(text.tokens):
         found = match(text.tokens, at, entry.old) if text.tokens[at] == entry.old[0] else None

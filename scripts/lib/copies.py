@@ -22,13 +22,18 @@ def copy_all(folder: Path) -> None:
                 shutil.copytree(crate / part, to / part, symlinks=True, copy_function=shutil.copy, dirs_exist_ok=True)
 
 
-def copy_with_proofs(folder: Path, crates: list[str]) -> None:
-    """Copies the whole folders of some crates and of their dependencies, with the results of proofs and their times."""
-    names = {lower for crate in crates for lower in below(crate)} | set(crates)
+def copy_lists(folder: Path, names: set[str]) -> None:
+    """Copies HANDLES, and the lines of crates.txt for some crates."""
     shutil.copy(TOP / "HANDLES", folder / "HANDLES")
     lines = (TOP / "crates.txt").read_text(encoding="utf-8").splitlines()
     kept = [f"{line}\n" for line in lines if re.match(r"\w*", line)[0] in names]
     (folder / "crates.txt").write_text("".join(kept), encoding="utf-8")
+
+
+def copy_with_proofs(folder: Path, crates: list[str]) -> None:
+    """Copies the whole folders of some crates and of their dependencies, with the results of proofs and their times."""
+    names = {lower for crate in crates for lower in below(crate)} | set(crates)
+    copy_lists(folder, names)
     for name in sorted(names):
         shutil.copytree(TOP / "crates" / name, folder / "crates" / name, symlinks=True, dirs_exist_ok=True)
 

@@ -44,7 +44,7 @@ pub extern "C" fn tinystr_version() -> u32 {
 ///
 /// # Safety
 ///
-/// The caller has to keep what `tinystr.h` says that it owes.
+/// The caller must meet the conditions that `tinystr.h` documents.
 #[unsafe(no_mangle)]
 pub unsafe extern "C" fn tinystr_langid(
     input: *const u8,
@@ -52,9 +52,9 @@ pub unsafe extern "C" fn tinystr_langid(
     out: *mut u8,
     out_len: usize,
 ) -> TinystrResult {
-    // SAFETY: the caller keeps what `tinystr.h` says that it owes.
+    // SAFETY: the caller meets the conditions that `tinystr.h` documents.
     let input = unsafe { slices::slice(input, input_len) };
-    // SAFETY: the caller keeps what `tinystr.h` says that it owes.
+    // SAFETY: the caller meets the conditions that `tinystr.h` documents.
     let out = unsafe { slices::slice_mut(out, out_len) };
     texts::langid(input, out)
 }
@@ -71,7 +71,7 @@ pub unsafe extern "C" fn tinystr_langid(
 ///
 /// # Safety
 ///
-/// The caller has to keep what `tinystr.h` says that it owes.
+/// The caller must meet the conditions that `tinystr.h` documents.
 #[unsafe(no_mangle)]
 pub unsafe extern "C" fn tinystr_read(
     input: *const u8,
@@ -79,9 +79,9 @@ pub unsafe extern "C" fn tinystr_read(
     out: *mut u8,
     out_len: usize,
 ) -> TinystrResult {
-    // SAFETY: the caller keeps what `tinystr.h` says that it owes.
+    // SAFETY: the caller meets the conditions that `tinystr.h` documents.
     let input = unsafe { slices::slice(input, input_len) };
-    // SAFETY: the caller keeps what `tinystr.h` says that it owes.
+    // SAFETY: the caller meets the conditions that `tinystr.h` documents.
     let out = unsafe { slices::slice_mut(out, out_len) };
     texts::read(input, out)
 }
@@ -96,14 +96,14 @@ pub unsafe extern "C" fn tinystr_read(
 ///
 /// # Safety
 ///
-/// The caller has to keep what `tinystr.h` says that it owes.
+/// The caller must meet the conditions that `tinystr.h` documents.
 #[unsafe(no_mangle)]
 pub unsafe extern "C" fn tinystr_ask(
     text: *const u8,
     text_len: usize,
     question: u32,
 ) -> TinystrResult {
-    // SAFETY: the caller keeps what `tinystr.h` says that it owes.
+    // SAFETY: the caller meets the conditions that `tinystr.h` documents.
     let text = unsafe { slices::slice(text, text_len) };
     texts::ask(text, question)
 }
@@ -119,14 +119,14 @@ pub unsafe extern "C" fn tinystr_ask(
 ///
 /// # Safety
 ///
-/// The caller has to keep what `tinystr.h` says that it owes.
+/// The caller must meet the conditions that `tinystr.h` documents.
 #[unsafe(no_mangle)]
 pub unsafe extern "C" fn tinystr_change_case(
     text: *mut u8,
     text_len: usize,
     case: u32,
 ) -> TinystrResult {
-    // SAFETY: the caller keeps what `tinystr.h` says that it owes.
+    // SAFETY: the caller meets the conditions that `tinystr.h` documents.
     let text = unsafe { slices::slice_mut(text, text_len) };
     texts::change_case(text, case)
 }
@@ -142,14 +142,14 @@ pub unsafe extern "C" fn tinystr_change_case(
 ///
 /// # Safety
 ///
-/// The caller has to keep what `tinystr.h` says that it owes.
+/// The caller must meet the conditions that `tinystr.h` documents.
 #[unsafe(no_mangle)]
 pub unsafe extern "C" fn tinystr_table_check(
     bytes: *const u8,
     bytes_len: usize,
     capacity: usize,
 ) -> TinystrResult {
-    // SAFETY: the caller keeps what `tinystr.h` says that it owes.
+    // SAFETY: the caller meets the conditions that `tinystr.h` documents.
     let bytes = unsafe { slices::slice(bytes, bytes_len) };
     crate::at_capacity!(capacity, table_check, answer(BAD_ARGUMENT, capacity), bytes)
 }
@@ -165,14 +165,14 @@ pub unsafe extern "C" fn tinystr_table_check(
 ///
 /// # Safety
 ///
-/// The caller has to keep what `tinystr.h` says that it owes.
+/// The caller must meet the conditions that `tinystr.h` documents.
 #[unsafe(no_mangle)]
 pub unsafe extern "C" fn tinystr_sorted_check(
     bytes: *const u8,
     bytes_len: usize,
     capacity: usize,
 ) -> TinystrResult {
-    // SAFETY: the caller keeps what `tinystr.h` says that it owes.
+    // SAFETY: the caller meets the conditions that `tinystr.h` documents.
     let bytes = unsafe { slices::slice(bytes, bytes_len) };
     crate::at_capacity!(
         capacity,
@@ -194,7 +194,7 @@ pub unsafe extern "C" fn tinystr_sorted_check(
 ///
 /// # Safety
 ///
-/// The caller has to keep what `tinystr.h` says that it owes.
+/// The caller must meet the conditions that `tinystr.h` documents.
 #[unsafe(no_mangle)]
 pub unsafe extern "C" fn tinystr_sorted_search(
     bytes: *const u8,
@@ -203,9 +203,9 @@ pub unsafe extern "C" fn tinystr_sorted_search(
     key: *const u8,
     key_len: usize,
 ) -> TinystrResult {
-    // SAFETY: the caller keeps what `tinystr.h` says that it owes.
+    // SAFETY: the caller meets the conditions that `tinystr.h` documents.
     let bytes = unsafe { slices::slice(bytes, bytes_len) };
-    // SAFETY: the caller keeps what `tinystr.h` says that it owes.
+    // SAFETY: the caller meets the conditions that `tinystr.h` documents.
     let key = unsafe { slices::slice(key, key_len) };
     crate::at_capacity!(
         capacity,
@@ -230,7 +230,7 @@ pub unsafe extern "C" fn tinystr_sorted_search(
 ///
 /// # Safety
 ///
-/// The caller has to keep what `tinystr.h` says that it owes.
+/// The caller must meet the conditions that `tinystr.h` documents.
 #[unsafe(no_mangle)]
 pub unsafe extern "C" fn tinystr_sorted_search_each(
     bytes: *const u8,
@@ -241,11 +241,11 @@ pub unsafe extern "C" fn tinystr_sorted_search_each(
     out: *mut TinystrResult,
     out_len: usize,
 ) -> TinystrResult {
-    // SAFETY: the caller keeps what `tinystr.h` says that it owes.
+    // SAFETY: the caller meets the conditions that `tinystr.h` documents.
     let bytes = unsafe { slices::slice(bytes, bytes_len) };
-    // SAFETY: the caller keeps what `tinystr.h` says that it owes.
+    // SAFETY: the caller meets the conditions that `tinystr.h` documents.
     let keys = unsafe { slices::slice(keys, keys_len) };
-    // SAFETY: the caller keeps what `tinystr.h` says that it owes.
+    // SAFETY: the caller meets the conditions that `tinystr.h` documents.
     let out = unsafe { slices::slice_mut(out, out_len) };
     crate::at_capacity!(
         capacity,
@@ -269,7 +269,7 @@ pub unsafe extern "C" fn tinystr_sorted_search_each(
 ///
 /// # Safety
 ///
-/// The caller has to keep what `tinystr.h` says that it owes.
+/// The caller must meet the conditions that `tinystr.h` documents.
 #[unsafe(no_mangle)]
 pub unsafe extern "C" fn tinystr_sorted_prefix(
     bytes: *const u8,
@@ -278,9 +278,9 @@ pub unsafe extern "C" fn tinystr_sorted_prefix(
     beginning: *const u8,
     beginning_len: usize,
 ) -> TinystrRange {
-    // SAFETY: the caller keeps what `tinystr.h` says that it owes.
+    // SAFETY: the caller meets the conditions that `tinystr.h` documents.
     let bytes = unsafe { slices::slice(bytes, bytes_len) };
-    // SAFETY: the caller keeps what `tinystr.h` says that it owes.
+    // SAFETY: the caller meets the conditions that `tinystr.h` documents.
     let beginning = unsafe { slices::slice(beginning, beginning_len) };
     crate::at_capacity!(
         capacity,
@@ -303,7 +303,7 @@ pub unsafe extern "C" fn tinystr_sorted_prefix(
 ///
 /// # Safety
 ///
-/// The caller has to keep what `tinystr.h` says that it owes.
+/// The caller must meet the conditions that `tinystr.h` documents.
 #[unsafe(no_mangle)]
 pub unsafe extern "C" fn tinystr_map_check(
     keys: *const u8,
@@ -313,9 +313,9 @@ pub unsafe extern "C" fn tinystr_map_check(
     values_len: usize,
     value_size: usize,
 ) -> TinystrResult {
-    // SAFETY: the caller keeps what `tinystr.h` says that it owes.
+    // SAFETY: the caller meets the conditions that `tinystr.h` documents.
     let keys = unsafe { slices::slice(keys, keys_len) };
-    // SAFETY: the caller keeps what `tinystr.h` says that it owes.
+    // SAFETY: the caller meets the conditions that `tinystr.h` documents.
     let values = unsafe { slices::slice(values, values_len) };
     crate::at_capacity!(
         capacity,
@@ -338,14 +338,14 @@ pub unsafe extern "C" fn tinystr_map_check(
 ///
 /// # Safety
 ///
-/// The caller has to keep what `tinystr.h` says that it owes.
+/// The caller must meet the conditions that `tinystr.h` documents.
 #[unsafe(no_mangle)]
 pub unsafe extern "C" fn tinystr_hashed_check(
     bytes: *const u8,
     bytes_len: usize,
     capacity: usize,
 ) -> TinystrResult {
-    // SAFETY: the caller keeps what `tinystr.h` says that it owes.
+    // SAFETY: the caller meets the conditions that `tinystr.h` documents.
     let bytes = unsafe { slices::slice(bytes, bytes_len) };
     crate::at_capacity!(
         capacity,
@@ -367,7 +367,7 @@ pub unsafe extern "C" fn tinystr_hashed_check(
 ///
 /// # Safety
 ///
-/// The caller has to keep what `tinystr.h` says that it owes.
+/// The caller must meet the conditions that `tinystr.h` documents.
 #[unsafe(no_mangle)]
 pub unsafe extern "C" fn tinystr_hashed_search(
     bytes: *const u8,
@@ -376,9 +376,9 @@ pub unsafe extern "C" fn tinystr_hashed_search(
     key: *const u8,
     key_len: usize,
 ) -> TinystrResult {
-    // SAFETY: the caller keeps what `tinystr.h` says that it owes.
+    // SAFETY: the caller meets the conditions that `tinystr.h` documents.
     let bytes = unsafe { slices::slice(bytes, bytes_len) };
-    // SAFETY: the caller keeps what `tinystr.h` says that it owes.
+    // SAFETY: the caller meets the conditions that `tinystr.h` documents.
     let key = unsafe { slices::slice(key, key_len) };
     crate::at_capacity!(
         capacity,

@@ -9,7 +9,7 @@ import sys
 import threading
 from pathlib import Path
 
-from lib.copies import READ_BY_RT, copy_all
+from lib.copies import READ_BY_RT, copy_all, copy_lists
 from lib.sources import below
 from lib.wrong_bodies.open_goals import open_goals
 from lib.wrong_bodies.searches import Search, with_searches
@@ -59,12 +59,7 @@ class Workspace:
         """Checks a copy of the crate with these texts, with a low priority where nothing waits for it."""
         top = self.folder / f"{crate}-{number}"
         top.mkdir()
-        shutil.copy(self.base / "HANDLES", top)
-        lines = (self.base / "crates.txt").read_text(encoding="utf-8").splitlines()
-        names = {*below(crate), crate}
-        # a line begins with the crate's name, and `staticlib` may follow
-        kept = [line for line in lines if ":" in line and line.partition(":")[0].split()[0] in names]
-        (top / "crates.txt").write_text("\n".join(kept), encoding="utf-8")
+        copy_lists(top, {*below(crate), crate})
         for lower in below(crate):
             for part in (*READ_BY_RT, "out/rlib"):
                 if (self.base / "crates" / lower / part).is_dir():
