@@ -194,7 +194,8 @@ impl<const N: usize> TinyAsciiStr<N> {
         TinyAsciiStr::from_padded(code_units)
     }
 
-    // `from_utf8_unchecked` for this crate, whose Rust is no `unsafe fn`: it keeps the type's invariant by its own proofs.
+    // `from_utf8_unchecked` for this crate alone. The crate for Cargo makes only that one an `unsafe fn`: the conditions of
+    // this one are proved at its calls.
     // Proved:
     //     requires { IsPaddedText bytes N }
     //     ensures { result ≡ text_of bytes.entry }

@@ -20,7 +20,7 @@ impl<'a> Places<'a> {
     /// # Contract
     ///
     /// ```text
-    /// ensures { result ≡ Spec.place_of self.now.seed (map word self.now.displacements.now) count raw.now }
+    /// ensures { result ≡ place_of self.now.seed (map word self.now.displacements.now) count raw.now }
     /// ```
     #[inline(always)]
     pub(crate) fn place<const N: usize>(&self, raw: &[u8; N], count: usize) -> usize {
@@ -30,7 +30,7 @@ impl<'a> Places<'a> {
 
     // The displacement of a hash, 0 where there are none.
     // Proved:
-    //     ensures { result ≡ Spec.displacement_of (map word self.now.displacements.now) hash }
+    //     ensures { result ≡ displacement_of (map word self.now.displacements.now) hash }
     #[inline(always)]
     fn displacement(&self, hash: u64) -> u32 {
         let bucket = scaled(hash, self.displacements.len());
@@ -45,8 +45,8 @@ impl<'a> Places<'a> {
     /// # Contract
     ///
     /// ```text
-    /// ensures none { IsNone result → Spec.ArePlaced (Spec.place_of self.now.seed (map word self.now.displacements.now) (length records.now)) records.now }
-    /// ensures first { IfSome result (λ index. Spec.IsFirstMisplaced (Spec.place_of self.now.seed (map word self.now.displacements.now) (length records.now)) records.now index) }
+    /// ensures none { IsNone result → ArePlaced (place_of self.now.seed (map word self.now.displacements.now) (length records.now)) records.now }
+    /// ensures first { IfSome result (λ index. IsFirstMisplaced (place_of self.now.seed (map word self.now.displacements.now) (length records.now)) records.now index) }
     /// ```
     pub(crate) fn first_misplaced<const N: usize>(&self, records: &[[u8; N]]) -> Option<usize> {
         for (index, raw) in records.iter().enumerate() {
@@ -63,7 +63,7 @@ impl<'a> Places<'a> {
 /// # Contract
 ///
 /// ```text
-/// ensures { result ≡ Spec.hash_of seed raw.now }
+/// ensures { result ≡ hash_of seed raw.now }
 /// ```
 #[inline(always)]
 pub(crate) fn hash_of<const N: usize>(seed: u64, raw: &[u8; N]) -> u64 {
@@ -83,7 +83,7 @@ pub(crate) fn hash_of<const N: usize>(seed: u64, raw: &[u8; N]) -> u64 {
 // The hash after at most sixteen more bytes.
 // Proved:
 //     requires { length piece.now ≤ 16 }
-//     ensures { result ≡ Spec.hash_on hash piece.now }
+//     ensures { result ≡ hash_on hash piece.now }
 #[inline(always)]
 fn hash_on(hash: u64, piece: &[u8]) -> u64 {
     let (low, high) = piece.split_at(piece.len().min(8));
@@ -118,7 +118,7 @@ pub(crate) fn short_number(bytes: &[u8]) -> u32 {
 
 // Both halves of a product, as one number.
 // Proved:
-//     ensures { result ≡ Spec.folded a b }
+//     ensures { result ≡ folded a b }
 #[inline(always)]
 fn folded(a: u64, b: u64) -> u64 {
     let product = u128::from(a) * u128::from(b);
@@ -130,7 +130,7 @@ fn folded(a: u64, b: u64) -> u64 {
 /// # Contract
 ///
 /// ```text
-/// ensures { result ≡ Spec.scaled hash count }
+/// ensures { result ≡ scaled hash count }
 /// ```
 #[inline(always)]
 pub(crate) fn scaled(hash: u64, count: usize) -> usize {
@@ -142,7 +142,7 @@ pub(crate) fn scaled(hash: u64, count: usize) -> usize {
 /// # Contract
 ///
 /// ```text
-/// ensures { result ≡ Spec.displaced hash displacement count }
+/// ensures { result ≡ displaced hash displacement count }
 /// ```
 #[inline(always)]
 pub(crate) fn displaced(hash: u64, displacement: u32, count: usize) -> usize {

@@ -21,7 +21,7 @@ use crate::TinyAsciiStr;
 /// ```text
 /// requires { 0 < N }
 /// ensures inside { IfSome result (λ index. index < length (records_in bytes.now) / N) }
-/// ensures position { (texts : List (List ℕ)) → IsHashed texts bytes.now N → result ≡ list.position (bytes_eq key.now) texts }
+/// ensures position { (texts : List (List ℕ)) → IsHashed texts bytes.now N → result ≡ position (bytes_eq key.now) texts }
 /// ```
 ///
 /// # Panics

@@ -110,7 +110,7 @@ impl<'a, const N: usize, const M: usize> HashedMap<'a, N, M> {
     /// # Contract
     ///
     /// ```text
-    /// ensures value { option_copied result ≡ Spec.get self.now key.now }
+    /// ensures value { option_copied result ≡ get self.now key.now }
     /// ensures distinct { AreDistinct (keys_of self.now) }
     /// ```
     #[must_use]
@@ -126,7 +126,7 @@ impl<'a, const N: usize, const M: usize> HashedMap<'a, N, M> {
     /// # Contract
     ///
     /// ```text
-    /// ensures { result ≡ is_some (Spec.get self.now key.now) }
+    /// ensures { result ≡ is_some (get self.now key.now) }
     /// ```
     #[must_use]
     pub fn contains_key(&self, key: &TinyAsciiStr<N>) -> bool {

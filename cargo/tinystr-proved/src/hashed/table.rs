@@ -140,7 +140,7 @@ impl<'a, const N: usize> HashedTable<'a, N> {
     /// ```text
     /// ensures found { IfSome result (λ index. slice_get self.now index ≡ Some key.now) }
     /// ensures exact { IsSome result ↔ Contains self.now key.now }
-    /// ensures position { result ≡ list.position (bytes_eq key.now) self.now }
+    /// ensures position { result ≡ position (bytes_eq key.now) self.now }
     /// ensures distinct { AreDistinct self.now }
     /// ```
     #[must_use]

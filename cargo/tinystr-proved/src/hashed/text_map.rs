@@ -114,7 +114,7 @@ impl<'a, const N: usize, const M: usize> HashedTextMap<'a, N, M> {
     /// # Contract
     ///
     /// ```text
-    /// ensures value { result ≡ Spec.get self.now key.now }
+    /// ensures value { result ≡ get self.now key.now }
     /// ensures distinct { AreDistinct (keys_of self.now) }
     /// ```
     #[must_use]
@@ -130,7 +130,7 @@ impl<'a, const N: usize, const M: usize> HashedTextMap<'a, N, M> {
     /// # Contract
     ///
     /// ```text
-    /// ensures { result ≡ is_some (Spec.get self.now key.now) }
+    /// ensures { result ≡ is_some (get self.now key.now) }
     /// ```
     #[must_use]
     pub fn contains_key(&self, key: &TinyAsciiStr<N>) -> bool {

@@ -62,9 +62,9 @@ impl<'a, const N: usize, const M: usize> PackedMap<'a, N, M> {
     /// ```text
     /// requires keys { 0 < N }
     /// requires values { 0 < M }
-    /// ensures accepted { IsOk result ↔ ((entries : List (List ℕ × List ℕ)) × Spec.ArePacked entries keys.now values.now N M) }
-    /// ensures entries { IfOk result (λ map. Spec.ArePacked map keys.now values.now N M) }
-    /// ensures fault { IfErr result (λ e. Spec.RefusesMap e keys.now values.now N M) }
+    /// ensures accepted { IsOk result ↔ ((entries : List (List ℕ × List ℕ)) × ArePacked entries keys.now values.now N M) }
+    /// ensures entries { IfOk result (λ map. ArePacked map keys.now values.now N M) }
+    /// ensures fault { IfErr result (λ e. RefusesMap e keys.now values.now N M) }
     /// ensures value { result_ok result ≡ map_of N M keys.now values.now }
     /// ```
     ///
@@ -127,7 +127,7 @@ impl<'a, const N: usize, const M: usize> PackedMap<'a, N, M> {
     /// # Contract
     ///
     /// ```text
-    /// ensures { option_copied result ≡ Spec.get self.now key.now }
+    /// ensures { option_copied result ≡ get self.now key.now }
     /// ```
     #[must_use]
     pub fn get(&self, key: &TinyAsciiStr<N>) -> Option<&'a [u8; M]> {
@@ -155,7 +155,7 @@ impl<'a, const N: usize, const M: usize> PackedMap<'a, N, M> {
     /// # Contract
     ///
     /// ```text
-    /// ensures values { result ≡ map (Spec.get self.now) keys.now }
+    /// ensures values { result ≡ map (get self.now) keys.now }
     /// ensures rising { IsRising (keys_of self.now) }
     /// ```
     #[must_use]
@@ -171,7 +171,7 @@ impl<'a, const N: usize, const M: usize> PackedMap<'a, N, M> {
     /// # Contract
     ///
     /// ```text
-    /// ensures { result ≡ is_some (Spec.get self.now key.now) }
+    /// ensures { result ≡ is_some (get self.now key.now) }
     /// ```
     #[must_use]
     pub fn contains_key(&self, key: &TinyAsciiStr<N>) -> bool {

@@ -40,7 +40,7 @@ pub(crate) fn compare(left: &[u8], right: &[u8]) -> Ordering {
 /// # Contract
 ///
 /// ```text
-/// ensures { Spec.IsRecord N left.now → Spec.IsRecord N right.now → (IsTrue result ↔ (left.now ≡ right.now)) }
+/// ensures { IsRecord N left.now → IsRecord N right.now → (IsTrue result ↔ (left.now ≡ right.now)) }
 /// ```
 #[inline(always)]
 pub(crate) fn are_same<const N: usize>(left: &[u8; N], right: &[u8; N]) -> bool {
@@ -61,7 +61,7 @@ pub(crate) fn are_same<const N: usize>(left: &[u8; N], right: &[u8; N]) -> bool 
 ///
 /// ```text
 /// requires { start ≤ N - 8 }
-/// ensures { result ≡ Spec.number_at start raw.now }
+/// ensures { result ≡ number_at start raw.now }
 /// ```
 #[inline(always)]
 pub(crate) fn number_at<const N: usize>(raw: &[u8; N], start: usize) -> u64 {
@@ -155,8 +155,8 @@ impl Pair {
     /// ```text
     /// requires { start ≤ N - 8 }
     /// ensures text { IsPaddedText raw.now N → IsPairOfText N result.first result.next }
-    /// ensures first { result.first ≡ Spec.number_at start raw.now }
-    /// ensures number { paired result.first result.next ≡ Spec.pair_at start raw.now }
+    /// ensures first { result.first ≡ number_at start raw.now }
+    /// ensures number { paired result.first result.next ≡ pair_at start raw.now }
     /// ```
     #[inline(always)]
     pub(crate) fn at<const N: usize>(raw: &[u8; N], start: usize) -> Pair {

@@ -123,7 +123,7 @@ impl<'a, const N: usize, const M: usize> TextMap<'a, N, M> {
     /// # Contract
     ///
     /// ```text
-    /// ensures { result ≡ Spec.get self.now key.now }
+    /// ensures { result ≡ get self.now key.now }
     /// ```
     #[must_use]
     pub fn get(&self, key: &TinyAsciiStr<N>) -> Option<TinyAsciiStr<M>> {
@@ -138,7 +138,7 @@ impl<'a, const N: usize, const M: usize> TextMap<'a, N, M> {
     /// # Contract
     ///
     /// ```text
-    /// ensures { result ≡ is_some (Spec.get self.now key.now) }
+    /// ensures { result ≡ is_some (get self.now key.now) }
     /// ```
     #[must_use]
     pub fn contains_key(&self, key: &TinyAsciiStr<N>) -> bool {
