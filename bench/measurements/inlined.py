@@ -5,7 +5,7 @@ from collections.abc import Iterable
 
 from measurements.heat_map import Rows, heat_map
 from measurements.plot import HeatMap
-from measurements.ratios import FAILING, named_slowest, ratios_of_kind
+from measurements.ratios import named_slowest, ratios_of_kind
 from measurements.results import Results
 from measurements.tables import aligned, geometric, type_tables
 
