@@ -5,7 +5,7 @@ from collections.abc import Iterable
 
 from measurements.heat_map import Rows, heat_map
 from measurements.plot import HeatMap
-from measurements.ratios import named_slowest, ratios_of_kind
+from measurements.ratios import SLOWER, named_slowest, ratios_of_kind
 from measurements.results import Results
 from measurements.tables import aligned, geometric, type_tables
 
@@ -77,15 +77,25 @@ def cargo_plot(results: Results) -> HeatMap:
 
 
 def cargo_headline(x86_64: Results, v2: Results) -> str:
-    """The means over lists and over single values, and the slowest cell for both processors, in three items."""
+    """The means over lists and over single values, the calls of single values that take longer than the Rust crate's on
+    average, and the slowest cell for both processors, in four items."""
     (full, mixed), (full_alone, mixed_alone) = means_of(x86_64)
     ratio, call, capacity = max(slowest_cell(x86_64), slowest_cell(v2))
+    longer = " and ".join(f"`{call}` takes {mean:.2f}" for call, mean in slower_alone(x86_64).items())
     return (
-        f"- A call, made over a list, takes {full:.2f} of the Rust crate's time on texts that fill their capacity, and"
-        f" {mixed:.2f} on texts of all lengths.\n"
-        f"- A call of one value takes {full_alone:.2f} and {mixed_alone:.2f}. (These are geometric means.)\n"
-        f"- The worst case, {named_slowest(call)}, takes {ratio:.1f} times as long at capacity {capacity}.\n"
+        f"- Calls in a loop over a list take {full:.2f} of the Rust crate's time on texts that fill their capacity, and"
+        f" {mixed:.2f} on texts of all lengths. (These are geometric means.)\n"
+        f"- Calls of one value at a time take {full_alone:.2f} of that time, and {mixed_alone:.2f} on texts of all lengths.\n"
+        + f"- Of these calls, {longer} of the Rust crate's time on average.\n" * bool(longer)
+        + f"- The worst case, {named_slowest(call)}, takes {ratio:.1f} times as long at capacity {capacity}.\n"
     )
+
+
+def slower_alone(results: Results) -> dict[str, float]:
+    """The calls of single values that count as slower than the Rust crate's, with their means."""
+    rows = rows_by_suffix(results)[SUFFIXES[1]]
+    means = {call: geometric([ratio for of_kind in row.values() for ratio in of_kind.values()]) for call, row in rows.items()}
+    return {call: mean for call, mean in means.items() if mean > SLOWER}
 
 
 def slowest_cell(results: Results) -> tuple[float, str, str]:
