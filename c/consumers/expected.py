@@ -28,34 +28,10 @@ OTHERS = [
     ("iso_3166-1.json", "3166-1", "alpha_3"),
     ("iso_3166-2.json", "3166-2", "code"),
 ]
-AWKWARD = [
-    "zh_hANT-tw",
-    "abcdefgh-latn-419",
-    "abcdefgh-latn-4199",
-    "en-US-posix",
-    "en_Latn_US_x",
-    "a",
-    "abcd",
-    "abcdefghi",
-    "es-419",
-    "es-41",
-    "-",
-    "en-",
-    "_en",
-    "en--US",
-    "EN_us",
-    "Ωmega",
-    "né",
-    "üb",
-    "a\x7f",
-    "\x01",
-    "qqq",
-    "zzz",
-    "z",
-    "419",
-    "A1",
-    "a b",
-]
+AWKWARD = (
+    "zh_hANT-tw|abcdefgh-latn-419|abcdefgh-latn-4199|en-US-posix|en_Latn_US_x|a|abcd|abcdefghi|es-419|es-41|-|en-|_en|en--US"
+    "|EN_us|Ωmega|né|üb|a\x7f|\x01|qqq|zzz|z|419|A1|a b"
+).split("|")
 CAPACITY = 3
 LANGUAGE = re.compile(rb"(?:[a-z]{2,3}|[a-z]{5,8})", re.I)
 IDENTIFIER = re.compile(

@@ -54,7 +54,7 @@ EVERYWHERE = [
     Rule(rf"(\b(?:{ALLOCATING})[\[(].*[\])])\?", r"\1", WANT_OF_MEMORY),
     Rule(r"Result<(.*), AllocError>", r"\1", WANT_OF_MEMORY),
     Rule(r" It fails only if an allocation fails\.", "", WANT_OF_MEMORY),
-    Rule(r'(tinystr!\(\d+, "[^"]*"\))(?:\?|\.unwrap\(\))', r"\1", "`tinystr!` gives the text, and refuses at compile time"),
+    Rule(r'(tinystr!\(\d+, "[^"]*"\))(?:\?|\.unwrap\(\))', r"\1", "`tinystr!` returns the text, or fails at compile time"),
     Rule(r"\bstd::", "core::", "the crate is `no_std`"),
 ]
 

@@ -6,7 +6,7 @@ use tinystr::packed::{PackedMap, SortedTable, Table, TextEntries, TextMap, in_pl
 use tinystr::{TinyAsciiStr, UnvalidatedTinyAsciiStr, tinystr};
 
 /// Each is a call whose condition doesn't hold, by its name.
-const REFUSED: &[(&str, fn())] = &[
+const PANICKING: &[(&str, fn())] = &[
     ("from_utf8_lossy by 0", || ignore(TinyAsciiStr::<2>::from_utf8_lossy(b"a", 0))),
     ("from_utf8_lossy by 128", || ignore(TinyAsciiStr::<2>::from_utf8_lossy(b"a", 128))),
     ("from_utf16_lossy by 0", || ignore(TinyAsciiStr::<2>::from_utf16_lossy(&[0x61], 0))),
@@ -76,7 +76,7 @@ fn backward(start: usize, end: usize) -> std::ops::Range<usize> {
 #[test]
 fn a_call_whose_condition_does_not_hold_panics() {
     std::panic::set_hook(Box::new(|_| {}));
-    let taken: Vec<&str> = REFUSED.iter().filter(|(_, call)| catch_unwind(call).is_ok()).map(|(name, _)| *name).collect();
+    let taken: Vec<&str> = PANICKING.iter().filter(|(_, call)| catch_unwind(call).is_ok()).map(|(name, _)| *name).collect();
     let _ = std::panic::take_hook();
     assert!(taken.is_empty(), "no panic: {taken:?}");
 }

@@ -112,19 +112,19 @@ fn lossy_readers_replace_and_cut() {
 
 #[test]
 #[should_panic(expected = "replacement must be a non-null ASCII byte")]
-fn a_replacement_of_bytes_above_ascii_is_refused() {
+fn a_replacement_of_bytes_above_ascii_is_rejected() {
     let _ = TinyAsciiStr::<8>::from_utf8_lossy(&[0xfe], 0x80);
 }
 
 #[test]
 #[should_panic(expected = "replacement must be a non-null ASCII byte")]
-fn a_replacement_of_numbers_above_ascii_is_refused() {
+fn a_replacement_of_numbers_above_ascii_is_rejected() {
     let _ = TinyAsciiStr::<8>::from_utf16_lossy(&[0xfffe], 0xfe);
 }
 
 #[test]
 #[should_panic(expected = "replacement must be a non-null ASCII byte")]
-fn nul_as_a_replacement_is_refused() {
+fn nul_as_a_replacement_is_rejected() {
     let _ = TinyAsciiStr::<8>::from_utf8_lossy(&[0xfe], 0);
 }
 

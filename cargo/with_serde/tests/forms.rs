@@ -30,7 +30,7 @@ fn json_has_the_text() {
 }
 
 #[test]
-fn json_of_no_text_is_refused() {
+fn json_of_no_text_is_rejected() {
     for json in [r#""euros""#, r#""a\u0000""#, r#""é""#] {
         assert_eq!(of_json::<TinyAsciiStr<3>>(json), Err("invalid str".into()), "{json}");
         assert_eq!(of_json::<Unvalidated<3>>(json), Err("invalid str".into()), "{json}");
@@ -94,7 +94,7 @@ fn read_alike<const N: usize>(bytes: &[u8]) {
 
 /// All lists of up to four bytes, each one of five.
 #[test]
-fn bytes_are_read_or_refused_in_order() {
+fn bytes_are_read_or_rejected_in_order() {
     let kinds = [0, 1, b'a', 127, 128];
     for len in 0..=4u32 {
         for number in 0..kinds.len().pow(len) {

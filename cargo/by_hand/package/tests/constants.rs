@@ -280,11 +280,11 @@ const CODES: SortedTable<'static, 3> = match SortedTable::from_bytes_const(b"CHF
     Err(_) => panic!("the codes aren't sorted"),
 };
 static NAMES: Result<Table<'static, 4>, UleError> = Table::new_const(b"EuroYen\0");
-const FALLS: Result<SortedTable<'static, 3>, SortedError> = SortedTable::from_bytes_const(b"EURCHF");
+const DESCENDING: Result<SortedTable<'static, 3>, SortedError> = SortedTable::from_bytes_const(b"EURCHF");
 
 #[test]
 fn tables_are_constants() {
     assert_eq!((CODES.binary_search(&tinystr!(3, "EUR")), CODES.table().len()), (Ok(1), 3));
     assert_eq!(NAMES.unwrap().get(1), Some(tinystr!(4, "Yen")));
-    assert_eq!(FALLS.err(), Some(SortedError::Order(NotRising { index: 1 })));
+    assert_eq!(DESCENDING.err(), Some(SortedError::Order(NotRising { index: 1 })));
 }

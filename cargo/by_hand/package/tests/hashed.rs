@@ -112,7 +112,7 @@ fn changed_bytes_are_read<const N: usize>(bytes: &[u8], keys: &[TinyAsciiStr<N>]
 }
 
 #[test]
-fn bytes_changed_at_any_position_are_refused_or_are_another_table() {
+fn bytes_changed_at_any_position_are_rejected_or_are_another_table() {
     let codes: Vec<_> = currencies().into_keys().collect();
     let bytes = pack_hashed(&codes).unwrap();
     for index in 0..bytes.len() {

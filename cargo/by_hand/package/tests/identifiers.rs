@@ -108,7 +108,7 @@ fn each_byte_at_each_place_is_accepted_by_its_class() {
 }
 
 #[test]
-fn bytes_more_or_fewer_are_refused_as_the_grammar_says() {
+fn bytes_more_or_fewer_are_rejected_as_the_grammar_says() {
     let forms = ["en", "en-us", "zh-hant-tw", "abcdefgh_hant_419"];
     for form in forms {
         for len in 0..=form.len() {

@@ -9,10 +9,10 @@ type Binary = fn([u8; 16], [u8; 16]) -> [u8; 16];
 const STEP: usize = 4099;
 
 /// All pairs of bytes in each of `L` lanes: pair `k` in lane 0, and others beside it, which meet all lanes as `k` goes on.
-fn each_pair<const L: usize>(ask: impl Fn([u8; L], [u8; L])) {
+fn each_pair<const L: usize>(call: impl Fn([u8; L], [u8; L])) {
     for k in 0..0x10000 {
         let pair = |lane: usize| (k + lane * STEP) % 0x10000;
-        ask(core::array::from_fn(|lane| (pair(lane) / 256) as u8), core::array::from_fn(|lane| (pair(lane) % 256) as u8));
+        call(core::array::from_fn(|lane| (pair(lane) / 256) as u8), core::array::from_fn(|lane| (pair(lane) % 256) as u8));
     }
 }
 
@@ -21,10 +21,10 @@ fn truth(is_true: bool) -> u8 {
 }
 
 /// A call on two vectors is its definition, lane by lane.
-fn is_lanewise(ask: impl Fn(u8x16, u8x16) -> [u8; 16], direct: [Binary; 2], define: fn(u8, u8) -> u8) {
+fn is_lanewise(on_vectors: impl Fn(u8x16, u8x16) -> [u8; 16], direct: [Binary; 2], define: fn(u8, u8) -> u8) {
     each_pair(|a, b| {
         let wanted = core::array::from_fn(|i| define(a[i], b[i]));
-        assert_eq!(ask(Lanes(a), Lanes(b)), wanted);
+        assert_eq!(on_vectors(Lanes(a), Lanes(b)), wanted);
         assert_eq!(direct.map(|call| call(a, b)), [wanted; 2]);
     });
 }
