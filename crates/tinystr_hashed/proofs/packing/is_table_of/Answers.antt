@@ -1,4 +1,4 @@
-use Rattle.std.proofs.Common.{◌≡◌, ◌∙◌, length, sym}
+use Rattle.std.proofs.Common.{◌∙◌, length, sym}
 use Rattle.std.proofs.lemmas.Bool.{eqb-true}
 use Rattle.tinystr_hashed.proofs.Packs.{has_as_many, has_each, packed}
 use Rattle.tinystr_hashed.proofs.packing.is_table_of.Goals as goal
