@@ -62,8 +62,8 @@ has_each made texts bytes n some hashed packed =
     let same = hashed_once n made packed.made bytes some hashed packed.hashed in
     rw same (All-weaker (λ (t : List ℕ). Contains texts t) (λ (t : List ℕ). Contains packed.made t) (λ t. (packed.same t).1) texts (All-contains_itself texts))
 
-pub has_as_many : (made texts : List (List ℕ)) (bytes : List ℕ) (n : ℕ) → 0 < n → IsHashed made bytes n → ArePackedHashed texts bytes n → length made ≡ length texts
-has_as_many made texts bytes n some hashed packed = ap length (hashed_once n made packed.made bytes some hashed packed.hashed) ∙ packed.count
+pub has_same_number : (made texts : List (List ℕ)) (bytes : List ℕ) (n : ℕ) → 0 < n → IsHashed made bytes n → ArePackedHashed texts bytes n → length made ≡ length texts
+has_same_number made texts bytes n some hashed packed = ap length (hashed_once n made packed.made bytes some hashed packed.hashed) ∙ packed.count
 
 -- a text that is there twice
 twice : (p : List ℕ → Bool) (texts : List (List ℕ)) (k : ℕ) → k + 1 < length texts → p (get_or texts k []) ≡ true → p (get_or texts (k + 1) []) ≡ true → 2 ≤ count_by p texts
