@@ -1,7 +1,7 @@
 """Whole jobs, by bench/run: their table and their picture."""
 
 from measurements.plot import BLUE, ORANGE, RANGES, Bars
-from measurements.results import HERE, START, THERE, Cell, Results
+from measurements.results import HERE, THERE, Cell, Results
 from measurements.tables import aligned, range_text, ratio_and_spread
 
 SECOND = 1e9
@@ -13,11 +13,11 @@ WORK = {
 
 
 def jobs_table(results: Results) -> str:
-    """The medians of all turns in seconds, and the ratios of this crate's to the others."""
-    lines = [["seconds", "start", "now", "now / start", "Rust program", "now / Rust program"]]
+    """The medians of all runs in seconds, and the ratio of this crate's to the Rust program's."""
+    lines = [["seconds", "this crate", "Rust program", "this crate / Rust program"]]
     for cell in results.times:
-        start, now, rust = (f"{results.time(cell, whose) / SECOND:.2f}" for whose in (START, HERE, THERE))
-        lines.append([cell[1], start, now, ratio_and_spread(results, cell, START), rust, ratio_and_spread(results, cell, THERE)])
+        here, there = (f"{results.time(cell, whose) / SECOND:.2f}" for whose in (HERE, THERE))
+        lines.append([cell[1], here, there, ratio_and_spread(results, cell, THERE)])
     return aligned(lines)
 
 
