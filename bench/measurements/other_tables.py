@@ -71,5 +71,6 @@ def c_headline(results: Results) -> str:
         f"- `tinystr_sorted_search` takes {sorted_search:.2f} of the time of `bsearch` with `memcmp`.\n"
         f"- `tinystr_sorted_search_each` takes {each:.2f} of that time for a key.\n"
         f"- The worst case, `tinystr_langid`, takes {ratios['tinystr_langid', 'by hand']:.2f} of the time of a reader that is"
-        f" written by hand in C, and {ratios['tinystr_langid', ICU]:.2f} of that of ICU's `uloc_canonicalize`.\n"
+        f" written by hand in C, and {ratios['tinystr_langid', ICU]:.2f} of that of ICU's `uloc_canonicalize`,"
+        " which does more.\n"
     )
