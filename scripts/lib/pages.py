@@ -1,6 +1,6 @@
 #!/usr/bin/env -S python3 -B
-"""Reads pages of Markdown: their fences, prose, anchors and links. As a command it prints the text of the first fence of a
-kind, and fails where a page has none."""
+"""Reads pages of Markdown: their fences, prose, anchors and links. As a command it prints the text of a fence of a
+kind, the first or that of a number, and fails where a page has none."""
 
 import argparse
 import re
@@ -71,8 +71,9 @@ def main() -> bool:
     parser = argparse.ArgumentParser(description=__doc__)
     parser.add_argument("page", metavar="PAGE", type=Path)
     parser.add_argument("kind", metavar="KIND")
+    parser.add_argument("number", metavar="NUMBER", type=int, nargs="?", default=1)
     options = parser.parse_args()
-    text = Page(options.page).fence(options.kind)
+    text = Page(options.page).fence(options.kind, options.number)
     sys.stdout.write(text)
     return not text
 

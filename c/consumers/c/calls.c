@@ -1,4 +1,4 @@
-/* Each call of tinystr.h, with each of its codes; and calls that break what the header says a caller owes. The last line is
+/* Each call of tinystr.h, with each of its codes; and calls that break what the header requires of a caller. The last line is
  * 'passed' or 'failed'. */
 #define _DEFAULT_SOURCE
 #include <stdio.h>
@@ -577,7 +577,7 @@ static void null_pointers(void) {
     }
 }
 
-/* What the header says that a caller owes, broken: `out` upon the input. Nothing is promised of these calls. This is what they
+/* What the header requires of a caller, broken: `out` upon the input. Nothing is promised of these calls. This is what they
  * do as the library is built now. */
 static void broken_calls(void) {
     uint8_t both[TINYSTR_LANGID_ROOM] = "zh_hANT_tw";

@@ -1,5 +1,5 @@
 //! lists WORDS TABLE HASHED: what c/lists.c prints, from Rust. A slice is never a null pointer, and `&mut` overlaps nothing,
-//! so safe Rust upholds what the library's caller owes.
+//! so safe Rust meets the header's conditions.
 use std::io::{self, Write};
 
 #[path = "tinystr.rs"]

@@ -1,33 +1,32 @@
 /* tinystr.h: short ASCII codes, language identifiers, and packed tables and maps of codes.
  *
  * Each function has a contract, in crates/tinystr_c of the repository, and is proved to keep it on all bytes and numbers. No
- * function allocates, keeps anything between calls, calls back, or fails but by the code that it returns.
+ * function allocates, keeps state between calls, calls back, or fails except by the code that it returns.
  *
  * Pointers
- *   A `void *` and the number after it are bytes: a `char *` serves, and a `uint8_t *`. Where the number is 0, the
- *   pointer may be NULL, as that of an empty std::string_view or std::vector: these are no bytes, or no results.
+ *   A `void *` and the length after it are bytes: pass a `char *` or a `uint8_t *`. With length 0 the pointer may be NULL, as
+ *   that of an empty std::string_view or std::vector.
  *
- * What the caller owes, and no call tests
- *   - A pointer and the number of bytes after it, which isn't 0, name bytes of one object, which may be read; those of
- *     `out`, and of the `text` of tinystr_change_case, may be written too. The number is at most SSIZE_MAX. A pointer to
- *     results and the number after it name this number of results, in at most SSIZE_MAX bytes.
- *   - No byte that a call may write is a byte that another argument names: `out` overlaps no input.
- *   - While the call runs, no other thread writes these bytes, or reads those that the call may write. Then any calls may
- *     run concurrently, in signal handlers too.
- * A table that was never checked, or was changed since, breaks nothing: a search returns a place inside it, or that
- * there is none, which may be wrong.
+ * What the caller must ensure: no call checks it, and otherwise the behaviour is undefined
+ *   - A pointer whose length isn't 0 points to that many bytes (`tinystr_result *`: results) of one object, at most SSIZE_MAX
+ *     bytes. All can be read; those of `out`, and of the `text` of tinystr_change_case, can be written too.
+ *   - What a call may write overlaps no other argument: `out` overlaps no input.
+ *   - While the call runs, no other thread writes these bytes, or reads those that the call may write. Any calls that keep this
+ *     rule may run concurrently, in signal handlers too.
+ * A search doesn't check its table. In a table that was never checked, or was changed since, it stays in bounds, but its result
+ * may be wrong.
  *
  * Order of checks
- *   One order serves all functions, and a function returns the code of the first check that fails:
- *     1. the numbers that choose, in the order of the parameters: BAD_ARGUMENT. These are a capacity (that of tinystr_read
- *        is `out_len`), a size of values, a question and a case.
- *     2. the bytes, in the order of the parameters, and of a hashed table in that of its parts: their number first, then
- *        the bytes, and then the order or the places of the texts. The records and the hashed table of a search pass.
+ *   A function returns the code of the first check that fails, in this order:
+ *     1. a capacity (of tinystr_read: `out_len`), a size of values, a question and a case, in the order of the parameters:
+ *        BAD_ARGUMENT.
+ *     2. the bytes, but not the table of a search, in the order of the parameters, and of a hashed table in the order of its
+ *        parts: first their length, then the bytes, and then the order or the places of the texts.
  *     3. the length of `out`: NO_ROOM.
  *   Each function below lists OK first, and NOT_FOUND if it may return it, and then the codes of its checks in this order.
- *   NUL and NON_ASCII are one check. It finds the first byte that is above 127, or is a character after a NUL. The code
- *   is NON_ASCII if this byte is above 127, and NUL otherwise. If there is no such byte, but a NUL at the end, the bytes
- *   are a padded text, and the code is NUL if the function accepts only a text.
+ *   NUL and NON_ASCII are one check, which stops at the first fault: at a byte above 127 the code is NON_ASCII, and at a byte
+ *   from 1 to 127 after a NUL it is NUL. Bytes without a fault are a padded text. A function that accepts only a text returns
+ *   NUL if they end with a NUL.
  *
  * Words
  *   text          bytes from 1 to 127, none or more
@@ -50,14 +49,14 @@ extern "C" {
 /* Of this header: 10,000 times the first number, 100 times the second, and the third. 200 is 0.2.0. */
 #define TINYSTR_VERSION 200
 
-/* The codes. A later version keeps their numbers, as it keeps those of the questions and cases. */
+/* The codes. Later versions keep the numbers of codes, questions and cases. */
 enum tinystr_code {
     TINYSTR_OK = 0,
     TINYSTR_TOO_LONG = 1,           /* more bytes than the capacity */
     TINYSTR_NUL = 2,                /* a NUL in a text, or before a character in a padded text */
     TINYSTR_NON_ASCII = 3,          /* a byte above 127 */
     TINYSTR_INVALID_LANGUAGE = 4,   /* the first subtag isn't a language */
-    TINYSTR_INVALID_SUBTAG = 5,     /* the first subtag is one, and a later one isn't accepted */
+    TINYSTR_INVALID_SUBTAG = 5,     /* the first subtag is a language, and a later one isn't accepted */
     TINYSTR_NO_ROOM = 6,            /* `out` is too short */
     TINYSTR_BAD_ARGUMENT = 7,       /* there is no such capacity, size, question or case */
     TINYSTR_BAD_LENGTH = 8,         /* the capacity doesn't divide the number of bytes */
@@ -70,7 +69,7 @@ enum tinystr_code {
     TINYSTR_MISPLACED = 15          /* a text of a hashed table isn't at its place */
 };
 
-/* The questions of tinystr_ask. Each is true of the empty text. */
+/* The questions (predicates) of tinystr_ask. Each is true of the empty text. */
 enum tinystr_question {
     TINYSTR_ALPHABETIC = 0,           /* each byte is a letter */
     TINYSTR_ALPHANUMERIC = 1,         /* a letter or a digit */
@@ -90,8 +89,8 @@ enum tinystr_case {
     TINYSTR_UPPER = 2
 };
 
-/* A code, and a number: 0, or what the function says. If a text is rejected, it is the number of bytes with TOO_LONG,
- * the index of the first NUL with NUL, and that of the first byte above 127 with NON_ASCII. */
+/* A code, and a value: 0, or what the function lists. If a text is rejected, it is the number of its bytes (TOO_LONG), the
+ * index of the first NUL (NUL), or the index of the first byte above 127 (NON_ASCII). */
 typedef struct tinystr_result {
     size_t value;
     uint32_t code;
@@ -104,15 +103,16 @@ typedef struct tinystr_range {
     uint32_t code;
 } tinystr_range;
 
-/* The version of the library that is linked, as TINYSTR_VERSION. */
+/* The version of the linked library, as TINYSTR_VERSION. */
 uint32_t tinystr_version(void);
 
-/* The length of `out` that holds any canonical text, and a NUL after it. */
+/* The length of an `out` that holds any canonical text, and a NUL after it. */
 #define TINYSTR_LANGID_ROOM 18
 
 /* Reads a language identifier: a language of 2, 3 or 5 to 8 letters, and then a script of 4 letters, a region of 2
- * letters or 3 digits, both or neither, in any case, with `-` or `_` between. Writes its canonical text, as zh-Hant-TW,
- * and NULs up to the end of `out`. Nothing is looked up in a registry.
+ * letters or 3 digits, both or neither, in any case, with `-` or `_` between. Variants, extlangs, extensions and private
+ * use are rejected. Writes its canonical text, as zh-Hant-TW, and NULs up to the end of `out`. Only case and separators
+ * change, and nothing is looked up in a registry: iw stays iw.
  *   OK                 value: the length of the text, at most 17. Where `out` is longer, it is a C string.
  *   INVALID_LANGUAGE
  *   INVALID_SUBTAG
@@ -128,16 +128,16 @@ tinystr_result tinystr_langid(const void *input, size_t input_len, void *out, si
  * With any code but OK, `out` is as it was. */
 tinystr_result tinystr_read(const void *input, size_t input_len, void *out, size_t out_len);
 
-/* Answers a question about a text of at most 16 bytes, padded or not.
+/* Whether a question (a predicate) is true of a text of at most 16 bytes, padded or not.
  *   OK                 value: 1 for yes, 0 for no.
- *   BAD_ARGUMENT       value: the question, which is no number of tinystr_question.
+ *   BAD_ARGUMENT       value: the question, which isn't one of tinystr_question.
  *   BAD_ARGUMENT       value: `text_len`, which is above 16.
  *   NUL, NON_ASCII     The bytes aren't a padded text. */
 tinystr_result tinystr_ask(const void *text, size_t text_len, uint32_t question);
 
 /* Changes the case of a text of at most 16 bytes, padded or not, in place.
  *   OK                 value: the length of the text.
- *   BAD_ARGUMENT       value: the case, which is no number of tinystr_case.
+ *   BAD_ARGUMENT       value: the case, which isn't one of tinystr_case.
  *   BAD_ARGUMENT       value: `text_len`, which is above 16.
  *   NUL, NON_ASCII     The bytes aren't a padded text.
  * With any code but OK, the bytes are as they were. */
@@ -156,8 +156,8 @@ tinystr_result tinystr_table_check(const void *bytes, size_t bytes_len, size_t c
  *   NOT_RISING         value: the index of the first record that isn't above the one before it. */
 tinystr_result tinystr_sorted_check(const void *bytes, size_t bytes_len, size_t capacity);
 
-/* Searches a text, without NULs after it, in strictly ascending records. The records aren't checked again: of any other
- * bytes it returns OK with the index of some record, or NOT_FOUND with an index from 0 to the number of records.
+/* Searches a text, without NULs after it, in strictly ascending records. The records aren't checked: if they are anything
+ * else, it returns OK with the index of some record, or NOT_FOUND with an index from 0 to the number of records.
  *   OK                 value: its index.
  *   NOT_FOUND          value: the index at which it is to be inserted.
  *   TOO_LONG           The key has more than `capacity` bytes.
@@ -166,12 +166,12 @@ tinystr_result tinystr_sorted_search(const void *bytes, size_t bytes_len, size_t
                                      const void *key, size_t key_len);
 
 /* Searches each of some keys in strictly ascending records. The keys are records of the same capacity, in any order,
- * and are checked. The records aren't checked again. For many keys among many records this takes less time than a
+ * and are checked. The records aren't checked. For many keys among many records this takes less time than a
  * search for each.
- *   OK                 value: how many keys. `out` begins with a result for each key. Of strictly ascending records it
- *                      is the result of tinystr_sorted_search: OK with the key's index, or NOT_FOUND with the index at
- *                      which the key is to be inserted. Of any other bytes it is a place inside them too, which may
- *                      differ from the one that tinystr_sorted_search returns.
+ *   OK                 value: how many keys. `out` begins with a result for each key, that of tinystr_sorted_search: OK
+ *                      with the key's index, or NOT_FOUND with the index at which the key is to be inserted. If the
+ *                      records aren't strictly ascending, the indices stay in bounds too, and may differ from those of
+ *                      tinystr_sorted_search.
  *   BAD_LENGTH         value: `keys_len`.
  *   NUL, NON_ASCII     value: the index of the first key that isn't a padded text.
  *   NO_ROOM            value: how many keys, which is above `out_len`.
@@ -180,11 +180,11 @@ tinystr_result tinystr_sorted_search_each(const void *bytes, size_t bytes_len, s
                                           const void *keys, size_t keys_len,
                                           tinystr_result *out, size_t out_len);
 
-/* Finds the texts that begin with a text, in strictly ascending records. The records aren't checked again: of any other
- * bytes it returns a range inside them, which may be the wrong one.
+/* Finds the texts with the prefix `beginning`, in strictly ascending records. The records aren't checked: if they are
+ * anything else, the range stays in bounds, and may be wrong.
  *   OK                 start: the index of the first, or at which `beginning` is to be inserted. count: how many.
- *   TOO_LONG           The beginning has more than `capacity` bytes.
- *   NUL, NON_ASCII     The beginning isn't a text.
+ *   TOO_LONG           The prefix has more than `capacity` bytes.
+ *   NUL, NON_ASCII     The prefix isn't a text.
  * With any code but OK, start and count are 0. */
 tinystr_range tinystr_sorted_prefix(const void *bytes, size_t bytes_len, size_t capacity,
                                     const void *beginning, size_t beginning_len);
@@ -214,8 +214,8 @@ tinystr_result tinystr_map_check(const void *keys, size_t keys_len, size_t capac
  *   MISPLACED          value: the index of the first text that isn't at its place. */
 tinystr_result tinystr_hashed_check(const void *bytes, size_t bytes_len, size_t capacity);
 
-/* Searches a text, without NULs after it, in a hashed table. The bytes aren't checked again: for any others it returns OK
- * with the index of some record, or NOT_FOUND.
+/* Searches a text, without NULs after it, in a hashed table. The bytes aren't checked: if they are anything else, it returns
+ * OK with the index of some record, or NOT_FOUND.
  *   OK                 value: its index.
  *   NOT_FOUND          value: 0.
  *   TOO_LONG           The key has more than `capacity` bytes.
