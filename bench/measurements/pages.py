@@ -17,7 +17,7 @@ from measurements.other_tables import all_cells, c_headline, lines, loops, types
 from measurements.plot import Plot
 from measurements.ratios import FAILING, mean_of, named_slowest, slowest_of
 from measurements.results import THERE, Results
-from measurements.tables import range_text
+from measurements.tables import range_text, runs_text
 
 # Makes a block from all results and the folder of the pictures.
 Block = Callable[[dict[str, Results], str], str]
@@ -31,7 +31,8 @@ def headline(calls: Results, jobs: Results) -> str:
     return (
         f"- A call takes {mean_of(calls, 'full'):.2f} of the Rust crate's time on texts that fill their capacity, and"
         f" {mean_of(calls, 'mixed'):.2f} on texts of all lengths. (These are geometric means.)\n"
-        f"- A whole job takes {range_text(jobs, jobs.times, THERE)} of the time of a Rust program that does the same.\n"
+        f"- A whole job takes {range_text(jobs, jobs.times, THERE)} of the time of a Rust program that does the same (medians;"
+        f" single runs, {runs_text(jobs, jobs.times, THERE)}).\n"
         f"- The worst case, {slowest}, takes {ratio:.1f} times as long at capacity {capacity}.\n"
     )
 

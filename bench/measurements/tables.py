@@ -65,6 +65,12 @@ def range_text(results: Results, cells: Iterable[Cell], rival: str, whose: str =
     return f"{min(ratios):.2f} to {max(ratios):.2f}"
 
 
+def runs_text(results: Results, cells: Iterable[Cell], rival: str) -> str:
+    """The least and the largest ratio of the single runs of some cells."""
+    ratios = [ratio for cell in cells for ratio in results.ratios(cell, rival)]
+    return f"{min(ratios):.2f} to {max(ratios):.2f}"
+
+
 def marked(results: Results, cell: Cell) -> str:
     """The ratio, after a mark where there is a spread."""
     return ("~" if spread(results, cell, THERE) else " ") + ratio_text(results.ratio(cell, THERE))
