@@ -29,8 +29,10 @@ separator b h f = grind (arith, nat_tests)
 pub length-example : (n : ℕ) → length (example n) ≤ 9
 length-example n = grind (arith, nat_tests)
 
-length-of_like : (n : ℕ) (v : List ℕ) → IsLike (example n) v → length v ≤ 9
-length-of_like n v like = omega (arith, length-example n, length-map v is_alphabetic, length-map (example n) is_alphabetic, ap (λ (m : List Bool). length m) like.letters)
+pub length-of_like : (n : ℕ) (v : List ℕ) → IsLike (example n) v → (length v ≡ length (example n)) × (length v ≤ 9)
+length-of_like n v like =
+    let same : length v ≡ length (example n) = omega (arith, length-map v is_alphabetic, length-map (example n) is_alphabetic, ap (λ (m : List Bool). length m) like.letters) in
+    (same, omega (arith, length-example n, same))
 
 pub tail_like : (x : List ℕ) → fold_text x ≡ x → IsLike (example (1 + length x)) (dash ∷ x) → is_tail (subtags_of x) ≡ true
 tail_like (a ∷ b ∷ []) f like = grind (arith, letter)
@@ -42,7 +44,7 @@ tail_like [] f like = absurd cc
 tail_like (a ∷ []) f like = absurd cc
 tail_like (a ∷ b ∷ c ∷ d ∷ e ∷ []) f like = absurd cc
 tail_like (a ∷ b ∷ c ∷ d ∷ e ∷ g ∷ []) f like = absurd cc
-tail_like (a ∷ b ∷ c ∷ d ∷ e ∷ g ∷ h ∷ i ∷ j ∷ x) _ like = absurd (omega (arith, length-of_like (1 + length (a ∷ b ∷ c ∷ d ∷ e ∷ g ∷ h ∷ i ∷ j ∷ x)) (dash ∷ a ∷ b ∷ c ∷ d ∷ e ∷ g ∷ h ∷ i ∷ j ∷ x) like))
+tail_like (a ∷ b ∷ c ∷ d ∷ e ∷ g ∷ h ∷ i ∷ j ∷ x) _ like = absurd (omega (arith, (length-of_like (1 + length (a ∷ b ∷ c ∷ d ∷ e ∷ g ∷ h ∷ i ∷ j ∷ x)) (dash ∷ a ∷ b ∷ c ∷ d ∷ e ∷ g ∷ h ∷ i ∷ j ∷ x) like).1))
 
 -- ---- a tail is like the example of its length, in whose case it is canonical
 
