@@ -22,6 +22,11 @@ length-first_subtag u = omega (arith, length-take (position_or_len is_separator 
 pub is_language-first_subtag : (u : List ℕ) (n : ℕ) → n ≡ position_or_len is_separator u → is_language (first_subtag u) ≡ (list_all is_alphabetic (take n u) && is_language_length n)
 is_language-first_subtag u n is = rw (length-first_subtag u, ← is) refl
 
+pub end-le : (u : List ℕ) → position_or_len is_separator u ≤ length u
+end-le u = prefix_len-le-length (λ b. not (is_separator b)) u
+
+pub ruleset first_subtag_bits = (is_language-first_subtag, end-le)
+
 -- ---- a language alone, read by the letters in front
 
 -- all of a language are letters in front

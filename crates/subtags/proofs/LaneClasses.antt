@@ -9,7 +9,7 @@ use Rattle.std.proofs.lemmas.Simd.{mask_l-mod}
 use Rattle.tinystr_words.specs.Text.{pad}
 use Rattle.tinystr_words.proofs.Words.Lanes.{below, below_at}
 use Rattle.tinystr_words.proofs.Texts.{NULS}
-use Rattle.subtags.proofs.MaskLemmas.{mask_l-append, mask_l-split, lowest-lt}
+use Rattle.subtags.proofs.MaskLemmas.{mask_l-append, mask_l-split, mask_l-under}
 
 -- a vector that is computed lane by lane
 lanewise : {A : Type 0} (V : ℕ → List ℕ → List A) (g : ℕ → A) → V 0 [] ≡ [] → ((n b : ℕ) (l : List ℕ) → b < 256 → V (suc n) (b ∷ l) ≡ g b ∷ V n l) → (n : ℕ) (lanes : List ℕ) → length lanes ≡ n → Each1 (Fits w8) lanes → V n lanes ≡ map g lanes
@@ -43,18 +43,20 @@ mask_l-nuls : (p : ℕ → Bool) → p 0 ≡ false → (k : ℕ) → mask_l (map
 mask_l-nuls p none zero = refl
 mask_l-nuls p none (suc k) = ap₂ (λ (b : Bool) (n : ℕ). cond b 1 0 + 2 * n) none (mask_l-nuls p none k)
 
-pub mask_l-few : (p : ℕ → Bool) → p 0 ≡ false → (u lanes : List ℕ) → length u ≤ 16 → lanes ≡ pad (take 16 u) 16 → mask_l (map p lanes) ≡ mask_l (map p u)
-mask_l-few p none u lanes few loaded = rw (loaded, take_all 16 u few, mask_l-append p u (NULS (16 - length u)), mask_l-nuls p none (16 - length u)) (omega arith)
+pub mask_l_few : (p : ℕ → Bool) (u : List ℕ) → p 0 ≡ false → length u ≤ 16 → mask_l (map p (pad (take 16 u) 16)) ≡ mask_l (map p u)
+mask_l_few p u none few = rw (take_all 16 u few, mask_l-append p u (NULS (16 - length u)), mask_l-nuls p none (16 - length u)) (omega arith)
 
-pub mask_l-sixteen : (p : ℕ → Bool) (u lanes : List ℕ) → length u ≡ 17 → lanes ≡ pad (take 16 u) 16
-    → (mask_l (map p lanes) < 2 ^ 16) × (mask_l (map p lanes) + cond (p (get_or u 16 0)) (2 ^ 16) 0 ≡ mask_l (map p u))
-mask_l-sixteen p u lanes long loaded =
+pub mask_l_sixteen : (p : ℕ → Bool) (lanes : List ℕ) → length lanes ≡ 16 → mask_l (map p lanes) < 2 ^ 16
+mask_l_sixteen p lanes long = rw long at (mask_l-under p lanes)
+
+pub mask_l_last : (p : ℕ → Bool) (u : List ℕ) (bit : Bool) → 16 < length u → length u ≤ 17 → bit ≡ p (get_or u 16 0) → mask_l (map p (pad (take 16 u) 16)) + cond bit (2 ^ 16) 0 ≡ mask_l (map p u)
+mask_l_last p u bit more few is =
     let sixteen : length (take 16 u) ≡ 16 = omega (arith, length-take 16 u) in
-    let front : lanes ≡ take 16 u = rw (loaded, sixteen) (append-nil (take 16 u)) in
-    let split = mask_l-split p 16 u (omega arith) in
-    let back : drop 16 u ≡ get_or u 16 0 ∷ [] = drop-cons u 16 0 (omega arith) ∙ ap (λ (l : List ℕ). get_or u 16 0 ∷ l) (drop_all 17 u (omega arith)) in
-    (rw front (lowest-lt p 16 u (omega arith)), rw front (one (p (get_or u 16 0)) (mask_l (map p (take 16 u)))) ∙ sym (rw back at split))
+    let back : drop 16 u ≡ get_or u 16 0 ∷ [] = drop-cons u 16 0 more ∙ ap (λ (l : List ℕ). get_or u 16 0 ∷ l) (drop_all 17 u few) in
+    rw (is, sixteen, append-nil (take 16 u)) (one (p (get_or u 16 0)) (mask_l (map p (take 16 u))) ∙ sym (rw back at (mask_l-split p 16 u (omega arith))))
   where
     one : (b : Bool) (n : ℕ) → n + cond b (2 ^ 16) 0 ≡ (cond b 1 0 + 2 * 0) * 2 ^ 16 + n
     one true n = omega arith
     one false n = omega arith
+
+pub ruleset seventeen = (mask_l_few, mask_l_sixteen, mask_l_last)

@@ -11,7 +11,7 @@ use Rattle.std.proofs.lemmas.List.{length-map, length-take, length-append, lengt
 use Rattle.std.proofs.lemmas.List.Folds.{position_or_len_push}
 use Rattle.std.proofs.lemmas.Simd.{mask_l-lt, trailing_mask_l}
 use Rattle.tinystr_words.specs.Classes.{is_alphabetic, is_digit}
-use Rattle.subtags.specs.Grammar.{is_separator}
+use Rattle.subtags.specs.Grammar.{dash, is_separator}
 use Rattle.subtags.specs.Private.Tails.{IsLike, classes_of, one_more}
 
 pub mask_l-under : {X : Type 0} (p : X → Bool) (xs : List X) → mask_l (map p xs) < 2 ^ length xs
@@ -55,11 +55,11 @@ letters-in_front p k xs le =
     rw (mask_l-split p k xs le, digits_mod (mask_l (map p (drop k xs))) (lowest-lt p k xs le)) (rw len at (mask_l-all p (take k xs)))
 
 -- the lowest bit, where one more marks the end, is the first that passes
-pub first_from_mask : (p : ℕ → Bool) (b : ℕ) → p b ≡ true → (u : List ℕ) → length u < 64 → count_trailing_zeros 64 (mask_l (map p u) + 2 ^ length u) ≡ position_or_len p u
-first_from_mask p b e u few =
-    let last : mask_l (map p (u ++ b ∷ [])) ≡ mask_l (map p u) + 2 ^ length u = rw (mask_l-append p u (b ∷ []), e) (omega arith) in
-    let first : position_or_len p (u ++ b ∷ []) ≡ position_or_len p u = rw (position_or_len_push p u b, e) (grind (arith, nat_tests)) in
-    rw (← last) (trailing_mask_l p 64 (u ++ b ∷ []) (omega (arith, length-append u (b ∷ []))) (omega (arith, last, mask_l-under p u)) ∙ first)
+pub first_from_mask : (u : List ℕ) → length u ≤ 17 → count_trailing_zeros 64 (mask_l (map is_separator u) + 2 ^ length u) ≡ position_or_len is_separator u
+first_from_mask u few =
+    let last : mask_l (map is_separator (u ++ dash ∷ [])) ≡ mask_l (map is_separator u) + 2 ^ length u = rw (mask_l-append is_separator u (dash ∷ [])) (omega arith) in
+    let first : position_or_len is_separator (u ++ dash ∷ []) ≡ position_or_len is_separator u = rw (position_or_len_push is_separator u dash) (grind (arith, nat_tests)) in
+    rw (← last) (trailing_mask_l is_separator 64 (u ++ dash ∷ []) (omega (arith, length-append u (dash ∷ []))) (omega (arith, last, mask_l-under is_separator u)) ∙ first)
 
 -- the marks and a bit after them fit into 64
 pub mask_l-end : (p : ℕ → Bool) (u : List ℕ) → length u ≤ 17 → mask_l (map p u) + 2 ^ length u < 2 ^ 64
@@ -135,3 +135,5 @@ number_from_like (a ∷ t) u e letters more like =
     let no_separators = mask_l-none is_separator (λ b h. grind (arith, nat_tests)) (take e u) letters in
     rw (one_more-shifted (mask_l (map is_alphabetic (a ∷ t))) (mask_l (map is_digit (a ∷ t))) (mask_l (map is_separator (a ∷ t))) (2 ^ e))
     (omega (arith, rw like.letters at (split is_alphabetic), rw like.digits at (split is_digit), rw like.separators at (split is_separator), ones, no_digits, no_separators))
+
+pub ruleset class_bits = (mask_l-lt_17, mask_l-end, shifted-one, letters-in_front, first_from_mask)

@@ -24,6 +24,7 @@ pub(crate) fn first_lanes(units: &[u8]) -> u8x16
 }
 
 /// Which of at most 17 bytes are letters.
+#[tactic(auto, using(crate::proofs::LaneClasses::seventeen))]
 #[inline(always)]
 pub(crate) fn letters_of(units: &[u8], lanes: u8x16) -> u64
     requires few { length units.now ≤ 17 }
@@ -39,6 +40,7 @@ pub(crate) fn letters_of(units: &[u8], lanes: u8x16) -> u64
 }
 
 /// Which of at most 17 bytes are digits.
+#[tactic(auto, using(crate::proofs::LaneClasses::seventeen))]
 #[inline(always)]
 pub(crate) fn digits_of(units: &[u8], lanes: u8x16) -> u64
     requires few { length units.now ≤ 17 }
@@ -54,6 +56,7 @@ pub(crate) fn digits_of(units: &[u8], lanes: u8x16) -> u64
 }
 
 /// Which of at most 17 bytes are separators.
+#[tactic(auto, using(crate::proofs::LaneClasses::seventeen))]
 #[inline(always)]
 pub(crate) fn separators_of(units: &[u8], lanes: u8x16) -> u64
     requires few { length units.now ≤ 17 }
