@@ -7,16 +7,13 @@ use Rattle.tinystr_words.specs.Case.{titlecase, uppercase}
 use Rattle.subtags.specs.Grammar.{fold_byte, is_language, is_script, is_region, IsCanonical, canonical_text}
 use Rattle.subtags.specs.Subtags.{IsCanonicalSubtag, language_of, script_of, region_of, after_dash, join_subtags}
 use Rattle.subtags.proofs.CanonLemmas.{fold_text-canonical_text}
-use Rattle.subtags.proofs.PlaceLemmas.{InPlace-canonical}
+use Rattle.subtags.proofs.PlaceLemmas.{InPlace-canonical, length-language}
 use Rattle.subtags.proofs.ReadLemmas.{join_subtags-IsCanonical}
 
 -- the fold keeps the length
 pub length-canonical_text : (u : List ℕ) → length (canonical_text u) ≡ length u
 length-canonical_text u =
     sym (length-map (canonical_text u) fold_byte) ∙ ap (λ (t : List ℕ). length t) (fold_text-canonical_text u) ∙ length-map u fold_byte
-
-length-language : (l : List ℕ) → is_language l ≡ true → (2 ≤ length l) × (length l ≤ 8)
-length-language l h = (grind (arith, nat_tests), grind (arith, nat_tests))
 
 length-script : (s : Option (List ℕ)) → IfSome s (IsCanonicalSubtag is_script titlecase) → length (after_dash s) ≤ 5
 length-script None h = omega arith

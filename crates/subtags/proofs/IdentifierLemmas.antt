@@ -8,6 +8,7 @@ use Rattle.std.proofs.lemmas.Bool.Decides.{nat_tests}
 use Rattle.std.proofs.lemmas.List.{take_all, take-take, length-drop, length-map}
 use Rattle.std.proofs.lemmas.List.Elements.{All-append, All-nil, All-cons}
 use Rattle.std.proofs.lemmas.List.Sums.{passes_at_first}
+use Rattle.tinystr_words.proofs.Parts.Positions.{position_or_len-take}
 use Rattle.tinystr_words.specs.Text.{IsStrictText, IsText, IsTextByte}
 use Rattle.subtags.specs.Grammar.{dash, is_separator, is_language, is_language_length, is_tail, fold_byte, fold_text, subtags_of, is_lang_id, IsLangId, canonical_subtag, canonical_text, canonical_of}
 use Rattle.subtags.specs.declared.error.LangIdError.TheVariants.{InvalidSubtag, InvalidLanguage}
@@ -22,33 +23,16 @@ use Rattle.subtags.proofs.PlaceLemmas.{length-language}
 use Rattle.subtags.proofs.ReadLemmas.{refused_without_language}
 use Rattle.subtags.proofs.TailLemmas.{tail_like, tail_cased, like-fold_text}
 
--- the first that passes, in a front of a list
-first_in_front : (p : ℕ → Bool) (n : ℕ) (xs : List ℕ) → position_or_len p (take n xs) ≡ min n (position_or_len p xs)
-first_in_front p zero xs = omega arith
-first_in_front p (suc n) [] = omega arith
-first_in_front p (suc n) (x ∷ xs) = step (not (p x)) (position_or_len p (take n xs)) (position_or_len p xs) (first_in_front p n xs) where
-  step : (b : Bool) (k m : ℕ) → k ≡ min n m → cond b (1 + k) 0 ≡ min (suc n) (cond b (1 + m) 0)
-  step true k m e = omega (arith, e)
-  step false k m e = omega arith
+long_is_no_language : (p : List ℕ) → 8 < length p → is_language p ≡ false
+long_is_no_language p long = false_from_ne_true (is_language p) (λ h. absurd (omega (arith, length-language p h)))
 
 -- the first subtag is a language in the first 17 bytes exactly if it is one
-pub first_subtag-take : (u : List ℕ) → (is_language (first_subtag (take 17 u)) ≡ is_language (first_subtag u)) × (is_language (first_subtag (take 17 u)) ≡ true → first_subtag (take 17 u) ≡ first_subtag u)
+pub first_subtag-take : (u : List ℕ) → is_language (first_subtag (take 17 u)) ≡ is_language (first_subtag u)
 first_subtag-take u =
-    let p = position_or_len is_separator u in
-    let found = first_in_front is_separator 17 u in
-    elim (cases_lt 17 p) [
-      | inl far ↦
-          let long = length-language (first_subtag u) in
-          let cut = length-language (first_subtag (take 17 u)) in
-          let size = length-first_subtag u in
-          let size_17 = length-first_subtag (take 17 u) in
-          let no = false_from_ne_true (is_language (first_subtag u)) (λ h. absurd (omega (arith, long h, size, far))) in
-          let none = false_from_ne_true (is_language (first_subtag (take 17 u))) (λ h. absurd (omega (arith, cut h, size_17, found, far))) in
-          (none ∙ sym no, λ h. absurd (omega (arith, cut h, size_17, found, far)))
-      | inr near ↦
-          let at : position_or_len is_separator (take 17 u) ≡ p = omega (arith, found, near) in
-          let same : first_subtag (take 17 u) ≡ first_subtag u = ap (λ n. take n (take 17 u)) at ∙ take-take p 17 u near in
-          (ap is_language same, λ _. same)
+    let found = position_or_len-take is_separator 17 u in
+    elim (cases_lt 17 (position_or_len is_separator u)) [
+      | inl far ↦ long_is_no_language (first_subtag (take 17 u)) (omega (arith, length-first_subtag (take 17 u), found, far)) ∙ sym (long_is_no_language (first_subtag u) (omega (arith, length-first_subtag u, far)))
+      | inr near ↦ (let at : position_or_len is_separator (take 17 u) ≡ position_or_len is_separator u = omega (arith, found, near) in rw (at, take-take (position_or_len is_separator u) 17 u near) refl)
     ]
 
 -- a canonical text is a text
@@ -74,7 +58,7 @@ letters_alone u letters = subtags_of-alphanumeric (fold_text u) (alphanumeric-fo
 pub letters_read : (u : List ℕ) → list_all is_alphabetic u ≡ true → is_language_length (length u) ≡ true → IsLangId u × (canonical_text u ≡ map fold_byte u) × (length u ≤ 8)
 letters_read u letters size =
     let language : is_language u ≡ true = rw (letters, size) refl in
-    (rw (letters_alone u letters, is_language-fold_text u, language) refl, rw (letters_alone u letters) refl, length-language u language)
+    (rw (letters_alone u letters, is_language-fold_text u, language) refl, rw (letters_alone u letters) refl, (length-language u language).1)
 
 pub letters_refused : (u : List ℕ) → list_all is_alphabetic u ≡ true → is_language_length (length u) ≡ false → (is_lang_id (subtags_of (fold_text u)) ≡ false) × (refusal_of u ≡ InvalidLanguage)
 letters_refused u letters wrong = refused_without_language u u [] (letters_alone u letters) (rw (letters, wrong) refl)

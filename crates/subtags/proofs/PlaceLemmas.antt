@@ -1,10 +1,11 @@
 -- Where the subtags of a canonical text stand.
-use Rattle.std.proofs.Common.{get_or, ◌≡◌, ◌+◌, ◌-◌, ◌<◌, ◌≤◌, ◌==◌, ℕ, suc, inl, inr, Bool, true, length, List, [], ◌∷◌, ◌++◌, take, drop, Option, None, Some, map, refl, sym, ap, ◌∙◌, arith}
+use Rattle.std.proofs.Common.{◌≡◌, ◌+◌, ◌-◌, ◌<◌, ◌≤◌, ◌==◌, ℕ, suc, inl, inr, Bool, true, length, List, [], ◌∷◌, ◌++◌, take, drop, Option, None, Some, map, refl, sym, ap, ◌∙◌, arith}
 use Rattle.std.proofs.lemmas.Bool.{cases_lt}
 use Rattle.std.proofs.lemmas.Bool.Decides.{nat_tests}
-use Rattle.std.proofs.lemmas.List.{places, append-nil, take_all, get_or-take, length-append, length-take, take-take}
+use Rattle.std.proofs.lemmas.List.{append-nil, take_all, get_or-take, length-append, length-take, take-take}
 use Rattle.std.proofs.lemmas.List.Sums.{position_or_len_is}
-use Rattle.std.proofs.Math.Seq.{drop-append-add, take-append_seam}
+use Rattle.std.proofs.Math.ListN.{get_or-append}
+use Rattle.std.proofs.Math.Seq.{drop-append-add, take-append_seam, get_or-append_seam}
 use Rattle.std.specs.List.{find, position, position_or_len}
 use Rattle.std.specs.Option.{IfSome, unwrap_or}
 use Rattle.tinystr_words.specs.Case.{lowercase, titlecase, uppercase}
@@ -16,28 +17,19 @@ use Rattle.subtags.proofs.SplitLemmas.{no_dash, subtags_at_first_separator}
 use Rattle.subtags.proofs.ReadLemmas.{subtags-IsCanonical, join_subtags-IsCanonical}
 use Rattle.subtags.proofs.CanonLemmas.{is_script-canonical_subtag, is_region-canonical_subtag, no_script-from_region}
 
--- the script of a tail in its case is canonical
-canonical_script : (ps : List (List ℕ)) → IfSome (find is_script (map canonical_subtag ps)) (IsCanonicalSubtag is_script titlecase)
-canonical_script [] = tt
-canonical_script (p ∷ ps) =
-    let one = IsCanonicalSubtag-titlecase p in
-    let same = is_script-canonical_subtag p in
-    let rest = canonical_script ps in
-    grind arith
+-- a canonical subtag that is found among others
+canonical_found : (t : List ℕ → Bool) (f : List ℕ → List ℕ) → ((p : List ℕ) → t (canonical_subtag p) ≡ true → IsCanonicalSubtag t f (canonical_subtag p)) → (ps : List (List ℕ)) → IfSome (find t (map canonical_subtag ps)) (IsCanonicalSubtag t f)
+canonical_found t f each [] = tt
+canonical_found t f each (p ∷ ps) = let one = each p in let rest = canonical_found t f each ps in grind arith
 
--- and so is its region
-canonical_region : (ps : List (List ℕ)) → IfSome (find is_region (map canonical_subtag ps)) (IsCanonicalSubtag is_region uppercase)
-canonical_region [] = tt
-canonical_region (p ∷ ps) =
-    let one = IsCanonicalSubtag-uppercase p in
-    let same = is_region-canonical_subtag p in
-    let not = no_script-from_region p in
-    let rest = canonical_region ps in
-    grind arith
+canonical_script : (p : List ℕ) → is_script (canonical_subtag p) ≡ true → IsCanonicalSubtag is_script titlecase (canonical_subtag p)
+canonical_script p h = let is = sym (is_script-canonical_subtag p) ∙ h in rw is (IsCanonicalSubtag-titlecase p is)
 
--- a language has at most 8 letters
-pub length-language : (l : List ℕ) → is_language l ≡ true → length l ≤ 8
-length-language l h = grind (arith, nat_tests)
+canonical_region : (p : List ℕ) → is_region (canonical_subtag p) ≡ true → IsCanonicalSubtag is_region uppercase (canonical_subtag p)
+canonical_region p h = let is = sym (is_region-canonical_subtag p) ∙ h in rw (no_script-from_region p is) (IsCanonicalSubtag-uppercase p is)
+
+pub length-language : (l : List ℕ) → is_language l ≡ true → (2 ≤ length l) × (length l ≤ 8)
+length-language l h = (grind (arith, nat_tests), grind (arith, nat_tests))
 
 -- the first place that passes, or another where none does
 first_or : (p : ℕ → Bool) (xs : List ℕ) (n d : ℕ) → position_or_len p xs ≡ n → (length xs ≤ n → n ≡ d) → unwrap_or (position p xs) d ≡ n
@@ -45,13 +37,6 @@ first_or p xs n d at past = elim (cases_lt (position_or_len p xs) (length xs)) [
   | inl inside ↦ grind (arith, nat_tests)
   | inr outside ↦ (let none : n ≡ d = past (omega arith) in grind (arith, nat_tests))
 ]
-
--- bytes, and a dash behind them
-get_or-front : (l w : List ℕ) (k : ℕ) → k < length l → get_or (l ++ dash ∷ w) k 0 ≡ get_or l k 0
-get_or-front l w k inside = grind (arith, places)
-
-get_or-dash : (l w : List ℕ) → get_or (l ++ dash ∷ w) (length l) 0 ≡ dash
-get_or-dash l w = grind (arith, places)
 
 -- where a dash stands behind a language, it ends there
 language_end-dash : (l w : List ℕ) → is_language l ≡ true → language_end (l ++ dash ∷ w) ≡ length l
@@ -62,8 +47,8 @@ language_end-dash l w h =
     let len = length-append l (dash ∷ w) in
     let front = length-take 8 t in
     let at : position_or_len (λ b. b == dash) (take 8 t) ≡ length l = position_or_len_is (λ b. b == dash) (take 8 t) (length l) 0 (omega arith)
-    (λ k below. rw (get_or-take 8 t k 0 (omega arith), get_or-front l w k below) (none k 0 below))
-    (λ inside. rw (get_or-take 8 t (length l) 0 (omega arith), get_or-dash l w) refl) in
+    (λ k below. rw (get_or-take 8 t k 0 (omega arith), get_or-append l (dash ∷ w) 0 k below) (none k 0 below))
+    (λ inside. rw (get_or-take 8 t (length l) 0 (omega arith), get_or-append_seam l dash w 0) refl) in
     first_or (λ b. b == dash) (take 8 t) (length l) 8 at (λ all. omega arith)
 
 -- where nothing stands behind it, there is no dash
@@ -72,7 +57,7 @@ language_end-whole l h =
     let none = no_dash l (alphanumeric-from_subtag l (grind arith)) in
     let few = length-language l h in
     let end : position_or_len (λ b. b == dash) l ≡ length l = position_or_len_is (λ b. b == dash) l (length l) 0 (omega arith) (λ k below. none k 0 below) (λ inside. absurd (omega arith)) in
-    rw (take_all 8 l few) (grind (arith, nat_tests))
+    rw (take_all 8 l few.1) (grind (arith, nat_tests))
 
 -- the text t has the subtag l up to a place, s behind it, and r from another place on
 pub record InPlace (t : List ℕ) (end start : ℕ) (l : List ℕ) (s r : Option (List ℕ)) : Type 0 where
@@ -117,7 +102,7 @@ InPlace-join_subtags l None None language script region =
     let few = length-language l language in
     let end = language_end-whole l language in
     let start : region_start l ≡ 9 = grind (arith, nat_tests) in
-    rw (append-nil) (rw (start, end) record { language = take_all 8 l few; script = λ more. absurd (omega arith); no_script = λ _. refl; region = λ more. absurd (omega arith); no_region = λ _. refl })
+    rw (append-nil) (rw (start, end) record { language = take_all 8 l few.1; script = λ more. absurd (omega arith); no_script = λ _. refl; region = λ more. absurd (omega arith); no_region = λ _. refl })
 InPlace-join_subtags l None (Some r) language script region =
     let form = region.well_formed in
     let two : 2 ≤ length r = grind (arith, nat_tests) in
@@ -141,8 +126,8 @@ InPlace-split t p ps h split =
     let of = subtags-IsCanonical t (fold_text p) ps h split in
     let is : is_language p ≡ true = sym (is_language-fold_text p) ∙ of.0 in
     let language : IsCanonicalSubtag is_language lowercase (language_of t) = rw (of.2, fold_text-alphanumeric p (alphanumeric-from_subtag p (grind arith))) (IsCanonicalSubtag-lowercase p is) in
-    let script : IfSome (script_of t) (IsCanonicalSubtag is_script titlecase) = rw (of.2) (canonical_script ps) in
-    let region : IfSome (region_of t) (IsCanonicalSubtag is_region uppercase) = rw (of.2) (canonical_region ps) in
+    let script : IfSome (script_of t) (IsCanonicalSubtag is_script titlecase) = rw (of.2) (canonical_found is_script titlecase canonical_script ps) in
+    let region : IfSome (region_of t) (IsCanonicalSubtag is_region uppercase) = rw (of.2) (canonical_found is_region uppercase canonical_region ps) in
     let joined = InPlace-join_subtags (language_of t) (script_of t) (region_of t) language.well_formed script region in
     (rw (← join_subtags-IsCanonical t h) at joined, language, script, region)
 
@@ -157,7 +142,7 @@ pub language-slice : (t : List ℕ) (end : ℕ) → IsCanonical t → end ≡ la
 language-slice t end h is =
     let place = InPlace-canonical t h in
     let count : end - 0 ≡ language_end t = omega (arith, is) in
-    ap (take 8) (ap (λ n. take n t) count ∙ place.0.language) ∙ take_all 8 (language_of t) (length-language (language_of t) place.1.well_formed)
+    ap (take 8) (ap (λ n. take n t) count ∙ place.0.language) ∙ take_all 8 (language_of t) (length-language (language_of t) place.1.well_formed).1
 
 -- as many bytes from a place on as there is room for
 pub slice-from : (t : List ℕ) (start most : ℕ) → take most (take (start + most - start) (drop start t)) ≡ take most (drop start t)

@@ -5,4 +5,4 @@ use Rattle.subtags.proofs.lang_id.refusal_of_more.Goals as goal
 pub returns : goal.returns
 returns c =
     let u = c.args.units.now in
-    record { error = rw (c.refusal.ensures, (first_subtag-take u).0) (sym (refusal_by_language u)); refused = more_refused u c.requires }
+    record { error = rw (c.refusal.ensures, first_subtag-take u) (sym (refusal_by_language u)); refused = more_refused u c.requires }
