@@ -138,12 +138,26 @@ pub InPlace-canonical : (t : List ℕ) → IsCanonical t
 InPlace-canonical t h = InPlace-split t _ _ h (subtags_at_first_separator t)
 
 -- the bytes up to its end are the language
-pub language-slice : (t : List ℕ) (end : ℕ) → IsCanonical t → end ≡ language_end t → take 8 (take (end - 0) (drop 0 t)) ≡ language_of t
-language-slice t end h is =
+pub language_at : (t : List ℕ) (end : ℕ) → IsCanonical t → end ≡ language_end t → take 8 (take (end - 0) (drop 0 t)) ≡ language_of t
+language_at t end h is =
     let place = InPlace-canonical t h in
     let count : end - 0 ≡ language_end t = omega (arith, is) in
     ap (take 8) (ap (λ n. take n t) count ∙ place.0.language) ∙ take_all 8 (language_of t) (length-language (language_of t) place.1.well_formed).1
 
 -- as many bytes from a place on as there is room for
-pub slice-from : (t : List ℕ) (start most : ℕ) → take most (take (start + most - start) (drop start t)) ≡ take most (drop start t)
+slice-from : (t : List ℕ) (start most : ℕ) → take most (take (start + most - start) (drop start t)) ≡ take most (drop start t)
 slice-from t start most = let count : start + most - start ≡ most = omega arith in rw count (take-take most most (drop start t) (omega arith))
+
+pub script_at : (t : List ℕ) (end : ℕ) → IsCanonical t → end ≡ language_end t → end + 4 < length t → Some (take 4 (take (end + 1 + 4 - (end + 1)) (drop (end + 1) t))) ≡ script_of t
+script_at t end h is more = rw (slice-from t (end + 1) 4, is) (sym ((InPlace-canonical t h).0.script (omega (arith, is))))
+
+pub no_script : (t : List ℕ) (end : ℕ) → IsCanonical t → end ≡ language_end t → length t ≤ end + 4 → script_of t ≡ None
+no_script t end h is few = (InPlace-canonical t h).0.no_script (omega (arith, is))
+
+pub region_at : (t : List ℕ) (start : ℕ) → IsCanonical t → start ≡ region_start t → start < length t → Some (take 3 (take (start + 3 - start) (drop start t))) ≡ region_of t
+region_at t start h is more = rw (slice-from t start 3, is) (sym ((InPlace-canonical t h).0.region (rw is at more)))
+
+pub no_region : (t : List ℕ) (start : ℕ) → IsCanonical t → start ≡ region_start t → length t ≤ start → region_of t ≡ None
+no_region t start h is few = (InPlace-canonical t h).0.no_region (rw is at few)
+
+pub ruleset subtags_in_place = (language_at, script_at, no_script, region_at, no_region, nat_tests)

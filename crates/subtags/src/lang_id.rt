@@ -136,6 +136,7 @@ impl LangId {
     }
 
     /// The language, which each identifier has.
+    #[tactic(auto, using(crate::proofs::PlaceLemmas::subtags_in_place))]
     #[inline]
     pub fn language(&self) -> Language
         ensures { result ≡ language_of self.now }
@@ -150,6 +151,7 @@ impl LangId {
     /// assert_eq!(rt; LangId::try_from_utf8(b"zh-hant")?.script(), Some("Hant".parse()?));
     /// assert_eq!(rt; LangId::try_from_utf8(b"zh-tw")?.script(), None);
     /// ```
+    #[tactic(auto, using(crate::proofs::PlaceLemmas::subtags_in_place))]
     #[inline]
     pub fn script(&self) -> Option<Script>
         ensures { result ≡ script_of self.now }
@@ -162,6 +164,7 @@ impl LangId {
     }
 
     /// The region, if the identifier has one.
+    #[tactic(auto, using(crate::proofs::PlaceLemmas::subtags_in_place))]
     #[inline]
     pub fn region(&self) -> Option<Region>
         ensures { result ≡ region_of self.now }
