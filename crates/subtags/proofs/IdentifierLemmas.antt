@@ -15,7 +15,7 @@ use Rattle.subtags.specs.declared.error.LangIdError.TheVariants.{InvalidSubtag, 
 use Rattle.subtags.specs.Answers.{refusal_of}
 use Rattle.subtags.specs.Private.Tails.{IsLike, HasTail, example, first_subtag, in_case_of, in_case_of_byte}
 use Rattle.subtags.proofs.CanonicalLen.{length-IsCanonical, length-canonical_text}
-use Rattle.subtags.proofs.CanonLemmas.{IsCanonical-canonical_text, is_tail-canonical, plain_subtags}
+use Rattle.subtags.proofs.CanonLemmas.{IsCanonical-canonical_text, fold_text-canonical_text, is_tail-canonical, plain_subtags}
 use Rattle.subtags.proofs.FoldLemmas.{All-from_list_all, is_language-fold_text, fold_text-fold_text, alphanumeric-fold_text, alphanumeric-from_letters}
 use Rattle.subtags.proofs.HeadLemmas.{length-first_subtag}
 use Rattle.subtags.proofs.SplitLemmas.{subtags_after, subtags_at_first_separator, subtags_of-alphanumeric}
@@ -143,3 +143,31 @@ pub more_refused : (u : List ℕ) → 17 < length u → canonical_of u ≡ None
 more_refused u more =
     let no = false_from_ne_true (is_lang_id (subtags_of (fold_text u))) (λ h. absurd (omega (arith, more, length-canonical_text u, (length-IsCanonical (canonical_text u) (IsCanonical-canonical_text u h)).1))) in
     rw no refl
+
+-- ---- what the reader returns
+
+whole : (u : List ℕ) (x : Bool) → list_all is_alphabetic (take (length u) u) ≡ x → list_all is_alphabetic u ≡ x
+whole u x is = rw (take_all (length u) u (omega arith)) at is
+
+pub letters_id : (u : List ℕ) → list_all is_alphabetic (take (length u) u) ≡ true → is_language_length (length u) ≡ true → is_lang_id (subtags_of (fold_text u)) ≡ true
+letters_id u letters size = (letters_read u (whole u true letters) size).0
+
+pub letters_text : (u : List ℕ) → list_all is_alphabetic (take (length u) u) ≡ true → is_language_length (length u) ≡ true → map fold_byte u ≡ canonical_text u
+letters_text u letters size = sym (letters_read u (whole u true letters) size).1
+
+pub letters_no_id : (u : List ℕ) → list_all is_alphabetic (take (length u) u) ≡ true → is_language_length (length u) ≡ false → is_lang_id (subtags_of (fold_text u)) ≡ false
+letters_no_id u letters size = (letters_refused u (whole u true letters) size).0
+
+pub letters_refusal : (u : List ℕ) → list_all is_alphabetic (take (length u) u) ≡ true → is_language_length (length u) ≡ false → refusal_of u ≡ InvalidLanguage
+letters_refusal u letters size = (letters_refused u (whole u true letters) size).1
+
+pub tail_id : (u : List ℕ) (e : ℕ) → e ≡ position_or_len is_separator u → HasTail e u → is_lang_id (subtags_of (fold_text u)) ≡ true
+tail_id u e end h = (tail_read u (rw (end ∙ sym (length-first_subtag u)) at h)).0
+
+pub tail_text : (u : List ℕ) (e : ℕ) → e ≡ position_or_len is_separator u → HasTail e u → map fold_byte (take e u) ++ in_case_of (example (length u - e)) (drop e u) ≡ canonical_text u
+tail_text u e end h = rw (end ∙ sym (length-first_subtag u)) (sym (tail_read u (rw (end ∙ sym (length-first_subtag u)) at h)).1)
+
+pub other_no_id : (u : List ℕ) (e : ℕ) → list_all is_alphabetic (take (length u) u) ≡ false → e ≡ position_or_len is_separator u → (HasTail e u → ⊥) → is_lang_id (subtags_of (fold_text u)) ≡ false
+other_no_id u e other end none = (not_read u (whole u false other) (λ h. none (subst (λ n. HasTail n u) (length-first_subtag u ∙ sym end) h))).0
+
+pub ruleset reading = (letters_id, letters_text, letters_no_id, letters_refusal, tail_id, tail_text, other_no_id, refusal_by_language, fold_text-canonical_text)

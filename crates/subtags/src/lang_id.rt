@@ -68,6 +68,7 @@ impl LangId {
     /// assert_eq!(rt; LangId::try_from_utf8(b"e"), Err(LangIdError::InvalidLanguage));
     /// assert_eq!(rt; LangId::try_from_utf8(b"en-US-posix"), Err(LangIdError::InvalidSubtag));
     /// ```
+    #[tactic(auto, using(crate::proofs::IdentifierLemmas::reading))]
     pub fn try_from_utf8(code_units: &[u8]) -> Result<Self, LangIdError>
         ensures accepted { IsOk result ↔ IsLangId code_units.now }
         ensures text { IfOk result (λ id. id ≡ canonical_text code_units.now) }

@@ -17,13 +17,6 @@ use Rattle.subtags.proofs.lang_id.LangId.try_from_utf8.Goals as goal
 letters : (u : List ℕ) (b : Bool) → b ≡ true → b ≡ list_all is_alphabetic (take (length u) u) → list_all is_alphabetic u ≡ true
 letters u b is of = ap (list_all is_alphabetic) (sym (take_all (length u) u (omega arith))) ∙ sym of ∙ is
 
-pub returns-then-not-is_language_length : goal.returns-then-not-is_language_length
-returns-then-not-is_language_length c =
-    let u = c.args.code_units.now in
-    let wrong : is_language_length (length u) ≡ false = sym c.is_language_length.ensures ∙ c.if-not-is_language_length.true in
-    let refused = letters_refused u (letters u _ c.if-are_letters.true c.are_letters.ensures) wrong in
-    record { accepted = (λ e. absurd (false≢true e), λ e. absurd (false≢true (sym refused.0 ∙ e))); text = tt; fold = tt; refusal = sym refused.1; value = rw (refused.0) refl }
-
 -- what is read of letters alone
 alone : (u : List ℕ) → true ≡ list_all is_alphabetic (take (length u) u) → true ≡ is_language_length (length u) → IsLangId u × (canonical_text u ≡ map fold_byte u) × (length u ≤ 8) × IsText (map fold_byte u)
 alone u letters right =
@@ -41,28 +34,12 @@ invariant_of-result c =
     let read = alone u (sym c.if-are_letters.true ∙ c.are_letters.ensures) (sym c.if-not-is_language_length.false ∙ c.is_language_length.ensures) in
     rw (c.folded_text.ensures ∙ sym read.1) (IsCanonical-canonical_text u read.0)
 
-pub returns-then-are_letters : goal.returns-then-are_letters
-returns-then-are_letters c =
-    let u = c.args.code_units.now in
-    let read = alone u (sym c.if-are_letters.true ∙ c.are_letters.ensures) (sym c.if-not-is_language_length.false ∙ c.is_language_length.ensures) in
-    let text : c.folded_text.result ≡ canonical_text u = c.folded_text.ensures ∙ sym read.1 in
-    record { accepted = (λ _. read.0, λ _. refl); text = text; fold = ap fold_text text ∙ fold_text-canonical_text u; refusal = tt; value = rw (text, read.0) refl }
-
 -- the bytes before the first separator are the first subtag
 front : (u : List ℕ) (e : ℕ) → e ≡ position_or_len is_separator u → take e u ≡ first_subtag u
 front u e end = ap (λ n. take n u) end
 
 pub has_tail-requires-clause-inside : goal.has_tail-requires-clause-inside
 has_tail-requires-clause-inside c = rw c.first_end-end.ensures (prefix_len-le-length (λ b. not (is_separator b)) c.args.code_units.now)
-
-pub returns-then-not-has_tail : goal.returns-then-not-has_tail
-returns-then-not-has_tail c =
-    let u = c.args.code_units.now in
-    let other : list_all is_alphabetic (take (length u) u) ≡ false = sym c.are_letters.ensures ∙ c.if-are_letters.false in
-    let none : HasTail (length (first_subtag u)) u → ⊥ =
-    λ h. false≢true (sym c.if-not-has_tail.true ∙ c.has_tail.ensures.1 (subst (λ e. HasTail e u) (length-first_subtag u ∙ sym c.first_end-end.ensures) h)) in
-    let refused = not_read u (ap (list_all is_alphabetic) (sym (take_all (length u) u (omega arith))) ∙ other) none in
-    record { accepted = (λ h. absurd (false≢true h), λ h. absurd (false≢true (sym refused.0 ∙ h))); text = tt; fold = tt; refusal = c.refusal.ensures ∙ sym refused.1; value = rw (refused.0) refl }
 
 -- what is read of a language and a tail
 both : (u : List ℕ) (e : ℕ) → e ≡ position_or_len is_separator u → HasTail e u
@@ -85,9 +62,3 @@ invariant_of-result-2 c =
     let read = both u c.first_end-end.result c.first_end-end.ensures (c.has_tail.ensures.0 c.if-not-has_tail.false) in
     rw (c.text_in_case.ensures ∙ sym read.1) (IsCanonical-canonical_text u read.0)
 
-pub returns : goal.returns
-returns c =
-    let u = c.args.code_units.now in
-    let read = both u c.first_end-end.result c.first_end-end.ensures (c.has_tail.ensures.0 c.if-not-has_tail.false) in
-    let text : c.text_in_case.result ≡ canonical_text u = c.text_in_case.ensures ∙ sym read.1 in
-    record { accepted = (λ _. read.0, λ _. refl); text = text; fold = ap fold_text text ∙ fold_text-canonical_text u; refusal = tt; value = rw (text, read.0) refl }
