@@ -10,14 +10,14 @@ use Rattle.std.proofs.lemmas.List.Elements.{All-append, All-nil, All-cons}
 use Rattle.std.proofs.lemmas.List.Sums.{passes_at_first}
 use Rattle.tinystr_words.proofs.Parts.Positions.{position_or_len-take}
 use Rattle.tinystr_words.specs.Text.{IsStrictText, IsText, IsTextByte}
-use Rattle.subtags.specs.Grammar.{dash, is_separator, is_language, is_language_length, is_tail, fold_byte, fold_text, subtags_of, is_lang_id, IsLangId, canonical_subtag, canonical_text, canonical_of}
+use Rattle.subtags.specs.Grammar.{dash, is_separator, is_language, is_language_length, is_tail, fold_byte, fold_text, subtags_of, is_lang_id, IsLangId, canonical_subtag, canonical_text, canonical_of, IsCanonical}
 use Rattle.subtags.specs.declared.error.LangIdError.TheVariants.{InvalidSubtag, InvalidLanguage}
 use Rattle.subtags.specs.Answers.{refusal_of}
 use Rattle.subtags.specs.Private.Tails.{IsLike, HasTail, example, first_subtag, in_case_of, in_case_of_byte}
 use Rattle.subtags.proofs.CanonicalLen.{length-IsCanonical, length-canonical_text}
 use Rattle.subtags.proofs.CanonLemmas.{IsCanonical-canonical_text, fold_text-canonical_text, is_tail-canonical, plain_subtags}
 use Rattle.subtags.proofs.FoldLemmas.{All-from_list_all, is_language-fold_text, fold_text-fold_text, alphanumeric-fold_text, alphanumeric-from_letters}
-use Rattle.subtags.proofs.HeadLemmas.{length-first_subtag}
+use Rattle.subtags.proofs.HeadLemmas.{length-first_subtag, end-le}
 use Rattle.subtags.proofs.SplitLemmas.{subtags_after, subtags_at_first_separator, subtags_of-alphanumeric}
 use Rattle.subtags.proofs.PlaceLemmas.{length-language}
 use Rattle.subtags.proofs.ReadLemmas.{refused_without_language}
@@ -170,4 +170,26 @@ tail_text u e end h = rw (end ∙ sym (length-first_subtag u)) (sym (tail_read u
 pub other_no_id : (u : List ℕ) (e : ℕ) → list_all is_alphabetic (take (length u) u) ≡ false → e ≡ position_or_len is_separator u → (HasTail e u → ⊥) → is_lang_id (subtags_of (fold_text u)) ≡ false
 other_no_id u e other end none = (not_read u (whole u false other) (λ h. none (subst (λ n. HasTail n u) (length-first_subtag u ∙ sym end) h))).0
 
-pub ruleset reading = (letters_id, letters_text, letters_no_id, letters_refusal, tail_id, tail_text, other_no_id, refusal_by_language, fold_text-canonical_text)
+pub letters_few : (u : List ℕ) → list_all is_alphabetic (take (length u) u) ≡ true → is_language_length (length u) ≡ true → length u ≤ 8
+letters_few u letters size = (letters_read u (whole u true letters) size).2
+
+pub letters_are_text : (u : List ℕ) → list_all is_alphabetic (take (length u) u) ≡ true → is_language_length (length u) ≡ true → IsText (map fold_byte u)
+letters_are_text u letters size = rw (letters_text u letters size) (IsStrictText-canonical_text u (letters_id u letters size)).text
+
+pub letters_canonical : (u t : List ℕ) → t ≡ map fold_byte u → list_all is_alphabetic (take (length u) u) ≡ true → is_language_length (length u) ≡ true → IsCanonical t
+letters_canonical u t is letters size = rw (is, letters_text u letters size) (IsCanonical-canonical_text u (letters_id u letters size))
+
+pub tail_few : (u : List ℕ) (e : ℕ) → e ≡ position_or_len is_separator u → HasTail e u → e ≤ 8
+tail_few u e end h = omega (arith, end, length-first_subtag u, length-language (first_subtag u) (rw end at h.language))
+
+pub tail_is_text : (u : List ℕ) (e : ℕ) → e ≡ position_or_len is_separator u → HasTail e u → IsText (map fold_byte (take e u) ++ in_case_of (example (length u - e)) (drop e u))
+tail_is_text u e end h = rw (tail_text u e end h) (IsStrictText-canonical_text u (tail_id u e end h)).text
+
+pub tail_canonical : (u t : List ℕ) (e : ℕ) → t ≡ map fold_byte (take e u) ++ in_case_of (example (length u - e)) (drop e u) → e ≡ position_or_len is_separator u → HasTail e u → IsCanonical t
+tail_canonical u t e is end h = rw (is, tail_text u e end h) (IsCanonical-canonical_text u (tail_id u e end h))
+
+pub ruleset reading = (letters_id, letters_text, letters_no_id, letters_refusal, tail_id, tail_text, other_no_id, refusal_by_language, fold_text-canonical_text, end-le)
+
+pub ruleset letters_made = (letters_few, letters_are_text)
+
+pub ruleset tail_made = (tail_few, tail_is_text)
