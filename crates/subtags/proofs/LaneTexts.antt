@@ -7,7 +7,7 @@ use Rattle.std.proofs.Math.Seq.{get_or-append_seam}
 use Rattle.std.proofs.lemmas.Bool.{cases_lt}
 use Rattle.std.proofs.lemmas.Bool.Decides.{nat_tests}
 use Rattle.std.proofs.lemmas.Grind.{same_number_lists}
-use Rattle.std.proofs.lemmas.List.{take_all, length-append, length-take, length-drop, length-map, length-replicate, take-append-drop, drop-replicate, drop-append-le, get_or-take, get_or-drop, get_or_past}
+use Rattle.std.proofs.lemmas.List.{take_all, take-take, length-append, length-take, length-drop, length-map, length-replicate, take-append-drop, drop-replicate, drop-append-le, get_or-take, get_or-drop, get_or_past}
 use Rattle.std.proofs.lemmas.Simd.{length-zip2, get_or-zip2}
 use Rattle.tinystr_words.specs.Classes.{is_alphabetic, is_digit, is_upper}
 use Rattle.tinystr_words.specs.Text.{IsPaddedText, IsText, pad, text_of}
@@ -95,15 +95,20 @@ in_case_held u lanes folded steps e last small few short inside like text load m
     (sym (last_kept u e short inside few like) ∙ at 16))
 
 -- the steps in a table
-pub steps_in_table : (e : ℕ) (s : List ℕ) → e ≤ 8 → e + length s ≤ 17 → take 16 (drop (8 - e) (pad (replicate 8 0 ++ s) 24)) ≡ take 16 (pad (replicate e 0 ++ s) 17)
+pub steps_in_table : (e : ℕ) (s : List ℕ) → e ≤ 8 → e + length s ≤ 17 → take 16 (take (24 - (8 - e)) (drop (8 - e) (pad (replicate 8 0 ++ s) 24))) ≡ take 16 (pad (replicate e 0 ++ s) 17)
 steps_in_table e s short few =
     let x = pad (replicate 8 0 ++ s) 24 in
     let y = pad (replicate e 0 ++ s) 17 in
     let long : 24 ≤ length x = omega (arith, length-append (replicate 8 0 ++ s) (NULS (24 - length (replicate 8 0 ++ s))), length-replicate {A = ℕ} (24 - length (replicate 8 0 ++ s)) 0) in
     let long_y = length-pad (replicate e 0 ++ s) 17 (omega (arith, length-append (replicate e 0) s, length-replicate {A = ℕ} e 0)) in
     let len : length (take 16 (drop (8 - e) x)) ≡ 16 = omega (arith, length-take 16 (drop (8 - e) x), length-drop (8 - e) x, long) in
-    let len_y : length (take 16 y) ≡ 16 = omega (arith, length-take 16 y, long_y) in
     let from : drop (8 - e) (replicate 8 0 ++ s) ≡ replicate e 0 ++ s = drop-append-le (8 - e) (replicate 8 0) s (omega arith) ∙ ap (λ (m : List ℕ). m ++ s) (drop-replicate {X = ℕ} (8 - e) 8 0 ∙ ap (λ n. NULS n) (omega (arith, short))) in
-    same_number_lists (take 16 (drop (8 - e) x)) (take 16 y) (len ∙ sym len_y)
+    take-take 16 (24 - (8 - e)) (drop (8 - e) x) (omega arith)
+    ∙ same_number_lists (take 16 (drop (8 - e) x)) (take 16 y) (omega (arith, len, length-take 16 y, long_y))
     (λ k below. get_or-take 16 (drop (8 - e) x) k 0 (omega (arith, len)) ∙ get_or-drop (8 - e) x k 0 ∙ get_or-pad (replicate 8 0 ++ s) 24 (8 - e + k)
     ∙ sym (get_or-drop (8 - e) (replicate 8 0 ++ s) k 0) ∙ ap (λ (m : List ℕ). get_or m k 0) from ∙ sym (get_or-take 16 y k 0 (omega (arith, len)) ∙ get_or-pad (replicate e 0 ++ s) 17 k))
+
+pub length_steps : (t : List ℕ) → length (steps_of t) ≡ length t
+length_steps t = length-map t (λ a. cond (is_upper a) 32 0)
+
+pub ruleset table_steps = (steps_in_table, length_steps)

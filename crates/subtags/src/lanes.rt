@@ -206,6 +206,7 @@ static LOWERED: [[u8; 24]; 10] = [
 
 // By how much the bytes of a folded identifier are lowered into the case of the example, where a language of `end` letters
 // and `len` more bytes are all.
+#[tactic(auto, using(crate::proofs::LaneTexts::table_steps))]
 #[inline(always)]
 fn steps(end: usize, len: usize) -> u8x16
     requires language { end ≤ 8 }

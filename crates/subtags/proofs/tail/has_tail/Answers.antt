@@ -9,15 +9,6 @@ use Rattle.subtags.specs.Private.Tails.{example, one_more}
 use Rattle.subtags.proofs.MaskLemmas.{mask_l-lt_17, like_from_number, number_from_like}
 use Rattle.subtags.proofs.tail.has_tail.Goals as goal
 
-pub overflow_add-result : goal.overflow_add-result
-overflow_add-result c =
-    let u = c.args.units.now in
-    let few = c.requires.few in
-    let l = mask_l-lt_17 is_alphabetic u few in
-    let d = mask_l-lt_17 is_digit u few in
-    let s = mask_l-lt_17 is_separator u few in
-    rw c.packed.ensures (omega arith)
-
 small : (n : ℕ) → one_more (example n) ≤ 2 ^ 46
 small n = grind (arith, nat_tests)
 
