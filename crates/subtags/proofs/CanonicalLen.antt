@@ -23,7 +23,7 @@ length-region : (r : Option (List ℕ)) → IfSome r (IsCanonicalSubtag is_regio
 length-region None h = omega arith
 length-region (Some r) h = let form = h.well_formed in grind (arith, nat_tests)
 
--- a language, and perhaps a script and a region, each behind a dash
+-- a language, and perhaps a script and a region, each after a dash
 pub length-IsCanonical : (t : List ℕ) → IsCanonical t → (2 ≤ length t) × (length t ≤ 17)
 length-IsCanonical t h =
     let place = InPlace-canonical t h in

@@ -57,7 +57,7 @@ is_region-fold_text p = simp fold_steps
 pub alphanumeric-fold_text : (p : List ℕ) → list_all is_alphanumeric (fold_text p) ≡ list_all is_alphanumeric p
 alphanumeric-fold_text p = simp fold_steps
 
--- a test that does not see folding answers alike of texts that fold alike
+-- a test that folding doesn't change gives one result for texts with equal folds
 pub same_test_from_fold_text : (t : List ℕ → Bool) → ((p : List ℕ) → t (fold_text p) ≡ t p) → (p q : List ℕ) → fold_text p ≡ fold_text q → t p ≡ t q
 same_test_from_fold_text t e p q alike = sym (e p) ∙ ap t alike ∙ e q
 
@@ -78,7 +78,7 @@ alphanumeric-from_subtag p h =
 pub IsStrictText-from_subtag : (p : List ℕ) (n : ℕ) → (is_language p || is_script p || is_region p) ≡ true → length p ≤ n → IsStrictText p n
 IsStrictText-from_subtag p n h fits = record { text = All-from_list_all is_alphanumeric IsTextByte (λ b a. grind (arith, nat_tests)) p (alphanumeric-from_subtag p h); fits = fits }
 
--- where all bytes of a text are asked one question, the answer is that of each byte
+-- one question about all bytes of a text is the question about each byte
 pub ask-same : (p : ℕ → Bool) (t : List ℕ) → ask p p t ≡ list_all p t
 ask-same p [] = refl
 ask-same p (b ∷ t) = refl

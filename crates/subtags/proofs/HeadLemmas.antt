@@ -18,7 +18,7 @@ use Rattle.subtags.specs.Private.Tails.{first_subtag}
 pub length-first_subtag : (u : List ℕ) → length (first_subtag u) ≡ position_or_len is_separator u
 length-first_subtag u = omega (arith, length-take (position_or_len is_separator u) u, prefix_len-le-length (λ b. not (is_separator b)) u)
 
--- it is a language where it is letters, and as many as a language has
+-- it is a language where it is letters, in a number that a language may have
 pub is_language-first_subtag : (u : List ℕ) (n : ℕ) → n ≡ position_or_len is_separator u → is_language (first_subtag u) ≡ (list_all is_alphabetic (take n u) && is_language_length n)
 is_language-first_subtag u n is = rw (length-first_subtag u, ← is) refl
 
@@ -27,9 +27,9 @@ end-le u = prefix_len-le-length (λ b. not (is_separator b)) u
 
 pub ruleset first_subtag_bits = (is_language-first_subtag, end-le)
 
--- ---- a language alone, read by the letters in front
+-- ---- a language alone, read by its first letters
 
--- all of a language are letters in front
+-- all bytes of a language are letters
 letters_of_language : (u : List ℕ) → is_language u ≡ true → prefix_len is_alphabetic (take 8 u) ≡ length u
 letters_of_language u h =
     let few : length u ≤ 8 = grind (arith, nat_tests) in
@@ -42,7 +42,7 @@ no_language-letters u n is wrong h =
     let right : is_language_length (length u) ≡ true = grind arith in
     false≢true (sym wrong ∙ ap is_language_length all ∙ right)
 
--- where as many letters as a language has are all, they are one, and else there is none
+-- letters in a number that a language may have are one if they are all bytes; else there is none
 pub language-letters : (u t : List ℕ) (n : ℕ) → n ≡ prefix_len is_alphabetic (take 8 u) → is_language_length n ≡ true → t ≡ lowercase (take n u)
     → SomeIff (then_some (n == length u) t) (IsTrue (is_language u)) (lowercase u) × IfSome (then_some (n == length u) t) (IsCanonicalSubtag is_language lowercase)
 language-letters u t n is right text = read (n == length u) refl where

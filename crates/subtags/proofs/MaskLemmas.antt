@@ -49,8 +49,8 @@ mask_l-all p (x ∷ xs) = one (p x) (list_all p xs) (mask_l (map p xs)) (2 ^ len
   one true all n m w rest power = grind (arith, nat_tests)
   one false all n m w rest power = grind (arith, nat_tests)
 
-pub letters-in_front : {X : Type 0} (p : X → Bool) (k : ℕ) (xs : List X) → k ≤ length xs → (mask_l (map p xs) % 2 ^ k + 1 == 2 ^ k) ≡ list_all p (take k xs)
-letters-in_front p k xs le =
+pub first_letters : {X : Type 0} (p : X → Bool) (k : ℕ) (xs : List X) → k ≤ length xs → (mask_l (map p xs) % 2 ^ k + 1 == 2 ^ k) ≡ list_all p (take k xs)
+first_letters p k xs le =
     let len : length (take k xs) ≡ k = omega (arith, length-take k xs) in
     rw (mask_l-split p k xs le, digits_mod (mask_l (map p (drop k xs))) (lowest-lt p k xs le)) (rw len at (mask_l-all p (take k xs)))
 
@@ -102,7 +102,7 @@ like_from_number (a ∷ t) u e inside few size h =
     let p = 2 ^ e in
     let y = a ∷ t in
     let len : length y + e ≡ length u = size (omega arith) in
-    let room : length y + e ≤ 17 = omega arith in
+    let fits_17 : length y + e ≤ 17 = omega arith in
     let none : 0 ≤ e = omega arith in
     let one : 2 ^ 0 ≤ 2 ^ e = pow_mono none in
     let l = mask_l (map is_alphabetic y) in
@@ -110,13 +110,13 @@ like_from_number (a ∷ t) u e inside few size h =
     let s = mask_l (map is_separator y) in
     let f = same_fields (mask_l (map is_alphabetic u)) (mask_l (map is_digit u)) (mask_l (map is_separator u)) (l * p) (d * p) (s * p) p
     (mask_l-lt_17 is_alphabetic u few) (mask_l-lt_17 is_digit u few) (mask_l-lt_17 is_separator u few)
-    (shifted-le_17 is_alphabetic y e room) (shifted-le_17 is_digit y e room) (shifted-le_17 is_separator y e room) (h ∙ one_more-shifted l d s p) in
+    (shifted-le_17 is_alphabetic y e fits_17) (shifted-le_17 is_digit y e fits_17) (shifted-le_17 is_separator y e fits_17) (h ∙ one_more-shifted l d s p) in
     let same : (q : ℕ → Bool) (r : ℕ) → r < p → mask_l (map q u) ≡ mask_l (map q y) * p + r → map q (drop e u) ≡ map q y =
     λ q r small is. mask_l-same (map q (drop e u)) (map q y) (omega (arith, length-map (drop e u) q, length-map y q, length-drop e u))
     (sym (div-mul-add (mask_l (map q (drop e u))) p (mask_l (map q (take e u))) (lowest-lt q e u inside)) ∙ ap (λ n. n / p) (sym (mask_l-split q e u inside) ∙ is) ∙ div-mul-add (mask_l (map q y)) p r small) in
     let letters : mask_l (map is_alphabetic u) ≡ l * p + (p - 1) = omega (arith, f.0) in
     let all : mask_l (map is_alphabetic u) % p ≡ p - 1 = ap (λ n. n % p) letters ∙ digits_mod l (omega arith) in (
-      sym (letters-in_front is_alphabetic e u inside) ∙ rw all (grind (arith, nat_tests)),
+      sym (first_letters is_alphabetic e u inside) ∙ rw all (grind (arith, nat_tests)),
       omega arith,
       record {
         letters = same is_alphabetic (p - 1) (omega arith) letters;
@@ -136,4 +136,4 @@ number_from_like (a ∷ t) u e letters more like =
     rw (one_more-shifted (mask_l (map is_alphabetic (a ∷ t))) (mask_l (map is_digit (a ∷ t))) (mask_l (map is_separator (a ∷ t))) (2 ^ e))
     (omega (arith, rw like.letters at (split is_alphabetic), rw like.digits at (split is_digit), rw like.separators at (split is_separator), ones, no_digits, no_separators))
 
-pub ruleset class_bits = (mask_l-lt_17, mask_l-end, shifted-one, letters-in_front, first_from_mask)
+pub ruleset class_bits = (mask_l-lt_17, mask_l-end, shifted-one, first_letters, first_from_mask)

@@ -1,4 +1,4 @@
--- Where the subtags of a canonical text stand.
+-- The places of subtags in a canonical text.
 use Rattle.std.proofs.Common.{◌≡◌, ◌+◌, ◌-◌, ◌<◌, ◌≤◌, ◌==◌, ℕ, suc, inl, inr, Bool, true, length, List, [], ◌∷◌, ◌++◌, take, drop, Option, None, Some, map, refl, sym, ap, ◌∙◌, arith}
 use Rattle.std.proofs.lemmas.Bool.{cases_lt}
 use Rattle.std.proofs.lemmas.Bool.Decides.{nat_tests}
@@ -38,7 +38,7 @@ first_or p xs n d at past = elim (cases_lt (position_or_len p xs) (length xs)) [
   | inr outside ↦ (let none : n ≡ d = past (omega arith) in grind (arith, nat_tests))
 ]
 
--- where a dash stands behind a language, it ends there
+-- where a dash follows a language, it ends there
 language_end-dash : (l w : List ℕ) → is_language l ≡ true → language_end (l ++ dash ∷ w) ≡ length l
 language_end-dash l w h =
     let t = l ++ dash ∷ w in
@@ -51,7 +51,7 @@ language_end-dash l w h =
     (λ inside. rw (get_or-take 8 t (length l) 0 (omega arith), get_or-append_seam l dash w 0) refl) in
     first_or (λ b. b == dash) (take 8 t) (length l) 8 at (λ all. omega arith)
 
--- where nothing stands behind it, there is no dash
+-- where nothing follows it, there is no dash
 language_end-whole : (l : List ℕ) → is_language l ≡ true → language_end l ≡ 8
 language_end-whole l h =
     let none = no_dash l (alphanumeric-from_subtag l (grind arith)) in
@@ -59,7 +59,7 @@ language_end-whole l h =
     let end : position_or_len (λ b. b == dash) l ≡ length l = position_or_len_is (λ b. b == dash) l (length l) 0 (omega arith) (λ k below. none k 0 below) (λ inside. absurd (omega arith)) in
     rw (take_all 8 l few.1) (grind (arith, nat_tests))
 
--- the text t has the subtag l up to a place, s behind it, and r from another place on
+-- the text t has the subtag l up to a place, s after it, and r from another place on
 pub record InPlace (t : List ℕ) (end start : ℕ) (l : List ℕ) (s r : Option (List ℕ)) : Type 0 where
   pub language : take end t ≡ l
   pub script : end + 4 < length t → s ≡ Some (take 4 (drop (end + 1) t))
@@ -67,7 +67,7 @@ pub record InPlace (t : List ℕ) (end start : ℕ) (l : List ℕ) (s r : Option
   pub region : start < length t → r ≡ Some (take 3 (drop start t))
   pub no_region : length t ≤ start → r ≡ None
 
--- of a language and what stands behind its dash
+-- of a language and what follows its dash
 InPlace-dash : (l v : List ℕ) (s r : Option (List ℕ)) → is_language l ≡ true
     → (3 < length v → (s ≡ Some (take 4 v)) × (5 < length v → r ≡ Some (take 3 (drop 5 v))) × (length v ≤ 5 → r ≡ None))
     → (length v ≤ 3 → (s ≡ None) × (0 < length v) × (r ≡ Some (take 3 v))) → (let t = l ++ dash ∷ v in InPlace t (language_end t) (region_start t) l s r)
@@ -86,7 +86,7 @@ InPlace-dash l v s r language long short =
           rw (start, end) record { language = front; script = λ more. absurd (omega arith); no_script = λ _. (short few).0; region = λ _. rw (from 0) (short few).2; no_region = λ none. absurd (omega (arith, (short few).1)) }
     ]
 
--- a region, or nothing, behind its dash
+-- a region, or nothing, after its dash
 region-after_dash : (r : Option (List ℕ)) → IfSome r (IsCanonicalSubtag is_region uppercase)
     → (1 < length (after_dash r) → r ≡ Some (take 3 (drop 1 (after_dash r)))) × (length (after_dash r) ≤ 1 → r ≡ None)
 region-after_dash None region = (λ more. absurd (omega arith), λ none. refl)
@@ -144,7 +144,7 @@ language_at t end h is =
     let count : end - 0 ≡ language_end t = omega (arith, is) in
     ap (take 8) (ap (λ n. take n t) count ∙ place.0.language) ∙ take_all 8 (language_of t) (length-language (language_of t) place.1.well_formed).1
 
--- as many bytes from a place on as there is room for
+-- the first bytes from a place on
 slice-from : (t : List ℕ) (start most : ℕ) → take most (take (start + most - start) (drop start t)) ≡ take most (drop start t)
 slice-from t start most = let count : start + most - start ≡ most = omega arith in rw count (take-take most most (drop start t) (omega arith))
 

@@ -58,8 +58,7 @@ impl Model for LangId {
 }
 
 impl LangId {
-    /// Reads a language and behind it a script, a region, both or nothing, in any case, with `-` or `_` before each
-    /// later subtag.
+    /// Reads a language, then a script, a region, both or neither, in any case, with `-` or `_` before each later subtag.
     ///
     /// The error is `InvalidLanguage` if the first subtag isn't a language, else `InvalidSubtag`.
     ///
@@ -265,8 +264,8 @@ fn refusal_of_more(units: &[u8]) -> LangIdError
     refusal(&classes, front)
 }
 
-// The subtags, joined by dashes; and that they are canonical, each by its invariant. The language and one subtag behind it
-// fit into one word.
+// The subtags, joined by dashes; and that they are canonical, each by its invariant. The language and one later subtag fit
+// into one word.
 #[inline]
 fn join_subtags(
     language: Language,
