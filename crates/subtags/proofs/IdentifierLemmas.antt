@@ -171,3 +171,5 @@ pub ruleset reading = (letters_id, letters_text, letters_no_id, letters_refusal,
 pub ruleset letters_made = (letters_few, letters_are_text)
 
 pub ruleset tail_made = (tail_few, tail_is_text)
+
+pub ruleset refused_more = (first_subtag-take, refusal_by_language, more_refused)

@@ -253,6 +253,7 @@ fn refusal(classes: &Classes, units: &[u8]) -> LangIdError
 // The error for more.
 #[cold]
 #[inline(never)]
+#[tactic(auto, using(crate::proofs::IdentifierLemmas::refused_more))]
 fn refusal_of_more(units: &[u8]) -> LangIdError
     requires { 17 < length units.now }
     ensures error { result ≡ refusal_of units.now }
