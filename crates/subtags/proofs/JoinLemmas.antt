@@ -37,22 +37,15 @@ record IsTailOf (ps : List (List ℕ)) (s r : Option (List ℕ)) : Type 0 where
 IsTailOf-options : (s r : Option (List ℕ)) → IfSome s (IsCanonicalSubtag is_script titlecase) → IfSome r (IsCanonicalSubtag is_region uppercase) → IsTailOf (tail_of s r) s r
 IsTailOf-options None None script region = record { tail = refl; script = refl; region = refl; kept = refl }
 IsTailOf-options None (Some r) script region =
-    let kept = region_kept r region in
     let is = region.well_formed in
-    let not = no_script-from_region r is in
-    record { tail = grind arith; script = grind arith; region = grind arith; kept = grind arith }
+    record { tail = grind arith; script = grind (arith, no_script-from_region); region = grind arith; kept = grind (arith, region_kept) }
 IsTailOf-options (Some s) None script region =
-    let kept = script_kept s script in
     let is = script.well_formed in
-    let not = no_script-from_region s in
-    record { tail = grind arith; script = grind arith; region = grind arith; kept = grind arith }
+    record { tail = grind arith; script = grind arith; region = grind (arith, no_script-from_region); kept = grind (arith, script_kept) }
 IsTailOf-options (Some s) (Some r) script region =
-    let kept = script_kept s script in
-    let kept_r = region_kept r region in
     let is = script.well_formed in
     let is_r = region.well_formed in
-    let not = no_script-from_region s in
-    record { tail = grind arith; script = grind arith; region = grind arith; kept = grind arith }
+    record { tail = grind arith; script = grind arith; region = grind (arith, no_script-from_region); kept = cc (script_kept s script, region_kept r region) }
 
 -- a canonical language and such a tail are a canonical text, which is split again
 canonical_join : (l : List ℕ) (ps : List (List ℕ)) → IsCanonicalSubtag is_language lowercase l → is_tail ps ≡ true → map canonical_subtag (map fold_text ps) ≡ ps

@@ -36,10 +36,7 @@ pub mask_l-same : (xs ys : List Bool) → length xs ≡ length ys → mask_l xs 
 mask_l-same [] [] len e = refl
 mask_l-same [] (y ∷ ys) len e = absurd (omega arith)
 mask_l-same (x ∷ xs) [] len e = absurd (omega arith)
-mask_l-same (true ∷ xs) (true ∷ ys) len e = ap (λ (l : List Bool). true ∷ l) (mask_l-same xs ys (omega arith) (omega arith))
-mask_l-same (true ∷ xs) (false ∷ ys) len e = absurd (omega arith)
-mask_l-same (false ∷ xs) (true ∷ ys) len e = absurd (omega arith)
-mask_l-same (false ∷ xs) (false ∷ ys) len e = ap (λ (l : List Bool). false ∷ l) (mask_l-same xs ys (omega arith) (omega arith))
+mask_l-same (x ∷ xs) (y ∷ ys) len e = let rest = mask_l-same xs ys (omega arith) in grind (arith, nat_tests)
 
 -- all bits are set where all bytes pass
 mask_l-all : {X : Type 0} (p : X → Bool) (xs : List X) → (mask_l (map p xs) + 1 == 2 ^ length xs) ≡ list_all p xs

@@ -11,9 +11,10 @@ use Rattle.std.specs.Option.{IfSome, unwrap_or}
 use Rattle.tinystr_words.specs.Case.{lowercase, titlecase, uppercase}
 use Rattle.subtags.specs.Grammar.{dash, fold_text, subtags_of, is_language, is_script, is_region, canonical_subtag, IsCanonical}
 use Rattle.subtags.specs.Subtags.{IsCanonicalSubtag, language_of, script_of, region_of, after_dash, join_subtags}
+use Rattle.subtags.specs.Private.Tails.{first_subtag}
 use Rattle.subtags.specs.Private.SubtagPlaces.{language_end, region_start}
 use Rattle.subtags.proofs.FoldLemmas.{is_language-fold_text, fold_text-alphanumeric, alphanumeric-from_subtag, IsCanonicalSubtag-lowercase, IsCanonicalSubtag-titlecase, IsCanonicalSubtag-uppercase}
-use Rattle.subtags.proofs.SplitLemmas.{no_dash, subtags_at_first_separator}
+use Rattle.subtags.proofs.SplitLemmas.{no_dash, subtags_after, subtags_at_first_separator}
 use Rattle.subtags.proofs.ReadLemmas.{subtags-IsCanonical, join_subtags-IsCanonical}
 use Rattle.subtags.proofs.CanonLemmas.{is_script-canonical_subtag, is_region-canonical_subtag, no_script-from_region}
 
@@ -118,24 +119,19 @@ InPlace-join_subtags l (Some s) r language script region =
     let back = rw four at (drop-append-add s (after_dash r) 1) in
     InPlace-dash l (s ++ after_dash r) (Some s) r language (λ more. (ap (λ (p : List ℕ). Some p) (sym front), λ many. rw back (last.0 (omega arith)), λ none. last.1 (omega arith))) (λ few. absurd (omega arith))
 
--- a canonical text that was split
-InPlace-split : (t p : List ℕ) (ps : List (List ℕ)) → IsCanonical t → subtags_of (fold_text t) ≡ fold_text p ∷ ps
-    → InPlace t (language_end t) (region_start t) (language_of t) (script_of t) (region_of t)
-    × IsCanonicalSubtag is_language lowercase (language_of t) × IfSome (script_of t) (IsCanonicalSubtag is_script titlecase) × IfSome (region_of t) (IsCanonicalSubtag is_region uppercase)
-InPlace-split t p ps h split =
-    let of = subtags-IsCanonical t (fold_text p) ps h split in
-    let is : is_language p ≡ true = sym (is_language-fold_text p) ∙ of.0 in
-    let language : IsCanonicalSubtag is_language lowercase (language_of t) = rw (of.2, fold_text-alphanumeric p (alphanumeric-from_subtag p (grind arith))) (IsCanonicalSubtag-lowercase p is) in
-    let script : IfSome (script_of t) (IsCanonicalSubtag is_script titlecase) = rw (of.2) (canonical_found is_script titlecase canonical_script ps) in
-    let region : IfSome (region_of t) (IsCanonicalSubtag is_region uppercase) = rw (of.2) (canonical_found is_region uppercase canonical_region ps) in
-    let joined = InPlace-join_subtags (language_of t) (script_of t) (region_of t) language.well_formed script region in
-    (rw (← join_subtags-IsCanonical t h) at joined, language, script, region)
-
 -- a canonical text has its subtags in place, each of them canonical
 pub InPlace-canonical : (t : List ℕ) → IsCanonical t
     → InPlace t (language_end t) (region_start t) (language_of t) (script_of t) (region_of t)
     × IsCanonicalSubtag is_language lowercase (language_of t) × IfSome (script_of t) (IsCanonicalSubtag is_script titlecase) × IfSome (region_of t) (IsCanonicalSubtag is_region uppercase)
-InPlace-canonical t h = InPlace-split t _ _ h (subtags_at_first_separator t)
+InPlace-canonical t h =
+    let p = first_subtag t in
+    let of = subtags-IsCanonical t (fold_text p) (subtags_after t) h (subtags_at_first_separator t) in
+    let is : is_language p ≡ true = sym (is_language-fold_text p) ∙ of.0 in
+    let language : IsCanonicalSubtag is_language lowercase (language_of t) = rw (of.2, fold_text-alphanumeric p (alphanumeric-from_subtag p (grind arith))) (IsCanonicalSubtag-lowercase p is) in
+    let script : IfSome (script_of t) (IsCanonicalSubtag is_script titlecase) = rw (of.2) (canonical_found is_script titlecase canonical_script (subtags_after t)) in
+    let region : IfSome (region_of t) (IsCanonicalSubtag is_region uppercase) = rw (of.2) (canonical_found is_region uppercase canonical_region (subtags_after t)) in
+    let joined = InPlace-join_subtags (language_of t) (script_of t) (region_of t) language.well_formed script region in
+    (rw (← join_subtags-IsCanonical t h) at joined, language, script, region)
 
 -- the bytes up to its end are the language
 pub language_at : (t : List ℕ) (end : ℕ) → IsCanonical t → end ≡ language_end t → take 8 (take (end - 0) (drop 0 t)) ≡ language_of t
