@@ -1,10 +1,10 @@
 -- How long canonical texts are.
-use Rattle.std.proofs.Common.{◌≡◌, ◌≤◌, ◌+◌, ℕ, length, List, [], Option, None, Some, true, ap, sym, ◌∙◌, arith}
+use Rattle.std.proofs.Common.{◌≡◌, ◌≤◌, ◌+◌, ℕ, length, List, [], Option, None, Some, ap, sym, ◌∙◌, arith}
 use Rattle.std.specs.Option.{IfSome}
 use Rattle.std.proofs.lemmas.Bool.Decides.{nat_tests}
 use Rattle.std.proofs.lemmas.List.{length-append, length-map}
 use Rattle.tinystr_words.specs.Case.{titlecase, uppercase}
-use Rattle.subtags.specs.Grammar.{fold_byte, is_language, is_script, is_region, IsCanonical, canonical_text}
+use Rattle.subtags.specs.Grammar.{fold_byte, is_script, is_region, IsCanonical, canonical_text}
 use Rattle.subtags.specs.Subtags.{IsCanonicalSubtag, language_of, script_of, region_of, after_dash, join_subtags}
 use Rattle.subtags.proofs.CanonLemmas.{fold_text-canonical_text}
 use Rattle.subtags.proofs.PlaceLemmas.{InPlace-canonical, length-language}

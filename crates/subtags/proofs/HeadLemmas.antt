@@ -1,16 +1,11 @@
 -- The first subtag of an input.
 use Rattle.std.proofs.Common.{◌≡◌, ◌≢◌, ◌≤◌, ℕ, Bool, not, ◌==◌, true, false, ◌&&◌, List, length, take, refl, sym, ap, ◌∙◌, arith}
-use Rattle.std.specs.Prelude.{IsTrue}
-use Rattle.std.specs.Bool.{then_some}
-use Rattle.std.specs.Option.{SomeIff, IfSome}
 use Rattle.std.specs.List.{list_all, prefix_len, position_or_len}
 use Rattle.std.proofs.lemmas.Bool.{false≢true, false_from_ne_true}
 use Rattle.std.proofs.lemmas.Bool.Decides.{nat_tests}
 use Rattle.std.proofs.lemmas.List.{take_all, length-take}
 use Rattle.std.proofs.lemmas.List.Sums.{prefix_len_is, prefix_len_passes, prefix_len-le-length, AllPass-from_list_all, list_all-from_AllPass}
 use Rattle.tinystr_words.specs.Classes.{is_alphabetic}
-use Rattle.tinystr_words.specs.Case.{lowercase}
-use Rattle.subtags.specs.Subtags.{IsCanonicalSubtag}
 use Rattle.subtags.proofs.FoldLemmas.{IsCanonicalSubtag-lowercase}
 use Rattle.subtags.specs.Grammar.{is_separator, is_language, is_language_length}
 use Rattle.subtags.specs.Private.Tails.{first_subtag}

@@ -1,6 +1,5 @@
 -- An identifier is read from its first 17 bytes.
-use Rattle.std.proofs.Common.{inl, inr, min, not, zero, suc, ◌≡◌, ◌+◌, ◌-◌, ◌<◌, ◌≤◌, ◌==◌, ℕ, ◌&&◌, lit<, Bool, true, false, List, [], ◌∷◌, ◌++◌, length, map, take, drop, get_or, None, drop-cons, subst, refl, sym, ap, ◌∙◌, cond, arith}
-use lib.Lanes.{zip2}
+use Rattle.std.proofs.Common.{inl, inr, suc, ◌≡◌, ◌+◌, ◌-◌, ◌<◌, ◌≤◌, ◌==◌, ℕ, ◌&&◌, lit<, Bool, true, false, List, [], ◌∷◌, ◌++◌, length, map, take, drop, get_or, None, drop-cons, subst, refl, sym, ap, ◌∙◌, cond, arith}
 use Rattle.std.specs.List.{list_all, join_with_byte, position_or_len}
 use Rattle.tinystr_words.specs.Classes.{is_alphabetic, is_alphanumeric}
 use Rattle.std.proofs.lemmas.Bool.{cases_lt, false_from_ne_true, false≢true}
@@ -13,7 +12,7 @@ use Rattle.tinystr_words.specs.Text.{IsStrictText, IsText, IsTextByte}
 use Rattle.subtags.specs.Grammar.{dash, is_separator, is_language, is_language_length, is_tail, fold_byte, fold_text, subtags_of, is_lang_id, IsLangId, canonical_subtag, canonical_text, canonical_of, IsCanonical}
 use Rattle.subtags.specs.declared.error.LangIdError.TheVariants.{InvalidSubtag, InvalidLanguage}
 use Rattle.subtags.specs.Answers.{refusal_of}
-use Rattle.subtags.specs.Private.Tails.{IsLike, HasTail, example, first_subtag, in_case_of, in_case_of_byte}
+use Rattle.subtags.specs.Private.Tails.{IsLike, HasTail, example, first_subtag, in_case_of}
 use Rattle.subtags.proofs.CanonicalLen.{length-IsCanonical, length-canonical_text}
 use Rattle.subtags.proofs.CanonLemmas.{IsCanonical-canonical_text, fold_text-canonical_text, is_tail-canonical, plain_subtags}
 use Rattle.subtags.proofs.FoldLemmas.{All-from_list_all, is_language-fold_text, fold_text-fold_text, alphanumeric-fold_text, alphanumeric-from_letters}

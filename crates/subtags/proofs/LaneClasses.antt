@@ -1,10 +1,9 @@
 -- The classes of bytes in a vector.
-use Rattle.std.proofs.Common.{inl, inr, min, ◌≡◌, ◌+◌, ◌-◌, ◌*◌, ◌%◌, ◌^◌, ◌<◌, ◌≤◌, ℕ, zero, suc, Bool, true, false, not, List, [], ◌∷◌, ◌++◌, length, map, take, drop, cond, eqb, get_or, drop-cons, append-nil, ap, ap₂, refl, sym, ◌∙◌, w8, arith}
+use Rattle.std.proofs.Common.{◌≡◌, ◌+◌, ◌-◌, ◌*◌, ◌%◌, ◌^◌, ◌<◌, ◌≤◌, ℕ, zero, suc, Bool, true, false, not, List, [], ◌∷◌, length, map, take, drop, cond, eqb, get_or, drop-cons, append-nil, ap, ap₂, refl, sym, ◌∙◌, w8, arith}
 use mir.Val.{Fits}
 use lib.Lanes.{Each1, mask_l}
-use Rattle.std.proofs.lemmas.Bool.{cases_lt}
 use Rattle.std.proofs.lemmas.Bool.Decides.{nat_tests}
-use Rattle.std.proofs.lemmas.List.{length-map, length-take, take_all, drop_all, take-append-drop}
+use Rattle.std.proofs.lemmas.List.{length-map, length-take, take_all, drop_all}
 use Rattle.std.proofs.lemmas.Simd.{mask_l-mod}
 use Rattle.tinystr_words.specs.Text.{pad}
 use Rattle.tinystr_words.proofs.Words.Lanes.{below, below_at}

@@ -9,7 +9,7 @@ use Rattle.std.proofs.Math.Seq.{drop-append-add, take-append_seam, get_or-append
 use Rattle.std.specs.List.{find, position, position_or_len}
 use Rattle.std.specs.Option.{IfSome, unwrap_or}
 use Rattle.tinystr_words.specs.Case.{lowercase, titlecase, uppercase}
-use Rattle.subtags.specs.Grammar.{dash, fold_text, subtags_of, is_language, is_script, is_region, canonical_subtag, IsCanonical}
+use Rattle.subtags.specs.Grammar.{dash, fold_text, is_language, is_script, is_region, canonical_subtag, IsCanonical}
 use Rattle.subtags.specs.Subtags.{IsCanonicalSubtag, language_of, script_of, region_of, after_dash, join_subtags}
 use Rattle.subtags.specs.Private.Tails.{first_subtag}
 use Rattle.subtags.specs.Private.SubtagPlaces.{language_end, region_start}

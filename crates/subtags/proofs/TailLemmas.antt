@@ -1,12 +1,11 @@
 -- What follows the language of an input, folded: a script, a region, or both, after a dash.
 use Rattle.std.proofs.Common.{◌≡◌, ◌+◌, ◌≤◌, ◌↔◌, ℕ, Bool, true, false, ◌==◌, ◌&&◌, ◌||◌, List, [], ◌∷◌, ◌++◌, length, map, replicate, refl, sym, ap, ap₂, ◌∙◌, arith}
-use Rattle.std.specs.Prelude.{codes}
 use lib.Lanes.{zip2}
 use Rattle.std.specs.List.{list_all, join_with_byte}
 use Rattle.std.proofs.lemmas.Bool.Decides.{nat_tests}
-use Rattle.std.proofs.lemmas.List.{length-append, length-map, map-append}
+use Rattle.std.proofs.lemmas.List.{length-map}
 use Rattle.tinystr_words.specs.Classes.{is_alphabetic, is_digit}
-use Rattle.tinystr_words.specs.Case.{raise, titlecase, uppercase}
+use Rattle.tinystr_words.specs.Case.{raise}
 use Rattle.subtags.specs.Grammar.{dash, is_separator, fold_byte, fold_text, subtags_of, is_script, is_region, is_tail, canonical_subtag}
 use Rattle.subtags.specs.Private.Tails.{example, first_subtag, IsLike, in_case_of_byte}
 use Rattle.std.proofs.lemmas.List.Splits.{join_with_byte-slice_split}

@@ -1,4 +1,4 @@
-use Rattle.std.proofs.Common.{◌+◌, ◌-◌, ◌%◌, map, replicate, cond, ltb, refl}
+use Rattle.std.proofs.Common.{map, replicate, cond, ltb, refl}
 use lib.Lanes.{zip2, top}
 use Rattle.tinystr_words.specs.Classes.{is_digit}
 use Rattle.subtags.proofs.LaneClasses.{marks}

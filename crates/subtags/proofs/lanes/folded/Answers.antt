@@ -1,4 +1,4 @@
-use Rattle.std.proofs.Common.{◌+◌, ◌-◌, ◌%◌, map, replicate, cond, eqb, ltb, bit_or, refl}
+use Rattle.std.proofs.Common.{map, replicate, cond, eqb, ltb, bit_or, refl}
 use lib.Lanes.{zip2, top, sel_l}
 use Rattle.subtags.specs.Grammar.{fold_byte}
 use Rattle.subtags.proofs.LaneClasses.{bytewise}

@@ -1,8 +1,7 @@
-use Rattle.std.proofs.Common.{◌+◌, ◌-◌, ◌%◌, map, replicate, cond, eqb, bit_or, refl}
+use Rattle.std.proofs.Common.{map, replicate, cond, eqb, bit_or, refl}
 use lib.Lanes.{zip2, top}
 use Rattle.subtags.specs.Grammar.{is_separator}
 use Rattle.subtags.proofs.LaneClasses.{marks}
-use Rattle.subtags.proofs.LaneTexts.{less}
 use Rattle.subtags.proofs.lanes.separators.Goals as goal
 
 pub returns : goal.returns

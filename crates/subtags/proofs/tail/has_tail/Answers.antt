@@ -3,10 +3,10 @@ use Rattle.std.specs.List.{list_all}
 use Rattle.std.proofs.Math.Nat.{mul-le-mul, mod-eq_of_lt}
 use Rattle.std.proofs.lemmas.Bool.Decides.{nat_tests}
 use Rattle.std.proofs.lemmas.List.{length-take}
-use Rattle.tinystr_words.specs.Classes.{is_alphabetic, is_digit}
-use Rattle.subtags.specs.Grammar.{is_separator, is_language_length}
+use Rattle.tinystr_words.specs.Classes.{is_alphabetic}
+use Rattle.subtags.specs.Grammar.{is_language_length}
 use Rattle.subtags.specs.Private.Tails.{example, one_more}
-use Rattle.subtags.proofs.MaskLemmas.{mask_l-lt_17, like_from_number, number_from_like}
+use Rattle.subtags.proofs.MaskLemmas.{like_from_number, number_from_like}
 use Rattle.subtags.proofs.tail.has_tail.Goals as goal
 
 small : (n : ℕ) → one_more (example n) ≤ 2 ^ 46
