@@ -23,12 +23,6 @@ canonical_found : (t : List ℕ → Bool) (f : List ℕ → List ℕ) → ((p : 
 canonical_found t f each [] = tt
 canonical_found t f each (p ∷ ps) = let one = each p in let rest = canonical_found t f each ps in grind arith
 
-canonical_script : (p : List ℕ) → is_script (canonical_subtag p) ≡ true → IsCanonicalSubtag is_script titlecase (canonical_subtag p)
-canonical_script p h = let is = sym (is_script-canonical_subtag p) ∙ h in rw is (IsCanonicalSubtag-titlecase p is)
-
-canonical_region : (p : List ℕ) → is_region (canonical_subtag p) ≡ true → IsCanonicalSubtag is_region uppercase (canonical_subtag p)
-canonical_region p h = let is = sym (is_region-canonical_subtag p) ∙ h in rw (no_script-from_region p is) (IsCanonicalSubtag-uppercase p is)
-
 pub length-language : (l : List ℕ) → is_language l ≡ true → (2 ≤ length l) × (length l ≤ 8)
 length-language l h = (grind (arith, nat_tests), grind (arith, nat_tests))
 
@@ -128,8 +122,8 @@ InPlace-canonical t h =
     let of = subtags-IsCanonical t (fold_text p) (subtags_after t) h (subtags_at_first_separator t) in
     let is : is_language p ≡ true = sym (is_language-fold_text p) ∙ of.0 in
     let language : IsCanonicalSubtag is_language lowercase (language_of t) = rw (of.2, fold_text-alphanumeric p (alphanumeric-from_subtag p (grind arith))) (IsCanonicalSubtag-lowercase p is) in
-    let script : IfSome (script_of t) (IsCanonicalSubtag is_script titlecase) = rw (of.2) (canonical_found is_script titlecase canonical_script (subtags_after t)) in
-    let region : IfSome (region_of t) (IsCanonicalSubtag is_region uppercase) = rw (of.2) (canonical_found is_region uppercase canonical_region (subtags_after t)) in
+    let script : IfSome (script_of t) (IsCanonicalSubtag is_script titlecase) = rw (of.2) (canonical_found is_script titlecase (λ p h. let is = sym (is_script-canonical_subtag p) ∙ h in rw is (IsCanonicalSubtag-titlecase p is)) (subtags_after t)) in
+    let region : IfSome (region_of t) (IsCanonicalSubtag is_region uppercase) = rw (of.2) (canonical_found is_region uppercase (λ p h. let is = sym (is_region-canonical_subtag p) ∙ h in rw (no_script-from_region p is) (IsCanonicalSubtag-uppercase p is)) (subtags_after t)) in
     let joined = InPlace-join_subtags (language_of t) (script_of t) (region_of t) language.well_formed script region in
     (rw (← join_subtags-IsCanonical t h) at joined, language, script, region)
 

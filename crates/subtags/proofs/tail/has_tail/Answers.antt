@@ -9,16 +9,14 @@ use Rattle.subtags.specs.Private.Tails.{example, one_more}
 use Rattle.subtags.proofs.MaskLemmas.{like_from_number, number_from_like}
 use Rattle.subtags.proofs.tail.has_tail.Goals as goal
 
-small : (n : ℕ) → one_more (example n) ≤ 2 ^ 46
-small n = grind (arith, nat_tests)
-
 size : (n : ℕ) → 0 < length (example n) → length (example n) ≡ n
 size n some = grind (arith, nat_tests)
 
 unwrapped : (n e : ℕ) → e ≤ 8 → one_more (example n) * 2 ^ e % 2 ^ 64 ≡ one_more (example n) * 2 ^ e
 unwrapped n e few =
     let most : 2 ^ e ≤ 2 ^ 8 = pow_mono few in
-    let scaled : one_more (example n) * 2 ^ e ≤ 2 ^ 46 * 2 ^ 8 = mul-le-mul (small n) most in
+    let small : one_more (example n) ≤ 2 ^ 46 = grind (arith, nat_tests) in
+    let scaled : one_more (example n) * 2 ^ e ≤ 2 ^ 46 * 2 ^ 8 = mul-le-mul small most in
     mod-eq_of_lt (omega arith)
 
 pub returns : goal.returns
