@@ -15,11 +15,8 @@ use Rattle.tinystr_words.proofs.Texts.{NULS, length-pad, get_or-pad, IsPaddedTex
 use Rattle.subtags.specs.Grammar.{fold_byte}
 use Rattle.subtags.specs.Private.Lanes.{steps_of}
 use Rattle.subtags.specs.Private.Tails.{example, IsLike, in_case_of_byte, in_case_of}
+use Rattle.subtags.proofs.LaneClasses.{less}
 use Rattle.subtags.proofs.TailLemmas.{length-of_like}
-
--- a byte with another taken from it
-abbrev pub less : ℕ → ℕ → ℕ
-less a b = (a + (256 - b)) % 256
 
 less-none : (b : ℕ) → b < 256 → less (fold_byte b) 0 ≡ fold_byte b
 less-none b small = grind (arith, nat_tests)

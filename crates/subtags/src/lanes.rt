@@ -131,6 +131,7 @@ fn is_separator(byte: u8) -> bool
 const LOWERCASE: u8 = 0x20;
 
 // The lanes that are letters.
+#[tactic(auto, using(crate::proofs::LaneClasses::letter_marks))]
 #[inline(always)]
 fn letters(lanes: u8x16) -> u64
     ensures { result ≡ mask_l (map is_alphabetic lanes) }
@@ -140,6 +141,7 @@ fn letters(lanes: u8x16) -> u64
 }
 
 // The lanes that are digits.
+#[tactic(auto, using(crate::proofs::LaneClasses::digit_marks))]
 #[inline(always)]
 fn digits(lanes: u8x16) -> u64
     ensures { result ≡ mask_l (map is_digit lanes) }
@@ -149,6 +151,7 @@ fn digits(lanes: u8x16) -> u64
 }
 
 // The lanes that are `-` or `_`.
+#[tactic(auto, using(crate::proofs::LaneClasses::separator_marks))]
 #[inline(always)]
 fn separators(lanes: u8x16) -> u64
     ensures { result ≡ mask_l (map is_separator lanes) }
@@ -158,6 +161,7 @@ fn separators(lanes: u8x16) -> u64
 }
 
 // The lanes with `-` for `_`, and letters in lowercase.
+#[tactic(auto, using(crate::proofs::LaneClasses::folded_lanes))]
 #[inline(always)]
 fn folded(lanes: u8x16) -> u8x16
     ensures { result ≡ map fold_byte lanes }
