@@ -16,6 +16,7 @@ use Rattle.subtags.specs.Private.SubtagPlaces.{language_end, region_start}
 use Rattle.subtags.proofs.FoldLemmas.{is_language-fold_text, fold_text-alphanumeric, alphanumeric-from_subtag, IsCanonicalSubtag-lowercase, IsCanonicalSubtag-titlecase, IsCanonicalSubtag-uppercase}
 use Rattle.subtags.proofs.SplitLemmas.{no_dash, subtags_after, subtags_at_first_separator}
 use Rattle.subtags.proofs.ReadLemmas.{subtags-IsCanonical, join_subtags-IsCanonical}
+use Rattle.subtags.proofs.TailLemmas.{bytes_of_script, bytes_of_region}
 use Rattle.subtags.proofs.CanonLemmas.{is_script-canonical_subtag, is_region-canonical_subtag, no_script-from_region}
 
 -- a canonical subtag that is found among others
@@ -86,10 +87,8 @@ region-after_dash : (r : Option (List ℕ)) → IfSome r (IsCanonicalSubtag is_r
     → (1 < length (after_dash r) → r ≡ Some (take 3 (drop 1 (after_dash r)))) × (length (after_dash r) ≤ 1 → r ≡ None)
 region-after_dash None region = (λ more. absurd (omega arith), λ none. refl)
 region-after_dash (Some r) region =
-    let form = region.well_formed in
-    let two : 2 ≤ length r = grind (arith, nat_tests) in
-    let three : length r ≤ 3 = grind (arith, nat_tests) in
-    (λ more. ap (λ (p : List ℕ). Some p) (sym (take_all 3 r three)), λ none. absurd (omega arith))
+    let size = bytes_of_region r region.well_formed in
+    (λ more. ap (λ (p : List ℕ). Some p) (sym (take_all 3 r size.1)), λ none. absurd (omega arith))
 
 -- of joined subtags
 InPlace-join_subtags : (l : List ℕ) (s r : Option (List ℕ)) → is_language l ≡ true → IfSome s (IsCanonicalSubtag is_script titlecase) → IfSome r (IsCanonicalSubtag is_region uppercase) → (let t = join_subtags l s r in InPlace t (language_end t) (region_start t) l s r)
@@ -99,14 +98,10 @@ InPlace-join_subtags l None None language script region =
     let start : region_start l ≡ 9 = grind (arith, nat_tests) in
     rw (append-nil) (rw (start, end) record { language = take_all 8 l few.1; script = λ more. absurd (omega arith); no_script = λ _. refl; region = λ more. absurd (omega arith); no_region = λ _. refl })
 InPlace-join_subtags l None (Some r) language script region =
-    let form = region.well_formed in
-    let two : 2 ≤ length r = grind (arith, nat_tests) in
-    let three : length r ≤ 3 = grind (arith, nat_tests) in
-    let alone = region-after_dash (Some r) region in
-    InPlace-dash l r None (Some r) language (λ more. absurd (omega arith)) (λ few. (refl, omega arith, alone.0 (omega arith)))
+    let size = bytes_of_region r region.well_formed in
+    InPlace-dash l r None (Some r) language (λ more. absurd (omega arith)) (λ few. (refl, omega arith, (region-after_dash (Some r) region).0 (omega arith)))
 InPlace-join_subtags l (Some s) r language script region =
-    let form = script.well_formed in
-    let four : length s ≡ 4 = grind (arith, nat_tests) in
+    let four = (bytes_of_script s script.well_formed).0 in
     let len = length-append s (after_dash r) in
     let front = rw four at (take-append_seam s (after_dash r)) in
     let last = region-after_dash r region in

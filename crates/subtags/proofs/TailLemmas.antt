@@ -56,10 +56,10 @@ pub record IsCasedTail (x : List ℕ) (ps : List (List ℕ)) : Type 0 where
 both_of : (x y : Bool) → (x && y) ≡ true → (x ≡ true) × (y ≡ true)
 both_of x y h = (grind arith, grind arith)
 
-bytes_of_script : (p : List ℕ) → is_script p ≡ true → (length p ≡ 4) × (list_all is_alphabetic p ≡ true)
+pub bytes_of_script : (p : List ℕ) → is_script p ≡ true → (length p ≡ 4) × (list_all is_alphabetic p ≡ true)
 bytes_of_script p h = (grind (arith, nat_tests), grind arith)
 
-bytes_of_region : (p : List ℕ) → is_region p ≡ true → (2 ≤ length p) × (length p ≤ 3) × (length p ≡ 2 → list_all is_alphabetic p ≡ true) × (length p ≡ 3 → list_all is_digit p ≡ true)
+pub bytes_of_region : (p : List ℕ) → is_region p ≡ true → (2 ≤ length p) × (length p ≤ 3) × (length p ≡ 2 → list_all is_alphabetic p ≡ true) × (length p ≡ 3 → list_all is_digit p ≡ true)
 bytes_of_region p h = (grind (arith, nat_tests), grind (arith, nat_tests), λ two. grind (arith, nat_tests), λ three. grind (arith, nat_tests))
 
 titled : (a b c d : ℕ) → fold_text (a ∷ b ∷ c ∷ d ∷ []) ≡ a ∷ b ∷ c ∷ d ∷ [] → is_script (a ∷ b ∷ c ∷ d ∷ []) ≡ true → canonical_subtag (a ∷ b ∷ c ∷ d ∷ []) ≡ raise a ∷ b ∷ c ∷ d ∷ []
