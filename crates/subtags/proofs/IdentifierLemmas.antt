@@ -13,13 +13,11 @@ use Rattle.subtags.specs.Grammar.{dash, is_separator, is_language, is_language_l
 use Rattle.subtags.specs.declared.error.LangIdError.TheVariants.{InvalidSubtag, InvalidLanguage}
 use Rattle.subtags.specs.Answers.{refusal_of}
 use Rattle.subtags.specs.Private.Tails.{IsLike, HasTail, example, first_subtag, in_case_of}
-use Rattle.subtags.proofs.CanonicalLen.{length-IsCanonical, length-canonical_text}
-use Rattle.subtags.proofs.CanonLemmas.{IsCanonical-canonical_text, fold_text-canonical_text, is_tail-canonical, plain_subtags}
+use Rattle.subtags.proofs.CanonLemmas.{refused_without_language, IsCanonical-canonical_text, fold_text-canonical_text, is_tail-canonical, plain_subtags}
 use Rattle.subtags.proofs.FoldLemmas.{All-from_list_all, is_language-fold_text, fold_text-fold_text, alphanumeric-fold_text, alphanumeric-from_letters}
 use Rattle.subtags.proofs.HeadLemmas.{length-first_subtag, end-le}
 use Rattle.subtags.proofs.SplitLemmas.{subtags_after, subtags_at_first_separator, subtags_of-alphanumeric}
-use Rattle.subtags.proofs.PlaceLemmas.{length-language}
-use Rattle.subtags.proofs.ReadLemmas.{refused_without_language}
+use Rattle.subtags.proofs.PlaceLemmas.{length-language, length-IsCanonical, length-canonical_text}
 use Rattle.subtags.proofs.TailLemmas.{tail_like, tail_cased, like-fold_text}
 
 long_is_no_language : (p : List ℕ) → 8 < length p → is_language p ≡ false

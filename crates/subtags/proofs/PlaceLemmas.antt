@@ -1,23 +1,22 @@
--- The places of subtags in a canonical text.
+-- The places and the lengths of subtags in a canonical text.
 use Rattle.std.proofs.Common.{◌≡◌, ◌+◌, ◌-◌, ◌<◌, ◌≤◌, ◌==◌, ℕ, suc, inl, inr, Bool, true, length, List, [], ◌∷◌, ◌++◌, take, drop, Option, None, Some, map, refl, sym, ap, ◌∙◌, arith}
 use Rattle.std.proofs.lemmas.Bool.{cases_lt}
 use Rattle.std.proofs.lemmas.Bool.Decides.{nat_tests}
-use Rattle.std.proofs.lemmas.List.{append-nil, take_all, get_or-take, length-append, length-take, take-take}
+use Rattle.std.proofs.lemmas.List.{append-nil, take_all, get_or-take, length-append, length-map, length-take, take-take}
 use Rattle.std.proofs.lemmas.List.Sums.{position_or_len_is}
 use Rattle.std.proofs.Math.ListN.{get_or-append}
 use Rattle.std.proofs.Math.Seq.{drop-append-add, take-append_seam, get_or-append_seam}
 use Rattle.std.specs.List.{find, position, position_or_len}
 use Rattle.std.specs.Option.{IfSome, unwrap_or}
 use Rattle.tinystr_words.specs.Case.{lowercase, titlecase, uppercase}
-use Rattle.subtags.specs.Grammar.{dash, fold_text, is_language, is_script, is_region, canonical_subtag, IsCanonical}
+use Rattle.subtags.specs.Grammar.{dash, fold_byte, fold_text, is_language, is_script, is_region, canonical_subtag, canonical_text, IsCanonical}
 use Rattle.subtags.specs.Subtags.{IsCanonicalSubtag, language_of, script_of, region_of, after_dash, join_subtags}
 use Rattle.subtags.specs.Private.Tails.{first_subtag}
 use Rattle.subtags.specs.Private.SubtagPlaces.{language_end, region_start}
 use Rattle.subtags.proofs.FoldLemmas.{is_language-fold_text, fold_text-alphanumeric, alphanumeric-from_subtag, IsCanonicalSubtag-lowercase, IsCanonicalSubtag-titlecase, IsCanonicalSubtag-uppercase}
 use Rattle.subtags.proofs.SplitLemmas.{no_dash, subtags_after, subtags_at_first_separator}
-use Rattle.subtags.proofs.ReadLemmas.{subtags-IsCanonical, join_subtags-IsCanonical}
 use Rattle.subtags.proofs.TailLemmas.{bytes_of_script, bytes_of_region}
-use Rattle.subtags.proofs.CanonLemmas.{is_script-canonical_subtag, is_region-canonical_subtag, no_script-from_region}
+use Rattle.subtags.proofs.CanonLemmas.{subtags-IsCanonical, join_subtags-IsCanonical, fold_text-canonical_text, is_script-canonical_subtag, is_region-canonical_subtag, no_script-from_region}
 
 -- a canonical subtag that is found among others
 canonical_found : (t : List ℕ → Bool) (f : List ℕ → List ℕ) → ((p : List ℕ) → t (canonical_subtag p) ≡ true → IsCanonicalSubtag t f (canonical_subtag p)) → (ps : List (List ℕ)) → IfSome (find t (map canonical_subtag ps)) (IsCanonicalSubtag t f)
@@ -146,3 +145,30 @@ pub no_region : (t : List ℕ) (start : ℕ) → IsCanonical t → start ≡ reg
 no_region t start h is few = (InPlace-canonical t h).0.no_region (rw is at few)
 
 pub ruleset subtags_in_place = (language_at, script_at, no_script, region_at, no_region, nat_tests)
+
+-- ---- lengths
+
+-- the fold keeps the length
+pub length-canonical_text : (u : List ℕ) → length (canonical_text u) ≡ length u
+length-canonical_text u =
+    sym (length-map (canonical_text u) fold_byte) ∙ ap (λ (t : List ℕ). length t) (fold_text-canonical_text u) ∙ length-map u fold_byte
+
+length-script : (s : Option (List ℕ)) → IfSome s (IsCanonicalSubtag is_script titlecase) → length (after_dash s) ≤ 5
+length-script None h = omega arith
+length-script (Some s) h = let form = h.well_formed in grind (arith, nat_tests)
+
+length-region : (r : Option (List ℕ)) → IfSome r (IsCanonicalSubtag is_region uppercase) → length (after_dash r) ≤ 4
+length-region None h = omega arith
+length-region (Some r) h = let form = h.well_formed in grind (arith, nat_tests)
+
+-- a language, and perhaps a script and a region, each after a dash
+pub length-IsCanonical : (t : List ℕ) → IsCanonical t → (2 ≤ length t) × (length t ≤ 17)
+length-IsCanonical t h =
+    let place = InPlace-canonical t h in
+    let language = length-language (language_of t) place.1.well_formed in
+    let script = length-script (script_of t) place.2 in
+    let region = length-region (region_of t) place.3 in
+    let whole : length t ≡ length (language_of t) + length (after_dash (script_of t)) + length (after_dash (region_of t)) =
+    ap (λ (s : List ℕ). length s) (join_subtags-IsCanonical t h)
+    ∙ omega (arith, length-append (language_of t) (join_subtags [] (script_of t) (region_of t)), length-append (after_dash (script_of t)) (after_dash (region_of t))) in
+    (omega arith, omega arith)
