@@ -1,5 +1,5 @@
 -- An identifier is read from its first 17 bytes.
-use Rattle.std.proofs.Common.{inl, inr, suc, ◌≡◌, ◌+◌, ◌-◌, ◌<◌, ◌≤◌, ◌==◌, ℕ, ◌&&◌, lit<, Bool, true, false, List, [], ◌∷◌, ◌++◌, length, map, take, drop, get_or, None, drop-cons, subst, refl, sym, ap, ◌∙◌, cond, arith}
+use Rattle.std.proofs.Common.{not, zero, min, inl, inr, suc, ◌≡◌, ◌+◌, ◌-◌, ◌<◌, ◌≤◌, ◌==◌, ℕ, ◌&&◌, lit<, Bool, true, false, List, [], ◌∷◌, ◌++◌, length, map, take, drop, get_or, None, drop-cons, subst, refl, sym, ap, ◌∙◌, cond, arith}
 use Rattle.std.specs.List.{list_all, join_with_byte, position_or_len}
 use Rattle.tinystr_words.specs.Classes.{is_alphabetic, is_alphanumeric}
 use Rattle.std.proofs.lemmas.Bool.{cases_lt, false_from_ne_true, false≢true}
@@ -7,7 +7,6 @@ use Rattle.std.proofs.lemmas.Bool.Decides.{nat_tests}
 use Rattle.std.proofs.lemmas.List.{take_all, take-take, length-drop, length-map}
 use Rattle.std.proofs.lemmas.List.Elements.{All-append, All-nil, All-cons}
 use Rattle.std.proofs.lemmas.List.Sums.{passes_at_first}
-use Rattle.tinystr_words.proofs.Parts.Positions.{position_or_len-take}
 use Rattle.tinystr_words.specs.Text.{IsStrictText, IsText, IsTextByte}
 use Rattle.subtags.specs.Grammar.{dash, is_separator, is_language, is_language_length, is_tail, fold_byte, fold_text, subtags_of, is_lang_id, IsLangId, canonical_subtag, canonical_text, canonical_of, IsCanonical}
 use Rattle.subtags.specs.declared.error.LangIdError.TheVariants.{InvalidSubtag, InvalidLanguage}
@@ -19,6 +18,15 @@ use Rattle.subtags.proofs.HeadLemmas.{length-first_subtag, end-le}
 use Rattle.subtags.proofs.SplitLemmas.{subtags_after, subtags_at_first_separator, subtags_of-alphanumeric}
 use Rattle.subtags.proofs.PlaceLemmas.{length-language, length-IsCanonical, length-canonical_text}
 use Rattle.subtags.proofs.TailLemmas.{tail_like, tail_cased, like-fold_text}
+
+-- the first that passes among the first n
+position_or_len-take : (p : ℕ → Bool) (n : ℕ) (xs : List ℕ) → position_or_len p (take n xs) ≡ min n (position_or_len p xs)
+position_or_len-take p zero xs = omega arith
+position_or_len-take p (suc n) [] = omega arith
+position_or_len-take p (suc n) (x ∷ xs) = step (not (p x)) (position_or_len p (take n xs)) (position_or_len p xs) (position_or_len-take p n xs) where
+  step : (b : Bool) (k m : ℕ) → k ≡ min n m → cond b (1 + k) 0 ≡ min (suc n) (cond b (1 + m) 0)
+  step true k m e = omega (arith, e)
+  step false k m e = omega arith
 
 long_is_no_language : (p : List ℕ) → 8 < length p → is_language p ≡ false
 long_is_no_language p long = false_from_ne_true (is_language p) (λ h. absurd (omega (arith, length-language p h)))
