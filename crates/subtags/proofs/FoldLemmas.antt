@@ -57,7 +57,7 @@ is_region-fold_text p = simp fold_steps
 pub alphanumeric-fold_text : (p : List ℕ) → list_all is_alphanumeric (fold_text p) ≡ list_all is_alphanumeric p
 alphanumeric-fold_text p = simp fold_steps
 
--- a test that does not see folding answers alike of texts that fold alike
+-- a test that folding doesn't change gives one result for texts with equal folds
 pub same_test_from_fold_text : (t : List ℕ → Bool) → ((p : List ℕ) → t (fold_text p) ≡ t p) → (p q : List ℕ) → fold_text p ≡ fold_text q → t p ≡ t q
 same_test_from_fold_text t e p q alike = sym (e p) ∙ ap t alike ∙ e q
 
@@ -78,7 +78,7 @@ alphanumeric-from_subtag p h =
 pub IsStrictText-from_subtag : (p : List ℕ) (n : ℕ) → (is_language p || is_script p || is_region p) ≡ true → length p ≤ n → IsStrictText p n
 IsStrictText-from_subtag p n h fits = record { text = All-from_list_all is_alphanumeric IsTextByte (λ b a. grind (arith, nat_tests)) p (alphanumeric-from_subtag p h); fits = fits }
 
--- where all bytes of a text are asked one question, the answer is that of each byte
+-- one question about all bytes of a text is the question about each byte
 pub ask-same : (p : ℕ → Bool) (t : List ℕ) → ask p p t ≡ list_all p t
 ask-same p [] = refl
 ask-same p (b ∷ t) = refl
@@ -103,25 +103,17 @@ titlecase-fold_text p h = ap titlecase (fold_text-alphanumeric p (alphanumeric-f
 pub uppercase-fold_text : (p : List ℕ) → is_region p ≡ true → uppercase (fold_text p) ≡ uppercase p
 uppercase-fold_text p h = ap uppercase (fold_text-alphanumeric p (alphanumeric-from_subtag p (grind arith))) ∙ map-map_absorbed raise lower (λ b. grind (arith, nat_tests)) p
 
--- a language in lowercase is canonical
+-- a well-formed subtag is canonical in its case: a language in lowercase, a script in titlecase, a region in uppercase
+in_its_case : (t : List ℕ → Bool) (f : List ℕ → List ℕ) → ((p : List ℕ) → t (fold_text p) ≡ t p) → ((p : List ℕ) → fold_text (f p) ≡ fold_text p) → ((p : List ℕ) → f (f p) ≡ f p) → (p : List ℕ) → t p ≡ true → IsCanonicalSubtag t f (f p)
+in_its_case t f same folded twice p h = record { well_formed = same_test_from_fold_text t same (f p) p (folded p) ∙ h; canonical = twice p }
+
 pub IsCanonicalSubtag-lowercase : (p : List ℕ) → is_language p ≡ true → IsCanonicalSubtag is_language lowercase (lowercase p)
-IsCanonicalSubtag-lowercase p h = record {
-  well_formed = same_test_from_fold_text is_language is_language-fold_text (lowercase p) p (map-map_absorbed fold_byte lower (λ b. grind (arith, nat_tests)) p) ∙ h;
-  canonical = map-map_absorbed lower lower (λ b. grind (arith, nat_tests)) p;
-}
+IsCanonicalSubtag-lowercase = in_its_case is_language lowercase is_language-fold_text (map-map_absorbed fold_byte lower (λ b. grind (arith, nat_tests))) (map-map_absorbed lower lower (λ b. grind (arith, nat_tests)))
 
--- a script in titlecase is canonical
 pub IsCanonicalSubtag-titlecase : (p : List ℕ) → is_script p ≡ true → IsCanonicalSubtag is_script titlecase (titlecase p)
-IsCanonicalSubtag-titlecase p h = record {
-  well_formed = same_test_from_fold_text is_script is_script-fold_text (titlecase p) p (fold_text-titlecase p) ∙ h;
-  canonical = (titlecase-lowercase_titlecase p).1;
-}
+IsCanonicalSubtag-titlecase = in_its_case is_script titlecase is_script-fold_text fold_text-titlecase (λ p. (titlecase-lowercase_titlecase p).1)
 
--- a region in uppercase is canonical
 pub IsCanonicalSubtag-uppercase : (p : List ℕ) → is_region p ≡ true → IsCanonicalSubtag is_region uppercase (uppercase p)
-IsCanonicalSubtag-uppercase p h = record {
-  well_formed = same_test_from_fold_text is_region is_region-fold_text (uppercase p) p (map-map_absorbed fold_byte raise (λ b. grind (arith, nat_tests)) p) ∙ h;
-  canonical = map-map_absorbed raise raise (λ b. grind (arith, nat_tests)) p;
-}
+IsCanonicalSubtag-uppercase = in_its_case is_region uppercase is_region-fold_text (map-map_absorbed fold_byte raise (λ b. grind (arith, nat_tests))) (map-map_absorbed raise raise (λ b. grind (arith, nat_tests)))
 
 pub ruleset subtag_steps = (IsStrictText-from_subtag, ask-same, IsCanonicalSubtag-lowercase, IsCanonicalSubtag-titlecase, IsCanonicalSubtag-uppercase)

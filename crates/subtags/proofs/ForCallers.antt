@@ -4,9 +4,8 @@ use Rattle.std.proofs.Common.{◌≡◌, ◌≤◌, ◌↔◌, ℕ, List, length
 use Rattle.std.specs.List.{slice_split}
 use Rattle.subtags.specs.Grammar.{is_separator, fold_text, subtags_of, IsLangId, IsCanonical, canonical_text}
 use Rattle.subtags.specs.Subtags.{language_of, script_of, region_of, join_subtags}
-use Rattle.subtags.proofs.CanonicalLen.{length-IsCanonical, length-canonical_text}
-use Rattle.subtags.proofs.CanonLemmas.{IsCanonical-canonical_text, fold_text-canonical_text, same_canonical_text}
-use Rattle.subtags.proofs.ReadLemmas.{join_subtags-IsCanonical}
+use Rattle.subtags.proofs.CanonLemmas.{join_subtags-IsCanonical, IsCanonical-canonical_text, fold_text-canonical_text, same_canonical_text}
+use Rattle.subtags.proofs.PlaceLemmas.{length-IsCanonical, length-canonical_text}
 use Rattle.subtags.proofs.SplitLemmas.{subtags_of-fold_text}
 
 -- Folding an input and then splitting it at dashes gives the same as splitting it at separators and then folding each

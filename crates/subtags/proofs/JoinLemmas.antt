@@ -37,22 +37,15 @@ record IsTailOf (ps : List (List ℕ)) (s r : Option (List ℕ)) : Type 0 where
 IsTailOf-options : (s r : Option (List ℕ)) → IfSome s (IsCanonicalSubtag is_script titlecase) → IfSome r (IsCanonicalSubtag is_region uppercase) → IsTailOf (tail_of s r) s r
 IsTailOf-options None None script region = record { tail = refl; script = refl; region = refl; kept = refl }
 IsTailOf-options None (Some r) script region =
-    let kept = region_kept r region in
     let is = region.well_formed in
-    let not = no_script-from_region r is in
-    record { tail = grind arith; script = grind arith; region = grind arith; kept = grind arith }
+    record { tail = grind arith; script = grind (arith, no_script-from_region); region = grind arith; kept = grind (arith, region_kept) }
 IsTailOf-options (Some s) None script region =
-    let kept = script_kept s script in
     let is = script.well_formed in
-    let not = no_script-from_region s in
-    record { tail = grind arith; script = grind arith; region = grind arith; kept = grind arith }
+    record { tail = grind arith; script = grind arith; region = grind (arith, no_script-from_region); kept = grind (arith, script_kept) }
 IsTailOf-options (Some s) (Some r) script region =
-    let kept = script_kept s script in
-    let kept_r = region_kept r region in
     let is = script.well_formed in
     let is_r = region.well_formed in
-    let not = no_script-from_region s in
-    record { tail = grind arith; script = grind arith; region = grind arith; kept = grind arith }
+    record { tail = grind arith; script = grind arith; region = grind (arith, no_script-from_region); kept = cc (script_kept s script, region_kept r region) }
 
 -- a canonical language and such a tail are a canonical text, which is split again
 canonical_join : (l : List ℕ) (ps : List (List ℕ)) → IsCanonicalSubtag is_language lowercase l → is_tail ps ≡ true → map canonical_subtag (map fold_text ps) ≡ ps
@@ -65,15 +58,15 @@ canonical_join l ps language tail kept =
     (record { accepted = rw (split, is, folded) refl; canonical = rw (split, kept) refl }, subtags_of-join l ps (plain_subtags l ps is tail))
 
 -- canonical subtags, joined, are a canonical text
-pub IsCanonical-join_subtags : (l : List ℕ) (s r : Option (List ℕ)) → IsCanonicalSubtag is_language lowercase l → IfSome s (IsCanonicalSubtag is_script titlecase) → IfSome r (IsCanonicalSubtag is_region uppercase) → IsCanonical (join_subtags l s r)
-IsCanonical-join_subtags l s r language script region =
+canonical_subtags_join : (l : List ℕ) (s r : Option (List ℕ)) → IsCanonicalSubtag is_language lowercase l → IfSome s (IsCanonicalSubtag is_script titlecase) → IfSome r (IsCanonicalSubtag is_region uppercase) → IsCanonical (join_subtags l s r) × (subtags_of (join_subtags l s r) ≡ l ∷ tail_of s r)
+canonical_subtags_join l s r language script region =
     let of = IsTailOf-options s r script region in
     let joined : join_with_byte dash (l ∷ tail_of s r) ≡ join_subtags l s r = join_with_byte-tail l (tail_of s r) of.tail ∙ rw (of.script, of.region) refl in
-    rw (← joined) (canonical_join l (tail_of s r) language of.tail of.kept).0
+    rw joined at (canonical_join l (tail_of s r) language of.tail of.kept)
+
+pub IsCanonical-join_subtags : (l : List ℕ) (s r : Option (List ℕ)) → IsCanonicalSubtag is_language lowercase l → IfSome s (IsCanonicalSubtag is_script titlecase) → IfSome r (IsCanonicalSubtag is_region uppercase) → IsCanonical (join_subtags l s r)
+IsCanonical-join_subtags l s r language script region = (canonical_subtags_join l s r language script region).0
 
 -- and give the subtags back
 pub subtags_of_join_subtags : (l : List ℕ) (s r : Option (List ℕ)) → IsCanonicalSubtag is_language lowercase l → IfSome s (IsCanonicalSubtag is_script titlecase) → IfSome r (IsCanonicalSubtag is_region uppercase) → (join_subtags l s r ≡ join_subtags l s r) × (language_of (join_subtags l s r) ≡ l) × (script_of (join_subtags l s r) ≡ s) × (region_of (join_subtags l s r) ≡ r)
-subtags_of_join_subtags l s r language script region =
-    let of = IsTailOf-options s r script region in
-    let joined : join_with_byte dash (l ∷ tail_of s r) ≡ join_subtags l s r = join_with_byte-tail l (tail_of s r) of.tail ∙ rw (of.script, of.region) refl in
-    rw (← joined, (canonical_join l (tail_of s r) language of.tail of.kept).1) (refl, refl, of.script, of.region)
+subtags_of_join_subtags l s r language script region = let of = IsTailOf-options s r script region in rw (canonical_subtags_join l s r language script region).1 (refl, refl, of.script, of.region)

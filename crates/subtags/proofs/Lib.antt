@@ -3,12 +3,10 @@ pub mod LaneClasses
 pub mod FoldLemmas
 pub mod SplitLemmas
 pub mod CanonLemmas
-pub mod ReadLemmas
 pub mod TailLemmas
 pub mod LaneTexts
 pub mod JoinLemmas
 pub mod PlaceLemmas
 pub mod HeadLemmas
-pub mod CanonicalLen
 pub mod IdentifierLemmas
 pub mod ForCallers

@@ -1,53 +1,42 @@
 -- Bits that say which bytes pass a test.
-use Rattle.std.proofs.Common.{◌≡◌, ◌+◌, ◌-◌, ◌*◌, ◌/◌, ◌%◌, ◌^◌, ◌<◌, ◌≤◌, ℕ, zero, suc, Bool, true, false, not, ◌&&◌, ◌==◌, List, [], ◌∷◌, ◌++◌, length, map, take, drop, cond, pow_mono, ap, ap₂, refl, sym, ◌∙◌, arith}
+use Rattle.std.proofs.Common.{◌≡◌, ◌+◌, ◌-◌, ◌*◌, ◌/◌, ◌%◌, ◌^◌, ◌<◌, ◌≤◌, ℕ, suc, Bool, true, false, ◌&&◌, ◌==◌, List, [], ◌∷◌, ◌++◌, length, map, take, drop, cond, pow_mono, ap, refl, sym, ◌∙◌, arith}
 use lib.Lanes.{mask_l}
 use lib.Count.{count_trailing_zeros}
-use Rattle.std.specs.List.{list_all, prefix_len, position_or_len}
+use Rattle.std.specs.List.{list_all, position_or_len}
 use Rattle.std.proofs.Math.Nat.{pow-suc, mul_assoc, mul-le-mul_right, mod-eq_of_lt}
 use Rattle.std.proofs.Math.Arith.{digits_mod}
 use Rattle.std.proofs.lemmas.Bool.Decides.{nat_tests}
 use Rattle.std.proofs.lemmas.Nat.{div-mul-add, pow-add}
-use Rattle.std.proofs.lemmas.List.{length-map, length-take, take-map, drop-map, length-append, length-drop}
+use Rattle.std.proofs.lemmas.List.{length-map, length-take, length-append, length-drop, take-append-drop}
+use Rattle.std.proofs.lemmas.List.Folds.{position_or_len_push}
 use Rattle.std.proofs.lemmas.Simd.{mask_l-lt, trailing_mask_l}
 use Rattle.tinystr_words.specs.Classes.{is_alphabetic, is_digit}
-use Rattle.subtags.specs.Grammar.{is_separator}
+use Rattle.subtags.specs.Grammar.{dash, is_separator}
 use Rattle.subtags.specs.Private.Tails.{IsLike, classes_of, one_more}
 
+pub mask_l-under : {X : Type 0} (p : X → Bool) (xs : List X) → mask_l (map p xs) < 2 ^ length xs
+mask_l-under p xs = rw (length-map xs p) at (mask_l-lt (map p xs))
+
 -- the bits of the first bytes, and those of the others
-mask_l-split : (k : ℕ) (ms : List Bool) → k ≤ length ms → mask_l ms ≡ mask_l (drop k ms) * 2 ^ k + mask_l (take k ms)
-mask_l-split zero ms le = omega arith
-mask_l-split (suc k) [] le = absurd (omega arith)
-mask_l-split (suc k) (m ∷ ms) le =
-    let rest = mask_l-split k ms (omega arith) in
-    let power : mask_l (drop k ms) * 2 ^ suc k ≡ mask_l (drop k ms) * 2 ^ k * 2 = ap (λ n. mask_l (drop k ms) * n) (pow-suc 2 k) ∙ sym (mul_assoc (mask_l (drop k ms)) (2 ^ k) 2) in
+pub mask_l-append : {X : Type 0} (p : X → Bool) (xs ys : List X) → mask_l (map p (xs ++ ys)) ≡ mask_l (map p ys) * 2 ^ length xs + mask_l (map p xs)
+mask_l-append p [] ys = omega arith
+mask_l-append p (x ∷ xs) ys =
+    let rest = mask_l-append p xs ys in
+    let power : mask_l (map p ys) * 2 ^ suc (length xs) ≡ mask_l (map p ys) * 2 ^ length xs * 2 = ap (λ n. mask_l (map p ys) * n) (pow-suc 2 (length xs)) ∙ sym (mul_assoc (mask_l (map p ys)) (2 ^ length xs) 2) in
     omega (arith, rest, power)
 
-lowest-lt : (k : ℕ) (ms : List Bool) → k ≤ length ms → mask_l (take k ms) < 2 ^ k
-lowest-lt k ms le = let len : length (take k ms) ≡ k = omega (arith, length-take k ms) in rw len at (mask_l-lt (take k ms))
+pub mask_l-split : {X : Type 0} (p : X → Bool) (k : ℕ) (xs : List X) → k ≤ length xs → mask_l (map p xs) ≡ mask_l (map p (drop k xs)) * 2 ^ k + mask_l (map p (take k xs))
+mask_l-split p k xs le = let len : length (take k xs) ≡ k = omega (arith, length-take k xs) in rw (take-append-drop k xs, len) at (mask_l-append p (take k xs) (drop k xs))
 
-pub mask_l-div : {X : Type 0} (p : X → Bool) (k : ℕ) (xs : List X) → k ≤ length xs → mask_l (map p xs) / 2 ^ k ≡ mask_l (map p (drop k xs))
-mask_l-div p k xs le =
-    let few : k ≤ length (map p xs) = omega (arith, length-map xs p) in
-    ap (λ n. n / 2 ^ k) (mask_l-split k (map p xs) few)
-    ∙ div-mul-add (mask_l (drop k (map p xs))) (2 ^ k) (mask_l (take k (map p xs))) (lowest-lt k (map p xs) few)
-    ∙ ap mask_l (drop-map p k xs)
-
-mask_l-rem : {X : Type 0} (p : X → Bool) (k : ℕ) (xs : List X) → k ≤ length xs → mask_l (map p xs) % 2 ^ k ≡ mask_l (map p (take k xs))
-mask_l-rem p k xs le =
-    let few : k ≤ length (map p xs) = omega (arith, length-map xs p) in
-    ap (λ n. n % 2 ^ k) (mask_l-split k (map p xs) few)
-    ∙ digits_mod (mask_l (drop k (map p xs))) (lowest-lt k (map p xs) few)
-    ∙ ap mask_l (take-map p k xs)
+pub lowest-lt : {X : Type 0} (p : X → Bool) (k : ℕ) (xs : List X) → k ≤ length xs → mask_l (map p (take k xs)) < 2 ^ k
+lowest-lt p k xs le = let len : length (take k xs) ≡ k = omega (arith, length-take k xs) in rw len at (mask_l-under p (take k xs))
 
 -- the bits of different lists of one length differ
 pub mask_l-same : (xs ys : List Bool) → length xs ≡ length ys → mask_l xs ≡ mask_l ys → xs ≡ ys
 mask_l-same [] [] len e = refl
 mask_l-same [] (y ∷ ys) len e = absurd (omega arith)
 mask_l-same (x ∷ xs) [] len e = absurd (omega arith)
-mask_l-same (true ∷ xs) (true ∷ ys) len e = ap (λ (l : List Bool). true ∷ l) (mask_l-same xs ys (omega arith) (omega arith))
-mask_l-same (true ∷ xs) (false ∷ ys) len e = absurd (omega arith)
-mask_l-same (false ∷ xs) (true ∷ ys) len e = absurd (omega arith)
-mask_l-same (false ∷ xs) (false ∷ ys) len e = ap (λ (l : List Bool). false ∷ l) (mask_l-same xs ys (omega arith) (omega arith))
+mask_l-same (x ∷ xs) (y ∷ ys) len e = let rest = mask_l-same xs ys (omega arith) in grind (arith, nat_tests)
 
 -- all bits are set where all bytes pass
 mask_l-all : {X : Type 0} (p : X → Bool) (xs : List X) → (mask_l (map p xs) + 1 == 2 ^ length xs) ≡ list_all p xs
@@ -57,36 +46,21 @@ mask_l-all p (x ∷ xs) = one (p x) (list_all p xs) (mask_l (map p xs)) (2 ^ len
   one true all n m w rest power = grind (arith, nat_tests)
   one false all n m w rest power = grind (arith, nat_tests)
 
-pub letters-in_front : {X : Type 0} (p : X → Bool) (k : ℕ) (xs : List X) → k ≤ length xs → (mask_l (map p xs) % 2 ^ k + 1 == 2 ^ k) ≡ list_all p (take k xs)
-letters-in_front p k xs le =
+pub first_letters : {X : Type 0} (p : X → Bool) (k : ℕ) (xs : List X) → k ≤ length xs → (mask_l (map p xs) % 2 ^ k + 1 == 2 ^ k) ≡ list_all p (take k xs)
+first_letters p k xs le =
     let len : length (take k xs) ≡ k = omega (arith, length-take k xs) in
-    rw (mask_l-rem p k xs le) (rw len at (mask_l-all p (take k xs)))
-
--- a bit more for the last
-pub mask_l-last : {X : Type 0} (p : X → Bool) (xs : List X) (x : X) → mask_l (map p (xs ++ x ∷ [])) ≡ mask_l (map p xs) + cond (p x) 1 0 * 2 ^ length xs
-mask_l-last p [] x = omega arith
-mask_l-last p (y ∷ xs) x =
-    let rest = mask_l-last p xs x in
-    let power : cond (p x) 1 0 * 2 ^ suc (length xs) ≡ cond (p x) 1 0 * 2 ^ length xs * 2 = ap (λ n. cond (p x) 1 0 * n) (pow-suc 2 (length xs)) ∙ sym (mul_assoc (cond (p x) 1 0) (2 ^ length xs) 2) in
-    omega (arith, rest, power)
+    rw (mask_l-split p k xs le, digits_mod (mask_l (map p (drop k xs))) (lowest-lt p k xs le)) (rw len at (mask_l-all p (take k xs)))
 
 -- the lowest bit, where one more marks the end, is the first that passes
-prefix_len-last : {X : Type 0} (p : X → Bool) (xs : List X) (x : X) → p x ≡ true → prefix_len (λ y. not (p y)) (xs ++ x ∷ []) ≡ position_or_len p xs
-prefix_len-last p [] x e = rw e refl
-prefix_len-last p (y ∷ xs) x e = ap (λ n. cond (not (p y)) (1 + n) 0) (prefix_len-last p xs x e)
-
-pub first_from_mask : (p : ℕ → Bool) (b : ℕ) → p b ≡ true → (u : List ℕ) → length u < 64 → count_trailing_zeros 64 (mask_l (map p u) + 2 ^ length u) ≡ position_or_len p u
-first_from_mask p b e u few =
-    let last : mask_l (map p (u ++ b ∷ [])) ≡ mask_l (map p u) + 2 ^ length u = rw (mask_l-last p u b, e) (omega arith) in
-    let some : mask_l (map p u) < 2 ^ length u = rw (length-map u p) at (mask_l-lt (map p u)) in
-    rw (← last) (trailing_mask_l p 64 (u ++ b ∷ []) (omega (arith, length-append u (b ∷ []))) (omega (arith, last, some)) ∙ prefix_len-last p u b e)
+pub first_from_mask : (u : List ℕ) → length u ≤ 17 → count_trailing_zeros 64 (mask_l (map is_separator u) + 2 ^ length u) ≡ position_or_len is_separator u
+first_from_mask u few =
+    let last : mask_l (map is_separator (u ++ dash ∷ [])) ≡ mask_l (map is_separator u) + 2 ^ length u = rw (mask_l-append is_separator u (dash ∷ [])) (omega arith) in
+    let first : position_or_len is_separator (u ++ dash ∷ []) ≡ position_or_len is_separator u = rw (position_or_len_push is_separator u dash) (grind (arith, nat_tests)) in
+    rw (← last) (trailing_mask_l is_separator 64 (u ++ dash ∷ []) (omega (arith, length-append u (dash ∷ []))) (omega (arith, last, mask_l-under is_separator u)) ∙ first)
 
 -- the marks and a bit after them fit into 64
 pub mask_l-end : (p : ℕ → Bool) (u : List ℕ) → length u ≤ 17 → mask_l (map p u) + 2 ^ length u < 2 ^ 64
-mask_l-end p u few =
-    let marks : mask_l (map p u) < 2 ^ length u = rw (length-map u p) at (mask_l-lt (map p u)) in
-    let most : 2 ^ length u ≤ 2 ^ 17 = pow_mono few in
-    omega (arith, marks, most)
+mask_l-end p u few = let most : 2 ^ length u ≤ 2 ^ 17 = pow_mono few in omega (arith, mask_l-under p u, most)
 
 -- one, shifted
 pub shifted-one : (n : ℕ) → n ≤ 17 → 1 * 2 ^ n % 2 ^ 64 ≡ 2 ^ n
@@ -100,15 +74,12 @@ mask_l-none q none (b ∷ w) h = let here = none b (grind arith) in let rest = m
 -- ---- bytes in one number, twenty bits for each class
 
 pub mask_l-lt_17 : (p : ℕ → Bool) (u : List ℕ) → length u ≤ 17 → mask_l (map p u) < 2 ^ 17
-mask_l-lt_17 p u few =
-    let some = rw (length-map u p) at (mask_l-lt (map p u)) in
-    let most : 2 ^ length u ≤ 2 ^ 17 = pow_mono few in
-    omega arith
+mask_l-lt_17 p u few = let most : 2 ^ length u ≤ 2 ^ 17 = pow_mono few in omega (arith, mask_l-under p u)
 
 -- shifted bits that still fit
 shifted-le_17 : (p : ℕ → Bool) (t : List ℕ) (e : ℕ) → length t + e ≤ 17 → mask_l (map p t) * 2 ^ e + 2 ^ e ≤ 2 ^ 17
 shifted-le_17 p t e few =
-    let some : mask_l (map p t) + 1 ≤ 2 ^ length t = omega (arith, rw (length-map t p) at (mask_l-lt (map p t))) in
+    let some : mask_l (map p t) + 1 ≤ 2 ^ length t = omega (arith, mask_l-under p t) in
     let most : 2 ^ (length t + e) ≤ 2 ^ 17 = pow_mono few in
     let scaled : (mask_l (map p t) + 1) * 2 ^ e ≤ 2 ^ length t * 2 ^ e = mul-le-mul_right (2 ^ e) some in
     omega (arith, scaled, most, pow-add 2 (length t) e)
@@ -128,7 +99,7 @@ like_from_number (a ∷ t) u e inside few size h =
     let p = 2 ^ e in
     let y = a ∷ t in
     let len : length y + e ≡ length u = size (omega arith) in
-    let room : length y + e ≤ 17 = omega arith in
+    let fits_17 : length y + e ≤ 17 = omega arith in
     let none : 0 ≤ e = omega arith in
     let one : 2 ^ 0 ≤ 2 ^ e = pow_mono none in
     let l = mask_l (map is_alphabetic y) in
@@ -136,13 +107,13 @@ like_from_number (a ∷ t) u e inside few size h =
     let s = mask_l (map is_separator y) in
     let f = same_fields (mask_l (map is_alphabetic u)) (mask_l (map is_digit u)) (mask_l (map is_separator u)) (l * p) (d * p) (s * p) p
     (mask_l-lt_17 is_alphabetic u few) (mask_l-lt_17 is_digit u few) (mask_l-lt_17 is_separator u few)
-    (shifted-le_17 is_alphabetic y e room) (shifted-le_17 is_digit y e room) (shifted-le_17 is_separator y e room) (h ∙ one_more-shifted l d s p) in
+    (shifted-le_17 is_alphabetic y e fits_17) (shifted-le_17 is_digit y e fits_17) (shifted-le_17 is_separator y e fits_17) (h ∙ one_more-shifted l d s p) in
     let same : (q : ℕ → Bool) (r : ℕ) → r < p → mask_l (map q u) ≡ mask_l (map q y) * p + r → map q (drop e u) ≡ map q y =
     λ q r small is. mask_l-same (map q (drop e u)) (map q y) (omega (arith, length-map (drop e u) q, length-map y q, length-drop e u))
-    (sym (mask_l-div q e u inside) ∙ ap (λ n. n / p) is ∙ div-mul-add (mask_l (map q y)) p r small) in
+    (sym (div-mul-add (mask_l (map q (drop e u))) p (mask_l (map q (take e u))) (lowest-lt q e u inside)) ∙ ap (λ n. n / p) (sym (mask_l-split q e u inside) ∙ is) ∙ div-mul-add (mask_l (map q y)) p r small) in
     let letters : mask_l (map is_alphabetic u) ≡ l * p + (p - 1) = omega (arith, f.0) in
     let all : mask_l (map is_alphabetic u) % p ≡ p - 1 = ap (λ n. n % p) letters ∙ digits_mod l (omega arith) in (
-      sym (letters-in_front is_alphabetic e u inside) ∙ rw all (grind (arith, nat_tests)),
+      sym (first_letters is_alphabetic e u inside) ∙ rw all (grind (arith, nat_tests)),
       omega arith,
       record {
         letters = same is_alphabetic (p - 1) (omega arith) letters;
@@ -154,11 +125,12 @@ like_from_number (a ∷ t) u e inside few size h =
 pub number_from_like : (t u : List ℕ) (e : ℕ) → list_all is_alphabetic (take e u) ≡ true → e < length u → IsLike t (drop e u) → classes_of u + 1 ≡ one_more t * 2 ^ e
 number_from_like [] u e letters more like = absurd (omega (arith, length-drop e u, length-map (drop e u) is_alphabetic, ap (λ (l : List Bool). length l) like.letters))
 number_from_like (a ∷ t) u e letters more like =
-    let split : (q : ℕ → Bool) → mask_l (map q u) ≡ mask_l (map q (drop e u)) * 2 ^ e + mask_l (map q (take e u)) =
-    λ q. mask_l-split e (map q u) (omega (arith, length-map u q)) ∙ ap₂ (λ x y. mask_l x * 2 ^ e + mask_l y) (drop-map q e u) (take-map q e u) in
+    let split : (q : ℕ → Bool) → mask_l (map q u) ≡ mask_l (map q (drop e u)) * 2 ^ e + mask_l (map q (take e u)) = λ q. mask_l-split q e u (omega arith) in
     let len : length (take e u) ≡ e = omega (arith, length-take e u) in
     let ones : mask_l (map is_alphabetic (take e u)) + 1 ≡ 2 ^ e = let all = rw (len, letters) at (mask_l-all is_alphabetic (take e u)) in grind (arith, nat_tests) in
     let no_digits = mask_l-none is_digit (λ b h. grind (arith, nat_tests)) (take e u) letters in
     let no_separators = mask_l-none is_separator (λ b h. grind (arith, nat_tests)) (take e u) letters in
     rw (one_more-shifted (mask_l (map is_alphabetic (a ∷ t))) (mask_l (map is_digit (a ∷ t))) (mask_l (map is_separator (a ∷ t))) (2 ^ e))
     (omega (arith, rw like.letters at (split is_alphabetic), rw like.digits at (split is_digit), rw like.separators at (split is_separator), ones, no_digits, no_separators))
+
+pub ruleset class_bits = (mask_l-lt_17, mask_l-end, shifted-one, first_letters, first_from_mask)

@@ -24,11 +24,11 @@ slice_split-map f p q e (b ∷ u) =
 pub subtags_of-fold_text : (u : List ℕ) → subtags_of (fold_text u) ≡ map fold_text (slice_split is_separator u)
 subtags_of-fold_text u = slice_split-map fold_byte (λ b. b == dash) is_separator (λ b. grind (arith, nat_tests)) u
 
--- the subtags behind the first separator
+-- the subtags after the first separator
 abbrev pub subtags_after : List ℕ → List (List ℕ)
 subtags_after u = if position_or_len is_separator u == length u then [] else subtags_of (fold_text (drop (position_or_len is_separator u + 1) u))
 
--- the first subtag is what stands before the first separator
+-- the first subtag ends at the first separator
 pub subtags_at_first_separator : (u : List ℕ) → subtags_of (fold_text u) ≡ fold_text (first_subtag u) ∷ subtags_after u
 subtags_at_first_separator u = elim (cases_lt (position_or_len is_separator u) (length u)) [
   | inl inside ↦

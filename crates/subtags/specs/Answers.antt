@@ -1,4 +1,4 @@
--- What the readers answer, and the texts of their error.
+-- What the readers return, and the texts of their error.
 use Rattle.std.specs.Prelude.{◌≡◌, ℕ, List, codes, Result, IsOk, IfOk, IfErr, ◌↔◌, if◌then◌else◌}
 use Rattle.std.specs.Result.{result_ok}
 use Rattle.subtags.specs.declared.error.LangIdError.{LangIdError}
@@ -6,7 +6,7 @@ use Rattle.subtags.specs.declared.error.LangIdError.TheVariants.{InvalidLanguage
 use Rattle.subtags.specs.Grammar.{fold_text, subtags_of, is_language, IsLangId, canonical_text, canonical_of}
 use Rattle.subtags.specs.Subtags.{first}
 
--- why an input is refused: for its first subtag, or for what stands behind it
+-- why an input is rejected: for its first subtag, or for what follows it
 abbrev pub refusal_of : List ℕ → LangIdError
 refusal_of u = if is_language (first (subtags_of (fold_text u))) then InvalidSubtag else InvalidLanguage
 

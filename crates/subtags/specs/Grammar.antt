@@ -1,4 +1,4 @@
--- Language identifiers, the fold that tells them apart, and their canonical texts.
+-- Language identifiers, the fold that distinguishes them, and their canonical texts.
 use Rattle.std.specs.Prelude.{◌≡◌, ℕ, ◌==◌, Bool, true, false, ◌&&◌, ◌||◌, if◌then◌else◌, IsTrue, List, [], ◌∷◌, length, map, Option, Some, None}
 use Rattle.std.specs.Int.{is_in_range}
 use Rattle.std.specs.List.{list_all, slice_split, join_with_byte}
@@ -23,7 +23,7 @@ fold_byte b = if b == underscore then dash else lower b
 abbrev pub fold_text : List ℕ → List ℕ
 fold_text u = map fold_byte u
 
--- what stands before, between and behind the dashes
+-- the parts before, between and after the dashes
 abbrev pub subtags_of : List ℕ → List (List ℕ)
 subtags_of u = slice_split (λ b. b == dash) u
 

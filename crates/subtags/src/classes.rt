@@ -37,6 +37,7 @@ impl Classes {
     }
 
     /// Where the first separator is, or the number of bytes.
+    #[tactic(auto, using(crate::proofs::MaskLemmas::class_bits))]
     #[inline(always)]
     pub(crate) fn first_end(&self, units: &[u8]) -> usize
         requires few { length units.now ≤ 17 }
@@ -47,6 +48,7 @@ impl Classes {
     }
 
     /// All in one number: twenty bits for letters, then twenty for digits, and then separators.
+    #[tactic(auto, using(crate::proofs::MaskLemmas::class_bits))]
     #[inline(always)]
     pub(crate) fn packed(&self, _units: &[u8]) -> u64
         requires few { length _units.now ≤ 17 }
@@ -60,6 +62,7 @@ impl Classes {
 }
 
 /// Whether the first `count` bytes are letters, by the bits of all bytes. The bytes are there for the contract.
+#[tactic(auto, using(crate::proofs::MaskLemmas::class_bits))]
 #[inline(always)]
 pub(crate) fn are_letters(letters: u64, _units: &[u8], count: usize) -> bool
     requires few { length _units.now ≤ 17 }

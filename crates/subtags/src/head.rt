@@ -10,6 +10,7 @@ use crate::classes::{Classes, are_letters};
 use crate::language::is_language_length;
 
 /// Whether the first subtag is a language.
+#[tactic(auto, using(crate::proofs::HeadLemmas::first_subtag_bits))]
 #[inline(always)]
 pub(crate) fn has_language(classes: &Classes, units: &[u8]) -> bool
     requires few { length units.now ≤ 17 }

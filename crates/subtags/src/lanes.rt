@@ -24,6 +24,7 @@ pub(crate) fn first_lanes(units: &[u8]) -> u8x16
 }
 
 /// Which of at most 17 bytes are letters.
+#[tactic(auto, using(crate::proofs::LaneClasses::seventeen))]
 #[inline(always)]
 pub(crate) fn letters_of(units: &[u8], lanes: u8x16) -> u64
     requires few { length units.now ≤ 17 }
@@ -39,6 +40,7 @@ pub(crate) fn letters_of(units: &[u8], lanes: u8x16) -> u64
 }
 
 /// Which of at most 17 bytes are digits.
+#[tactic(auto, using(crate::proofs::LaneClasses::seventeen))]
 #[inline(always)]
 pub(crate) fn digits_of(units: &[u8], lanes: u8x16) -> u64
     requires few { length units.now ≤ 17 }
@@ -54,6 +56,7 @@ pub(crate) fn digits_of(units: &[u8], lanes: u8x16) -> u64
 }
 
 /// Which of at most 17 bytes are separators.
+#[tactic(auto, using(crate::proofs::LaneClasses::seventeen))]
 #[inline(always)]
 pub(crate) fn separators_of(units: &[u8], lanes: u8x16) -> u64
     requires few { length units.now ≤ 17 }
@@ -128,6 +131,7 @@ fn is_separator(byte: u8) -> bool
 const LOWERCASE: u8 = 0x20;
 
 // The lanes that are letters.
+#[tactic(auto, using(crate::proofs::LaneClasses::letter_marks))]
 #[inline(always)]
 fn letters(lanes: u8x16) -> u64
     ensures { result ≡ mask_l (map is_alphabetic lanes) }
@@ -137,6 +141,7 @@ fn letters(lanes: u8x16) -> u64
 }
 
 // The lanes that are digits.
+#[tactic(auto, using(crate::proofs::LaneClasses::digit_marks))]
 #[inline(always)]
 fn digits(lanes: u8x16) -> u64
     ensures { result ≡ mask_l (map is_digit lanes) }
@@ -146,6 +151,7 @@ fn digits(lanes: u8x16) -> u64
 }
 
 // The lanes that are `-` or `_`.
+#[tactic(auto, using(crate::proofs::LaneClasses::separator_marks))]
 #[inline(always)]
 fn separators(lanes: u8x16) -> u64
     ensures { result ≡ mask_l (map is_separator lanes) }
@@ -155,6 +161,7 @@ fn separators(lanes: u8x16) -> u64
 }
 
 // The lanes with `-` for `_`, and letters in lowercase.
+#[tactic(auto, using(crate::proofs::LaneClasses::folded_lanes))]
 #[inline(always)]
 fn folded(lanes: u8x16) -> u8x16
     ensures { result ≡ map fold_byte lanes }
@@ -203,6 +210,7 @@ static LOWERED: [[u8; 24]; 10] = [
 
 // By how much the bytes of a folded identifier are lowered into the case of the example, where a language of `end` letters
 // and `len` more bytes are all.
+#[tactic(auto, using(crate::proofs::LaneTexts::table_steps))]
 #[inline(always)]
 fn steps(end: usize, len: usize) -> u8x16
     requires language { end ≤ 8 }

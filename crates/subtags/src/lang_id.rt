@@ -58,8 +58,7 @@ impl Model for LangId {
 }
 
 impl LangId {
-    /// Reads a language and behind it a script, a region, both or nothing, in any case, with `-` or `_` before each
-    /// later subtag.
+    /// Reads a language, then a script, a region, both or neither, in any case, with `-` or `_` before each later subtag.
     ///
     /// The error is `InvalidLanguage` if the first subtag isn't a language, else `InvalidSubtag`.
     ///
@@ -68,6 +67,7 @@ impl LangId {
     /// assert_eq!(rt; LangId::try_from_utf8(b"e"), Err(LangIdError::InvalidLanguage));
     /// assert_eq!(rt; LangId::try_from_utf8(b"en-US-posix"), Err(LangIdError::InvalidSubtag));
     /// ```
+    #[tactic(auto, using(crate::proofs::IdentifierLemmas::reading))]
     pub fn try_from_utf8(code_units: &[u8]) -> Result<Self, LangIdError>
         ensures accepted { IsOk result ↔ IsLangId code_units.now }
         ensures text { IfOk result (λ id. id ≡ canonical_text code_units.now) }
@@ -136,6 +136,7 @@ impl LangId {
     }
 
     /// The language, which each identifier has.
+    #[tactic(auto, using(crate::proofs::PlaceLemmas::subtags_in_place))]
     #[inline]
     pub fn language(&self) -> Language
         ensures { result ≡ language_of self.now }
@@ -150,6 +151,7 @@ impl LangId {
     /// assert_eq!(rt; LangId::try_from_utf8(b"zh-hant")?.script(), Some("Hant".parse()?));
     /// assert_eq!(rt; LangId::try_from_utf8(b"zh-tw")?.script(), None);
     /// ```
+    #[tactic(auto, using(crate::proofs::PlaceLemmas::subtags_in_place))]
     #[inline]
     pub fn script(&self) -> Option<Script>
         ensures { result ≡ script_of self.now }
@@ -162,6 +164,7 @@ impl LangId {
     }
 
     /// The region, if the identifier has one.
+    #[tactic(auto, using(crate::proofs::PlaceLemmas::subtags_in_place))]
     #[inline]
     pub fn region(&self) -> Option<Region>
         ensures { result ≡ region_of self.now }
@@ -250,6 +253,7 @@ fn refusal(classes: &Classes, units: &[u8]) -> LangIdError
 // The error for more.
 #[cold]
 #[inline(never)]
+#[tactic(auto, using(crate::proofs::IdentifierLemmas::refused_more))]
 fn refusal_of_more(units: &[u8]) -> LangIdError
     requires { 17 < length units.now }
     ensures error { result ≡ refusal_of units.now }
@@ -261,8 +265,8 @@ fn refusal_of_more(units: &[u8]) -> LangIdError
     refusal(&classes, front)
 }
 
-// The subtags, joined by dashes; and that they are canonical, each by its invariant. The language and one subtag behind it
-// fit into one word.
+// The subtags, joined by dashes; and that they are canonical, each by its invariant. The language and one later subtag fit
+// into one word.
 #[inline]
 fn join_subtags(
     language: Language,

@@ -33,6 +33,7 @@ impl SubtagKind<8> for LanguageKind {
     ghost refusal = { InvalidLanguage };
 
     #[inline]
+    #[tactic(auto, using(crate::proofs::HeadLemmas::language_read))]
     fn read(code_units: &[u8]) -> Option<TinyAsciiStr<8>> {
         let (text, len) = TinyStr8::read_letters(code_units);
         if !is_language_length(len) {

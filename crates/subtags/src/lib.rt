@@ -1,6 +1,6 @@
-//! Language identifiers: a language, and behind it a script, a region, both or nothing, as `en`, `es-419` and
+//! Language identifiers: a language, then a script, a region, both or neither, as `en`, `es-419` and
 //! `zh-Hant-TW`. They are read in any case, with `-` or `_` between the subtags. A value is its canonical text. No call
-//! allocates, and none asks a registry which subtags exist.
+//! allocates, and none looks subtags up in a registry.
 #![tactic(auto)]
 
 mod classes;

@@ -11,6 +11,7 @@ use crate::language::is_language_length;
 
 /// Whether the bytes are a language of `end` letters and then like the example of their length. In the number of the
 /// classes such letters are the lowest bits, all ones, so one more than it is one more than the example's, shifted.
+#[tactic(auto, using(crate::proofs::MaskLemmas::class_bits))]
 #[inline(always)]
 pub(crate) fn has_tail(classes: &Classes, units: &[u8], end: usize) -> bool
     requires few { length units.now ≤ 17 }

@@ -34,8 +34,7 @@ pub struct LangId {
 }
 
 impl LangId {
-    /// Reads a language and behind it a script, a region, both or nothing, in any case, with `-` or `_` before each
-    /// later subtag.
+    /// Reads a language, then a script, a region, both or neither, in any case, with `-` or `_` before each later subtag.
     ///
     /// The error is `InvalidLanguage` if the first subtag isn't a language, else `InvalidSubtag`.
     ///
@@ -251,8 +250,8 @@ fn refusal_of_more(units: &[u8]) -> LangIdError {
     refusal(&classes, front)
 }
 
-// The subtags, joined by dashes; and that they are canonical, each by its invariant. The language and one subtag behind it
-// fit into one word.
+// The subtags, joined by dashes; and that they are canonical, each by its invariant. The language and one later subtag fit
+// into one word.
 // Proved:
 //     ensures text { result ≡ join_subtags language script region }
 //     ensures language { IsCanonicalSubtag is_language lowercase language }

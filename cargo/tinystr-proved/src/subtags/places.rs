@@ -1,8 +1,8 @@
-//! Where the subtags of a canonical text stand.
+//! The places of subtags in a canonical text.
 
 use crate::TinyAsciiStr;
 
-/// Where the language ends: at the first dash among eight bytes, or behind these, which may be past the text. The
+/// Where the language ends: at the first dash among eight bytes, or after these, which may be past the text. The
 /// minimum is there for speed: by it the compiler leaves out the tests that the places below are inside.
 ///
 /// # Contract
@@ -16,7 +16,7 @@ pub(crate) fn language_end(text: &TinyAsciiStr<17>) -> usize {
     text.resize::<8>().find_byte(b'-').unwrap_or(8).min(8)
 }
 
-/// Whether a byte of the text stands at a place.
+/// Whether the text has a byte at a place.
 ///
 /// # Contract
 ///
@@ -28,7 +28,7 @@ pub(crate) fn has_byte_at(text: &TinyAsciiStr<17>, place: usize) -> bool {
     text.get_byte(place).is_some()
 }
 
-/// Where a region stands if there is one. What has a fourth byte behind the language has a script there.
+/// Where a region is if there is one. If four bytes or more follow the language's dash, they begin with a script.
 ///
 /// # Contract
 ///

@@ -3,23 +3,11 @@ use Rattle.std.specs.List.{list_all}
 use Rattle.std.proofs.Math.Nat.{mul-le-mul, mod-eq_of_lt}
 use Rattle.std.proofs.lemmas.Bool.Decides.{nat_tests}
 use Rattle.std.proofs.lemmas.List.{length-take}
-use Rattle.tinystr_words.specs.Classes.{is_alphabetic, is_digit}
-use Rattle.subtags.specs.Grammar.{is_separator, is_language_length}
+use Rattle.tinystr_words.specs.Classes.{is_alphabetic}
+use Rattle.subtags.specs.Grammar.{is_language_length}
 use Rattle.subtags.specs.Private.Tails.{example, one_more}
-use Rattle.subtags.proofs.MaskLemmas.{mask_l-lt_17, like_from_number, number_from_like}
+use Rattle.subtags.proofs.MaskLemmas.{like_from_number, number_from_like}
 use Rattle.subtags.proofs.tail.has_tail.Goals as goal
-
-pub overflow_add-result : goal.overflow_add-result
-overflow_add-result c =
-    let u = c.args.units.now in
-    let few = c.requires.few in
-    let l = mask_l-lt_17 is_alphabetic u few in
-    let d = mask_l-lt_17 is_digit u few in
-    let s = mask_l-lt_17 is_separator u few in
-    rw c.packed.ensures (omega arith)
-
-small : (n : ℕ) → one_more (example n) ≤ 2 ^ 46
-small n = grind (arith, nat_tests)
 
 size : (n : ℕ) → 0 < length (example n) → length (example n) ≡ n
 size n some = grind (arith, nat_tests)
@@ -27,7 +15,8 @@ size n some = grind (arith, nat_tests)
 unwrapped : (n e : ℕ) → e ≤ 8 → one_more (example n) * 2 ^ e % 2 ^ 64 ≡ one_more (example n) * 2 ^ e
 unwrapped n e few =
     let most : 2 ^ e ≤ 2 ^ 8 = pow_mono few in
-    let scaled : one_more (example n) * 2 ^ e ≤ 2 ^ 46 * 2 ^ 8 = mul-le-mul (small n) most in
+    let small : one_more (example n) ≤ 2 ^ 46 = grind (arith, nat_tests) in
+    let scaled : one_more (example n) * 2 ^ e ≤ 2 ^ 46 * 2 ^ 8 = mul-le-mul small most in
     mod-eq_of_lt (omega arith)
 
 pub returns : goal.returns

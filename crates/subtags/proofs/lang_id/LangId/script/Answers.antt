@@ -1,25 +1,7 @@
-use Rattle.std.proofs.Common.{◌+◌, ◌<◌, ◌≤◌, ◌∙◌, length, sym, lit<, arith}
+use Rattle.std.proofs.Common.{lit<, arith}
 use Rattle.std.proofs.lemmas.Bool.Decides.{nat_tests}
-use Rattle.subtags.specs.Private.SubtagPlaces.{language_end}
-use Rattle.subtags.proofs.PlaceLemmas.{InPlace-canonical, slice-from}
+use Rattle.subtags.proofs.PlaceLemmas.{InPlace-canonical, script_at}
 use Rattle.subtags.proofs.lang_id.LangId.script.Goals as goal
 
-pub returns-then-not-has_byte_at : goal.returns-then-not-has_byte_at
-returns-then-not-has_byte_at c =
-    let t = c.self.inside.text in
-    let few : length t ≤ language_end t + 4 = grind (arith, nat_tests) in
-    rw (← c.self.view_is) (sym ((InPlace-canonical t c.self.invariant).0.no_script few))
-
 pub from_canonical-requires : goal.from_canonical-requires
-from_canonical-requires c =
-    let t = c.self.inside.text in
-    let place = InPlace-canonical t c.self.invariant in
-    let more : language_end t + 4 < length t = grind (arith, nat_tests) in
-    let canonical = rw (place.0.script more) at place.2 in
-    (lit< tt, (lit< tt, rw (c.slice.ensures ∙ slice-from t (c.language_end-start.result + 1) 4, c.language_end-start.ensures.place) canonical))
-
-pub returns : goal.returns
-returns c =
-    let t = c.self.inside.text in
-    let more : language_end t + 4 < length t = grind (arith, nat_tests) in
-    rw (← c.self.view_is, c.from_canonical.ensures, c.slice.ensures ∙ slice-from t (c.language_end-start.result + 1) 4, c.language_end-start.ensures.place) (sym ((InPlace-canonical t c.self.invariant).0.script more))
+from_canonical-requires c = let place = InPlace-canonical c.self.inside.text c.self.invariant in (lit< tt, (lit< tt, rw c.slice.ensures (rw (← script_at c.self.inside.text c.language_end-start.result c.self.invariant c.language_end-start.ensures.place (grind (arith, nat_tests))) at place.2)))

@@ -1,93 +1,15 @@
-use Rattle.std.proofs.Common.{◌≡◌, ◌∙◌, ◌-◌, ◌≤◌, ℕ, not, true, false, List, ◌++◌, Bool, length, map, take, drop, subst, ap, sym, refl, arith}
-use Rattle.std.specs.List.{list_all, position_or_len}
-use Rattle.std.proofs.lemmas.Bool.{false≢true}
-use Rattle.std.proofs.lemmas.List.{take_all}
-use Rattle.std.proofs.lemmas.List.Sums.{prefix_len-le-length}
-use Rattle.tinystr_words.specs.Classes.{is_alphabetic}
-use Rattle.tinystr_words.specs.Text.{IsText}
-use Rattle.subtags.specs.Grammar.{is_separator, is_language, is_language_length, IsLangId, canonical_text, fold_byte, fold_text}
-use Rattle.subtags.specs.Private.Tails.{HasTail, example, first_subtag, in_case_of}
-use Rattle.subtags.proofs.CanonLemmas.{IsCanonical-canonical_text, fold_text-canonical_text}
-use Rattle.subtags.proofs.HeadLemmas.{length-first_subtag}
-use Rattle.subtags.proofs.IdentifierLemmas.{letters_read, letters_refused, tail_read, not_read, IsStrictText-canonical_text}
-use Rattle.subtags.proofs.PlaceLemmas.{length-language}
+use Rattle.std.proofs.Common.{◌∙◌, sym, arith}
+use Rattle.subtags.proofs.IdentifierLemmas.{letters_made, letters_canonical, tail_made, tail_canonical}
 use Rattle.subtags.proofs.lang_id.LangId.try_from_utf8.Goals as goal
 
--- all are letters
-letters : (u : List ℕ) (b : Bool) → b ≡ true → b ≡ list_all is_alphabetic (take (length u) u) → list_all is_alphabetic u ≡ true
-letters u b is of = ap (list_all is_alphabetic) (sym (take_all (length u) u (omega arith))) ∙ sym of ∙ is
-
-pub returns-then-not-is_language_length : goal.returns-then-not-is_language_length
-returns-then-not-is_language_length c =
-    let u = c.args.code_units.now in
-    let wrong : is_language_length (length u) ≡ false = sym c.is_language_length.ensures ∙ c.if-not-is_language_length.true in
-    let refused = letters_refused u (letters u _ c.if-are_letters.true c.are_letters.ensures) wrong in
-    record { accepted = (λ e. absurd (false≢true e), λ e. absurd (false≢true (sym refused.0 ∙ e))); text = tt; fold = tt; refusal = sym refused.1; value = rw (refused.0) refl }
-
--- what is read of letters alone
-alone : (u : List ℕ) → true ≡ list_all is_alphabetic (take (length u) u) → true ≡ is_language_length (length u) → IsLangId u × (canonical_text u ≡ map fold_byte u) × (length u ≤ 8) × IsText (map fold_byte u)
-alone u letters right =
-    let read = letters_read u (ap (list_all is_alphabetic) (sym (take_all (length u) u (omega arith))) ∙ sym letters) (sym right) in
-    (read.0, read.1, read.2, subst IsText read.1 (IsStrictText-canonical_text u read.0).text)
-
 pub folded_text-requires : goal.folded_text-requires
-folded_text-requires c =
-    let read = alone c.args.code_units.now (sym c.if-are_letters.true ∙ c.are_letters.ensures) (sym c.if-not-is_language_length.false ∙ c.is_language_length.ensures) in
-    record { few = read.2; loaded = c.first_lanes-lanes.ensures; text = read.3 }
+folded_text-requires c = grind (arith, letters_made)
 
 pub invariant_of-result : goal.invariant_of-result
-invariant_of-result c =
-    let u = c.args.code_units.now in
-    let read = alone u (sym c.if-are_letters.true ∙ c.are_letters.ensures) (sym c.if-not-is_language_length.false ∙ c.is_language_length.ensures) in
-    rw (c.folded_text.ensures ∙ sym read.1) (IsCanonical-canonical_text u read.0)
-
-pub returns-then-are_letters : goal.returns-then-are_letters
-returns-then-are_letters c =
-    let u = c.args.code_units.now in
-    let read = alone u (sym c.if-are_letters.true ∙ c.are_letters.ensures) (sym c.if-not-is_language_length.false ∙ c.is_language_length.ensures) in
-    let text : c.folded_text.result ≡ canonical_text u = c.folded_text.ensures ∙ sym read.1 in
-    record { accepted = (λ _. read.0, λ _. refl); text = text; fold = ap fold_text text ∙ fold_text-canonical_text u; refusal = tt; value = rw (text, read.0) refl }
-
--- the bytes before the first separator are the first subtag
-front : (u : List ℕ) (e : ℕ) → e ≡ position_or_len is_separator u → take e u ≡ first_subtag u
-front u e end = ap (λ n. take n u) end
-
-pub has_tail-requires-clause-inside : goal.has_tail-requires-clause-inside
-has_tail-requires-clause-inside c = rw c.first_end-end.ensures (prefix_len-le-length (λ b. not (is_separator b)) c.args.code_units.now)
-
-pub returns-then-not-has_tail : goal.returns-then-not-has_tail
-returns-then-not-has_tail c =
-    let u = c.args.code_units.now in
-    let other : list_all is_alphabetic (take (length u) u) ≡ false = sym c.are_letters.ensures ∙ c.if-are_letters.false in
-    let none : HasTail (length (first_subtag u)) u → ⊥ =
-    λ h. false≢true (sym c.if-not-has_tail.true ∙ c.has_tail.ensures.1 (subst (λ e. HasTail e u) (length-first_subtag u ∙ sym c.first_end-end.ensures) h)) in
-    let refused = not_read u (ap (list_all is_alphabetic) (sym (take_all (length u) u (omega arith))) ∙ other) none in
-    record { accepted = (λ h. absurd (false≢true h), λ h. absurd (false≢true (sym refused.0 ∙ h))); text = tt; fold = tt; refusal = c.refusal.ensures ∙ sym refused.1; value = rw (refused.0) refl }
-
--- what is read of a language and a tail
-both : (u : List ℕ) (e : ℕ) → e ≡ position_or_len is_separator u → HasTail e u
-    → IsLangId u × (canonical_text u ≡ map fold_byte (take e u) ++ in_case_of (example (length u - e)) (drop e u)) × (e ≤ 8) × IsText (map fold_byte (take e u) ++ in_case_of (example (length u - e)) (drop e u))
-both u e end h =
-    let len : e ≡ length (first_subtag u) = end ∙ sym (length-first_subtag u) in
-    let read = tail_read u (subst (λ e. HasTail e u) len h) in
-    let text : canonical_text u ≡ map fold_byte (take e u) ++ in_case_of (example (length u - e)) (drop e u) = read.1 ∙ ap (λ m. map fold_byte (take m u) ++ in_case_of (example (length u - m)) (drop m u)) (sym len) in
-    (read.0, text, omega (arith, len, length-language (first_subtag u) (subst (λ p. is_language p ≡ true) (front u e end) h.language)), subst IsText text (IsStrictText-canonical_text u read.0).text)
+invariant_of-result c = letters_canonical c.args.code_units.now c.folded_text.result c.folded_text.ensures (sym c.are_letters.ensures ∙ c.if-are_letters.true) (sym c.is_language_length.ensures ∙ c.if-not-is_language_length.false)
 
 pub text_in_case-requires : goal.text_in_case-requires
-text_in_case-requires c =
-    let h = c.has_tail.ensures.0 c.if-not-has_tail.false in
-    let read = both c.args.code_units.now c.first_end-end.result c.first_end-end.ensures h in
-    record { few = c.if-code_units-gt-MOST.false; loaded = c.first_lanes-lanes.ensures; language = read.2; inside = h.more; like = h.like; text = read.3 }
+text_in_case-requires c = grind (arith, tail_made)
 
 pub invariant_of-result-2 : goal.invariant_of-result-2
-invariant_of-result-2 c =
-    let u = c.args.code_units.now in
-    let read = both u c.first_end-end.result c.first_end-end.ensures (c.has_tail.ensures.0 c.if-not-has_tail.false) in
-    rw (c.text_in_case.ensures ∙ sym read.1) (IsCanonical-canonical_text u read.0)
-
-pub returns : goal.returns
-returns c =
-    let u = c.args.code_units.now in
-    let read = both u c.first_end-end.result c.first_end-end.ensures (c.has_tail.ensures.0 c.if-not-has_tail.false) in
-    let text : c.text_in_case.result ≡ canonical_text u = c.text_in_case.ensures ∙ sym read.1 in
-    record { accepted = (λ _. read.0, λ _. refl); text = text; fold = ap fold_text text ∙ fold_text-canonical_text u; refusal = tt; value = rw (text, read.0) refl }
+invariant_of-result-2 c = tail_canonical c.args.code_units.now c.text_in_case.result c.first_end-end.result c.text_in_case.ensures c.first_end-end.ensures (c.has_tail.ensures.0 c.if-not-has_tail.false)
