@@ -80,14 +80,14 @@ def cargo_headline(x86_64: Results, v2: Results) -> str:
     """The means over lists and over single values, the calls of single values that take longer than the Rust crate's on
     average, and the slowest cell for both processors, in four items."""
     (full, mixed), (full_alone, mixed_alone) = means_of(x86_64)
-    ratio, call, capacity = max(slowest_cell(x86_64), slowest_cell(v2))
-    longer = " and ".join(f"`{call}` takes {mean:.2f}" for call, mean in slower_alone(x86_64).items())
+    (ratio, call, capacity), processor = max((slowest_cell(x86_64), "any x86-64"), (slowest_cell(v2), "x86-64-v2"))
+    longer = " and ".join(f"`{call}` {mean:.2f}" for call, mean in slower_alone(x86_64).items())
     return (
         f"- Calls in a loop over a list take {full:.2f} of the Rust crate's time on texts that fill their capacity, and"
         f" {mixed:.2f} on texts of all lengths. (These are geometric means.)\n"
         f"- Calls of one value at a time take {full_alone:.2f} of that time, and {mixed_alone:.2f} on texts of all lengths.\n"
-        + f"- Of these calls, {longer} of the Rust crate's time on average.\n" * bool(longer)
-        + f"- The worst case, {named_slowest(call)}, takes {ratio:.1f} times as long at capacity {capacity}.\n"
+        + f"- Those that are slower on average: {longer} of that time.\n" * bool(longer)
+        + f"- The worst case, {named_slowest(call)} at capacity {capacity}, built for {processor}: {ratio:.1f} times as long.\n"
     )
 
 
