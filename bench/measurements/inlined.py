@@ -84,7 +84,7 @@ def cargo_headline(x86_64: Results, v2: Results) -> str:
     longer = " and ".join(f"`{call}` {mean:.2f}" for call, mean in slower_alone(x86_64).items())
     return (
         f"- Calls in a loop over a list take {full:.2f} of the Rust crate's time on texts that fill their capacity, and"
-        f" {mixed:.2f} on texts of all lengths. (These are geometric means.)\n"
+        f" {mixed:.2f} on texts of all lengths. (These are geometric means, without questions that fail.)\n"
         f"- Calls of one value at a time take {full_alone:.2f} of that time, and {mixed_alone:.2f} on texts of all lengths.\n"
         + f"- Those that are slower on average: {longer} of that time.\n" * bool(longer)
         + f"- The worst case, {named_slowest(call)} at capacity {capacity}, built for {processor}: {ratio:.1f} times as long.\n"

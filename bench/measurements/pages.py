@@ -30,7 +30,7 @@ def headline(calls: Results, jobs: Results) -> str:
     slowest = named_slowest(call) + f" of {kind} texts" * (call != FAILING)
     return (
         f"- A call takes {mean_of(calls, 'full'):.2f} of the Rust crate's time on texts that fill their capacity, and"
-        f" {mean_of(calls, 'mixed'):.2f} on texts of all lengths. (These are geometric means.)\n"
+        f" {mean_of(calls, 'mixed'):.2f} on texts of all lengths. (These are geometric means, without questions that fail.)\n"
         f"- A whole job takes {range_text(jobs, jobs.times, THERE)} of the time of a Rust program that does the same (medians;"
         f" single runs, {runs_text(jobs, jobs.times, THERE)}).\n"
         f"- The worst case, {slowest}, takes {ratio:.1f} times as long at capacity {capacity}.\n"

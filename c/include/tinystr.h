@@ -1,7 +1,8 @@
 /* tinystr.h: short ASCII codes, language identifiers, and packed tables and maps of codes.
  *
- * Each function has a contract, in crates/tinystr_c of the repository, and is proved to keep it on all bytes and numbers. No
- * function allocates, keeps state between calls, calls back, or fails except by the code that it returns.
+ * Each function has a contract, in crates/tinystr_c of the repository, and is proved to keep it on all bytes and numbers. (The
+ * kit builds the proved functions; Cargo builds a translation of them, which is tested.) No function allocates, keeps state
+ * between calls, calls back, or fails except by the code that it returns.
  *
  * Pointers
  *   A `void *` and the length after it are bytes: pass a `char *` or a `uint8_t *`. With length 0 the pointer may be NULL, as
