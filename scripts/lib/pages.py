@@ -63,8 +63,9 @@ class Page:
         return found[number - 1] if number <= len(found) else ""
 
     def links(self) -> list[str]:
-        """The targets of the page's links, in order."""
-        return [target for line in self.lines for target in re.findall(r"\]\(([^)]+)\)", line)]
+        """The targets of the page's links, in order, a definition of a link among them."""
+        found = re.findall(r"\]\(\s*([^)\s]+)|^\[[^\]]+\]: +(\S+)", "\n".join(self.lines), re.M)
+        return [target or defined for target, defined in found]
 
 
 def main() -> bool:
