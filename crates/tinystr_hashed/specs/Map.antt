@@ -1,4 +1,4 @@
--- Hashed keys and their values, seen as std sees a map: by its entries, in the keys' order.
+-- Hashed keys and their values, seen as std sees a map: by its entries, in the order of the hash.
 use Rattle.std.specs.Prelude.{◌≡◌, ◌≢◌, ℕ, ◌*◌, ◌==◌, List, length, zip, All, Option, Some, None, option_and_then, if◌then◌else◌}
 use Rattle.std.specs.List.{flat_map}
 use Rattle.std.specs.Map.{keys_of, values_of}

@@ -14,7 +14,7 @@ pub record ArePackedHashed (texts : List (List ℕ)) (bytes : List ℕ) (n : ℕ
   pub same : (t : List ℕ) → Contains made t ↔ Contains texts t
   pub distinct : IsDistinct bytes_eq texts
 
--- the text occurs twice; or no text does, and no seed is found; of a failed allocation nothing is said
+-- the text occurs twice; or no text does, and nothing is said of the seeds; of a failed allocation nothing is said
 abbrev pub RefusesToPack : {n : ℕ} → PackHashedError n → List (List ℕ) → Type 0
 RefusesToPack (Duplicate text) texts = 2 ≤ count_by (bytes_eq text) texts
 RefusesToPack NoSeed texts = IsDistinct bytes_eq texts

@@ -39,7 +39,7 @@ pub fn test_decides()
         IsTrue (is_hashed n bytes) ↔ ((texts : List (List ℕ)) × IsHashed texts bytes n) }
 {}
 
-/// The texts of a hashed table fit in `N` bytes, and no two are equal.
+/// The texts of a hashed table fit in `N` bytes, and no two are equal. Any key serves: the look-up of one says the second.
 pub fn hashed_texts<const N: usize>(hashed: &HashedTable<'_, N>, key: &TinyAsciiStr<N>)
     ensures strict { All (λ t. IsStrictText t N) hashed.now }
     ensures distinct { AreDistinct hashed.now }

@@ -17,6 +17,13 @@ const SEEDS: u64 = 16;
 
 const OF_SEEDS: u64 = 0x2545_f491_4f6c_dd1d;
 
+// For how many seeds texts share displacements, and how many share one on average. More of them make the search longer and the
+// table shorter. For the later seeds there is one for each text: if the hashes are spread evenly, all groups that share a
+// displacement are of a similar size, and the last of them rarely fits the last free places.
+const SHARING_SEEDS: u64 = 8;
+
+const SHARING: usize = 4;
+
 /// Why texts aren't packed as a hashed table.
 ///
 /// ```rust
@@ -26,7 +33,7 @@ const OF_SEEDS: u64 = 0x2545_f491_4f6c_dd1d;
 /// ```
 #[derive(Clone, Copy, Debug, PartialEq, Eq)]
 pub enum PackHashedError<const N: usize> {
-    /// A text occurs twice.
+    /// A text occurs twice. If several do, any of them is named.
     Duplicate { text: TinyAsciiStr<N> },
     /// No seed that is tried gives each text a place of its own. This is expected only of texts that are chosen for it.
     NoSeed,
@@ -46,8 +53,8 @@ impl<const N: usize> From<AllocError> for PackHashedError<N> {
 
 /// Packs texts, no two of which may be equal, as `HashedTable` takes them. `N` must be above 0.
 ///
-/// At most sixteen seeds are tried, each for a bounded time: any texts take the time of a few sorts and a time that is
-/// linear in their number.
+/// At most sixteen seeds are tried, each for a bounded time: any texts take the time of at most 33 sorts and a time that is
+/// linear in their number. The bytes depend only on the set of texts.
 ///
 /// ```rust
 /// let bytes = pack_hashed(rt.alloc(), &[tinystr!(3, "EUR")?, tinystr!(3, "GB")?])?;
@@ -66,11 +73,22 @@ pub fn pack_hashed<const N: usize>(
         return Err(PackHashedError::Duplicate { text });
     }
     for index in 1..=SEEDS {
-        if let Some(bytes) = pack_with_seed(alloc, texts, index.wrapping_mul(OF_SEEDS))? {
+        let seed = index.wrapping_mul(OF_SEEDS);
+        let count = displacement_count(texts.len(), index);
+        if let Some(bytes) = pack_with_seed(alloc, texts, seed, count)? {
             return Ok(bytes);
         }
     }
     Err(PackHashedError::NoSeed)
+}
+
+// The number of displacements for a number of texts, by the index of the seed.
+fn displacement_count(texts: usize, index: u64) -> usize {
+    if index <= SHARING_SEEDS {
+        texts.div_ceil(SHARING)
+    } else {
+        texts
+    }
 }
 
 // A text that occurs twice.
@@ -102,17 +120,18 @@ fn first_repeated<const N: usize>(texts: &[TinyAsciiStr<N>]) -> Option<TinyAscii
     None
 }
 
-// The bytes of a hashed table of the texts, if the seed gives each a place of its own.
+// The bytes of a hashed table of the texts, with `count` displacements, if the seed gives each a place of its own.
 fn pack_with_seed<const N: usize>(
     alloc: Global,
     texts: &[TinyAsciiStr<N>],
     seed: u64,
+    count: usize,
 ) -> Result<Option<Vec<u8>>, AllocError>
     requires some { 0 < N }
     requires distinct { IsDistinct bytes_eq texts.now }
     ensures { IfOk result (λ packed. IfSome packed (λ made. ArePackedHashed texts.now made.items N)) }
 {
-    let Some(displacements) = displacements(alloc, texts, seed)? else {
+    let Some(displacements) = displacements(alloc, texts, seed, count)? else {
         return Ok(None);
     };
     let bytes = table_bytes(alloc, texts, seed, displacements.as_slice())?;

@@ -73,7 +73,7 @@ pub enum HashedError {
     Displacements { count: usize, len: usize },
     /// The bytes after the displacements aren't packed records.
     Records(UleError),
-    /// The text at `index` is the first that isn't found there.
+    /// The text at `index` is the first that isn't at its place.
     Place { index: usize },
 }
 
@@ -127,7 +127,7 @@ impl<'a, const N: usize> HashedTable<'a, N> {
         self.table.is_empty()
     }
 
-    /// The index of a text, or `None` if the table doesn't have it. No key takes longer than another.
+    /// The index of a text, or `None` if the table doesn't have it. Each key takes one hash, one displacement and one record.
     pub fn position(&self, key: &TinyAsciiStr<N>) -> Option<usize>
         ensures found { IfSome result (λ index. slice_get self.now index ≡ Some key.now) }
         ensures exact { IsSome result ↔ Contains self.now key.now }

@@ -16,6 +16,8 @@ mod maps;
 #[cfg(test)]
 mod packing;
 #[cfg(test)]
+mod spread;
+#[cfg(test)]
 mod tables;
 #[cfg(test)]
 mod text_maps;

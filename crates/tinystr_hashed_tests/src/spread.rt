@@ -1,0 +1,97 @@
+//! Many texts packed as a hashed table. The digests are of the bytes of another program, which is written from the definition:
+//! it takes the first seed that passes, one displacement for four texts for the first eight seeds and then one for each, and
+//! the least displacements, those of the most texts first, and of as many texts that of the least hash.
+
+use std::alloc::{AllocError, Global};
+use std::test::Fail;
+use tinystr::{TinyAsciiStr, tinystr};
+use tinystr_hashed::{HashedTable, pack_hashed};
+
+// A front, two bytes, whether there is the empty text, and the digest of a table of the front with each other byte from 1 to 127
+// after it. The hashes of these texts are spread so evenly that no seed places them by shared displacements.
+const EVENLY_SPREAD: &[(&str, [u8; 2], bool, u64)] = &[
+    ("", *b"\x1dy", true, 0xe7ea_6c03_b3be_8e33),
+    ("k-", *b"my", true, 0xb689_2f26_9b74_5de8),
+    ("key", *b"$<", false, 0x8cb2_9e3c_dca9_bfbd),
+];
+
+#[test]
+fn texts_of_evenly_spread_hashes_are_packed(rt: HostRuntime) -> Result<(), Fail> {
+    for (front, without, has_empty, digest) in EVENLY_SPREAD {
+        let mut texts = texts_after(rt.alloc(), front, without)?;
+        if *has_empty {
+            texts.push(tinystr!(8, "")?)?;
+        }
+        assert!(rt; is_packed_alike(rt.alloc(), &texts, *digest), "{front}");
+    }
+    Ok(())
+}
+
+/// A front with each byte from 1 to 127 after it but for these.
+fn texts_after(
+    alloc: Global,
+    front: &str,
+    without: &[u8],
+) -> Result<Vec<TinyAsciiStr<8>>, AllocError> {
+    let front = TinyAsciiStr::<7>::from_utf8_lossy(front.as_bytes(), b'?');
+    let mut texts = Vec::new(alloc);
+    for byte in 1..128 {
+        if !without.contains(&byte) {
+            texts.push(front.concat(TinyAsciiStr::<1>::from_utf8_lossy(&[byte], b'?')))?;
+        }
+    }
+    Ok(texts)
+}
+
+/// Whether texts are packed as the table with this digest, in any order.
+fn is_packed_alike(alloc: Global, texts: &[TinyAsciiStr<8>], digest: u64) -> bool {
+    match pack_hashed(alloc, texts) {
+        Ok(made) => digest_of(&made) == digest && has_all(&made, texts),
+        Err(_) => false,
+    }
+}
+
+fn has_all(bytes: &[u8], texts: &[TinyAsciiStr<8>]) -> bool {
+    match HashedTable::<8>::from_bytes(bytes) {
+        Ok(table) => texts.iter().all(|text| table.contains(text)),
+        Err(_) => false,
+    }
+}
+
+/// FNV-1a.
+fn digest_of(bytes: &[u8]) -> u64 {
+    let mut digest: u64 = 0xcbf2_9ce4_8422_2325;
+    for byte in bytes {
+        digest = (digest ^ u64::from(*byte)).wrapping_mul(0x100_0000_01b3);
+    }
+    digest
+}
+
+// Numbers of texts, `key0` and so on, and the digests of their tables. Many displacements are shared by as many texts.
+const NUMBERED: &[(u32, u64)] = &[
+    (170, 0xc3aa_5efa_4017_1df2),
+    (300, 0x02fa_3549_4b0c_5718),
+    (1000, 0xb69d_1040_e8bd_622b),
+];
+
+#[test]
+fn of_as_many_texts_that_of_the_least_hash_is_placed_first(rt: HostRuntime) -> Result<(), Fail> {
+    for (count, digest) in NUMBERED {
+        let mut texts = numbered(rt.alloc(), *count)?;
+        assert!(rt; is_packed_alike(rt.alloc(), &texts, *digest), "{count}");
+        texts.reverse();
+        assert!(rt; is_packed_alike(rt.alloc(), &texts, *digest), "{count}");
+    }
+    Ok(())
+}
+
+/// `key0`, `key1` and so on.
+fn numbered(alloc: Global, count: u32) -> Result<Vec<TinyAsciiStr<8>>, AllocError> {
+    let key = TinyAsciiStr::<3>::from_utf8_lossy(b"key", b'?');
+    let mut texts = Vec::new(alloc);
+    for number in 0..count {
+        let (Ok(number) | Err(number)) = TinyAsciiStr::<5>::new_unsigned_decimal(number);
+        texts.push(key.concat(number))?;
+    }
+    Ok(texts)
+}
