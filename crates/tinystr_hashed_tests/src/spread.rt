@@ -1,6 +1,6 @@
 //! Many texts packed as a hashed table. The digests are of the bytes of another program, which is written from the definition:
 //! it takes the first seed that passes, one displacement for four texts for the first eight seeds and then one for each, and
-//! the least displacements, those of the most texts first, and of as many texts that of the least hash.
+//! the least displacements, those of the most texts first, and of equal numbers of texts that of the least hash.
 
 use std::alloc::{AllocError, Global};
 use std::test::Fail;
@@ -67,7 +67,7 @@ fn digest_of(bytes: &[u8]) -> u64 {
     digest
 }
 
-// Numbers of texts, `key0` and so on, and the digests of their tables. Many displacements are shared by as many texts.
+// Numbers of texts, `key0` and so on, and the digests of their tables. Many displacements have the same number of texts.
 const NUMBERED: &[(u32, u64)] = &[
     (170, 0xc3aa_5efa_4017_1df2),
     (300, 0x02fa_3549_4b0c_5718),
@@ -75,7 +75,7 @@ const NUMBERED: &[(u32, u64)] = &[
 ];
 
 #[test]
-fn of_as_many_texts_that_of_the_least_hash_is_placed_first(rt: HostRuntime) -> Result<(), Fail> {
+fn of_equal_groups_that_of_the_least_hash_is_placed_first(rt: HostRuntime) -> Result<(), Fail> {
     for (count, digest) in NUMBERED {
         let mut texts = numbered(rt.alloc(), *count)?;
         assert!(rt; is_packed_alike(rt.alloc(), &texts, *digest), "{count}");
