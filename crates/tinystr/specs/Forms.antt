@@ -27,7 +27,7 @@ byte_fault_of (Length expected) = too_short expected
 byte_fault_of Null = null
 byte_fault_of NonAscii = non_ascii
 
--- the n bytes aren't a text and then NULs, or they are one, and memory was requested
+-- the n bytes aren't a text and then NULs; of a failed allocation, only that they are
 abbrev pub RefusesWrite : FormWriteError → List ℕ → ℕ → Type 0
 RefusesWrite NotAscii bytes n = ¬ IsPaddedText bytes n
 RefusesWrite (Memory refused) bytes n = IsPaddedText bytes n

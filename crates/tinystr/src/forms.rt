@@ -46,7 +46,7 @@ pub enum BytesReadError {
 /// let bytes = UnvalidatedTinyAsciiStr::from_utf8_unchecked(*b"\0GB");
 /// assert!(rt; matches!(bytes.to_json(rt.alloc()), Err(FormWriteError::NotAscii)));
 /// ```
-#[derive(Clone, Copy, Debug)]
+#[derive(Clone, Copy, Debug, PartialEq, Eq)]
 pub enum FormWriteError {
     /// The bytes aren't a text and then NULs.
     NotAscii,
@@ -120,7 +120,7 @@ impl<const N: usize> TinyAsciiStr<N> {
 
 impl<const N: usize> UnvalidatedTinyAsciiStr<N> {
     /// The bytes if they are a text and then NULs, else the error `NotAscii`, so some values of `read_bytes` can't be
-    /// written again. It never answers `Memory`.
+    /// written again. It is never `Memory`.
     ///
     /// ```rust
     /// assert!(rt; UnvalidatedTinyAsciiStr::from_utf8_unchecked(*b"GB\0").to_bytes().is_ok());

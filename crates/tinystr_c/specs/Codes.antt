@@ -89,7 +89,7 @@ first_nul u = position (λ b. b == 0) u
 abbrev pub first_non_ascii : List ℕ → Option ℕ
 first_non_ascii u = position (λ b. nat_lt 127 b) u
 
--- why bytes aren't a text: their number, or where the fault is, which they have
+-- why bytes aren't a text: their number, or the index of the first NUL or of the first byte above 127
 abbrev pub fault_answer : Fault → List ℕ → TinystrResult
 fault_answer (too_long max len) u = answer TOO_LONG (length u)
 fault_answer contains_null u = answer NUL (unwrap_or (first_nul u) 0)

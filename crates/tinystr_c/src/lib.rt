@@ -1,6 +1,6 @@
 //! The calls of `tinystr`, `subtags`, `tinystr_packed` and `tinystr_hashed` for C, which `c/include/tinystr.h` declares. They
-//! allocate nothing and keep nothing between calls. No export has a `requires`: each answers whatever bytes and numbers it is
-//! given.
+//! allocate nothing and keep nothing between calls. No export has a `requires`: each returns a result for any bytes and
+//! numbers.
 #![tactic(auto)]
 
 mod answer;
@@ -22,6 +22,20 @@ use hashed::{hashed_check, hashed_search};
 use numbers::{BAD_ARGUMENT, VERSION};
 use packed::{map_check, sorted_check, sorted_prefix, sorted_search, table_check};
 use search_each::sorted_search_each;
+
+// Calls a function at one of the capacities of records, or returns another value.
+macro_rules! at_capacity {
+    ($capacity:expr, $call:ident, $other:expr, $($argument:expr),*) => {
+        match $capacity {
+            2 => $call::<2>($($argument),*),
+            3 => $call::<3>($($argument),*),
+            4 => $call::<4>($($argument),*),
+            8 => $call::<8>($($argument),*),
+            16 => $call::<16>($($argument),*),
+            _ => $other,
+        }
+    };
+}
 
 /// The version of the library: 10,000 times the first number, 100 times the second, and the third.
 #[unsafe(no_mangle)]
@@ -74,7 +88,7 @@ pub extern "C" fn tinystr_table_check(bytes: &[u8], capacity: usize) -> TinystrR
     ensures capacity { ¬ IsCapacity capacity → result ≡ answer BAD_ARGUMENT capacity }
     ensures checked { IsCapacity capacity → ChecksTable result bytes.now capacity }
 {
-    crate::at_capacity!(capacity, table_check, answer(BAD_ARGUMENT, capacity), bytes)
+    at_capacity!(capacity, table_check, answer(BAD_ARGUMENT, capacity), bytes)
 }
 
 /// Whether bytes are packed records of `capacity` bytes, and strictly ascending: each text is above the one before it.
@@ -83,7 +97,7 @@ pub extern "C" fn tinystr_sorted_check(bytes: &[u8], capacity: usize) -> Tinystr
     ensures capacity { ¬ IsCapacity capacity → result ≡ answer BAD_ARGUMENT capacity }
     ensures checked { IsCapacity capacity → ChecksSorted result bytes.now capacity }
 {
-    crate::at_capacity!(
+    at_capacity!(
         capacity,
         sorted_check,
         answer(BAD_ARGUMENT, capacity),
@@ -98,7 +112,7 @@ pub extern "C" fn tinystr_sorted_search(bytes: &[u8], capacity: usize, key: &[u8
     ensures capacity { ¬ IsCapacity capacity → result ≡ answer BAD_ARGUMENT capacity }
     ensures searched { IsCapacity capacity → Searches result bytes.now key.now capacity }
 {
-    crate::at_capacity!(
+    at_capacity!(
         capacity,
         sorted_search,
         answer(BAD_ARGUMENT, capacity),
@@ -121,7 +135,7 @@ pub extern "C" fn tinystr_sorted_search_each(
     ensures capacity { ¬ IsCapacity capacity → (result ≡ answer BAD_ARGUMENT capacity) × (out.new ≡ out.old) }
     ensures searched { IsCapacity capacity → SearchesEach result out.old out.new bytes.now keys.now capacity }
 {
-    crate::at_capacity!(
+    at_capacity!(
         capacity,
         sorted_search_each,
         answer(BAD_ARGUMENT, capacity),
@@ -142,7 +156,7 @@ pub extern "C" fn tinystr_sorted_prefix(
     ensures capacity { ¬ IsCapacity capacity → result ≡ no_range BAD_ARGUMENT }
     ensures found { IsCapacity capacity → FindsPrefix result bytes.now beginning.now capacity }
 {
-    crate::at_capacity!(
+    at_capacity!(
         capacity,
         sorted_prefix,
         no_range(BAD_ARGUMENT),
@@ -164,7 +178,7 @@ pub extern "C" fn tinystr_map_check(
     ensures checked { IsCapacity capacity → IsValueSize value_size →
         ChecksMap result keys.now values.now capacity value_size }
 {
-    crate::at_capacity!(
+    at_capacity!(
         capacity,
         map_check,
         answer(BAD_ARGUMENT, capacity),
@@ -180,7 +194,7 @@ pub extern "C" fn tinystr_hashed_check(bytes: &[u8], capacity: usize) -> Tinystr
     ensures capacity { ¬ IsCapacity capacity → result ≡ answer BAD_ARGUMENT capacity }
     ensures checked { IsCapacity capacity → ChecksHashed result bytes.now capacity }
 {
-    crate::at_capacity!(
+    at_capacity!(
         capacity,
         hashed_check,
         answer(BAD_ARGUMENT, capacity),
@@ -195,7 +209,7 @@ pub extern "C" fn tinystr_hashed_search(bytes: &[u8], capacity: usize, key: &[u8
     ensures capacity { ¬ IsCapacity capacity → result ≡ answer BAD_ARGUMENT capacity }
     ensures searched { IsCapacity capacity → SearchesHashed result bytes.now key.now capacity }
 {
-    crate::at_capacity!(
+    at_capacity!(
         capacity,
         hashed_search,
         answer(BAD_ARGUMENT, capacity),

@@ -12,7 +12,7 @@ use std::alloc::{AllocError, Global};
 use std::io::{Read, Write};
 
 /// Why `run` failed.
-#[derive(Debug, Drop)]
+#[derive(Debug, PartialEq, Eq, Drop)]
 pub enum RunError {
     /// An allocation failed.
     Memory,
@@ -130,8 +130,8 @@ fn push_output_of_piece(out: &mut Vec<u8>, begun: &mut Vec<u8>, piece: &[u8]) ->
     Ok(())
 }
 
-// Why a run fails after a failed allocation for a reply. The remaining input is read and kept first, so that a read error takes
-// precedence over the allocation failure.
+// Why a run fails after a failed allocation for a reply. The remaining input is read first, so that a read error takes precedence
+// over the allocation failure. It is kept, since an allocation for it fails at some length, so that the loop ends for any reader.
 #[cold]
 fn read_on<R: Read>(reader: &mut R, begun: Vec<u8>, piece: &mut [u8]) -> RunError
     ensures { result ≢ RunError.Write }

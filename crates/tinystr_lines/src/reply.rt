@@ -136,7 +136,7 @@ fn push_call_reply_at_const<const N: usize>(
     call: TextCall,
     units: &[u8],
 ) -> Result<(), AllocError>
-    // No array is larger.
+    // No array is of 2^63 bytes or more.
     requires { N < 2 ^ 63 }
     ensures { OnOk result (out.new.items ≡ out.old.items ++ call_reply N call units.now) }
 {
@@ -241,15 +241,15 @@ fn push_locale_reply(out: &mut Vec<u8>, units: &[u8]) -> Result<(), AllocError>
 #[tactic(auto, unfolding(crate::specs::Fields::capacity_of))]
 fn push_records_reply_at_run_time(
     out: &mut Vec<u8>,
-    capacity: &[u8],
+    capacity_field: &[u8],
     bytes: &[u8],
 ) -> Result<(), AllocError>
-    requires { is_some (capacity_of capacity.now) ≡ true }
+    requires { is_some (capacity_of capacity_field.now) ≡ true }
     ensures { OnOk result (out.new.items ≡ out.old.items
-        ++ option_map_or (λ n. records_reply n bytes.now) (capacity_of capacity.now) []) }
+        ++ option_map_or (λ n. records_reply n bytes.now) (capacity_of capacity_field.now) []) }
 {
     at_capacity!(
-        capacity,
+        capacity_field,
         push_records_reply_at_const,
         push_records_reply_at_const::<0>(out, bytes),
         out,

@@ -13,7 +13,7 @@ use Rattle.tinystr_packed.specs.Rising.{IsRising, IsFirstFall}
 use Rattle.tinystr_packed.specs.declared.map.MapError.{MapError}
 use Rattle.tinystr_packed.specs.declared.map.MapError.TheVariants.{Keys, Order, Values}
 
--- the value of a key: what std's `get (slice_cmp nat_cmp)` is of a `BTreeMap` with these entries
+-- the value of the first entry with a key; of a `BTreeMap` with these entries, what std's `get (slice_cmp nat_cmp)` is
 abbrev pub get : List (List ℕ × List ℕ) → List ℕ → Option (List ℕ)
 get entries key = lookup (is_at (slice_cmp nat_cmp key)) entries
 

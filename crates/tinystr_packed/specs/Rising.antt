@@ -51,7 +51,7 @@ pub record IsFirstNotBelowWithin (t : List ℕ) (texts : List (List ℕ)) (i j :
   pub below : (k : ℕ) → k < i → order (text_at texts k) t ≡ Less
   pub not_below : (k : ℕ) → j ≤ k → k < length texts → order (text_at texts k) t ≢ Less
 
--- the texts from i to j begin with p, and no others do
+-- the texts from i to j - 1 begin with p, and no others do
 pub record IsPrefixRange (p : List ℕ) (texts : List (List ℕ)) (i j : ℕ) : Type 0 where
   pub ordered : i ≤ j
   pub inside : j ≤ length texts

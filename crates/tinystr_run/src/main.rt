@@ -1,4 +1,4 @@
-//! Answers each line of standard input on standard output.
+//! Writes the reply to each line of standard input to standard output.
 #![tactic(auto)]
 
 use std::io;

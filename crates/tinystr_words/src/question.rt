@@ -10,7 +10,7 @@ ghost use Rattle.tinystr_words.specs.Questions.{later_question, later_case};
 /// assert!(rt; Aligned4::from_ascii_bytes(b"Latn").ask(Question::Titlecase));
 /// assert!(rt; !Aligned4::from_ascii_bytes(b"Latn").ask(Question::Lowercase));
 /// ```
-#[derive(Clone, Copy)]
+#[derive(Clone, Copy, Debug, PartialEq, Eq, Hash)]
 pub enum Question {
     /// Each byte is a letter.
     Alphabetic,
@@ -51,7 +51,7 @@ impl Question {
 /// ```rust
 /// assert_eq!(rt; Aligned4::from_ascii_bytes(b"lATN").in_case(Case::Title), *b"Latn");
 /// ```
-#[derive(Clone, Copy)]
+#[derive(Clone, Copy, Debug, PartialEq, Eq, Hash)]
 pub enum Case {
     /// Each letter in lowercase.
     Lower,

@@ -38,7 +38,7 @@ pub record AreNumbered (n start : ℕ) (records : List (List ℕ)) : Type 0 wher
   pub padded : All (λ raw. IsPaddedText raw n) records
   pub rising : AreAscendingBy (pair_at start) records
 
--- i to j is a range of records and, if these are numbered, the numbers of those before i are below w, and none from j on is
+-- i to j - 1 is a range of records and, if these are numbered, the numbers of those before i are below w, and none from j on is
 pub record IsPlaceWithin (n start : ℕ) (records : List (List ℕ)) (w i j : ℕ) : Type 0 where
   pub ordered : i ≤ j
   pub inside : j ≤ length records

@@ -1,4 +1,4 @@
-//! Readers: many code units into an array of bytes, by pieces of a known length. `code_unit` says what one of them is.
+//! Readers take many code units into an array of bytes, by pieces of a known length. `code_unit` says what one of them is.
 
 ghost use Rattle.std.specs.Prelude.{◌≡◌, ◌+◌, ◌*◌, ◌%◌, ◌≤◌, map, length};
 ghost use Rattle.tinystr_words.specs.Text.{pad};
