@@ -16,9 +16,8 @@ LEFT_OUT = {
     "tinystr/forms.rt": {"pub enum JsonReadError": "JSON is left out, with `forms/json.rt`: feature `serde` has its place"},
 }
 
-# Derives that the made types have besides: a table or a map is a slice or two, and errors are compared.
+# Derives that the made types have in addition: a table or a map is a slice or two.
 DERIVED_TOO = {
-    "tinystr/forms.rt": {"FormWriteError": ["PartialEq", "Eq"]},
     "tinystr_packed/map.rt": {"PackedMap": ["Copy"]},
     "tinystr_packed/sorted.rt": {"SortedTable": ["Copy"]},
     "tinystr_packed/table.rt": {"Table": ["Copy"]},

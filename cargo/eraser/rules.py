@@ -123,7 +123,7 @@ IN_FILE = {
         Rule("mod json;\n", "", "JSON is left out"),
         Rule("use std::alloc::AllocError;\n", "", WANT_OF_MEMORY),
         Rule("    /// The allocation of the JSON string failed.\n    Memory(AllocError),\n", "", WANT_OF_MEMORY),
-        Rule(" It never answers `Memory`.", "", WANT_OF_MEMORY),
+        Rule(" It is never `Memory`.", "", WANT_OF_MEMORY),
         Rule("bytes.to_json(rt.alloc())", "bytes.to_bytes()", "an example of the error without JSON"),
     ],
     "tinystr/ascii/questions.rt": [

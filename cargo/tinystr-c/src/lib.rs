@@ -20,6 +20,20 @@ use numbers::{BAD_ARGUMENT, VERSION};
 use packed::{map_check, sorted_check, sorted_prefix, sorted_search, table_check};
 use search_each::sorted_search_each;
 
+// Calls a function at one of the capacities of records, or returns another value.
+macro_rules! at_capacity {
+    ($capacity:expr, $call:ident, $other:expr, $($argument:expr),*) => {
+        match $capacity {
+            2 => $call::<2>($($argument),*),
+            3 => $call::<3>($($argument),*),
+            4 => $call::<4>($($argument),*),
+            8 => $call::<8>($($argument),*),
+            16 => $call::<16>($($argument),*),
+            _ => $other,
+        }
+    };
+}
+
 /// The version of the library: 10,000 times the first number, 100 times the second, and the third.
 ///
 /// # Contract
@@ -151,7 +165,7 @@ pub unsafe extern "C" fn tinystr_table_check(
 ) -> TinystrResult {
     // SAFETY: the caller meets the conditions that `tinystr.h` documents.
     let bytes = unsafe { slices::slice(bytes, bytes_len) };
-    crate::at_capacity!(capacity, table_check, answer(BAD_ARGUMENT, capacity), bytes)
+    at_capacity!(capacity, table_check, answer(BAD_ARGUMENT, capacity), bytes)
 }
 
 /// Whether bytes are packed records of `capacity` bytes, and strictly ascending: each text is above the one before it.
@@ -174,7 +188,7 @@ pub unsafe extern "C" fn tinystr_sorted_check(
 ) -> TinystrResult {
     // SAFETY: the caller meets the conditions that `tinystr.h` documents.
     let bytes = unsafe { slices::slice(bytes, bytes_len) };
-    crate::at_capacity!(
+    at_capacity!(
         capacity,
         sorted_check,
         answer(BAD_ARGUMENT, capacity),
@@ -207,7 +221,7 @@ pub unsafe extern "C" fn tinystr_sorted_search(
     let bytes = unsafe { slices::slice(bytes, bytes_len) };
     // SAFETY: the caller meets the conditions that `tinystr.h` documents.
     let key = unsafe { slices::slice(key, key_len) };
-    crate::at_capacity!(
+    at_capacity!(
         capacity,
         sorted_search,
         answer(BAD_ARGUMENT, capacity),
@@ -247,7 +261,7 @@ pub unsafe extern "C" fn tinystr_sorted_search_each(
     let keys = unsafe { slices::slice(keys, keys_len) };
     // SAFETY: the caller meets the conditions that `tinystr.h` documents.
     let out = unsafe { slices::slice_mut(out, out_len) };
-    crate::at_capacity!(
+    at_capacity!(
         capacity,
         sorted_search_each,
         answer(BAD_ARGUMENT, capacity),
@@ -282,7 +296,7 @@ pub unsafe extern "C" fn tinystr_sorted_prefix(
     let bytes = unsafe { slices::slice(bytes, bytes_len) };
     // SAFETY: the caller meets the conditions that `tinystr.h` documents.
     let beginning = unsafe { slices::slice(beginning, beginning_len) };
-    crate::at_capacity!(
+    at_capacity!(
         capacity,
         sorted_prefix,
         no_range(BAD_ARGUMENT),
@@ -317,7 +331,7 @@ pub unsafe extern "C" fn tinystr_map_check(
     let keys = unsafe { slices::slice(keys, keys_len) };
     // SAFETY: the caller meets the conditions that `tinystr.h` documents.
     let values = unsafe { slices::slice(values, values_len) };
-    crate::at_capacity!(
+    at_capacity!(
         capacity,
         map_check,
         answer(BAD_ARGUMENT, capacity),
@@ -347,7 +361,7 @@ pub unsafe extern "C" fn tinystr_hashed_check(
 ) -> TinystrResult {
     // SAFETY: the caller meets the conditions that `tinystr.h` documents.
     let bytes = unsafe { slices::slice(bytes, bytes_len) };
-    crate::at_capacity!(
+    at_capacity!(
         capacity,
         hashed_check,
         answer(BAD_ARGUMENT, capacity),
@@ -380,7 +394,7 @@ pub unsafe extern "C" fn tinystr_hashed_search(
     let bytes = unsafe { slices::slice(bytes, bytes_len) };
     // SAFETY: the caller meets the conditions that `tinystr.h` documents.
     let key = unsafe { slices::slice(key, key_len) };
-    crate::at_capacity!(
+    at_capacity!(
         capacity,
         hashed_search,
         answer(BAD_ARGUMENT, capacity),

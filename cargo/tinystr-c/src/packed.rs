@@ -8,21 +8,6 @@ use crate::numbers::{BAD_ARGUMENT, NOT_RISING, OK};
 use proved::TinyAsciiStr;
 use proved::packed::{PackedMap, SortedError, SortedTable, in_place};
 
-/// Calls a function at one of the capacities of records, or returns another value.
-#[macro_export]
-macro_rules! at_capacity {
-    ($capacity:expr, $call:ident, $other:expr, $($argument:expr),*) => {
-        match $capacity {
-            2 => $call::<2>($($argument),*),
-            3 => $call::<3>($($argument),*),
-            4 => $call::<4>($($argument),*),
-            8 => $call::<8>($($argument),*),
-            16 => $call::<16>($($argument),*),
-            _ => $other,
-        }
-    };
-}
-
 /// The number of packed records, or why the bytes aren't packed records.
 ///
 /// # Contract

@@ -188,3 +188,32 @@ fn many_random_texts_are_packed_by_some_seed() {
     assert_eq!((table.len(), bytes.len()), (count, 16 + 4 * count.div_ceil(4) + 12 * count));
     assert!(texts.iter().all(|text| table.contains(text)));
 }
+
+/// FNV-1a.
+fn digest_of(bytes: &[u8]) -> u64 {
+    bytes.iter().fold(0xcbf2_9ce4_8422_2325, |digest, byte| (digest ^ u64::from(*byte)).wrapping_mul(0x100_0000_01b3))
+}
+
+/// The digests are those of the tests of the proved crate, where another program makes the bytes from the definition.
+#[test]
+fn the_bytes_are_those_of_the_proved_crate_in_any_order() {
+    for (count, digest) in [(170, 0xc3aa_5efa_4017_1df2), (300, 0x02fa_3549_4b0c_5718), (1000, 0xb69d_1040_e8bd_622b)] {
+        let mut texts: Vec<TinyAsciiStr<8>> = (0..count).map(|number| format!("key{number}").parse().unwrap()).collect();
+        assert_eq!(digest_of(&pack_hashed(&texts).unwrap()), digest);
+        texts.reverse();
+        assert_eq!(digest_of(&pack_hashed(&texts).unwrap()), digest);
+    }
+}
+
+/// All texts of one byte but two, and the empty text: their hashes are spread so evenly that the first eight seeds fail.
+#[test]
+fn texts_of_evenly_spread_hashes_are_packed() {
+    let texts: HashSet<TinyAsciiStr<8>> = (1..128)
+        .filter(|byte| ![29, 121].contains(byte))
+        .map(|byte| TinyAsciiStr::try_from_utf8(&[byte]).unwrap())
+        .chain([TinyAsciiStr::EMPTY])
+        .collect();
+    let bytes = pack_hashed(&texts.iter().copied().collect::<Vec<_>>()).unwrap();
+    assert_eq!(digest_of(&bytes), 0xe7ea_6c03_b3be_8e33);
+    agrees(&bytes, &texts, texts.iter().copied());
+}

@@ -21,7 +21,7 @@ pub enum HashedMapError {
     Values { keys: usize, len: usize },
 }
 
-/// A map from the texts of a hashed table, of at most `N` bytes, to values of `M` bytes, in the order of the texts. A contract
+/// A map from the texts of a hashed table, of at most `N` bytes, to values of `M` bytes, in the order of the keys. A contract
 /// sees it as the list of its entries.
 ///
 /// ```
@@ -105,7 +105,7 @@ impl<'a, const N: usize, const M: usize> HashedMap<'a, N, M> {
         self.len() == 0
     }
 
-    /// The value of a key, or `None` if the map doesn't have the key. No key takes longer than another.
+    /// The value of a key, or `None` if the map doesn't have the key. Each key takes one hash, one displacement and one record.
     ///
     /// # Contract
     ///

@@ -11,6 +11,13 @@ const SEEDS: u64 = 16;
 
 const OF_SEEDS: u64 = 0x2545_f491_4f6c_dd1d;
 
+// For how many seeds texts share displacements, and how many share one on average. More of them make the search longer and the
+// table shorter. For the later seeds there is one for each text: if the hashes are spread evenly, all groups that share a
+// displacement are of a similar size, and the last of them rarely fits the last free places.
+const SHARING_SEEDS: u64 = 8;
+
+const SHARING: usize = 4;
+
 /// Why texts aren't packed as a hashed table.
 ///
 /// ```
@@ -23,7 +30,7 @@ const OF_SEEDS: u64 = 0x2545_f491_4f6c_dd1d;
 /// ```
 #[derive(Clone, Copy, Debug, PartialEq, Eq)]
 pub enum PackHashedError<const N: usize> {
-    /// A text occurs twice.
+    /// A text occurs twice. If several do, any of them is named.
     Duplicate { text: TinyAsciiStr<N> },
     /// No seed that is tried gives each text a place of its own. This is expected only of texts that are chosen for it.
     NoSeed,
@@ -31,8 +38,8 @@ pub enum PackHashedError<const N: usize> {
 
 /// Packs texts, no two of which may be equal, as `HashedTable` takes them. `N` must be above 0.
 ///
-/// At most sixteen seeds are tried, each for a bounded time: any texts take the time of a few sorts and a time that is
-/// linear in their number.
+/// At most sixteen seeds are tried, each for a bounded time: any texts take the time of at most 33 sorts and a time that is
+/// linear in their number. The bytes depend only on the set of texts.
 ///
 /// ```
 /// use tinystr::tinystr;
@@ -63,11 +70,22 @@ pub fn pack_hashed<const N: usize>(
         return Err(PackHashedError::Duplicate { text });
     }
     for index in 1..=SEEDS {
-        if let Some(bytes) = pack_with_seed(texts, index.wrapping_mul(OF_SEEDS)) {
+        let seed = index.wrapping_mul(OF_SEEDS);
+        let count = displacement_count(texts.len(), index);
+        if let Some(bytes) = pack_with_seed(texts, seed, count) {
             return Ok(bytes);
         }
     }
     Err(PackHashedError::NoSeed)
+}
+
+// The number of displacements for a number of texts, by the index of the seed.
+fn displacement_count(texts: usize, index: u64) -> usize {
+    if index <= SHARING_SEEDS {
+        texts.div_ceil(SHARING)
+    } else {
+        texts
+    }
 }
 
 // A text that occurs twice.
@@ -98,7 +116,7 @@ fn first_repeated<const N: usize>(texts: &[TinyAsciiStr<N>]) -> Option<TinyAscii
     None
 }
 
-// The bytes of a hashed table of the texts, if the seed gives each a place of its own.
+// The bytes of a hashed table of the texts, with `count` displacements, if the seed gives each a place of its own.
 // Proved:
 //     requires some { 0 < N }
 //     requires distinct { IsDistinct bytes_eq texts.now }
@@ -106,8 +124,9 @@ fn first_repeated<const N: usize>(texts: &[TinyAsciiStr<N>]) -> Option<TinyAscii
 fn pack_with_seed<const N: usize>(
     texts: &[TinyAsciiStr<N>],
     seed: u64,
+    count: usize,
 ) -> Option<Vec<u8>> {
-    let Some(displacements) = displacements(texts, seed) else {
+    let Some(displacements) = displacements(texts, seed, count) else {
         return None;
     };
     let bytes = table_bytes(texts, seed, displacements.as_slice());

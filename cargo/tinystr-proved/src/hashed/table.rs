@@ -57,7 +57,7 @@ pub enum HashedError {
     Displacements { count: usize, len: usize },
     /// The bytes after the displacements aren't packed records.
     Records(UleError),
-    /// The text at `index` is the first that isn't found there.
+    /// The text at `index` is the first that isn't at its place.
     Place { index: usize },
 }
 
@@ -133,7 +133,7 @@ impl<'a, const N: usize> HashedTable<'a, N> {
         self.table.is_empty()
     }
 
-    /// The index of a text, or `None` if the table doesn't have it. No key takes longer than another.
+    /// The index of a text, or `None` if the table doesn't have it. Each key takes one hash, one displacement and one record.
     ///
     /// # Contract
     ///

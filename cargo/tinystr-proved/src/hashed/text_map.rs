@@ -109,7 +109,7 @@ impl<'a, const N: usize, const M: usize> HashedTextMap<'a, N, M> {
         self.len() == 0
     }
 
-    /// The value of a key, or `None` if the map doesn't have the key. No key takes longer than another.
+    /// The value of a key, or `None` if the map doesn't have the key. Each key takes one hash, one displacement and one record.
     ///
     /// # Contract
     ///

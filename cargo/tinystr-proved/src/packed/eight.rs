@@ -190,8 +190,8 @@ fn number_if(number: usize, bit: u64) -> usize {
     number & (bit as usize).wrapping_neg()
 }
 
-// One step of a search, by whether the middle of a range is below a pair. Half of the range remains, rounded down; if its length
-// is even, the middle may remain, though it is below.
+// One step of a search: which half of a range remains, by whether its middle is below a pair. The length of the half is rounded
+// down. If the range has an even length, the half may begin with the middle, though that is below.
 // Proved:
 //     requires start { start ≤ N - 8 }
 //     requires texts { IsPairOfText N number.first number.next }
@@ -393,7 +393,7 @@ fn places_by_numbers<const N: usize>(
     places_within(records, start, &pairs, range)
 }
 
-// How many of their first bytes eight keys and all records share. It only guides, as `shared_len` does.
+// How many of their first bytes eight keys and all records share. It changes only the speed, as `shared_len` does.
 // Proved:
 //     requires eight { 8 ≤ length keys.now }
 //     requires long { 8 < N }

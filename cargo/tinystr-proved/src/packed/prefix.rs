@@ -51,8 +51,8 @@ fn first_not_below_near_start<const N: usize>(records: &[[u8; N]], key: &[u8; N]
 
 /// The place of a text among records, and how many of those from there on begin with it. Of any records it is a range inside
 /// them.
-// Speed: the end is found by halves, by the front of each record. `count_with_prefix` is faster among most records, but takes 1.2
-// times as long among 4 records of 8 bytes or 10 of 16 (beside other programs).
+// Speed: the end is found by halves, by the front of each record. `count_with_prefix` is faster among most records, but
+// slower among 4 records of 8 bytes or 10 of 16.
 ///
 /// # Contract
 ///

@@ -37,7 +37,7 @@ pub trait CodeUnit: Copy {
     /// ```
     fn low_byte(self) -> u8;
 
-    /// The code units as bytes, if that is their type.
+    /// The code units as bytes, if that is their type, or `None`, which changes no result, only the speed.
     ///
     /// # Contract
     ///
@@ -125,7 +125,7 @@ impl CodeUnit for u16 {
         None
     }
 
-    // Every other byte of a vector: as an array on its way to the word, the compiler would take each byte by itself.
+    // Every other byte of a vector. From an array the compiler would take each byte by itself.
     #[inline(always)]
     fn word_of_four(units: &[u16]) -> u32 {
         let bytes = u16x4::from_slice(units).to_le_bytes();

@@ -218,7 +218,7 @@ impl<T: Word<LEN>, const LEN: usize> Aligned<T, LEN> {
     }
 }
 
-// The functions from here on are for `padded`, and for the strict readers, `split` and `find` of `tinystr`.
+// The functions from here on are for `padded`, and for the strict readers, `split`, `find`, `take` and `slice` of `tinystr`.
 impl<T: Word<LEN>, const LEN: usize> Aligned<T, LEN> {
     /// Takes at most `LEN` bytes, which must be a text and then NULs.
     ///

@@ -90,7 +90,7 @@ pub fn decimal<const N: usize>(number: u32) -> Result<[u8; N], [u8; N]> {
             let digits = resize_at_once(&Aligned8::from_number(number, N).to_bytes());
             if fits { Ok(digits) } else { Err(digits) }
         }
-        // of others, two at a time
+        // fewer or more digits, made two at a time
         _ if fits => Ok(resize_at_once(&Aligned16::from_decimal(number).to_bytes())),
         _ => Err(resize_at_once(&Aligned16::from_last_digits(number, N).to_bytes())),
     }

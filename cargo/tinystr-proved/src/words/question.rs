@@ -7,7 +7,7 @@
 /// assert!(Aligned4::from_ascii_bytes(b"Latn").ask(Question::Titlecase));
 /// assert!(!Aligned4::from_ascii_bytes(b"Latn").ask(Question::Lowercase));
 /// ```
-#[derive(Clone, Copy)]
+#[derive(Clone, Copy, Debug, PartialEq, Eq, Hash)]
 pub enum Question {
     /// Each byte is a letter.
     Alphabetic,
@@ -52,7 +52,7 @@ impl Question {
 /// ```text
 /// assert_eq!(Aligned4::from_ascii_bytes(b"lATN").in_case(Case::Title), *b"Latn");
 /// ```
-#[derive(Clone, Copy)]
+#[derive(Clone, Copy, Debug, PartialEq, Eq, Hash)]
 pub enum Case {
     /// Each letter in lowercase.
     Lower,

@@ -1,4 +1,4 @@
-//! Readers: many code units into an array of bytes, by pieces of a known length. `code_unit` says what one of them is.
+//! Readers take many code units into an array of bytes, by pieces of a known length. `code_unit` says what one of them is.
 
 use crate::words::code_unit::CodeUnit;
 use crate::words::padded::replacing::lossy_word;
