@@ -18,7 +18,7 @@ const RUN: u64 = 1_000;
 const ROUNDS: usize = 9;
 const BUILDING_ROUNDS: usize = 3;
 
-/// A set of few records is built several times in a round, until about this number of records is reached.
+/// A set of few records is built several times in a round, of about this number of records in all.
 const RECORDS: usize = 100_000;
 
 // What the program measures other than look-ups, and two orders of keys: in the second each key depends on the last record.

@@ -16,7 +16,6 @@ SETS = ["HashSet", "HashSet with SipHash"]
 # Whose times they are, by the name of the column. The ratios are those of the first one's time to the others.
 SEARCHES = {
     "position": HASHED,
-    "position_each": "hashed in bulk",
     "binary_search": ONE_BY_ONE,
     "binary_search_each": HERE,
     **{name: name for name in SETS},

@@ -10,6 +10,8 @@ COLUMNS = ["date", "commit", "other programs"]
 # A line of a head that the page leaves out.
 LEFT_OUT = "noise, third-fastest round over the fastest"
 LONGEST = 12
+# How many other programs may run while measurements are taken, on average.
+BUSY = 0.1
 
 
 def shortened(name: str, value: str) -> str:
@@ -18,13 +20,13 @@ def shortened(name: str, value: str) -> str:
     return digits[:LONGEST] + comma + rest if name == "commit" else value.removesuffix(" on average")
 
 
-def heads_of(all_results: dict[str, Results]) -> dict[str, dict[str, str]]:
-    """By file, the values by their names."""
-    return {f"{name}.csv": dict(line.partition(": ")[::2] for line in results.head) for name, results in all_results.items()}
+def values_of(results: Results) -> dict[str, str]:
+    """The values of a head by their names."""
+    return dict(line.partition(": ")[::2] for line in results.head)
 
 
 def machine(all_results: dict[str, Results]) -> str:
-    heads = heads_of(all_results)
+    heads = {f"{name}.csv": values_of(results) for name, results in all_results.items()}
     files_of = {}
     for file, head in heads.items():
         for name, value in head.items():

@@ -3,6 +3,7 @@
 from argparse import ArgumentParser, Namespace
 from statistics import mean, median
 
+from measurements.machine import BUSY
 from measurements.results import THERE, Cell, Results, by_call
 from measurements.tables import cells_of_table, geometric, ratio_table, ratios_of, type_tables
 
@@ -40,7 +41,7 @@ def noise(results: Results) -> list[str]:
 
 def is_busy(results: Results) -> bool:
     others, medians, _ = zip(*results.steady)
-    return mean(others) > 0.1 or median(medians) > 0.02
+    return mean(others) > BUSY or median(medians) > 0.02
 
 
 def read_results(options: Namespace) -> Results:

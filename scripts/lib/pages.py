@@ -67,6 +67,13 @@ class Page:
         found = re.findall(r"\]\(\s*([^)\s]+)|^\[[^\]]+\]: +(\S+)", "\n".join(self.lines), re.M)
         return [target or defined for target, defined in found]
 
+    def undefined_labels(self) -> list[str]:
+        """The labels of links, as of [text][label], that the page doesn't define."""
+        text = re.sub(r"`[^`]*`", "", "\n".join(self.prose))
+        defined = {label.lower() for label in re.findall(r"^\[([^\]]+)\]: +\S", text, re.M)}
+        used = [label or words for words, label in re.findall(r"\[([^\[\]]+)\]\[([^\[\]]*)\]", text)]
+        return [label for label in used if label.lower() not in defined]
+
 
 def main() -> bool:
     parser = argparse.ArgumentParser(description=__doc__)
