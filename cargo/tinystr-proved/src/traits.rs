@@ -1,5 +1,5 @@
 //! What Rust's users expect of tables, maps and their iterators, each by a proved call: they are printed as lists and maps of
-//! what they hold, run through by a reference, and say how much is left.
+//! what they hold, run through by a value or a reference, and say how much is left.
 
 use crate::ascii::Parts;
 use crate::hashed::{self, HashedMap, HashedTable, HashedTextMap};
