@@ -1,15 +1,17 @@
 #!/usr/bin/env python3
-"""expected.py FOLDER: writes what the programs beside it read, and what each of them has to print.
+"""Writes what the programs beside it read, and what each of them has to print.
+
+expected.py FOLDER
 
 FOLDER/words is a word a line: names of locales and codes from Debian's lists, and awkward words. FOLDER/table is sorted
 packed records of 3 bytes: the codes of ISO 639. FOLDER/hashed is a hashed table of the same texts. FOLDER/wanted has a
 line for each word, and one for all that are texts of at most 3 bytes, made here by regular expressions, str, bisect and
 hashed.py, and not by the library. The lists that aren't there are named, and left out.
 """
+import argparse
 import bisect
 import json
 import re
-import sys
 from pathlib import Path
 
 import hashed
@@ -80,7 +82,10 @@ def line(word, table, places):
 
 
 def main():
-    folder = Path(sys.argv[1])
+    how = argparse.RawDescriptionHelpFormatter
+    parser = argparse.ArgumentParser(description=__doc__, formatter_class=how, allow_abbrev=False)
+    parser.add_argument("folder", metavar="FOLDER", type=Path)
+    folder = parser.parse_args().folder
     missing = [str(path) for path in (NAMES, CODES) if not path.exists()]
     # qaa-qtz is a range and no code
     table = sorted({code.encode() for code in codes_of(LISTS) if len(code) <= CAPACITY} | {b"aa", b"ab", b"zu"})
@@ -101,4 +106,5 @@ def main():
     print(f"{len(words)} words, {len(table)} records" + "".join(f"; left out: {path}" for path in missing))
 
 
-main()
+if __name__ == "__main__":
+    main()

@@ -1,5 +1,5 @@
 //! What Rust's users expect of tables, maps and their iterators, each by a proved call: they are printed as lists and maps of
-//! what they hold, run through by a reference, and say how much is left.
+//! what they hold, run through by a value or a reference, and say how much is left.
 
 use crate::ascii::Parts;
 use crate::hashed::{self, HashedMap, HashedTable, HashedTextMap};
@@ -52,36 +52,40 @@ impl<const N: usize, const M: usize> Debug for GetEach<'_, '_, N, M> {
     }
 }
 
+// The iterator of each of these types, which an expression gives, of a value and of a reference.
 macro_rules! run_through {
-    ($([$($generics:tt)*] $type:ty, $texts:ty;)*) => {$(
+    ($([$($generics:tt)*] $type:ty, $iterator:ty, |$it:ident| $values:expr;)*) => {$(
         impl<'a, $($generics)*> IntoIterator for &$type {
-            type Item = <$texts as Iterator>::Item;
-            type IntoIter = $texts;
+            type Item = <$iterator as Iterator>::Item;
+            type IntoIter = $iterator;
 
             #[inline]
-            fn into_iter(self) -> $texts {
-                self.iter()
+            fn into_iter(self) -> $iterator {
+                let $it = self;
+                $values
             }
         }
 
         impl<'a, $($generics)*> IntoIterator for $type {
-            type Item = <$texts as Iterator>::Item;
-            type IntoIter = $texts;
+            type Item = <$iterator as Iterator>::Item;
+            type IntoIter = $iterator;
 
             #[inline]
-            fn into_iter(self) -> $texts {
-                self.iter()
+            fn into_iter(self) -> $iterator {
+                (&self).into_iter()
             }
         }
     )*};
 }
 
 run_through! {
-    [const N: usize] Table<'a, N>, Texts<'a, N>;
-    [const N: usize, const M: usize] PackedMap<'a, N, M>, Entries<'a, N, M>;
-    [const N: usize, const M: usize] TextMap<'a, N, M>, TextEntries<'a, N, M>;
-    [const N: usize, const M: usize] HashedMap<'a, N, M>, hashed::Entries<'a, N, M>;
-    [const N: usize, const M: usize] HashedTextMap<'a, N, M>, TextEntries<'a, N, M>;
+    [const N: usize] Table<'a, N>, Texts<'a, N>, |it| it.iter();
+    [const N: usize] SortedTable<'a, N>, Texts<'a, N>, |it| it.table().iter();
+    [const N: usize] HashedTable<'a, N>, Texts<'a, N>, |it| it.table().iter();
+    [const N: usize, const M: usize] PackedMap<'a, N, M>, Entries<'a, N, M>, |it| it.iter();
+    [const N: usize, const M: usize] TextMap<'a, N, M>, TextEntries<'a, N, M>, |it| it.iter();
+    [const N: usize, const M: usize] HashedMap<'a, N, M>, hashed::Entries<'a, N, M>, |it| it.iter();
+    [const N: usize, const M: usize] HashedTextMap<'a, N, M>, TextEntries<'a, N, M>, |it| it.iter();
 }
 
 // The numbers that `size_hint` gives are exact, and the same at both ends.
@@ -96,3 +100,5 @@ impl<const N: usize> FusedIterator for Parts<'_, N> {}
 impl<const N: usize, const M: usize> FusedIterator for Entries<'_, N, M> {}
 impl<const N: usize, const M: usize> FusedIterator for hashed::Entries<'_, N, M> {}
 impl<const N: usize, const M: usize> FusedIterator for TextEntries<'_, N, M> {}
+impl<const N: usize> FusedIterator for BinarySearchEach<'_, '_, N> {}
+impl<const N: usize, const M: usize> FusedIterator for GetEach<'_, '_, N, M> {}

@@ -1,6 +1,7 @@
 """The package of the C library: what its sources go through, and how its exports take slices as C passes them."""
 
 import re
+from pathlib import Path
 
 from eraser import Stopped
 from eraser.contracts import Contracts
@@ -39,14 +40,14 @@ SAFETY = """///
 class CLibrary:
     """The files of the package, by their paths in it."""
 
-    def __init__(self, top, by_hand):
+    def __init__(self, top: Path, by_hand: Path) -> None:
         self.top = top
         self.by_hand = by_hand
         self.rules = Rules(
             IN_FILE, [Rule(rf"(?<![\w:]){crate}::", f"{module}::", OF_CRATES) for crate, module in MODULES.items()]
         )
 
-    def files(self):
+    def files(self) -> dict[str, str]:
         """All files: those that are made, those by hand, and the copies of what is elsewhere in the repository."""
         made = {}
         for file, path in sources(self.top / "crates" / CRATE):
@@ -58,7 +59,7 @@ class CLibrary:
         made["include/tinystr.h"] = read(self.top / "c/include/tinystr.h")
         return made
 
-    def rust_of(self, text, file):
+    def rust_of(self, text: str, file: str) -> str:
         """A source as Rust."""
         if line := unmatched_bracket(text):
             raise Stopped(f"{file}:{line}: a bracket has no partner")
@@ -70,7 +71,7 @@ class CLibrary:
         return tidy(text)
 
 
-def with_exports(text):
+def with_exports(text: str) -> str:
     """Each export with a pointer and a length for each slice, of which its body begins by making the slice."""
     text, count = EXPORT.subn(export, text)
     if count == 0 or text.count("no_mangle") != count:
@@ -78,7 +79,7 @@ def with_exports(text):
     return text.replace("#[unsafe(no_mangle)]\npub unsafe", SAFETY + "#[unsafe(no_mangle)]\npub unsafe")
 
 
-def export(found):
+def export(found: re.Match) -> str:
     name, parameters, result, between = found.groups()
     if between.strip():
         raise Stopped(f"{EXPORTS}: {name}: {between.strip()} before the body")
@@ -96,7 +97,7 @@ def export(found):
     return f'pub unsafe extern "C" fn {name}(\n{lines}) -> {result} {{\n{made}'
 
 
-def taken_as(name, parameter, kind):
+def taken_as(name: str, parameter: str, kind: str) -> list[str]:
     if kind in SLICES:
         return [f"{parameter}: {SLICES[kind][0]}", f"{parameter}_len: usize"]
     if kind not in ("u32", "usize"):

@@ -27,7 +27,7 @@ NAMES = {
 
 # What shows that an example needs a name, where that isn't the name alone: a call that needs a trait's name besides, and
 # what a module has of those that share a name.
-TOLD_BY = {
+SHOWN_BY = {
     ("tinystr::subtags::subtag", "SubtagKind"): r"Kind::read\(",
     ("tinystr::packed", "in_place"): r"\bin_place::(?:search|with_prefix)",
     ("tinystr::hashed", "in_place"): r"\bin_place::position",
@@ -57,7 +57,7 @@ def uses(body: str, own: str) -> list[str]:
     code = re.sub(r'"(?:\\.|[^"\\])*"', "", body)
     lines = []
     for module, names in NAMES.items():
-        wanted = ((name, TOLD_BY.get((module, name), rf"(?<![\w:.]){name}\b")) for name in names.split())
+        wanted = ((name, SHOWN_BY.get((module, name), rf"(?<![\w:.]){name}\b")) for name in names.split())
         found = sorted(name for name, pattern in wanted if re.search(pattern, code))
         path = module.replace("tinystr", own, 1)
         if found:

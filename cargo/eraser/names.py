@@ -1,6 +1,8 @@
 """Names that a function of the type may not have: those of `str`, which it would hide from callers of `Deref`."""
 
 import re
+from collections.abc import Iterator
+from typing import NamedTuple
 
 from eraser import Stopped
 
@@ -17,13 +19,29 @@ OF_STR = set(
 # The original's type has these itself.
 OF_THE_ORIGINAL = {"is_empty", "len", "to_ascii_lowercase", "to_ascii_uppercase"}
 
-IMPL = re.compile(r"^impl(?:<[^>\n]*>)? TinyAsciiStr<\w+> \{\n(?:.*\n)*?\}\n", re.M)
-METHOD = re.compile(r"^    pub (?:const )?(?:unsafe )?fn (\w+)", re.M)
+# A type with functions of its own, and the head of each of these.
+IMPL = re.compile(r"^impl(?:<.*>)? (\w+)(?:<.*>)? \{\n((?:.*\n)*?)\}\n", re.M)
+HEAD = re.compile(r"^    pub (const )?(?:unsafe )?fn (\w+)[^(]*\(\s*(&?(?:mut )?self\b)?", re.M)
+
+
+class Function(NamedTuple):
+    """A public function of a type's own, which isn't of a trait."""
+
+    type: str
+    name: str
+    is_const: bool
+    has_self: bool
+
+
+def functions_of(text: str) -> Iterator[Function]:
+    """The public functions of the types' own, in any `impl` of Rust or Rattle."""
+    for type_name, body in IMPL.findall(text):
+        for const, name, with_self in HEAD.findall(body):
+            yield Function(type_name, name, bool(const), bool(with_self))
 
 
 def stop_at_names_of_str(text: str, file: str) -> None:
     """Stops at a public function of the type that has the name of one of `str`, and isn't the original's."""
-    for block in IMPL.finditer(text):
-        for name in METHOD.findall(block[0]):
-            if name in OF_STR - OF_THE_ORIGINAL:
-                raise Stopped(f"{file}: `{name}` would hide that of `str`: it must get another name by a rule")
+    for found in functions_of(text):
+        if found.type == "TinyAsciiStr" and found.name in OF_STR - OF_THE_ORIGINAL:
+            raise Stopped(f"{file}: `{found.name}` would hide that of `str`: it must get another name by a rule")

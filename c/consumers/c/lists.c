@@ -1,6 +1,6 @@
 /* lists WORDS TABLE HASHED: a line for each word of a file, about it alone and about the packed records of 3 bytes and the
- * hashed table of two others. Then all words of at most 3 bytes are searched by one call, which answers of each as one for
- * it alone. */
+ * hashed table of two others. Then one call searches all words of at most 3 bytes, and the result for each must be that of a
+ * search for it alone. */
 #include <stdio.h>
 #include <stdlib.h>
 #include <string.h>

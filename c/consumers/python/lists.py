@@ -84,4 +84,5 @@ def main():
     sys.stdout.buffer.write(search_all(keys, alone, table))
 
 
-main()
+if __name__ == "__main__":
+    main()

@@ -13,7 +13,7 @@ impl Display for BytesReadError {
     fn fmt(&self, f: &mut Formatter<'_>) -> Result {
         match self {
             BytesReadError::Length { expected } => write!(f, "there are fewer than {expected} bytes"),
-            BytesReadError::Null => f.write_str("a byte other than NUL stands behind a NUL"),
+            BytesReadError::Null => f.write_str("a byte other than NUL follows a NUL"),
             BytesReadError::NonAscii => f.write_str("a byte is above 127"),
         }
     }

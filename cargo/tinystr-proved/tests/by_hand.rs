@@ -68,11 +68,11 @@ fn constants_are_allowed_in_any_place() {
 
 #[test]
 fn a_value_equals_strings_both_ways() {
-    let (word, other) = (String::from("EUR"), String::from("EU"));
-    assert_eq!([EURO == "EUR", EURO == *"EUR", EURO == word], [true; 3]);
-    assert_eq!(["EUR" == EURO, *"EUR" == EURO, word == EURO], [true; 3]);
-    assert_eq!([EURO == "EU", EURO == *"EU", EURO == other], [false; 3]);
-    assert_eq!(["EU" == EURO, *"EU" == EURO, other == EURO], [false; 3]);
+    for (s, is_same) in [("EUR", true), ("EU", false), ("EURO", false), ("EUS", false), ("USD", false), ("", false)] {
+        let word = String::from(s);
+        assert_eq!([EURO == s, EURO == *s, EURO == word], [is_same; 3], "{s}");
+        assert_eq!([s == EURO, *s == EURO, word == EURO], [is_same; 3], "{s}");
+    }
     let (id, language) = ("EN_gb".parse::<LangId>().unwrap(), "EN".parse::<Language>().unwrap());
     assert_eq!([id == "en-GB", id == "en", language == "en", language == "EN"], [true, false, true, false]);
     assert_eq!((AsRef::<str>::as_ref(&id), AsRef::<str>::as_ref(&language)), ("en-GB", "en"));
@@ -104,7 +104,7 @@ fn message(error: impl Error) -> String {
 fn each_error_says_what_is_wrong() {
     let read = |bytes| TinyAsciiStr::<4>::read_bytes(bytes).map_err(message).unwrap_err();
     assert_eq!(read(b"EUR"), "there are fewer than 4 bytes");
-    assert_eq!(read(b"G\0B\0"), "a byte other than NUL stands behind a NUL");
+    assert_eq!(read(b"G\0B\0"), "a byte other than NUL follows a NUL");
     assert_eq!(read(b"caf\xe9"), "a byte is above 127");
     let written = UnvalidatedTinyAsciiStr::from_utf8_unchecked(*b"\0GB").to_bytes().map_err(message);
     assert_eq!(written, Err("the bytes aren't a text and then NULs".into()));

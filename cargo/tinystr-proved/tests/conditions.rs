@@ -58,6 +58,12 @@ const PANICKING: &[(&str, fn())] = &[
     ("in_place::search at 0", || ignore(in_place::search::<0>(b"", &tinystr!(0, "")))),
     ("in_place::search_eight at 0", || ignore(in_place::search_eight::<0>(b"", &[tinystr!(0, ""); 8], 0))),
     ("in_place::with_prefix at 0", || ignore(in_place::with_prefix::<0>(b"", &tinystr!(0, "")))),
+    #[cfg(debug_assertions)]
+    ("from_utf8_unchecked of a letter after a NUL", || ignore(unchecked(*b"G\0B"))),
+    #[cfg(debug_assertions)]
+    ("from_utf8_unchecked of 128", || ignore(unchecked([b'G', 128, b'B']))),
+    #[cfg(debug_assertions)]
+    ("from_utf8_unchecked of 255 after a NUL", || ignore(unchecked([b'G', 0, 255]))),
 ];
 
 /// A hashed table of no texts.
@@ -65,6 +71,12 @@ const HEADER: &[u8] = &[1, 0, 0, 0, 0, 0, 0, 0, 0, 0, 0, 0, 0, 0, 0, 0];
 
 fn table() -> Table<'static, 3> {
     Table::new(b"EURGB\0").unwrap()
+}
+
+/// (A release build calls it of texts alone.)
+fn unchecked(bytes: [u8; 3]) -> TinyAsciiStr<3> {
+    // SAFETY: the bytes are a text and then NULs, or a debug build panics before it makes a text of them.
+    unsafe { TinyAsciiStr::from_utf8_unchecked(bytes) }
 }
 
 fn ignore<T>(_: T) {}
@@ -94,4 +106,6 @@ fn a_call_at_the_edge_of_its_condition_answers() {
     assert_eq!(table().text_at(1), "GB");
     assert_eq!(table().slice(2..2).len(), 0);
     assert_eq!(TextEntries::new(&table(), &table()).count(), 2);
+    let texts = [[0; 3], *b"G\0\0", *b"GB\0", *b"EUR", [1, 127, 1]];
+    assert!(texts.into_iter().all(|bytes| TinyAsciiStr::try_from_raw(bytes) == Ok(unchecked(bytes))));
 }

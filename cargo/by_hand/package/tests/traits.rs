@@ -28,6 +28,10 @@ fn texts() -> TextMap<'static, 2, 3> {
 /// A header of no displacements, and one text.
 const ONE: &[u8] = b"\x01\0\0\0\0\0\0\0\0\0\0\0\0\0\0\0EUR";
 
+fn hashed_table() -> HashedTable<'static, 3> {
+    HashedTable::from_bytes(ONE).unwrap()
+}
+
 fn hashed_map() -> HashedMap<'static, 3, 1> {
     HashedMap::new(ONE, &[2]).unwrap()
 }
@@ -44,7 +48,7 @@ fn shown(value: impl Debug) -> String {
 fn tables_are_printed_as_lists() {
     let list = r#"["EUR", "GB", "USD"]"#;
     assert_eq!([shown(table()), shown(sorted()), shown(table().iter())], [list; 3]);
-    assert_eq!(shown(HashedTable::<3>::from_bytes(ONE)), r#"Ok(["EUR"])"#);
+    assert_eq!(shown(hashed_table()), r#"["EUR"]"#);
     assert_eq!(shown(Table::<3>::new(b"")), "Ok([])");
     let tag = tinystr!(16, "zh-Hant-TW");
     let (mut all, mut parts) = (table().iter(), tag.split_byte(b'-'));
@@ -90,6 +94,8 @@ fn loops_run_through_tables_and_maps() {
         found.push(text);
     }
     assert_eq!(found, ["EUR", "GB", "USD", "EUR", "GB", "USD"]);
+    assert_eq!((&sorted()).into_iter().chain(sorted()).collect::<Vec<_>>(), found);
+    assert_eq!((&hashed_table()).into_iter().chain(hashed_table()).collect::<Vec<_>>(), ["EUR"; 2]);
     assert_eq!((&map()).into_iter().chain(map()).map(|(_, value)| value[0]).collect::<Vec<_>>(), [2, 0, 2, 0]);
     assert_eq!((&texts()).into_iter().chain(texts()).filter(|(key, _)| key == "CH").count(), 2);
     assert_eq!((&hashed_map()).into_iter().chain(hashed_map()).collect::<Vec<_>>(), [(tinystr!(3, "EUR"), &[2]); 2]);
@@ -114,6 +120,9 @@ fn iterators_say_how_much_is_left() {
     counts_down(hashed_map().iter(), 1);
     counts_down(hashed_texts().iter(), 1);
     counts_down(Table::<3>::new(b"").unwrap().iter(), 0);
+    let keys = [tinystr!(3, "JPY"); 9];
+    counts_down(sorted().binary_search_each(&keys), 9);
+    counts_down(map().get_each(&keys), 9);
 }
 
 fn has_common_traits<T: Clone + Debug + Send + Sync + Unpin>() {}

@@ -20,13 +20,13 @@ pub fn equal(a: [u8; 16], b: [u8; 16]) -> [u8; 16] {
     bytes(unsafe { _mm_cmpeq_epi8(vector(a), vector(b)) })
 }
 
-/// There is a comparison of signed bytes alone. Which is less stays as it is with the high bits turned.
+/// SSE2 compares signed bytes alone, so the high bits of both are flipped first: this keeps which is less.
 #[inline(always)]
 pub fn less(a: [u8; 16], b: [u8; 16]) -> [u8; 16] {
     // SAFETY: the processor has SSE2, as `cfg` says where this module is named.
-    let turned = |bytes| unsafe { _mm_xor_si128(vector(bytes), _mm_set1_epi8(-128)) };
+    let flipped = |bytes| unsafe { _mm_xor_si128(vector(bytes), _mm_set1_epi8(-128)) };
     // SAFETY: the processor has SSE2, as `cfg` says where this module is named.
-    bytes(unsafe { _mm_cmplt_epi8(turned(a), turned(b)) })
+    bytes(unsafe { _mm_cmplt_epi8(flipped(a), flipped(b)) })
 }
 
 #[inline(always)]
