@@ -1,6 +1,6 @@
 -- Subtags, joined to an identifier.
 use Rattle.std.proofs.Common.{◌≡◌, ◌+◌, ◌≤◌, ℕ, length, List, [], ◌∷◌, ◌++◌, map, take, Option, None, Some, true, refl, ap, ◌∙◌, arith}
-use Rattle.std.specs.Option.{IfSome}
+use Rattle.std.specs.Option.{IfSome, option_to_list}
 use Rattle.std.proofs.lemmas.Option.{IfSome_then}
 use Rattle.std.specs.List.{find, join_with_byte}
 use Rattle.std.proofs.lemmas.List.{append-nil, length-append, take_all}
@@ -15,27 +15,13 @@ use Rattle.subtags.proofs.CanonLemmas.{fold_text-join, is_tail-fold_text, plain_
 pub take_take_append : (l t : List ℕ) → length l + length t ≤ 16 → take 17 (take 16 (l ++ t)) ≡ l ++ t
 take_take_append l t h = let len = length-append l t in rw (take_all 16 (l ++ t) (omega arith), take_all 17 (l ++ t) (omega arith)) refl
 
--- ---- the subtags after a language
-
-abbrev tail_of : Option (List ℕ) → Option (List ℕ) → List (List ℕ)
-tail_of None None = []
-tail_of None (Some r) = r ∷ []
-tail_of (Some s) None = s ∷ []
-tail_of (Some s) (Some r) = s ∷ r ∷ []
-
-script_kept : (s : List ℕ) → IsCanonicalSubtag is_script titlecase s → canonical_subtag (fold_text s) ≡ s
-script_kept s h = rw (is_script-fold_text s, h.well_formed, titlecase-fold_text s h.well_formed) h.canonical
-
-region_kept : (r : List ℕ) → IsCanonicalSubtag is_region uppercase r → canonical_subtag (fold_text r) ≡ r
-region_kept r h = rw (is_script-fold_text r, no_script-from_region r h.well_formed, uppercase-fold_text r h.well_formed) h.canonical
-
 -- canonical subtags, joined, are a canonical text, which gives them back
 pub subtags_of_join_subtags : (l : List ℕ) (s r : Option (List ℕ)) → IsCanonicalSubtag is_language lowercase l → IfSome s (IsCanonicalSubtag is_script titlecase) → IfSome r (IsCanonicalSubtag is_region uppercase)
     → (let t = join_subtags l s r in (t ≡ t) × IsCanonical t × (language_of t ≡ l) × (script_of t ≡ s) × (region_of t ≡ r))
 subtags_of_join_subtags l s r language script region =
-    let ps = tail_of s r in
-    let kept_s = IfSome_then s script script_kept in
-    let kept_r = IfSome_then r region region_kept in
+    let ps = option_to_list s ++ option_to_list r in
+    let kept_s : IfSome s (λ p. canonical_subtag (fold_text p) ≡ p) = IfSome_then s script (λ p c. rw (is_script-fold_text p, c.well_formed, titlecase-fold_text p c.well_formed) c.canonical) in
+    let kept_r : IfSome r (λ p. canonical_subtag (fold_text p) ≡ p) = IfSome_then r region (λ p c. rw (is_script-fold_text p, no_script-from_region p c.well_formed, uppercase-fold_text p c.well_formed) c.canonical) in
     let is : is_language l ≡ true = language.well_formed in
     let tail : is_tail ps ≡ true = grind arith in
     let found : (find is_script ps ≡ s) × (find is_region ps ≡ r) = (grind (arith, no_script-from_region), grind (arith, no_script-from_region)) in
