@@ -1,15 +1,17 @@
 -- The places and the lengths of subtags in a canonical text.
-use Rattle.std.proofs.Common.{get_or, cond, zero, nat_lt, ◌≡◌, ◌+◌, ◌-◌, ◌<◌, ◌≤◌, ◌==◌, ℕ, suc, Bool, true, length, List, [], ◌∷◌, ◌++◌, take, drop, Option, None, Some, map, refl, sym, ap, ◌∙◌, arith}
+use Rattle.std.proofs.Common.{◌/◌, ◌%◌, ◌^◌, false, get_or, cond, zero, nat_lt, ◌≡◌, ◌+◌, ◌-◌, ◌<◌, ◌≤◌, ◌==◌, ℕ, suc, Bool, true, length, List, [], ◌∷◌, ◌++◌, take, drop, Option, None, Some, map, refl, sym, ap, ◌∙◌, arith}
 use Rattle.std.proofs.lemmas.Bool.Decides.{nat_tests}
 use Rattle.std.proofs.lemmas.List.{take_at, take_all, length-append, length-map, take-take}
 use Rattle.std.proofs.Math.Nat.{add-sub_cancel_left, sub-zero}
 use Rattle.std.proofs.Math.Seq.{drop-append-add}
-use Rattle.std.specs.List.{list_all, find, position}
+use Rattle.std.specs.List.{list_all, find, position, range_with_len}
+use Rattle.std.proofs.lemmas.Simd.{bit_mask_l}
+use Rattle.std.proofs.lemmas.List.FromFn.{get_or-map-range_with_len}
 use Rattle.std.specs.Option.{IfSome, unwrap_or}
 use Rattle.std.proofs.lemmas.Option.{IfSome_then}
 use Rattle.tinystr_words.specs.Classes.{is_alphanumeric}
 use Rattle.tinystr_words.specs.Case.{lowercase, titlecase, uppercase}
-use Rattle.subtags.specs.Grammar.{dash, fold_byte, fold_text, is_language, is_script, is_region, is_tail, canonical_subtag, canonical_text, IsCanonical}
+use Rattle.subtags.specs.Grammar.{dash, fold_byte, fold_text, is_language, is_language_length, is_script, is_region, is_tail, canonical_subtag, canonical_text, IsCanonical}
 use Rattle.subtags.specs.Subtags.{IsCanonicalSubtag, language_of, script_of, region_of, after_dash, join_subtags}
 use Rattle.subtags.specs.Private.Tails.{first_subtag}
 use Rattle.subtags.specs.Private.SubtagPlaces.{language_end, region_start}
@@ -78,6 +80,12 @@ slice_from t start n = (rw add-sub_cancel_left, take-take n n (drop start t) (om
 pub ruleset subtags_in_place = (InPlace-canonical, language_at, slice_from, nat_tests)
 
 -- ---- lengths
+
+-- the bit for a number of letters is set if a language may have as many
+pub length_bits : (n : ℕ) → n < 64 → (492 / 2 ^ n % 2 == 1) ≡ is_language_length n
+length_bits n small =
+    let bit = bit_mask_l (map is_language_length (range_with_len 0 64)) n ∙ ap (λ b. cond b 1 0) (get_or-map-range_with_len is_language_length 0 64 n n false small (omega arith)) in
+    grind (arith, nat_tests)
 
 -- the fold keeps the length
 pub length-canonical_text : (u : List ℕ) → length (canonical_text u) ≡ length u
