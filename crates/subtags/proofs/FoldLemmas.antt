@@ -116,4 +116,11 @@ IsCanonicalSubtag-titlecase = in_its_case is_script titlecase is_script-fold_tex
 pub IsCanonicalSubtag-uppercase : (p : List ℕ) → is_region p ≡ true → IsCanonicalSubtag is_region uppercase (uppercase p)
 IsCanonicalSubtag-uppercase = in_its_case is_region uppercase is_region-fold_text (map-map_absorbed fold_byte raise (λ b. grind (arith, nat_tests))) (map-map_absorbed raise raise (λ b. grind (arith, nat_tests)))
 
-pub ruleset subtag_steps = (IsStrictText-from_subtag, ask-same, IsCanonicalSubtag-lowercase, IsCanonicalSubtag-titlecase, IsCanonicalSubtag-uppercase)
+-- a region is two letters or three digits
+pub two_letters : (p : List ℕ) → length p ≡ 2 → ask is_alphabetic is_alphabetic p ≡ true → IsCanonicalSubtag is_region uppercase (uppercase p)
+two_letters p two h = IsCanonicalSubtag-uppercase p (rw (← ask-same is_alphabetic p, h, two) refl)
+
+pub three_digits : (p : List ℕ) → length p ≡ 3 → ask is_digit is_digit p ≡ true → IsCanonicalSubtag is_region uppercase (uppercase p)
+three_digits p three h = let digits = sym (ask-same is_digit p) ∙ h in IsCanonicalSubtag-uppercase p (grind (arith, nat_tests))
+
+pub ruleset subtag_steps = (IsStrictText-from_subtag, ask-same, IsCanonicalSubtag-titlecase, two_letters, three_digits)
