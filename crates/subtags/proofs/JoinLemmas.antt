@@ -1,5 +1,5 @@
 -- Subtags, joined to an identifier.
-use Rattle.std.proofs.Common.{◌≡◌, ◌+◌, ◌≤◌, ℕ, length, List, [], ◌∷◌, ◌++◌, map, take, Option, None, Some, true, refl, ap, ◌∙◌, arith}
+use Rattle.std.proofs.Common.{◌≡◌, ◌+◌, ◌≤◌, ℕ, length, List, ◌∷◌, ◌++◌, map, take, Option, true, refl, ◌∙◌, arith}
 use Rattle.std.specs.Option.{IfSome, option_to_list}
 use Rattle.std.proofs.lemmas.Option.{IfSome_then}
 use Rattle.std.specs.List.{find, join_with_byte}
@@ -7,9 +7,9 @@ use Rattle.std.proofs.lemmas.List.{append-nil, length-append, take_all}
 use Rattle.tinystr_words.specs.Case.{lowercase, titlecase, uppercase}
 use Rattle.subtags.specs.Grammar.{dash, fold_text, subtags_of, is_language, is_script, is_region, is_tail, canonical_subtag, IsCanonical}
 use Rattle.subtags.specs.Subtags.{IsCanonicalSubtag, language_of, script_of, region_of, join_subtags}
-use Rattle.subtags.proofs.FoldLemmas.{is_language-fold_text, is_script-fold_text, alphanumeric-from_subtag, fold_text-alphanumeric, titlecase-fold_text, uppercase-fold_text}
+use Rattle.subtags.proofs.FoldLemmas.{is_script-fold_text, alphanumeric-from_subtag, fold_text-alphanumeric, titlecase-fold_text, uppercase-fold_text}
 use Rattle.subtags.proofs.SplitLemmas.{subtags_of-join}
-use Rattle.subtags.proofs.CanonLemmas.{fold_text-join, is_tail-fold_text, plain_subtags, no_script-from_region, join_with_byte-tail}
+use Rattle.subtags.proofs.CanonLemmas.{fold_text-join, is_tail-fold_text, plain_subtags, no_script-from_region}
 
 -- of two texts that have at most 16 bytes together nothing is split
 pub take_take_append : (l t : List ℕ) → length l + length t ≤ 16 → take 17 (take 16 (l ++ t)) ≡ l ++ t
