@@ -1,17 +1,19 @@
 -- Canonical texts and their subtags.
-use Rattle.std.proofs.Common.{◌≡◌, ℕ, true, false, ◌&&◌, ◌↔◌, List, [], ◌∷◌, map, refl, sym, ap, ◌∙◌, arith}
+use Rattle.std.proofs.Common.{◌≡◌, ℕ, Bool, true, false, ◌&&◌, ◌↔◌, List, [], ◌∷◌, map, refl, sym, ap, ◌∙◌, arith}
 use Rattle.std.specs.List.{list_all, find, join_with_byte}
 use Rattle.std.proofs.lemmas.List.{map-append}
 use Rattle.std.proofs.lemmas.List.Splits.{join_with_byte-slice_split}
 use Rattle.std.proofs.lemmas.Grind.{common_steps}
 use Rattle.std.proofs.lemmas.Bool.Decides.{nat_tests}
+use Rattle.std.specs.Option.{IfSome}
 use Rattle.tinystr_words.specs.Classes.{is_alphanumeric}
+use Rattle.tinystr_words.specs.Case.{lowercase, titlecase, uppercase}
 use Rattle.subtags.specs.Grammar.{dash, fold_text, subtags_of, is_script, is_region, is_language, is_tail, is_lang_id, IsLangId, canonical_subtag, canonical_subtags, canonical_text, IsCanonical}
-use Rattle.subtags.specs.Subtags.{language_of, script_of, region_of, join_subtags}
+use Rattle.subtags.specs.Subtags.{IsCanonicalSubtag, language_of, script_of, region_of, join_subtags}
 use Rattle.subtags.specs.declared.error.LangIdError.TheVariants.{InvalidLanguage}
 use Rattle.subtags.specs.Private.Tails.{first_subtag}
 use Rattle.subtags.specs.Answers.{refusal_of}
-use Rattle.subtags.proofs.FoldLemmas.{map-map_absorbed, fold_text-fold_text, fold_text-canonical_subtag, same_test_from_fold_text, is_language-fold_text, is_script-fold_text, is_region-fold_text, alphanumeric-from_subtag}
+use Rattle.subtags.proofs.FoldLemmas.{IsCanonicalSubtag-titlecase, IsCanonicalSubtag-uppercase, fold_text-alphanumeric, map-map_absorbed, fold_text-fold_text, fold_text-canonical_subtag, same_test_from_fold_text, is_language-fold_text, is_script-fold_text, is_region-fold_text, alphanumeric-from_subtag}
 use Rattle.subtags.proofs.SplitLemmas.{subtags_after, subtags_at_first_separator, subtags_of-fold_text, subtags_of-join}
 
 -- to join and then fold is to fold and then join
@@ -57,10 +59,6 @@ is_tail-fold_text ps = grind (arith, is_script-fold_text, is_region-fold_text)
 pub plain_subtags : (l : List ℕ) (ps : List (List ℕ)) → is_language l ≡ true → is_tail ps ≡ true → list_all (list_all is_alphanumeric) (l ∷ ps) ≡ true
 plain_subtags l ps language tail = grind (arith, alphanumeric-from_subtag)
 
--- the subtags of the canonical text of an identifier are its canonical subtags
-pub subtags_of-canonical_text : (u l : List ℕ) (ps : List (List ℕ)) → subtags_of (fold_text u) ≡ l ∷ ps → is_language l ≡ true → is_tail ps ≡ true → subtags_of (canonical_text u) ≡ l ∷ map canonical_subtag ps
-subtags_of-canonical_text u l ps split language tail = rw split (subtags_of-join l (map canonical_subtag ps) (plain_subtags l (map canonical_subtag ps) language (is_tail-canonical ps tail)))
-
 -- a region isn't a script
 pub no_script-from_region : (p : List ℕ) → is_region p ≡ true → is_script p ≡ false
 no_script-from_region p h = grind (arith, nat_tests)
@@ -82,16 +80,28 @@ same_canonical_text u v = (
 pub refused_without_language : (u l : List ℕ) (ps : List (List ℕ)) → subtags_of (fold_text u) ≡ fold_text l ∷ ps → is_language l ≡ false → (is_lang_id (subtags_of (fold_text u)) ≡ false) × (refusal_of u ≡ InvalidLanguage)
 refused_without_language u l ps split h = rw (split, is_language-fold_text l, h) (refl, refl)
 
--- a canonical text has them in their case
-pub subtags-IsCanonical : (t l : List ℕ) (ps : List (List ℕ)) → IsCanonical t → subtags_of (fold_text t) ≡ l ∷ ps → (is_language l ≡ true) × (is_tail ps ≡ true) × (subtags_of t ≡ l ∷ map canonical_subtag ps)
-subtags-IsCanonical t l ps h split =
-    let all : (is_language l && is_tail ps) ≡ true = rw split at h.accepted in
-    let language : is_language l ≡ true = grind arith in
-    let tail : is_tail ps ≡ true = grind arith in
-    (language, tail, rw h.canonical at (subtags_of-canonical_text t l ps split language tail))
+-- ---- a canonical text
 
--- a canonical text is its language, its script and its region, joined
-pub join_subtags-IsCanonical : (t : List ℕ) → IsCanonical t → t ≡ join_subtags (language_of t) (script_of t) (region_of t)
-join_subtags-IsCanonical t h =
-    let of = subtags-IsCanonical t _ _ h (subtags_at_first_separator t) in
-    sym (join_with_byte-slice_split dash t) ∙ rw (of.2) (join_with_byte-tail (fold_text (first_subtag t)) (map canonical_subtag (subtags_after t)) (is_tail-canonical (subtags_after t) of.1))
+-- a canonical subtag that is found among others
+canonical_found : (t : List ℕ → Bool) (f : List ℕ → List ℕ) → ((p : List ℕ) → t (canonical_subtag p) ≡ t p) → ((p : List ℕ) → t p ≡ true → IsCanonicalSubtag t f (canonical_subtag p)) → (ps : List (List ℕ)) → IfSome (find t (map canonical_subtag ps)) (IsCanonicalSubtag t f)
+canonical_found t f same each [] = tt
+canonical_found t f same each (p ∷ ps) = let here = same p in let one = each p in let rest = canonical_found t f same each ps in grind arith
+
+-- it is its language, its script and its region, joined, and each of them is canonical
+pub canonical_parts : (t : List ℕ) → IsCanonical t → (t ≡ join_subtags (language_of t) (script_of t) (region_of t))
+    × IsCanonicalSubtag is_language lowercase (language_of t) × IfSome (script_of t) (IsCanonicalSubtag is_script titlecase) × IfSome (region_of t) (IsCanonicalSubtag is_region uppercase)
+canonical_parts t h =
+    let l = fold_text (first_subtag t) in
+    let ps = map canonical_subtag (subtags_after t) in
+    let split = subtags_at_first_separator t in
+    let all : (is_language l && is_tail (subtags_after t)) ≡ true = rw split at h.accepted in
+    let is : is_language l ≡ true = grind arith in
+    let tail = is_tail-canonical (subtags_after t) (grind arith) in
+    let lowered = sym (fold_text-alphanumeric l (alphanumeric-from_subtag l (grind arith))) ∙ fold_text-fold_text (first_subtag t) in
+    let of : subtags_of (canonical_text t) ≡ l ∷ ps = rw split (subtags_of-join l ps (plain_subtags l ps is tail)) in
+    rw (rw h.canonical at of) (
+      sym h.canonical ∙ rw split (join_with_byte-tail l ps tail),
+      record { well_formed = is; canonical = lowered },
+      canonical_found is_script titlecase is_script-canonical_subtag (λ p h. rw h (IsCanonicalSubtag-titlecase p h)) (subtags_after t),
+      canonical_found is_region uppercase is_region-canonical_subtag (λ p h. rw (no_script-from_region p h) (IsCanonicalSubtag-uppercase p h)) (subtags_after t),
+    )

@@ -1,29 +1,22 @@
 -- The places and the lengths of subtags in a canonical text.
-use Rattle.std.proofs.Common.{◌/◌, ◌%◌, ◌^◌, false, get_or, cond, zero, nat_lt, ◌≡◌, ◌+◌, ◌-◌, ◌<◌, ◌≤◌, ◌==◌, ℕ, suc, Bool, true, length, List, [], ◌∷◌, ◌++◌, take, drop, Option, None, Some, map, refl, sym, ap, ◌∙◌, arith}
+use Rattle.std.proofs.Common.{◌/◌, ◌%◌, ◌^◌, false, get_or, cond, zero, nat_lt, ◌≡◌, ◌+◌, ◌-◌, ◌<◌, ◌≤◌, ◌==◌, ℕ, suc, true, length, List, [], ◌∷◌, ◌++◌, take, drop, Option, None, Some, map, refl, ap, ◌∙◌, arith}
 use Rattle.std.proofs.lemmas.Bool.Decides.{nat_tests}
 use Rattle.std.proofs.lemmas.List.{take_at, take_all, length-append, length-map, take-take}
 use Rattle.std.proofs.Math.Nat.{add-sub_cancel_left, sub-zero}
 use Rattle.std.proofs.Math.Seq.{drop-append-add}
-use Rattle.std.specs.List.{list_all, find, position, range_with_len}
+use Rattle.std.specs.List.{list_all, position, range_with_len}
 use Rattle.std.proofs.lemmas.Simd.{bit_mask_l}
 use Rattle.std.proofs.lemmas.List.FromFn.{get_or-map-range_with_len}
 use Rattle.std.specs.Option.{IfSome, unwrap_or}
 use Rattle.std.proofs.lemmas.Option.{IfSome_then}
 use Rattle.tinystr_words.specs.Classes.{is_alphanumeric}
 use Rattle.tinystr_words.specs.Case.{lowercase, titlecase, uppercase}
-use Rattle.subtags.specs.Grammar.{dash, fold_byte, fold_text, is_language, is_language_length, is_script, is_region, canonical_subtag, canonical_text, IsCanonical}
+use Rattle.subtags.specs.Grammar.{dash, fold_byte, is_language, is_language_length, is_script, is_region, canonical_text, IsCanonical}
 use Rattle.subtags.specs.Subtags.{IsCanonicalSubtag, language_of, script_of, region_of, after_dash, join_subtags}
-use Rattle.subtags.specs.Private.Tails.{first_subtag}
 use Rattle.subtags.specs.Private.SubtagPlaces.{language_end, region_start}
-use Rattle.subtags.proofs.FoldLemmas.{fold_text-fold_text, fold_text-alphanumeric, alphanumeric-from_subtag, IsCanonicalSubtag-titlecase, IsCanonicalSubtag-uppercase}
-use Rattle.subtags.proofs.SplitLemmas.{subtags_after, subtags_at_first_separator}
+use Rattle.subtags.proofs.FoldLemmas.{alphanumeric-from_subtag}
 use Rattle.subtags.proofs.TailLemmas.{bytes_of_script, bytes_of_region}
-use Rattle.subtags.proofs.CanonLemmas.{subtags-IsCanonical, join_subtags-IsCanonical, fold_text-canonical_text, is_script-canonical_subtag, is_region-canonical_subtag, no_script-from_region}
-
--- a canonical subtag that is found among others
-canonical_found : (t : List ℕ → Bool) (f : List ℕ → List ℕ) → ((p : List ℕ) → t (canonical_subtag p) ≡ t p) → ((p : List ℕ) → t p ≡ true → IsCanonicalSubtag t f (canonical_subtag p)) → (ps : List (List ℕ)) → IfSome (find t (map canonical_subtag ps)) (IsCanonicalSubtag t f)
-canonical_found t f same each [] = tt
-canonical_found t f same each (p ∷ ps) = let here = same p in let one = each p in let rest = canonical_found t f same each ps in grind arith
+use Rattle.subtags.proofs.CanonLemmas.{canonical_parts, fold_text-canonical_text}
 
 pub length-language : (l : List ℕ) → is_language l ≡ true → (2 ≤ length l) × (length l ≤ 8)
 length-language l h = (grind (arith, nat_tests), grind (arith, nat_tests))
@@ -63,12 +56,8 @@ InPlace-join_subtags l s r language script region =
 
 pub InPlace-canonical : (t : List ℕ) → IsCanonical t → InPlace t (language_of t) (script_of t) (region_of t)
 InPlace-canonical t h =
-    let l = fold_text (first_subtag t) in
-    let of = subtags-IsCanonical t l (subtags_after t) h (subtags_at_first_separator t) in
-    let lowered = sym (fold_text-alphanumeric l (alphanumeric-from_subtag l (grind arith))) ∙ fold_text-fold_text (first_subtag t) in
-    rw (← join_subtags-IsCanonical t h) at (InPlace-join_subtags (language_of t) (script_of t) (region_of t) (rw (of.2) record { well_formed = of.0; canonical = lowered })
-    (rw (of.2) (canonical_found is_script titlecase is_script-canonical_subtag (λ p h. rw h (IsCanonicalSubtag-titlecase p h)) (subtags_after t)))
-    (rw (of.2) (canonical_found is_region uppercase is_region-canonical_subtag (λ p h. rw (no_script-from_region p h) (IsCanonicalSubtag-uppercase p h)) (subtags_after t))))
+    let of = canonical_parts t h in
+    rw (← of.0) at (InPlace-join_subtags (language_of t) (script_of t) (region_of t) of.1 of.2 of.3)
 
 pub language_at : (t : List ℕ) (end : ℕ) → IsCanonical t → end ≡ language_end t → (take 8 (take (end - 0) t) ≡ language_of t) × IsCanonicalSubtag is_language lowercase (language_of t)
 language_at t end h is = rw (sub-zero, is) (InPlace-canonical t h).language
