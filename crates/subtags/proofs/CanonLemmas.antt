@@ -39,17 +39,13 @@ IsCanonical-canonical_text u h = record {
   canonical = ap (λ w. join_with_byte dash (canonical_subtags (subtags_of w))) (fold_text-canonical_text u);
 }
 
--- a canonical subtag is a script exactly if the subtag is
-pub is_script-canonical_subtag : (p : List ℕ) → is_script (canonical_subtag p) ≡ is_script p
-is_script-canonical_subtag p = same_test_from_fold_text is_script is_script-fold_text (canonical_subtag p) p (fold_text-canonical_subtag p)
-
--- a canonical subtag is a region exactly if the subtag is
-pub is_region-canonical_subtag : (p : List ℕ) → is_region (canonical_subtag p) ≡ is_region p
-is_region-canonical_subtag p = same_test_from_fold_text is_region is_region-fold_text (canonical_subtag p) p (fold_text-canonical_subtag p)
+-- a canonical subtag is a script, or a region, exactly if the subtag is
+same_kind : (p : List ℕ) → (is_script (canonical_subtag p) ≡ is_script p) × (is_region (canonical_subtag p) ≡ is_region p)
+same_kind p = let same = fold_text-canonical_subtag p in (same_test_from_fold_text is_script is_script-fold_text _ p same, same_test_from_fold_text is_region is_region-fold_text _ p same)
 
 -- the canonical subtags of a tail are a tail
 pub is_tail-canonical : (ps : List (List ℕ)) → is_tail ps ≡ true → is_tail (map canonical_subtag ps) ≡ true
-is_tail-canonical ps h = grind (arith, is_script-canonical_subtag, is_region-canonical_subtag)
+is_tail-canonical ps h = grind (arith, same_kind)
 
 -- and so is a tail that was folded
 pub is_tail-fold_text : (ps : List (List ℕ)) → is_tail (map fold_text ps) ≡ is_tail ps
@@ -102,6 +98,6 @@ canonical_parts t h =
     rw (rw h.canonical at of) (
       sym h.canonical ∙ rw split (join_with_byte-tail l ps tail),
       record { well_formed = is; canonical = lowered },
-      canonical_found is_script titlecase is_script-canonical_subtag (λ p h. rw h (IsCanonicalSubtag-titlecase p h)) (subtags_after t),
-      canonical_found is_region uppercase is_region-canonical_subtag (λ p h. rw (no_script-from_region p h) (IsCanonicalSubtag-uppercase p h)) (subtags_after t),
+      canonical_found is_script titlecase (λ p. (same_kind p).0) (λ p h. rw h (IsCanonicalSubtag-titlecase p h)) (subtags_after t),
+      canonical_found is_region uppercase (λ p. (same_kind p).1) (λ p h. rw (no_script-from_region p h) (IsCanonicalSubtag-uppercase p h)) (subtags_after t),
     )

@@ -24,15 +24,18 @@ All-from_list_all t P e p h = λ k d below. e _ (AllPass-from_list_all t p h k d
 pub fold_text-fold_text : (u : List ℕ) → fold_text (fold_text u) ≡ fold_text u
 fold_text-fold_text u = map-map_absorbed fold_byte fold_byte (λ b. grind (arith, nat_tests)) u
 
--- a text in titlecase folds as the text does
-fold_text-titlecase : (t : List ℕ) → fold_text (titlecase t) ≡ fold_text t
-fold_text-titlecase [] = refl
-fold_text-titlecase (b ∷ t) = ap₂ (λ (x : ℕ) (y : List ℕ). x ∷ y) (grind (arith, nat_tests)) (map-map_absorbed fold_byte lower (λ c. grind (arith, nat_tests)) t)
+-- a text in titlecase folds as the text does, and has the titlecase of the text and of its lowercase
+titlecase_absorbed : (t : List ℕ) → (fold_text (titlecase t) ≡ fold_text t) × (titlecase (titlecase t) ≡ titlecase t) × (titlecase (lowercase t) ≡ titlecase t)
+titlecase_absorbed [] = (refl, refl, refl)
+titlecase_absorbed (b ∷ t) =
+    let folded = map-map_absorbed fold_byte lower (λ c. grind (arith, nat_tests)) t in
+    let lowered = map-map_absorbed lower lower (λ c. grind (arith, nat_tests)) t in
+    (grind (arith, nat_tests), grind (arith, nat_tests), grind (arith, nat_tests))
 
 -- a canonical subtag folds as the subtag does
 pub fold_text-canonical_subtag : (p : List ℕ) → fold_text (canonical_subtag p) ≡ fold_text p
 fold_text-canonical_subtag p =
-    let in_title = fold_text-titlecase p in
+    let in_title = titlecase_absorbed p in
     let raised = map-map_absorbed fold_byte raise (λ b. grind (arith, nat_tests)) p in
     grind arith
 
@@ -88,20 +91,13 @@ pub fold_text-alphanumeric : (p : List ℕ) → list_all is_alphanumeric p ≡ t
 fold_text-alphanumeric [] h = refl
 fold_text-alphanumeric (b ∷ p) h = ap₂ (λ (x : ℕ) (y : List ℕ). x ∷ y) (grind (arith, nat_tests)) (fold_text-alphanumeric p (grind arith))
 
--- the titlecase of a text in lowercase or in titlecase is that of the text
-titlecase-lowercase_titlecase : (t : List ℕ) → (titlecase (lowercase t) ≡ titlecase t) × (titlecase (titlecase t) ≡ titlecase t)
-titlecase-lowercase_titlecase [] = (refl, refl)
-titlecase-lowercase_titlecase (b ∷ t) =
-    let rest = map-map_absorbed lower lower (λ c. grind (arith, nat_tests)) t in
-    (ap₂ (λ (x : ℕ) (y : List ℕ). x ∷ y) (grind (arith, nat_tests)) rest, ap₂ (λ (x : ℕ) (y : List ℕ). x ∷ y) (grind (arith, nat_tests)) rest)
-
--- a script, folded, has the same titlecase
-pub titlecase-fold_text : (p : List ℕ) → is_script p ≡ true → titlecase (fold_text p) ≡ titlecase p
-titlecase-fold_text p h = ap titlecase (fold_text-alphanumeric p (alphanumeric-from_subtag p (grind arith))) ∙ (titlecase-lowercase_titlecase p).0
-
--- a region, folded, has the same uppercase
-pub uppercase-fold_text : (p : List ℕ) → is_region p ≡ true → uppercase (fold_text p) ≡ uppercase p
-uppercase-fold_text p h = ap uppercase (fold_text-alphanumeric p (alphanumeric-from_subtag p (grind arith))) ∙ map-map_absorbed raise lower (λ b. grind (arith, nat_tests)) p
+-- a script or a region, folded, has the same canonical form
+pub canonical_subtag-fold_text : (p : List ℕ) → (is_script p || is_region p) ≡ true → canonical_subtag (fold_text p) ≡ canonical_subtag p
+canonical_subtag-fold_text p h =
+    let lowered = fold_text-alphanumeric p (alphanumeric-from_subtag p (grind arith)) in
+    let titled = (titlecase_absorbed p).2 in
+    let raised = map-map_absorbed raise lower (λ b. grind (arith, nat_tests)) p in
+    rw (is_script-fold_text p, lowered, titled, raised) refl
 
 -- a well-formed subtag is canonical in its case: a language in lowercase, a script in titlecase, a region in uppercase
 in_its_case : (t : List ℕ → Bool) (f : List ℕ → List ℕ) → ((p : List ℕ) → t (fold_text p) ≡ t p) → ((p : List ℕ) → fold_text (f p) ≡ fold_text p) → ((p : List ℕ) → f (f p) ≡ f p) → (p : List ℕ) → t p ≡ true → IsCanonicalSubtag t f (f p)
@@ -111,7 +107,7 @@ pub IsCanonicalSubtag-lowercase : (p : List ℕ) → is_language p ≡ true → 
 IsCanonicalSubtag-lowercase = in_its_case is_language lowercase is_language-fold_text (map-map_absorbed fold_byte lower (λ b. grind (arith, nat_tests))) (map-map_absorbed lower lower (λ b. grind (arith, nat_tests)))
 
 pub IsCanonicalSubtag-titlecase : (p : List ℕ) → is_script p ≡ true → IsCanonicalSubtag is_script titlecase (titlecase p)
-IsCanonicalSubtag-titlecase = in_its_case is_script titlecase is_script-fold_text fold_text-titlecase (λ p. (titlecase-lowercase_titlecase p).1)
+IsCanonicalSubtag-titlecase = in_its_case is_script titlecase is_script-fold_text (λ p. (titlecase_absorbed p).0) (λ p. (titlecase_absorbed p).1)
 
 pub IsCanonicalSubtag-uppercase : (p : List ℕ) → is_region p ≡ true → IsCanonicalSubtag is_region uppercase (uppercase p)
 IsCanonicalSubtag-uppercase = in_its_case is_region uppercase is_region-fold_text (map-map_absorbed fold_byte raise (λ b. grind (arith, nat_tests))) (map-map_absorbed raise raise (λ b. grind (arith, nat_tests)))

@@ -7,7 +7,7 @@ use Rattle.std.proofs.lemmas.List.{append-nil, length-append, take_all}
 use Rattle.tinystr_words.specs.Case.{lowercase, titlecase, uppercase}
 use Rattle.subtags.specs.Grammar.{dash, fold_text, subtags_of, is_language, is_script, is_region, is_tail, canonical_subtag, IsCanonical}
 use Rattle.subtags.specs.Subtags.{IsCanonicalSubtag, language_of, script_of, region_of, join_subtags}
-use Rattle.subtags.proofs.FoldLemmas.{is_script-fold_text, alphanumeric-from_subtag, fold_text-alphanumeric, titlecase-fold_text, uppercase-fold_text}
+use Rattle.subtags.proofs.FoldLemmas.{canonical_subtag-fold_text, alphanumeric-from_subtag, fold_text-alphanumeric}
 use Rattle.subtags.proofs.SplitLemmas.{subtags_of-join}
 use Rattle.subtags.proofs.CanonLemmas.{fold_text-join, is_tail-fold_text, plain_subtags, no_script-from_region}
 
@@ -20,8 +20,8 @@ pub subtags_of_join_subtags : (l : List ℕ) (s r : Option (List ℕ)) → IsCan
     → (let t = join_subtags l s r in (t ≡ t) × IsCanonical t × (language_of t ≡ l) × (script_of t ≡ s) × (region_of t ≡ r))
 subtags_of_join_subtags l s r language script region =
     let ps = option_to_list s ++ option_to_list r in
-    let kept_s : IfSome s (λ p. canonical_subtag (fold_text p) ≡ p) = IfSome_then s script (λ p c. rw (is_script-fold_text p, c.well_formed, titlecase-fold_text p c.well_formed) c.canonical) in
-    let kept_r : IfSome r (λ p. canonical_subtag (fold_text p) ≡ p) = IfSome_then r region (λ p c. rw (is_script-fold_text p, no_script-from_region p c.well_formed, uppercase-fold_text p c.well_formed) c.canonical) in
+    let kept_s : IfSome s (λ p. canonical_subtag (fold_text p) ≡ p) = IfSome_then s script (λ p c. canonical_subtag-fold_text p (rw c.well_formed refl) ∙ rw c.well_formed c.canonical) in
+    let kept_r : IfSome r (λ p. canonical_subtag (fold_text p) ≡ p) = IfSome_then r region (λ p c. canonical_subtag-fold_text p (rw c.well_formed (grind arith)) ∙ rw (no_script-from_region p c.well_formed) c.canonical) in
     let is : is_language l ≡ true = language.well_formed in
     let tail : is_tail ps ≡ true = grind arith in
     let found : (find is_script ps ≡ s) × (find is_region ps ≡ r) = (grind (arith, no_script-from_region), grind (arith, no_script-from_region)) in
