@@ -36,6 +36,8 @@ pub record InPlace (t l : List ℕ) (s r : Option (List ℕ)) : Type 0 where
   pub script : (s ≡ cond (nat_lt (language_end t + 4) (length t)) (Some (take 4 (drop (language_end t + 1) t))) None) × IfSome s (IsCanonicalSubtag is_script titlecase)
   pub region : (r ≡ cond (nat_lt (region_start t) (length t)) (Some (take 3 (drop (region_start t) t))) None) × IfSome r (IsCanonicalSubtag is_region uppercase)
 
+ruleset place_steps = (nat_tests, length-append, drop-append-add)
+
 InPlace-join_subtags : (l : List ℕ) (s r : Option (List ℕ)) → IsCanonicalSubtag is_language lowercase l → IfSome s (IsCanonicalSubtag is_script titlecase) → IfSome r (IsCanonicalSubtag is_region uppercase) → InPlace (join_subtags l s r) l s r
 InPlace-join_subtags l s r language script region =
     let w = after_dash s ++ after_dash r in
@@ -45,14 +47,12 @@ InPlace-join_subtags l s r language script region =
     let first = take_at l w (length l) refl in
     let whole = take_all 8 (l ++ w) in
     let kept = take_all 8 l few_l.1 in
-    let next = drop-append-add l w 1 in
-    let last = drop-append-add l w 6 in
     let four = IfSome_then s script (λ p c. (bytes_of_script p c.well_formed).0) in
     let few = IfSome_then r region (λ p c. bytes_of_region p c.well_formed) in
     let all = IfSome_then r few (λ p c. take_all 3 p c.1) in
     let front = IfSome_then s four (λ p c. take_at p (after_dash r) 4 c) in
     let back = IfSome_then s four (λ p c. rw c at (drop-append-add p (after_dash r) 1)) in
-    record { least = grind arith; most = grind (arith, length-append); language = (grind (arith, nat_tests, length-append), language); script = (grind (arith, nat_tests, length-append), script); region = (grind (arith, nat_tests, length-append), region) }
+    record { least = grind arith; most = grind (arith, place_steps); language = (grind (arith, place_steps), language); script = (grind (arith, place_steps), script); region = (grind (arith, place_steps), region) }
 
 pub InPlace-canonical : (t : List ℕ) → IsCanonical t → InPlace t (language_of t) (script_of t) (region_of t)
 InPlace-canonical t h =
