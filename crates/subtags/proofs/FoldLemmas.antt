@@ -1,5 +1,5 @@
 -- What folding and the case changes leave alone.
-use Rattle.std.proofs.Common.{◌≡◌, ◌≤◌, ℕ, Bool, true, ◌||◌, List, [], ◌∷◌, map, length, refl, sym, ap, ap₂, ◌∙◌, arith}
+use Rattle.std.proofs.Common.{◌≡◌, ◌≤◌, ℕ, Bool, true, ◌||◌, List, [], ◌∷◌, map, length, refl, sym, ap, ◌∙◌, arith}
 use Rattle.std.specs.List.{All, list_all}
 use Rattle.std.proofs.lemmas.Bool.Decides.{nat_tests}
 use Rattle.std.proofs.lemmas.List.{length-map}
@@ -73,9 +73,8 @@ alphanumeric-from_letters = alphanumeric-from_class is_alphabetic (λ b a. grind
 -- a language, a script or a region has letters and digits alone
 pub alphanumeric-from_subtag : (p : List ℕ) → (is_language p || is_script p || is_region p) ≡ true → list_all is_alphanumeric p ≡ true
 alphanumeric-from_subtag p h =
-    let letters = alphanumeric-from_letters p in
     let digits = alphanumeric-from_class is_digit (λ b a. grind arith) p in
-    grind arith
+    grind (arith, alphanumeric-from_letters)
 
 -- and is a text
 pub IsStrictText-from_subtag : (p : List ℕ) (n : ℕ) → (is_language p || is_script p || is_region p) ≡ true → length p ≤ n → IsStrictText p n
@@ -89,15 +88,14 @@ ask-same p (b ∷ t) = refl
 -- to fold letters and digits is to put them in lowercase
 pub fold_text-alphanumeric : (p : List ℕ) → list_all is_alphanumeric p ≡ true → fold_text p ≡ lowercase p
 fold_text-alphanumeric [] h = refl
-fold_text-alphanumeric (b ∷ p) h = ap₂ (λ (x : ℕ) (y : List ℕ). x ∷ y) (grind (arith, nat_tests)) (fold_text-alphanumeric p (grind arith))
+fold_text-alphanumeric (b ∷ p) h = let rest = fold_text-alphanumeric p (grind arith) in grind (arith, nat_tests)
 
 -- a script or a region, folded, has the same canonical form
 pub canonical_subtag-fold_text : (p : List ℕ) → (is_script p || is_region p) ≡ true → canonical_subtag (fold_text p) ≡ canonical_subtag p
 canonical_subtag-fold_text p h =
     let lowered = fold_text-alphanumeric p (alphanumeric-from_subtag p (grind arith)) in
-    let titled = (titlecase_absorbed p).2 in
     let raised = map-map_absorbed raise lower (λ b. grind (arith, nat_tests)) p in
-    rw (is_script-fold_text p, lowered, titled, raised) refl
+    rw (is_script-fold_text p, lowered, (titlecase_absorbed p).2, raised) refl
 
 -- a well-formed subtag is canonical in its case: a language in lowercase, a script in titlecase, a region in uppercase
 in_its_case : (t : List ℕ → Bool) (f : List ℕ → List ℕ) → ((p : List ℕ) → t (fold_text p) ≡ t p) → ((p : List ℕ) → fold_text (f p) ≡ fold_text p) → ((p : List ℕ) → f (f p) ≡ f p) → (p : List ℕ) → t p ≡ true → IsCanonicalSubtag t f (f p)

@@ -21,7 +21,7 @@ use Rattle.subtags.proofs.CanonLemmas.{canonical_parts, fold_text-canonical_text
 pub length-language : (l : List ℕ) → is_language l ≡ true → (2 ≤ length l) × (length l ≤ 8)
 length-language l h = (grind (arith, nat_tests), grind (arith, nat_tests))
 
--- where the dash after a language is, if more follows, and n if nothing does
+-- where the dash after at most n letters and digits is, or n if nothing follows them
 dash_within : (n : ℕ) (l w : List ℕ) → list_all is_alphanumeric l ≡ true → length l ≤ n → get_or w 0 dash ≡ dash → unwrap_or (position (λ b. b == dash) (take n (l ++ w))) n ≡ cond (length w == 0) n (length l)
 dash_within zero [] w plain few next = grind (arith, nat_tests)
 dash_within zero (b ∷ l) w plain few next = absurd (omega arith)
