@@ -1,20 +1,17 @@
 -- Canonical texts and their subtags.
-use Rattle.std.proofs.Common.{◌≡◌, ℕ, Bool, true, false, ◌&&◌, ◌↔◌, List, [], ◌∷◌, map, refl, sym, ap, ◌∙◌, arith}
+use Rattle.std.proofs.Common.{◌≡◌, ℕ, true, false, ◌↔◌, List, [], ◌∷◌, map, refl, sym, ap, ◌∙◌, arith}
 use Rattle.std.specs.List.{list_all, find, join_with_byte}
 use Rattle.std.proofs.lemmas.List.{map-append}
 use Rattle.std.proofs.lemmas.List.Splits.{join_with_byte-slice_split}
 use Rattle.std.proofs.lemmas.Grind.{common_steps}
 use Rattle.std.proofs.lemmas.Bool.Decides.{nat_tests}
-use Rattle.std.specs.Option.{IfSome}
 use Rattle.tinystr_words.specs.Classes.{is_alphanumeric}
-use Rattle.tinystr_words.specs.Case.{lowercase, titlecase, uppercase}
 use Rattle.subtags.specs.Grammar.{dash, fold_text, subtags_of, is_script, is_region, is_language, is_tail, is_lang_id, IsLangId, canonical_subtag, canonical_subtags, canonical_text, IsCanonical}
-use Rattle.subtags.specs.Subtags.{IsCanonicalSubtag, language_of, script_of, region_of, join_subtags}
+use Rattle.subtags.specs.Subtags.{join_subtags}
 use Rattle.subtags.specs.declared.error.LangIdError.TheVariants.{InvalidLanguage}
-use Rattle.subtags.specs.Private.Tails.{first_subtag}
 use Rattle.subtags.specs.Answers.{refusal_of}
-use Rattle.subtags.proofs.FoldLemmas.{IsCanonicalSubtag-titlecase, IsCanonicalSubtag-uppercase, fold_text-alphanumeric, map-map_absorbed, fold_text-fold_text, fold_text-canonical_subtag, same_test_from_fold_text, is_language-fold_text, is_script-fold_text, is_region-fold_text, alphanumeric-from_subtag}
-use Rattle.subtags.proofs.SplitLemmas.{subtags_after, subtags_at_first_separator, subtags_of-fold_text, subtags_of-join}
+use Rattle.subtags.proofs.FoldLemmas.{map-map_absorbed, fold_text-fold_text, fold_text-canonical_subtag, same_test_from_fold_text, is_language-fold_text, is_script-fold_text, is_region-fold_text, alphanumeric-from_subtag}
+use Rattle.subtags.proofs.SplitLemmas.{subtags_of-fold_text}
 
 -- to join and then fold is to fold and then join
 pub fold_text-join : (ps : List (List ℕ)) → fold_text (join_with_byte dash ps) ≡ join_with_byte dash (map fold_text ps)
@@ -40,7 +37,7 @@ IsCanonical-canonical_text u h = record {
 }
 
 -- a canonical subtag is a script, or a region, exactly if the subtag is
-same_kind : (p : List ℕ) → (is_script (canonical_subtag p) ≡ is_script p) × (is_region (canonical_subtag p) ≡ is_region p)
+pub same_kind : (p : List ℕ) → (is_script (canonical_subtag p) ≡ is_script p) × (is_region (canonical_subtag p) ≡ is_region p)
 same_kind p = let same = fold_text-canonical_subtag p in (same_test_from_fold_text is_script is_script-fold_text _ p same, same_test_from_fold_text is_region is_region-fold_text _ p same)
 
 -- the canonical subtags of a tail are a tail
@@ -75,29 +72,3 @@ same_canonical_text u v = (
 -- where the first isn't a language, the input isn't an identifier, for that reason
 pub refused_without_language : (u l : List ℕ) (ps : List (List ℕ)) → subtags_of (fold_text u) ≡ fold_text l ∷ ps → is_language l ≡ false → (is_lang_id (subtags_of (fold_text u)) ≡ false) × (refusal_of u ≡ InvalidLanguage)
 refused_without_language u l ps split h = rw (split, is_language-fold_text l, h) (refl, refl)
-
--- ---- a canonical text
-
--- a canonical subtag that is found among others
-canonical_found : (t : List ℕ → Bool) (f : List ℕ → List ℕ) → ((p : List ℕ) → t (canonical_subtag p) ≡ t p) → ((p : List ℕ) → t p ≡ true → IsCanonicalSubtag t f (canonical_subtag p)) → (ps : List (List ℕ)) → IfSome (find t (map canonical_subtag ps)) (IsCanonicalSubtag t f)
-canonical_found t f same each [] = tt
-canonical_found t f same each (p ∷ ps) = let here = same p in let one = each p in let rest = canonical_found t f same each ps in grind arith
-
--- it is its language, its script and its region, joined, and each of them is canonical
-pub canonical_parts : (t : List ℕ) → IsCanonical t → (t ≡ join_subtags (language_of t) (script_of t) (region_of t))
-    × IsCanonicalSubtag is_language lowercase (language_of t) × IfSome (script_of t) (IsCanonicalSubtag is_script titlecase) × IfSome (region_of t) (IsCanonicalSubtag is_region uppercase)
-canonical_parts t h =
-    let l = fold_text (first_subtag t) in
-    let ps = map canonical_subtag (subtags_after t) in
-    let split = subtags_at_first_separator t in
-    let all : (is_language l && is_tail (subtags_after t)) ≡ true = rw split at h.accepted in
-    let is : is_language l ≡ true = grind arith in
-    let tail = is_tail-canonical (subtags_after t) (grind arith) in
-    let lowered = sym (fold_text-alphanumeric l (alphanumeric-from_subtag l (grind arith))) ∙ fold_text-fold_text (first_subtag t) in
-    let of : subtags_of (canonical_text t) ≡ l ∷ ps = rw split (subtags_of-join l ps (plain_subtags l ps is tail)) in
-    rw (rw h.canonical at of) (
-      sym h.canonical ∙ rw split (join_with_byte-tail l ps tail),
-      record { well_formed = is; canonical = lowered },
-      canonical_found is_script titlecase (λ p. (same_kind p).0) (λ p h. rw h (IsCanonicalSubtag-titlecase p h)) (subtags_after t),
-      canonical_found is_region uppercase (λ p. (same_kind p).1) (λ p h. rw (no_script-from_region p h) (IsCanonicalSubtag-uppercase p h)) (subtags_after t),
-    )

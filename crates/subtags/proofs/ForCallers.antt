@@ -4,8 +4,8 @@ use Rattle.std.proofs.Common.{◌≡◌, ◌≤◌, ◌↔◌, ℕ, List, length
 use Rattle.std.specs.List.{slice_split}
 use Rattle.subtags.specs.Grammar.{is_separator, fold_text, subtags_of, IsLangId, IsCanonical, canonical_text}
 use Rattle.subtags.specs.Subtags.{language_of, script_of, region_of, join_subtags}
-use Rattle.subtags.proofs.CanonLemmas.{canonical_parts, IsCanonical-canonical_text, fold_text-canonical_text, same_canonical_text}
-use Rattle.subtags.proofs.PlaceLemmas.{length-IsCanonical, length-canonical_text}
+use Rattle.subtags.proofs.CanonLemmas.{IsCanonical-canonical_text, fold_text-canonical_text, same_canonical_text}
+use Rattle.subtags.proofs.PlaceLemmas.{InPlace-canonical, length-IsCanonical, length-canonical_text}
 use Rattle.subtags.proofs.SplitLemmas.{subtags_of-fold_text}
 
 -- Folding an input and then splitting it at dashes gives the same as splitting it at separators and then folding each
@@ -40,4 +40,4 @@ fold_tells_apart = same_canonical_text
 
 -- A canonical text is its language, its script and its region, joined by dashes.
 pub joined_subtags : (t : List ℕ) → IsCanonical t → t ≡ join_subtags (language_of t) (script_of t) (region_of t)
-joined_subtags t h = (canonical_parts t h).0
+joined_subtags t h = (InPlace-canonical t h).joined
