@@ -21,7 +21,8 @@ pub subtags_of_join_subtags : (l : List ℕ) (s r : Option (List ℕ)) → IsCan
 subtags_of_join_subtags l s r language script region =
     let ps = option_to_list s ++ option_to_list r in
     let kept_s : IfSome s (λ p. canonical_subtag (fold_text p) ≡ p) = IfSome_then s script (λ p c. canonical_subtag-fold_text p (rw c.well_formed refl) ∙ rw c.well_formed c.canonical) in
-    let kept_r : IfSome r (λ p. canonical_subtag (fold_text p) ≡ p) = IfSome_then r region (λ p c. canonical_subtag-fold_text p (rw c.well_formed (grind arith)) ∙ rw (no_script-from_region p c.well_formed) c.canonical) in
+    let kept_r : IfSome r (λ p. canonical_subtag (fold_text p) ≡ p) =
+    IfSome_then r region (λ p c. canonical_subtag-fold_text p (rw c.well_formed (grind arith)) ∙ rw (no_script-from_region p c.well_formed) c.canonical) in
     let is : is_language l ≡ true = language.well_formed in
     let tail : is_tail ps ≡ true = grind arith in
     let found : (find is_script ps ≡ s) × (find is_region ps ≡ r) = (grind (arith, no_script-from_region), grind (arith, no_script-from_region)) in

@@ -24,7 +24,8 @@ pub length-language : (l : List ℕ) → is_language l ≡ true → (2 ≤ lengt
 length-language l h = (grind (arith, nat_tests), grind (arith, nat_tests))
 
 -- where the dash after at most n letters and digits is, or n if nothing follows them
-dash_within : (n : ℕ) (l w : List ℕ) → list_all is_alphanumeric l ≡ true → length l ≤ n → get_or w 0 dash ≡ dash → unwrap_or (position (λ b. b == dash) (take n (l ++ w))) n ≡ cond (length w == 0) n (length l)
+dash_within : (n : ℕ) (l w : List ℕ) → list_all is_alphanumeric l ≡ true → length l ≤ n → get_or w 0 dash ≡ dash
+    → unwrap_or (position (λ b. b == dash) (take n (l ++ w))) n ≡ cond (length w == 0) n (length l)
 dash_within zero [] w plain few next = grind (arith, nat_tests)
 dash_within zero (b ∷ l) w plain few next = absurd (omega arith)
 dash_within (suc n) [] w plain few next = grind (arith, nat_tests)
@@ -58,7 +59,8 @@ InPlace-join_subtags l s r language script region =
     record { joined = refl; least = grind arith; most = grind (arith, place_steps); language = (grind (arith, place_steps), language); script = (grind (arith, place_steps), script); region = (grind (arith, place_steps), region) }
 
 -- a canonical subtag that is found among others
-canonical_found : (t : List ℕ → Bool) (f : List ℕ → List ℕ) → ((p : List ℕ) → t (canonical_subtag p) ≡ t p) → ((p : List ℕ) → t p ≡ true → IsCanonicalSubtag t f (canonical_subtag p)) → (ps : List (List ℕ)) → IfSome (find t (map canonical_subtag ps)) (IsCanonicalSubtag t f)
+canonical_found : (t : List ℕ → Bool) (f : List ℕ → List ℕ) → ((p : List ℕ) → t (canonical_subtag p) ≡ t p)
+    → ((p : List ℕ) → t p ≡ true → IsCanonicalSubtag t f (canonical_subtag p)) → (ps : List (List ℕ)) → IfSome (find t (map canonical_subtag ps)) (IsCanonicalSubtag t f)
 canonical_found t f same each [] = tt
 canonical_found t f same each (p ∷ ps) = let here = same p in let one = each p in let rest = canonical_found t f same each ps in grind arith
 
