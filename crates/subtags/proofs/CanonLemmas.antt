@@ -19,15 +19,14 @@ fold_text-join [] = refl
 fold_text-join (p ∷ []) = refl
 fold_text-join (p ∷ q ∷ ps) = let rest = fold_text-join (q ∷ ps) in simp (map-append, rest)
 
--- canonical subtags fold as the subtags do
-fold_text-canonical_subtags : (ps : List (List ℕ)) → map fold_text (canonical_subtags ps) ≡ map fold_text ps
-fold_text-canonical_subtags ps = let others = map-map_absorbed fold_text canonical_subtag fold_text-canonical_subtag in grind arith
-
 -- a canonical text folds as its input does
 pub fold_text-canonical_text : (u : List ℕ) → fold_text (canonical_text u) ≡ fold_text u
 fold_text-canonical_text u =
-    let kept : map fold_text (subtags_of (fold_text u)) ≡ subtags_of (fold_text u) = rw subtags_of-fold_text (map-map_absorbed fold_text fold_text fold_text-fold_text _) in
-    rw (fold_text-join, fold_text-canonical_subtags, kept) (join_with_byte-slice_split dash (fold_text u))
+    let ps = subtags_of (fold_text u) in
+    let others = map-map_absorbed fold_text canonical_subtag fold_text-canonical_subtag in
+    let kept : map fold_text ps ≡ ps = rw subtags_of-fold_text (map-map_absorbed fold_text fold_text fold_text-fold_text _) in
+    let cased : map fold_text (canonical_subtags ps) ≡ ps = grind arith in
+    rw (fold_text-join, cased) (join_with_byte-slice_split dash (fold_text u))
 
 -- the canonical text of an identifier is canonical
 pub IsCanonical-canonical_text : (u : List ℕ) → IsLangId u → IsCanonical (canonical_text u)
@@ -43,10 +42,6 @@ same_kind p = let same = fold_text-canonical_subtag p in (same_test_from_fold_te
 -- the canonical subtags of a tail are a tail
 pub is_tail-canonical : (ps : List (List ℕ)) → is_tail ps ≡ true → is_tail (map canonical_subtag ps) ≡ true
 is_tail-canonical ps h = grind (arith, same_kind)
-
--- and so is a tail that was folded
-pub is_tail-fold_text : (ps : List (List ℕ)) → is_tail (map fold_text ps) ≡ is_tail ps
-is_tail-fold_text ps = grind (arith, is_script-fold_text, is_region-fold_text)
 
 -- the subtags of an identifier are letters and digits
 pub plain_subtags : (l : List ℕ) (ps : List (List ℕ)) → is_language l ≡ true → is_tail ps ≡ true → list_all (list_all is_alphanumeric) (l ∷ ps) ≡ true

@@ -7,9 +7,9 @@ use Rattle.std.proofs.lemmas.List.{append-nil, length-append, take_all}
 use Rattle.tinystr_words.specs.Case.{lowercase, titlecase, uppercase}
 use Rattle.subtags.specs.Grammar.{dash, fold_text, subtags_of, is_language, is_script, is_region, is_tail, canonical_subtag, IsCanonical}
 use Rattle.subtags.specs.Subtags.{IsCanonicalSubtag, language_of, script_of, region_of, join_subtags}
-use Rattle.subtags.proofs.FoldLemmas.{canonical_subtag-fold_text, alphanumeric-from_subtag, fold_text-alphanumeric}
+use Rattle.subtags.proofs.FoldLemmas.{is_script-fold_text, is_region-fold_text, canonical_subtag-fold_text, alphanumeric-from_subtag, fold_text-alphanumeric}
 use Rattle.subtags.proofs.SplitLemmas.{subtags_of-join}
-use Rattle.subtags.proofs.CanonLemmas.{fold_text-join, is_tail-fold_text, plain_subtags, no_script-from_region}
+use Rattle.subtags.proofs.CanonLemmas.{fold_text-join, plain_subtags, no_script-from_region}
 
 -- of two texts that have at most 16 bytes together nothing is split
 pub take_take_append : (l t : List ℕ) → length l + length t ≤ 16 → take 17 (take 16 (l ++ t)) ≡ l ++ t
@@ -29,7 +29,7 @@ subtags_of_join_subtags l s r language script region =
     let kept : map canonical_subtag (map fold_text ps) ≡ ps = grind arith in
     let joined : join_with_byte dash (l ∷ ps) ≡ join_subtags l s r = grind (arith, append-nil) in
     let same : fold_text l ≡ l = fold_text-alphanumeric l (alphanumeric-from_subtag l (grind arith)) ∙ language.canonical in
-    let folded : is_tail (map fold_text ps) ≡ true = is_tail-fold_text ps ∙ tail in
+    let folded : is_tail (map fold_text ps) ≡ true = grind (arith, is_script-fold_text, is_region-fold_text) in
     let split : subtags_of (fold_text (join_with_byte dash (l ∷ ps))) ≡ l ∷ map fold_text ps = rw (fold_text-join, same) (subtags_of-join l (map fold_text ps) (plain_subtags l (map fold_text ps) is folded)) in
     let whole : IsCanonical (join_with_byte dash (l ∷ ps)) × (subtags_of (join_with_byte dash (l ∷ ps)) ≡ l ∷ ps) =
     (record { accepted = rw (split, is, folded) refl; canonical = rw (split, kept) refl }, subtags_of-join l ps (plain_subtags l ps is tail)) in
