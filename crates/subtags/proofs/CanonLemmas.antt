@@ -1,5 +1,5 @@
 -- Canonical texts and their subtags.
-use Rattle.std.proofs.Common.{◌≡◌, ℕ, true, false, ◌↔◌, List, [], ◌∷◌, map, refl, sym, ap, ◌∙◌, arith}
+use Rattle.std.proofs.Common.{◌≡◌, ℕ, true, false, ◌↔◌, List, [], ◌∷◌, map, refl, arith}
 use Rattle.std.specs.List.{list_all, find, join_with_byte}
 use Rattle.std.proofs.lemmas.List.{map-append}
 use Rattle.std.proofs.lemmas.List.Splits.{join_with_byte-slice_split}
@@ -30,10 +30,7 @@ fold_text-canonical_text u =
 
 -- the canonical text of an identifier is canonical
 pub IsCanonical-canonical_text : (u : List ℕ) → IsLangId u → IsCanonical (canonical_text u)
-IsCanonical-canonical_text u h = record {
-  accepted = rw (fold_text-canonical_text u) h;
-  canonical = ap (λ w. join_with_byte dash (canonical_subtags (subtags_of w))) (fold_text-canonical_text u);
-}
+IsCanonical-canonical_text u h = let same = fold_text-canonical_text u in record { accepted = rw same h; canonical = cc }
 
 -- a canonical subtag is a script, or a region, exactly if the subtag is
 pub same_kind : (p : List ℕ) → (is_script (canonical_subtag p) ≡ is_script p) × (is_region (canonical_subtag p) ≡ is_region p)
@@ -57,10 +54,7 @@ join_with_byte-tail l ps h = grind (arith, common_steps, no_script-from_region)
 
 -- two inputs have the same canonical text exactly if they fold alike
 pub same_canonical_text : (u v : List ℕ) → (canonical_text u ≡ canonical_text v) ↔ (fold_text u ≡ fold_text v)
-same_canonical_text u v = (
-  λ e. sym (fold_text-canonical_text u) ∙ ap fold_text e ∙ fold_text-canonical_text v,
-  λ e. ap (λ w. join_with_byte dash (canonical_subtags (subtags_of w))) e,
-)
+same_canonical_text u v = let of_u = fold_text-canonical_text u in let of_v = fold_text-canonical_text v in (λ e. cc, λ e. cc)
 
 -- ---- an input whose subtags are l and ps
 

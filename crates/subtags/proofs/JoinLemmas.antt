@@ -31,7 +31,5 @@ subtags_of_join_subtags l s r language script region =
     let same : fold_text l ≡ l = fold_text-alphanumeric l (alphanumeric-from_subtag l (grind arith)) ∙ language.canonical in
     let folded : is_tail (map fold_text ps) ≡ true = grind (arith, is_script-fold_text, is_region-fold_text) in
     let split : subtags_of (fold_text (join_with_byte dash (l ∷ ps))) ≡ l ∷ map fold_text ps = rw (fold_text-join, same) (subtags_of-join l (map fold_text ps) (plain_subtags l (map fold_text ps) is folded)) in
-    let whole : IsCanonical (join_with_byte dash (l ∷ ps)) × (subtags_of (join_with_byte dash (l ∷ ps)) ≡ l ∷ ps) =
-    (record { accepted = rw (split, is, folded) refl; canonical = rw (split, kept) refl }, subtags_of-join l ps (plain_subtags l ps is tail)) in
-    let text = rw joined at whole in
-    rw (text.1) (refl, text.0, refl, found.0, found.1)
+    let whole = subtags_of-join l ps (plain_subtags l ps is tail) in
+    rw (← joined, whole) (refl, record { accepted = rw (split, is, folded) refl; canonical = rw (split, kept) refl }, refl, found.0, found.1)
