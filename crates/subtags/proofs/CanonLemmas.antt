@@ -10,7 +10,7 @@ use Rattle.subtags.specs.Grammar.{dash, fold_text, subtags_of, is_script, is_reg
 use Rattle.subtags.specs.Subtags.{join_subtags}
 use Rattle.subtags.specs.declared.error.LangIdError.TheVariants.{InvalidLanguage}
 use Rattle.subtags.specs.Answers.{refusal_of}
-use Rattle.subtags.proofs.FoldLemmas.{map-map_absorbed, fold_text-fold_text, fold_text-canonical_subtag, same_test_from_fold_text, is_language-fold_text, is_script-fold_text, is_region-fold_text, alphanumeric-from_subtag}
+use Rattle.subtags.proofs.FoldLemmas.{map-map_absorbed, fold_text-fold_text, fold_text-canonical_subtag, is_language-fold_text, is_script-fold_text, is_region-fold_text, alphanumeric-from_subtag}
 use Rattle.subtags.proofs.SplitLemmas.{subtags_of-fold_text}
 
 -- to join and then fold is to fold and then join
@@ -34,7 +34,7 @@ IsCanonical-canonical_text u h = let same = fold_text-canonical_text u in record
 
 -- a canonical subtag is a script, or a region, exactly if the subtag is
 pub same_kind : (p : List ℕ) → (is_script (canonical_subtag p) ≡ is_script p) × (is_region (canonical_subtag p) ≡ is_region p)
-same_kind p = let same = fold_text-canonical_subtag p in (same_test_from_fold_text is_script is_script-fold_text _ p same, same_test_from_fold_text is_region is_region-fold_text _ p same)
+same_kind p = let same = fold_text-canonical_subtag p in let q = canonical_subtag p in (cc (is_script-fold_text q, is_script-fold_text p), cc (is_region-fold_text q, is_region-fold_text p))
 
 -- the canonical subtags of a tail are a tail
 pub is_tail-canonical : (ps : List (List ℕ)) → is_tail ps ≡ true → is_tail (map canonical_subtag ps) ≡ true

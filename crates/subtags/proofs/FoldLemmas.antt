@@ -1,5 +1,5 @@
 -- What folding and the case changes leave alone.
-use Rattle.std.proofs.Common.{◌≡◌, ◌≤◌, ℕ, Bool, true, ◌||◌, List, [], ◌∷◌, map, length, refl, sym, ap, ◌∙◌, arith}
+use Rattle.std.proofs.Common.{◌≡◌, ◌≤◌, ℕ, Bool, true, ◌||◌, List, [], ◌∷◌, map, length, refl, sym, ◌∙◌, arith}
 use Rattle.std.specs.List.{All, list_all}
 use Rattle.std.proofs.lemmas.Bool.Decides.{nat_tests}
 use Rattle.std.proofs.lemmas.List.{length-map}
@@ -60,10 +60,6 @@ is_region-fold_text p = simp fold_steps
 pub alphanumeric-fold_text : (p : List ℕ) → list_all is_alphanumeric (fold_text p) ≡ list_all is_alphanumeric p
 alphanumeric-fold_text p = simp fold_steps
 
--- a test that folding doesn't change gives one result for texts with equal folds
-pub same_test_from_fold_text : (t : List ℕ → Bool) → ((p : List ℕ) → t (fold_text p) ≡ t p) → (p q : List ℕ) → fold_text p ≡ fold_text q → t p ≡ t q
-same_test_from_fold_text t e p q alike = sym (e p) ∙ ap t alike ∙ e q
-
 alphanumeric-from_class : (t : ℕ → Bool) → ((b : ℕ) → t b ≡ true → is_alphanumeric b ≡ true) → (p : List ℕ) → list_all t p ≡ true → list_all is_alphanumeric p ≡ true
 alphanumeric-from_class t e p h = list_all-from_AllPass is_alphanumeric p (All-from_list_all t (λ b. is_alphanumeric b ≡ true) e p h)
 
@@ -99,7 +95,7 @@ canonical_subtag-fold_text p h =
 
 -- a well-formed subtag is canonical in its case: a language in lowercase, a script in titlecase, a region in uppercase
 in_its_case : (t : List ℕ → Bool) (f : List ℕ → List ℕ) → ((p : List ℕ) → t (fold_text p) ≡ t p) → ((p : List ℕ) → fold_text (f p) ≡ fold_text p) → ((p : List ℕ) → f (f p) ≡ f p) → (p : List ℕ) → t p ≡ true → IsCanonicalSubtag t f (f p)
-in_its_case t f same folded twice p h = record { well_formed = same_test_from_fold_text t same (f p) p (folded p) ∙ h; canonical = twice p }
+in_its_case t f same folded twice p h = record { well_formed = cc (same (f p), same p, folded p); canonical = twice p }
 
 pub IsCanonicalSubtag-lowercase : (p : List ℕ) → is_language p ≡ true → IsCanonicalSubtag is_language lowercase (lowercase p)
 IsCanonicalSubtag-lowercase = in_its_case is_language lowercase is_language-fold_text (map-map_absorbed fold_byte lower (λ b. grind (arith, nat_tests))) (map-map_absorbed lower lower (λ b. grind (arith, nat_tests)))
