@@ -31,7 +31,7 @@ dash_within zero (b ∷ l) w plain few next = absurd (omega arith)
 dash_within (suc n) [] w plain few next = grind (arith, nat_tests)
 dash_within (suc n) (b ∷ l) w plain few next = let rest = dash_within n l w (grind arith) (omega arith) next in grind (arith, nat_tests)
 
--- the text t has the canonical subtags l, s and r in their places
+-- the text t has the canonical subtags l, s and r in their places (`least` is first, since the prover uses these facts where it sees its `length t`)
 pub record InPlace (t l : List ℕ) (s r : Option (List ℕ)) : Type 0 where
   pub least : 2 ≤ length t
   pub most : length t ≤ 17
