@@ -1,5 +1,5 @@
 -- Canonical texts and their subtags.
-use Rattle.std.proofs.Common.{◌≡◌, ℕ, true, false, ◌&&◌, ◌↔◌, List, [], ◌∷◌, map, refl, sym, ap, ◌∙◌, arith}
+use Rattle.std.proofs.Common.{◌≡◌, ℕ, true, false, ◌↔◌, List, [], ◌∷◌, map, refl, arith}
 use Rattle.std.specs.List.{list_all, find, join_with_byte}
 use Rattle.std.proofs.lemmas.List.{map-append}
 use Rattle.std.proofs.lemmas.List.Splits.{join_with_byte-slice_split}
@@ -7,12 +7,11 @@ use Rattle.std.proofs.lemmas.Grind.{common_steps}
 use Rattle.std.proofs.lemmas.Bool.Decides.{nat_tests}
 use Rattle.tinystr_words.specs.Classes.{is_alphanumeric}
 use Rattle.subtags.specs.Grammar.{dash, fold_text, subtags_of, is_script, is_region, is_language, is_tail, is_lang_id, IsLangId, canonical_subtag, canonical_subtags, canonical_text, IsCanonical}
-use Rattle.subtags.specs.Subtags.{language_of, script_of, region_of, join_subtags}
+use Rattle.subtags.specs.Subtags.{join_subtags}
 use Rattle.subtags.specs.declared.error.LangIdError.TheVariants.{InvalidLanguage}
-use Rattle.subtags.specs.Private.Tails.{first_subtag}
 use Rattle.subtags.specs.Answers.{refusal_of}
-use Rattle.subtags.proofs.FoldLemmas.{map-map_absorbed, fold_text-fold_text, fold_text-canonical_subtag, same_test_from_fold_text, is_language-fold_text, is_script-fold_text, is_region-fold_text, alphanumeric-from_subtag}
-use Rattle.subtags.proofs.SplitLemmas.{subtags_after, subtags_at_first_separator, subtags_of-fold_text, subtags_of-join}
+use Rattle.subtags.proofs.FoldLemmas.{map-map_absorbed, fold_text-fold_text, fold_text-canonical_subtag, is_language-fold_text, is_script-fold_text, is_region-fold_text, alphanumeric-from_subtag}
+use Rattle.subtags.proofs.SplitLemmas.{subtags_of-fold_text}
 
 -- to join and then fold is to fold and then join
 pub fold_text-join : (ps : List (List ℕ)) → fold_text (join_with_byte dash ps) ≡ join_with_byte dash (map fold_text ps)
@@ -20,46 +19,30 @@ fold_text-join [] = refl
 fold_text-join (p ∷ []) = refl
 fold_text-join (p ∷ q ∷ ps) = let rest = fold_text-join (q ∷ ps) in simp (map-append, rest)
 
--- canonical subtags fold as the subtags do
-fold_text-canonical_subtags : (ps : List (List ℕ)) → map fold_text (canonical_subtags ps) ≡ map fold_text ps
-fold_text-canonical_subtags ps = let others = map-map_absorbed fold_text canonical_subtag fold_text-canonical_subtag in grind arith
-
 -- a canonical text folds as its input does
 pub fold_text-canonical_text : (u : List ℕ) → fold_text (canonical_text u) ≡ fold_text u
 fold_text-canonical_text u =
-    let kept : map fold_text (subtags_of (fold_text u)) ≡ subtags_of (fold_text u) = rw subtags_of-fold_text (map-map_absorbed fold_text fold_text fold_text-fold_text _) in
-    rw (fold_text-join, fold_text-canonical_subtags, kept) (join_with_byte-slice_split dash (fold_text u))
+    let ps = subtags_of (fold_text u) in
+    let others = map-map_absorbed fold_text canonical_subtag fold_text-canonical_subtag in
+    let kept : map fold_text ps ≡ ps = rw subtags_of-fold_text (map-map_absorbed fold_text fold_text fold_text-fold_text _) in
+    let cased : map fold_text (canonical_subtags ps) ≡ ps = grind arith in
+    rw (fold_text-join, cased) (join_with_byte-slice_split dash (fold_text u))
 
 -- the canonical text of an identifier is canonical
 pub IsCanonical-canonical_text : (u : List ℕ) → IsLangId u → IsCanonical (canonical_text u)
-IsCanonical-canonical_text u h = record {
-  accepted = rw (fold_text-canonical_text u) h;
-  canonical = ap (λ w. join_with_byte dash (canonical_subtags (subtags_of w))) (fold_text-canonical_text u);
-}
+IsCanonical-canonical_text u h = let same = fold_text-canonical_text u in record { accepted = rw same h; canonical = cc }
 
--- a canonical subtag is a script exactly if the subtag is
-pub is_script-canonical_subtag : (p : List ℕ) → is_script (canonical_subtag p) ≡ is_script p
-is_script-canonical_subtag p = same_test_from_fold_text is_script is_script-fold_text (canonical_subtag p) p (fold_text-canonical_subtag p)
-
--- a canonical subtag is a region exactly if the subtag is
-pub is_region-canonical_subtag : (p : List ℕ) → is_region (canonical_subtag p) ≡ is_region p
-is_region-canonical_subtag p = same_test_from_fold_text is_region is_region-fold_text (canonical_subtag p) p (fold_text-canonical_subtag p)
+-- a canonical subtag is a script, or a region, exactly if the subtag is
+pub same_kind : (p : List ℕ) → (is_script (canonical_subtag p) ≡ is_script p) × (is_region (canonical_subtag p) ≡ is_region p)
+same_kind p = let same = fold_text-canonical_subtag p in let q = canonical_subtag p in (cc (is_script-fold_text q, is_script-fold_text p), cc (is_region-fold_text q, is_region-fold_text p))
 
 -- the canonical subtags of a tail are a tail
 pub is_tail-canonical : (ps : List (List ℕ)) → is_tail ps ≡ true → is_tail (map canonical_subtag ps) ≡ true
-is_tail-canonical ps h = grind (arith, is_script-canonical_subtag, is_region-canonical_subtag)
-
--- and so is a tail that was folded
-pub is_tail-fold_text : (ps : List (List ℕ)) → is_tail (map fold_text ps) ≡ is_tail ps
-is_tail-fold_text ps = grind (arith, is_script-fold_text, is_region-fold_text)
+is_tail-canonical ps h = grind (arith, same_kind)
 
 -- the subtags of an identifier are letters and digits
 pub plain_subtags : (l : List ℕ) (ps : List (List ℕ)) → is_language l ≡ true → is_tail ps ≡ true → list_all (list_all is_alphanumeric) (l ∷ ps) ≡ true
 plain_subtags l ps language tail = grind (arith, alphanumeric-from_subtag)
-
--- the subtags of the canonical text of an identifier are its canonical subtags
-pub subtags_of-canonical_text : (u l : List ℕ) (ps : List (List ℕ)) → subtags_of (fold_text u) ≡ l ∷ ps → is_language l ≡ true → is_tail ps ≡ true → subtags_of (canonical_text u) ≡ l ∷ map canonical_subtag ps
-subtags_of-canonical_text u l ps split language tail = rw split (subtags_of-join l (map canonical_subtag ps) (plain_subtags l (map canonical_subtag ps) language (is_tail-canonical ps tail)))
 
 -- a region isn't a script
 pub no_script-from_region : (p : List ℕ) → is_region p ≡ true → is_script p ≡ false
@@ -71,27 +54,10 @@ join_with_byte-tail l ps h = grind (arith, common_steps, no_script-from_region)
 
 -- two inputs have the same canonical text exactly if they fold alike
 pub same_canonical_text : (u v : List ℕ) → (canonical_text u ≡ canonical_text v) ↔ (fold_text u ≡ fold_text v)
-same_canonical_text u v = (
-  λ e. sym (fold_text-canonical_text u) ∙ ap fold_text e ∙ fold_text-canonical_text v,
-  λ e. ap (λ w. join_with_byte dash (canonical_subtags (subtags_of w))) e,
-)
+same_canonical_text u v = let of_u = fold_text-canonical_text u in let of_v = fold_text-canonical_text v in (λ e. cc, λ e. cc)
 
 -- ---- an input whose subtags are l and ps
 
 -- where the first isn't a language, the input isn't an identifier, for that reason
 pub refused_without_language : (u l : List ℕ) (ps : List (List ℕ)) → subtags_of (fold_text u) ≡ fold_text l ∷ ps → is_language l ≡ false → (is_lang_id (subtags_of (fold_text u)) ≡ false) × (refusal_of u ≡ InvalidLanguage)
 refused_without_language u l ps split h = rw (split, is_language-fold_text l, h) (refl, refl)
-
--- a canonical text has them in their case
-pub subtags-IsCanonical : (t l : List ℕ) (ps : List (List ℕ)) → IsCanonical t → subtags_of (fold_text t) ≡ l ∷ ps → (is_language l ≡ true) × (is_tail ps ≡ true) × (subtags_of t ≡ l ∷ map canonical_subtag ps)
-subtags-IsCanonical t l ps h split =
-    let all : (is_language l && is_tail ps) ≡ true = rw split at h.accepted in
-    let language : is_language l ≡ true = grind arith in
-    let tail : is_tail ps ≡ true = grind arith in
-    (language, tail, rw h.canonical at (subtags_of-canonical_text t l ps split language tail))
-
--- a canonical text is its language, its script and its region, joined
-pub join_subtags-IsCanonical : (t : List ℕ) → IsCanonical t → t ≡ join_subtags (language_of t) (script_of t) (region_of t)
-join_subtags-IsCanonical t h =
-    let of = subtags-IsCanonical t _ _ h (subtags_at_first_separator t) in
-    sym (join_with_byte-slice_split dash t) ∙ rw (of.2) (join_with_byte-tail (fold_text (first_subtag t)) (map canonical_subtag (subtags_after t)) (is_tail-canonical (subtags_after t) of.1))

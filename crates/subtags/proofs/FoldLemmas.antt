@@ -1,5 +1,5 @@
 -- What folding and the case changes leave alone.
-use Rattle.std.proofs.Common.{◌≡◌, ◌≤◌, ℕ, Bool, true, ◌||◌, List, [], ◌∷◌, map, length, refl, sym, ap, ap₂, ◌∙◌, arith}
+use Rattle.std.proofs.Common.{◌≡◌, ◌≤◌, ℕ, Bool, true, ◌||◌, List, [], ◌∷◌, map, length, refl, sym, ◌∙◌, arith}
 use Rattle.std.specs.List.{All, list_all}
 use Rattle.std.proofs.lemmas.Bool.Decides.{nat_tests}
 use Rattle.std.proofs.lemmas.List.{length-map}
@@ -24,15 +24,18 @@ All-from_list_all t P e p h = λ k d below. e _ (AllPass-from_list_all t p h k d
 pub fold_text-fold_text : (u : List ℕ) → fold_text (fold_text u) ≡ fold_text u
 fold_text-fold_text u = map-map_absorbed fold_byte fold_byte (λ b. grind (arith, nat_tests)) u
 
--- a text in titlecase folds as the text does
-fold_text-titlecase : (t : List ℕ) → fold_text (titlecase t) ≡ fold_text t
-fold_text-titlecase [] = refl
-fold_text-titlecase (b ∷ t) = ap₂ (λ (x : ℕ) (y : List ℕ). x ∷ y) (grind (arith, nat_tests)) (map-map_absorbed fold_byte lower (λ c. grind (arith, nat_tests)) t)
+-- a text in titlecase folds as the text does, and has the titlecase of the text and of its lowercase
+titlecase_absorbed : (t : List ℕ) → (fold_text (titlecase t) ≡ fold_text t) × (titlecase (titlecase t) ≡ titlecase t) × (titlecase (lowercase t) ≡ titlecase t)
+titlecase_absorbed [] = (refl, refl, refl)
+titlecase_absorbed (b ∷ t) =
+    let folded = map-map_absorbed fold_byte lower (λ c. grind (arith, nat_tests)) t in
+    let lowered = map-map_absorbed lower lower (λ c. grind (arith, nat_tests)) t in
+    (grind (arith, nat_tests), grind (arith, nat_tests), grind (arith, nat_tests))
 
 -- a canonical subtag folds as the subtag does
 pub fold_text-canonical_subtag : (p : List ℕ) → fold_text (canonical_subtag p) ≡ fold_text p
 fold_text-canonical_subtag p =
-    let in_title = fold_text-titlecase p in
+    let in_title = titlecase_absorbed p in
     let raised = map-map_absorbed fold_byte raise (λ b. grind (arith, nat_tests)) p in
     grind arith
 
@@ -57,10 +60,6 @@ is_region-fold_text p = simp fold_steps
 pub alphanumeric-fold_text : (p : List ℕ) → list_all is_alphanumeric (fold_text p) ≡ list_all is_alphanumeric p
 alphanumeric-fold_text p = simp fold_steps
 
--- a test that folding doesn't change gives one result for texts with equal folds
-pub same_test_from_fold_text : (t : List ℕ → Bool) → ((p : List ℕ) → t (fold_text p) ≡ t p) → (p q : List ℕ) → fold_text p ≡ fold_text q → t p ≡ t q
-same_test_from_fold_text t e p q alike = sym (e p) ∙ ap t alike ∙ e q
-
 alphanumeric-from_class : (t : ℕ → Bool) → ((b : ℕ) → t b ≡ true → is_alphanumeric b ≡ true) → (p : List ℕ) → list_all t p ≡ true → list_all is_alphanumeric p ≡ true
 alphanumeric-from_class t e p h = list_all-from_AllPass is_alphanumeric p (All-from_list_all t (λ b. is_alphanumeric b ≡ true) e p h)
 
@@ -70,9 +69,8 @@ alphanumeric-from_letters = alphanumeric-from_class is_alphabetic (λ b a. grind
 -- a language, a script or a region has letters and digits alone
 pub alphanumeric-from_subtag : (p : List ℕ) → (is_language p || is_script p || is_region p) ≡ true → list_all is_alphanumeric p ≡ true
 alphanumeric-from_subtag p h =
-    let letters = alphanumeric-from_letters p in
     let digits = alphanumeric-from_class is_digit (λ b a. grind arith) p in
-    grind arith
+    grind (arith, alphanumeric-from_letters)
 
 -- and is a text
 pub IsStrictText-from_subtag : (p : List ℕ) (n : ℕ) → (is_language p || is_script p || is_region p) ≡ true → length p ≤ n → IsStrictText p n
@@ -86,34 +84,33 @@ ask-same p (b ∷ t) = refl
 -- to fold letters and digits is to put them in lowercase
 pub fold_text-alphanumeric : (p : List ℕ) → list_all is_alphanumeric p ≡ true → fold_text p ≡ lowercase p
 fold_text-alphanumeric [] h = refl
-fold_text-alphanumeric (b ∷ p) h = ap₂ (λ (x : ℕ) (y : List ℕ). x ∷ y) (grind (arith, nat_tests)) (fold_text-alphanumeric p (grind arith))
+fold_text-alphanumeric (b ∷ p) h = let rest = fold_text-alphanumeric p (grind arith) in grind (arith, nat_tests)
 
--- the titlecase of a text in lowercase or in titlecase is that of the text
-titlecase-lowercase_titlecase : (t : List ℕ) → (titlecase (lowercase t) ≡ titlecase t) × (titlecase (titlecase t) ≡ titlecase t)
-titlecase-lowercase_titlecase [] = (refl, refl)
-titlecase-lowercase_titlecase (b ∷ t) =
-    let rest = map-map_absorbed lower lower (λ c. grind (arith, nat_tests)) t in
-    (ap₂ (λ (x : ℕ) (y : List ℕ). x ∷ y) (grind (arith, nat_tests)) rest, ap₂ (λ (x : ℕ) (y : List ℕ). x ∷ y) (grind (arith, nat_tests)) rest)
-
--- a script, folded, has the same titlecase
-pub titlecase-fold_text : (p : List ℕ) → is_script p ≡ true → titlecase (fold_text p) ≡ titlecase p
-titlecase-fold_text p h = ap titlecase (fold_text-alphanumeric p (alphanumeric-from_subtag p (grind arith))) ∙ (titlecase-lowercase_titlecase p).0
-
--- a region, folded, has the same uppercase
-pub uppercase-fold_text : (p : List ℕ) → is_region p ≡ true → uppercase (fold_text p) ≡ uppercase p
-uppercase-fold_text p h = ap uppercase (fold_text-alphanumeric p (alphanumeric-from_subtag p (grind arith))) ∙ map-map_absorbed raise lower (λ b. grind (arith, nat_tests)) p
+-- a script or a region, folded, has the same canonical form
+pub canonical_subtag-fold_text : (p : List ℕ) → (is_script p || is_region p) ≡ true → canonical_subtag (fold_text p) ≡ canonical_subtag p
+canonical_subtag-fold_text p h =
+    let lowered = fold_text-alphanumeric p (alphanumeric-from_subtag p (grind arith)) in
+    let raised = map-map_absorbed raise lower (λ b. grind (arith, nat_tests)) p in
+    rw (is_script-fold_text p, lowered, (titlecase_absorbed p).2, raised) refl
 
 -- a well-formed subtag is canonical in its case: a language in lowercase, a script in titlecase, a region in uppercase
 in_its_case : (t : List ℕ → Bool) (f : List ℕ → List ℕ) → ((p : List ℕ) → t (fold_text p) ≡ t p) → ((p : List ℕ) → fold_text (f p) ≡ fold_text p) → ((p : List ℕ) → f (f p) ≡ f p) → (p : List ℕ) → t p ≡ true → IsCanonicalSubtag t f (f p)
-in_its_case t f same folded twice p h = record { well_formed = same_test_from_fold_text t same (f p) p (folded p) ∙ h; canonical = twice p }
+in_its_case t f same folded twice p h = record { well_formed = cc (same (f p), same p, folded p); canonical = twice p }
 
 pub IsCanonicalSubtag-lowercase : (p : List ℕ) → is_language p ≡ true → IsCanonicalSubtag is_language lowercase (lowercase p)
 IsCanonicalSubtag-lowercase = in_its_case is_language lowercase is_language-fold_text (map-map_absorbed fold_byte lower (λ b. grind (arith, nat_tests))) (map-map_absorbed lower lower (λ b. grind (arith, nat_tests)))
 
 pub IsCanonicalSubtag-titlecase : (p : List ℕ) → is_script p ≡ true → IsCanonicalSubtag is_script titlecase (titlecase p)
-IsCanonicalSubtag-titlecase = in_its_case is_script titlecase is_script-fold_text fold_text-titlecase (λ p. (titlecase-lowercase_titlecase p).1)
+IsCanonicalSubtag-titlecase = in_its_case is_script titlecase is_script-fold_text (λ p. (titlecase_absorbed p).0) (λ p. (titlecase_absorbed p).1)
 
 pub IsCanonicalSubtag-uppercase : (p : List ℕ) → is_region p ≡ true → IsCanonicalSubtag is_region uppercase (uppercase p)
 IsCanonicalSubtag-uppercase = in_its_case is_region uppercase is_region-fold_text (map-map_absorbed fold_byte raise (λ b. grind (arith, nat_tests))) (map-map_absorbed raise raise (λ b. grind (arith, nat_tests)))
 
-pub ruleset subtag_steps = (IsStrictText-from_subtag, ask-same, IsCanonicalSubtag-lowercase, IsCanonicalSubtag-titlecase, IsCanonicalSubtag-uppercase)
+-- a region is two letters or three digits
+pub two_letters : (p : List ℕ) → length p ≡ 2 → ask is_alphabetic is_alphabetic p ≡ true → IsCanonicalSubtag is_region uppercase (uppercase p)
+two_letters p two h = IsCanonicalSubtag-uppercase p (rw (← ask-same is_alphabetic p, h, two) refl)
+
+pub three_digits : (p : List ℕ) → length p ≡ 3 → ask is_digit is_digit p ≡ true → IsCanonicalSubtag is_region uppercase (uppercase p)
+three_digits p three h = let digits = sym (ask-same is_digit p) ∙ h in IsCanonicalSubtag-uppercase p (grind (arith, nat_tests))
+
+pub ruleset subtag_steps = (IsStrictText-from_subtag, ask-same, IsCanonicalSubtag-titlecase, two_letters, three_digits)

@@ -4,8 +4,8 @@ use Rattle.std.proofs.Common.{◌≡◌, ◌≤◌, ◌↔◌, ℕ, List, length
 use Rattle.std.specs.List.{slice_split}
 use Rattle.subtags.specs.Grammar.{is_separator, fold_text, subtags_of, IsLangId, IsCanonical, canonical_text}
 use Rattle.subtags.specs.Subtags.{language_of, script_of, region_of, join_subtags}
-use Rattle.subtags.proofs.CanonLemmas.{join_subtags-IsCanonical, IsCanonical-canonical_text, fold_text-canonical_text, same_canonical_text}
-use Rattle.subtags.proofs.PlaceLemmas.{length-IsCanonical, length-canonical_text}
+use Rattle.subtags.proofs.CanonLemmas.{IsCanonical-canonical_text, fold_text-canonical_text, same_canonical_text}
+use Rattle.subtags.proofs.PlaceLemmas.{InPlace-canonical, length-canonical_text}
 use Rattle.subtags.proofs.SplitLemmas.{subtags_of-fold_text}
 
 -- Folding an input and then splitting it at dashes gives the same as splitting it at separators and then folding each
@@ -27,10 +27,10 @@ pub canonical_len_same : (u : List ℕ) → length (canonical_text u) ≡ length
 canonical_len_same = length-canonical_text
 
 pub canonical_len_least : (t : List ℕ) → IsCanonical t → 2 ≤ length t
-canonical_len_least t h = (length-IsCanonical t h).0
+canonical_len_least t h = (InPlace-canonical t h).least
 
 pub canonical_len_most : (t : List ℕ) → IsCanonical t → length t ≤ 17
-canonical_len_most t h = (length-IsCanonical t h).1
+canonical_len_most t h = (InPlace-canonical t h).most
 
 pub ruleset canonical_len = (canonical_len_same, canonical_len_least, canonical_len_most)
 
@@ -40,4 +40,4 @@ fold_tells_apart = same_canonical_text
 
 -- A canonical text is its language, its script and its region, joined by dashes.
 pub joined_subtags : (t : List ℕ) → IsCanonical t → t ≡ join_subtags (language_of t) (script_of t) (region_of t)
-joined_subtags = join_subtags-IsCanonical
+joined_subtags t h = (InPlace-canonical t h).joined

@@ -51,6 +51,7 @@ impl SubtagKind<8> for LanguageKind {
 const LENGTHS: u64 = 0b1_1110_1100;
 
 /// Whether a language may have `len` letters.
+#[tactic(auto, using(crate::proofs::PlaceLemmas::length_bits))]
 #[inline(always)]
 pub(crate) fn is_language_length(len: usize) -> bool
     requires { len < 64 }
