@@ -1,5 +1,5 @@
-//! The tables of bench/calls: the calls compared with the original crate's, with those of tinystr 0.3.2 and unic-langid where
-//! they are installed, and with vectors written by hand.
+//! The tables of bench/calls: the calls compared with the original crate's, and with those of unic-langid where it is
+//! installed.
 
 mod batch;
 mod callgrind;
@@ -22,12 +22,9 @@ use measure::Measure;
 use random::Random;
 use row::{Contender, HERE, Row, THERE};
 use std::hint::black_box;
-#[cfg(has_older)]
-use theirs::older;
 use theirs::original::questions::{QUESTIONS, Question};
 use theirs::original::numbers::*;
 use theirs::original::{self, COUNT};
-use theirs::by_hand;
 
 const CAPACITIES: [usize; 7] = [4, 8, 12, 16, 24, 32, 64];
 const ROUNDS: usize = 100;
@@ -38,10 +35,6 @@ const RECORDS: usize = 1_000_000;
 
 /// The number of lists that are read once in a round, so that no branch predictor learns their lengths.
 const BATCHES: usize = 32;
-
-#[cfg(has_older)]
-const OLDER: row::Whose = "0.3.2";
-const BY_HAND: row::Whose = "by hand";
 
 /// The table whose rows are being measured, and the part of a name that selects calls.
 struct Bench {
@@ -84,30 +77,23 @@ impl Bench {
     fn take_batch(&mut self, given: &Batch) {
         let n = given.capacity;
         macro_rules! take {
-            ($call:literal, $name:ident $before:tt $after:tt -> $made:tt $(, and $older:ident $(, and $hand:ident)?)?) => {
-                self.take($call, n, &[
-                    contender!(HERE, ours $name $before $after $made),
-                    contender!(THERE, original $name $before $after $made),
-                    $(
-                        #[cfg(has_older)] contender!(OLDER, $older $name $before $after $made),
-                        $(contender!(BY_HAND, $hand $name $before $after $made),)?
-                    )?
-                ])
+            ($call:literal, $name:ident $before:tt $after:tt -> $made:tt) => {
+                self.take($call, n, both!($name $before $after -> $made))
             };
         }
-        take!("try_from_utf8", read8(n, READ)(&given.units, &given.starts) -> (texts, codes), and older);
+        take!("try_from_utf8", read8(n, READ)(&given.units, &given.starts) -> (texts, codes));
         take!("try_from_utf16", read16(n, READ)(&given.wide, &given.starts) -> (texts, codes));
         take!("try_from_raw", read8(n, RAW)(&given.texts, &given.raw_starts) -> (texts, codes));
         take!("from_utf8_lossy", read8(n, LOSSY)(&given.units, &given.starts) -> (texts, codes));
-        take!("cmp", compare(n, ORDER)(&given.texts, &given.others) -> (marks), and older);
-        take!("==", compare(n, EQUALITY)(&given.texts, &given.others) -> (marks), and older);
-        take!("len", ask(n, LEN)(&given.texts) -> (marks), and older);
-        take!("is_ascii_alphabetic", ask(n, ALPHABETIC)(&given.texts) -> (marks), and older, and by_hand);
-        take!("is_ascii_alphanumeric", ask(n, ALPHANUMERIC)(&given.texts) -> (marks), and older);
-        take!("is_ascii_lowercase", ask(n, LOWERCASE)(&given.texts) -> (marks), and older, and by_hand);
-        take!("to_ascii_lowercase", change(n, LOWER)(&given.texts) -> (texts), and older, and by_hand);
-        take!("to_ascii_titlecase", change(n, TITLE)(&given.texts) -> (texts), and older);
-        take!("to_ascii_uppercase", change(n, UPPER)(&given.texts) -> (texts), and older);
+        take!("cmp", compare(n, ORDER)(&given.texts, &given.others) -> (marks));
+        take!("==", compare(n, EQUALITY)(&given.texts, &given.others) -> (marks));
+        take!("len", ask(n, LEN)(&given.texts) -> (marks));
+        take!("is_ascii_alphabetic", ask(n, ALPHABETIC)(&given.texts) -> (marks));
+        take!("is_ascii_alphanumeric", ask(n, ALPHANUMERIC)(&given.texts) -> (marks));
+        take!("is_ascii_lowercase", ask(n, LOWERCASE)(&given.texts) -> (marks));
+        take!("to_ascii_lowercase", change(n, LOWER)(&given.texts) -> (texts));
+        take!("to_ascii_titlecase", change(n, TITLE)(&given.texts) -> (texts));
+        take!("to_ascii_uppercase", change(n, UPPER)(&given.texts) -> (texts));
         take!("new_unsigned_decimal", decimal(n)(&given.numbers) -> (texts, marks));
         take!("resize to 2N", resize(n, 2 * n)(&given.texts) -> (texts));
         take!("resize to 4", resize(n, 4)(&given.texts) -> (texts));

@@ -4,27 +4,16 @@ from argparse import ArgumentParser, Namespace
 from statistics import mean, median
 
 from measurements.machine import BUSY
-from measurements.results import THERE, Cell, Results, by_call
+from measurements.results import THERE, Results, by_call
 from measurements.tables import cells_of_table, geometric, ratio_table, ratios_of, type_tables
-
-# The tables that compare with others than the original, each with whose calls it has.
-OTHERS = {"Compared with tinystr 0.3.2": "0.3.2", "Compared with vectors written by hand": "by hand"}
-
-
-def print_ratios(title: str, rows: dict[str, dict[str, Cell]], results: Results, rival: str, options: Namespace) -> None:
-    if rows:
-        print(f"\n{title}\n\n{ratio_table(rows, results, rival, options.times, bool(options.instructions))}")
-        ratios = [ratio for row in rows.values() for ratio in ratios_of(results, row.values(), rival)]
-        print(f"Geometric mean of all: {geometric(ratios):.2f}")
 
 
 def print_all_ratios(results: Results, options: Namespace) -> None:
     for table in results.tables():
-        print_ratios(table, by_call(cells_of_table(results, table)), results, THERE, options)
-    for title, rival in OTHERS.items():
-        cells = [cell for cell in results.times if rival in results.times[cell]]
-        rows = by_call(cells, lambda cell: f"{cell[2]} {cell[0].split()[0].lower()}")
-        print_ratios(title, rows, results, rival, options)
+        rows = by_call(cells_of_table(results, table))
+        print(f"\n{table}\n\n{ratio_table(rows, results, THERE, options.times, bool(options.instructions))}")
+        ratios = [ratio for row in rows.values() for ratio in ratios_of(results, row.values(), THERE)]
+        print(f"Geometric mean of all: {geometric(ratios):.2f}")
 
 
 def noise(results: Results) -> list[str]:
