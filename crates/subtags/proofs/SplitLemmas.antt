@@ -13,7 +13,7 @@ use Rattle.subtags.specs.Private.Tails.{first_subtag}
 use Rattle.subtags.proofs.FoldLemmas.{All-from_list_all}
 
 -- to change the bytes and then split is to split and then change the subtags
-slice_split-map : (f : ℕ → ℕ) (p q : ℕ → Bool) → ((b : ℕ) → p (f b) ≡ q b) → (u : List ℕ) → slice_split p (map f u) ≡ map (map f) (slice_split q u)
+pub slice_split-map : (f : ℕ → ℕ) (p q : ℕ → Bool) → ((b : ℕ) → p (f b) ≡ q b) → (u : List ℕ) → slice_split p (map f u) ≡ map (map f) (slice_split q u)
 slice_split-map f p q e [] = refl
 slice_split-map f p q e (b ∷ u) =
     let here = e b in

@@ -1,14 +1,14 @@
 //! The first sixteen bytes of an input in a vector: their classes, and the texts that they become. This module alone is about
 //! padded bytes.
 
-ghost use Rattle.std.specs.Prelude.{◌≡◌, ◌<◌, ◌≤◌, ◌+◌, ◌-◌, ◌^◌, ◌++◌, ◌∷◌, [], if◌then◌else◌, length, map, take, drop, replicate};
-ghost use Rattle.std.specs.List.{slice_index};
+ghost use Rattle.std.specs.Prelude.{◌≡◌, ◌<◌, ◌≤◌, ◌+◌, ◌^◌, ◌++◌, ◌∷◌, [], if◌then◌else◌, length, map, true};
+ghost use Rattle.std.specs.List.{list_all, position_or_len, slice_index};
 ghost use Rattle.std.specs.Simd.Lanes.{mask_l};
 ghost use Rattle.tinystr_words.specs.Classes.{is_alphabetic, is_digit};
-ghost use Rattle.tinystr_words.specs.Text.{IsPaddedText, IsText, pad, text_of};
-ghost use Rattle.subtags.specs.Grammar.{fold_byte, is_separator};
+ghost use Rattle.tinystr_words.specs.Text.{IsPaddedText, pad, text_of};
+ghost use Rattle.subtags.specs.Grammar.{IsLangId, canonical_text, fold_byte, fold_text, is_separator};
 ghost use Rattle.subtags.specs.Private.Lanes.{IsLoaded, steps_of};
-ghost use Rattle.subtags.specs.Private.Tails.{IsLike, example, in_case_of};
+ghost use Rattle.subtags.specs.Private.Tails.{example, tail_example};
 
 use std::simd::prelude::*;
 use tinystr::TinyAsciiStr;
@@ -71,27 +71,25 @@ pub(crate) fn separators_of(units: &[u8], lanes: u8x16) -> u64
     }
 }
 
-/// The folded text of at most eight bytes. The bytes are there for the contract.
+/// The folded text of at most eight letters. The bytes are there for the contract.
 #[inline(always)]
 pub(crate) fn folded_text(_units: &[u8], lanes: u8x16) -> TinyAsciiStr<17>
     requires few { length _units.now ≤ 8 }
     requires loaded { IsLoaded lanes _units.now }
-    requires text { IsText (map fold_byte _units.now) }
-    ensures { result ≡ map fold_byte _units.now }
+    requires letters { list_all is_alphabetic _units.now ≡ true }
+    ensures { result ≡ fold_text _units.now }
 {
     text_of(folded(lanes), 0)
 }
 
-/// The text of at most 17 bytes: a language of `end` letters in lowercase, and a tail in the case of the example.
+/// The canonical text of an identifier, whose language has `end` letters: its tail is in the case of the example.
+#[tactic(auto, using(crate::proofs::LaneTexts::sizes))]
 #[inline(always)]
 pub(crate) fn text_in_case(units: &[u8], lanes: u8x16, end: usize) -> TinyAsciiStr<17>
-    requires few { length units.now ≤ 17 }
+    requires accepted { IsLangId units.now }
     requires loaded { IsLoaded lanes units.now }
-    requires language { end ≤ 8 }
-    requires inside { end < length units.now }
-    requires like { IsLike (example (length units.now - end)) (drop end units.now) }
-    requires text { IsText (map fold_byte (take end units.now) ++ in_case_of (example (length units.now - end)) (drop end units.now)) }
-    ensures { result ≡ map fold_byte (take end units.now) ++ in_case_of (example (length units.now - end)) (drop end units.now) }
+    requires language { end ≡ position_or_len is_separator units.now }
+    ensures { result ≡ canonical_text units.now }
 {
     let steps = steps(end, units.len() - end);
     text_of(folded(lanes) - steps, last_of(units))
@@ -176,30 +174,18 @@ fn folded(lanes: u8x16) -> u8x16
 // By how much each byte of the example of each length is below a lowercase letter, after eight zeros for a language, and
 // before zeros.
 static LOWERED: [[u8; 24]; 10] = [
-    [
-        0, 0, 0, 0, 0, 0, 0, 0, 0, 0, 0, 0, 0, 0, 0, 0, 0, 0, 0, 0, 0, 0, 0, 0,
-    ],
-    [
-        0, 0, 0, 0, 0, 0, 0, 0, 0, 0, 0, 0, 0, 0, 0, 0, 0, 0, 0, 0, 0, 0, 0, 0,
-    ],
-    [
-        0, 0, 0, 0, 0, 0, 0, 0, 0, 0, 0, 0, 0, 0, 0, 0, 0, 0, 0, 0, 0, 0, 0, 0,
-    ],
+    [0; 24],
+    [0; 24],
+    [0; 24],
     [
         0, 0, 0, 0, 0, 0, 0, 0, 0, 32, 32, 0, 0, 0, 0, 0, 0, 0, 0, 0, 0, 0, 0, 0,
     ],
-    [
-        0, 0, 0, 0, 0, 0, 0, 0, 0, 0, 0, 0, 0, 0, 0, 0, 0, 0, 0, 0, 0, 0, 0, 0,
-    ],
+    [0; 24],
     [
         0, 0, 0, 0, 0, 0, 0, 0, 0, 32, 0, 0, 0, 0, 0, 0, 0, 0, 0, 0, 0, 0, 0, 0,
     ],
-    [
-        0, 0, 0, 0, 0, 0, 0, 0, 0, 0, 0, 0, 0, 0, 0, 0, 0, 0, 0, 0, 0, 0, 0, 0,
-    ],
-    [
-        0, 0, 0, 0, 0, 0, 0, 0, 0, 0, 0, 0, 0, 0, 0, 0, 0, 0, 0, 0, 0, 0, 0, 0,
-    ],
+    [0; 24],
+    [0; 24],
     [
         0, 0, 0, 0, 0, 0, 0, 0, 0, 32, 0, 0, 0, 0, 32, 32, 0, 0, 0, 0, 0, 0, 0, 0,
     ],
@@ -214,18 +200,17 @@ static LOWERED: [[u8; 24]; 10] = [
 #[inline(always)]
 fn steps(end: usize, len: usize) -> u8x16
     requires language { end ≤ 8 }
-    requires tail { length (example len) ≡ len }
-    requires few { end + len ≤ 17 }
-    ensures { result ≡ take 16 (pad (replicate end 0 ++ steps_of (example len)) 17) }
+    requires tail { length (tail_example len) ≡ len }
+    ensures { IsLoaded result (steps_of (example end len)) }
 {
     u8x16::from_slice(&table(len)[8 - end..])
 }
 
-// The steps of a tail after eight zeros, and then zeros.
+// The steps of an example after eight letters, and then zeros.
 #[inline(always)]
 fn table(len: usize) -> &'static [u8; 24]
     requires { len ≤ 9 }
-    ensures { result.now ≡ pad (replicate 8 0 ++ steps_of (example len)) 24 }
+    ensures { result.now ≡ pad (steps_of (example 8 len)) 24 }
 {
     &LOWERED[len]
 }

@@ -1,10 +1,7 @@
 //! A language, and what follows it: a script, a region, or both, each after a separator.
 
-ghost use Rattle.std.specs.Prelude.{◌≡◌, ◌≤◌, ◌<◌, ◌↔◌, IsTrue, length, map};
-ghost use Rattle.std.specs.Simd.Lanes.{mask_l};
-ghost use Rattle.tinystr_words.specs.Classes.{is_alphabetic, is_digit};
-ghost use Rattle.subtags.specs.Grammar.{is_separator};
-ghost use Rattle.subtags.specs.Private.Tails.{HasTail, example, one_more};
+ghost use Rattle.std.specs.Prelude.{◌≡◌, ◌≤◌, ◌<◌, ◌↔◌, IsTrue, length};
+ghost use Rattle.subtags.specs.Private.Tails.{AreClassesOf, HasTail, one_more, tail_example};
 
 use crate::classes::Classes;
 use crate::language::is_language_length;
@@ -16,9 +13,7 @@ use crate::language::is_language_length;
 pub(crate) fn has_tail(classes: &Classes, units: &[u8], end: usize) -> bool
     requires few { length units.now ≤ 17 }
     requires inside { end ≤ length units.now }
-    requires letters { classes.now.letters ≡ mask_l (map is_alphabetic units.now) }
-    requires digits { classes.now.digits ≡ mask_l (map is_digit units.now) }
-    requires separators { classes.now.separators ≡ mask_l (map is_separator units.now) }
+    requires bits { AreClassesOf classes.now units.now }
     ensures { IsTrue result ↔ HasTail end units.now }
 {
     if !is_language_length(end) {
@@ -53,7 +48,7 @@ static EXAMPLES: [u64; 18] = [
 #[inline(always)]
 fn one_more(len: usize) -> u64
     requires { len < 18 }
-    ensures { result ≡ one_more (example len) }
+    ensures { result ≡ one_more (tail_example len) }
 {
     EXAMPLES[len]
 }
