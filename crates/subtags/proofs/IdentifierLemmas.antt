@@ -6,7 +6,7 @@ use Rattle.std.proofs.lemmas.Bool.Decides.{nat_tests}
 use Rattle.std.proofs.lemmas.List.{take_all, take-take}
 use Rattle.std.proofs.lemmas.List.Elements.{All-append, All-nil, All-cons}
 use Rattle.tinystr_words.specs.Classes.{is_alphabetic, is_alphanumeric}
-use Rattle.tinystr_words.specs.Text.{IsStrictText, IsText, IsTextByte}
+use Rattle.tinystr_words.specs.Text.{IsText, IsTextByte}
 use Rattle.subtags.specs.Grammar.{dash, is_separator, is_language, is_language_length, is_tail, fold_text, subtags_of, is_lang_id, IsLangId, canonical_subtag, canonical_text, canonical_of}
 use Rattle.subtags.specs.declared.error.LangIdError.TheVariants.{InvalidLanguage}
 use Rattle.subtags.specs.Answers.{refusal_of}

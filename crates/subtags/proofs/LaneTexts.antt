@@ -1,5 +1,5 @@
 -- The text of an identifier in a vector: folded bytes, some of which are lowered into another case.
-use Rattle.std.proofs.Common.{inl, inr, ◌≡◌, ◌+◌, ◌-◌, ◌<◌, ◌≤◌, ℕ, zero, suc, Bool, true, List, [], ◌∷◌, ◌++◌, length, map, take, drop, get_or, replicate, cond, ap, ap₂, refl, sym, ◌∙◌, w8, arith}
+use Rattle.std.proofs.Common.{inl, inr, ◌≡◌, ◌+◌, ◌-◌, ◌<◌, ◌≤◌, ℕ, zero, suc, true, List, [], ◌∷◌, ◌++◌, length, map, take, drop, get_or, replicate, cond, ap, ap₂, refl, sym, ◌∙◌, w8, arith}
 use lib.Lanes.{zip2}
 use mir.Val.{Fits}
 use Rattle.std.specs.List.{list_all, position_or_len}

@@ -1,5 +1,5 @@
 -- The classes of an input's bytes, as a text: they show whether it is an identifier, and where its canonical text has capitals.
-use Rattle.std.proofs.Common.{inl, inr, codes, ◌⊎◌, ◌&&◌, ◌≡◌, ◌+◌, ◌-◌, ◌≤◌, ◌<◌, ℕ, zero, suc, Bool, true, false, ◌==◌, List, [], ◌∷◌, ◌++◌, length, map, replicate, append-nil, refl, sym, ap, ap₂, ◌∙◌, cond, arith}
+use Rattle.std.proofs.Common.{inl, inr, codes, ◌⊎◌, ◌&&◌, ◌≡◌, ◌-◌, ◌≤◌, ◌<◌, ℕ, zero, suc, Bool, true, false, ◌==◌, List, [], ◌∷◌, ◌++◌, length, map, replicate, append-nil, refl, sym, ap, ap₂, ◌∙◌, cond, arith}
 use Rattle.std.specs.List.{list_all, slice_split, join_with_byte, position_or_len}
 use Rattle.std.proofs.lemmas.Bool.{or_cases, false≢true}
 use Rattle.std.proofs.lemmas.Bool.Decides.{nat_tests}
