@@ -1,22 +1,21 @@
 -- An identifier is read from its first 17 bytes.
-use Rattle.std.proofs.Common.{not, zero, min, inl, inr, suc, ◌≡◌, ◌+◌, ◌-◌, ◌<◌, ◌≤◌, ◌&&◌, ℕ, lit<, Bool, true, false, List, [], ◌∷◌, length, map, take, None, refl, sym, ◌∙◌, cond, arith}
-use Rattle.std.specs.List.{list_all, join_with_byte, position_or_len}
+use Rattle.std.proofs.Common.{not, zero, min, inl, inr, suc, ◌≡◌, ◌+◌, ◌-◌, ◌<◌, ◌≤◌, ◌&&◌, ℕ, Bool, true, false, List, [], ◌∷◌, length, map, take, None, refl, sym, ◌∙◌, cond, arith}
+use Rattle.std.specs.List.{All, list_all, join_with_byte, position_or_len}
 use Rattle.std.proofs.lemmas.Bool.{cases_lt, false_from_ne_true}
 use Rattle.std.proofs.lemmas.Bool.Decides.{nat_tests}
 use Rattle.std.proofs.lemmas.List.{take_all, take-take}
 use Rattle.std.proofs.lemmas.List.Elements.{All-append, All-nil, All-cons}
 use Rattle.tinystr_words.specs.Classes.{is_alphabetic, is_alphanumeric}
-use Rattle.tinystr_words.specs.Text.{IsText, IsTextByte}
 use Rattle.subtags.specs.Grammar.{dash, is_separator, is_language, is_language_length, is_tail, fold_text, subtags_of, is_lang_id, IsLangId, canonical_subtag, canonical_text, canonical_of}
 use Rattle.subtags.specs.declared.error.LangIdError.TheVariants.{InvalidLanguage}
 use Rattle.subtags.specs.Answers.{refusal_of}
-use Rattle.subtags.specs.Private.Tails.{HasTail, first_subtag}
+use Rattle.subtags.specs.Private.Tails.{first_subtag}
 use Rattle.subtags.proofs.CanonLemmas.{IsCanonical-canonical_text, fold_text-canonical_text, is_tail-canonical, plain_subtags}
 use Rattle.subtags.proofs.FoldLemmas.{All-from_list_all, is_language-fold_text, alphanumeric-fold_text, alphanumeric-from_letters}
 use Rattle.subtags.proofs.HeadLemmas.{length-first_subtag, end-le, refusal_by_language}
 use Rattle.subtags.proofs.SplitLemmas.{subtags_after, subtags_at_first_separator, subtags_of-alphanumeric}
 use Rattle.subtags.proofs.PlaceLemmas.{length-language}
-use Rattle.subtags.proofs.TailLemmas.{example_of_id, id_of_example, more_than_letters, sizes-id}
+use Rattle.subtags.proofs.TailLemmas.{most_id}
 
 -- the first that passes among the first n
 position_or_len-take : (p : ℕ → Bool) (n : ℕ) (xs : List ℕ) → position_or_len p (take n xs) ≡ min n (position_or_len p xs)
@@ -39,19 +38,21 @@ first_subtag-take u =
       | inr near ↦ (let at : position_or_len is_separator (take 17 u) ≡ position_or_len is_separator u = omega (arith, found, near) in rw (at, take-take (position_or_len is_separator u) 17 u near) refl)
     ]
 
--- a canonical text is a text
-IsText-join : (ps : List (List ℕ)) → list_all (list_all is_alphanumeric) ps ≡ true → IsText (join_with_byte dash ps)
-IsText-join [] plain = All-nil IsTextByte
-IsText-join (p ∷ []) plain = All-from_list_all is_alphanumeric IsTextByte (λ b a. grind (arith, nat_tests)) p (grind arith)
-IsText-join (p ∷ q ∷ ps) plain =
-    All-append IsTextByte p (dash ∷ join_with_byte dash (q ∷ ps)) (All-from_list_all is_alphanumeric IsTextByte (λ b a. grind (arith, nat_tests)) p (grind arith))
-    (All-cons IsTextByte dash (join_with_byte dash (q ∷ ps)) (lit< tt, lit< tt) (IsText-join (q ∷ ps) (grind arith)))
+-- what is so of letters, digits and dashes is so of all bytes of a canonical text
+All-join : (P : ℕ → Type 0) → ((b : ℕ) → is_alphanumeric b ≡ true → P b) → P dash → (ps : List (List ℕ)) → list_all (list_all is_alphanumeric) ps ≡ true → All P (join_with_byte dash ps)
+All-join P each one [] plain = All-nil P
+All-join P each one (p ∷ []) plain = All-from_list_all is_alphanumeric P each p (grind arith)
+All-join P each one (p ∷ q ∷ ps) plain =
+    All-append P p (dash ∷ join_with_byte dash (q ∷ ps)) (All-from_list_all is_alphanumeric P each p (grind arith))
+    (All-cons P dash (join_with_byte dash (q ∷ ps)) one (All-join P each one (q ∷ ps) (grind arith)))
 
-pub IsText-canonical_text : (u : List ℕ) → IsLangId u → IsText (canonical_text u)
-IsText-canonical_text u h =
+pub All-canonical_text : (P : ℕ → Type 0) → ((b : ℕ) → is_alphanumeric b ≡ true → P b) → P dash → (u : List ℕ) → IsLangId u → All P (canonical_text u)
+All-canonical_text P each one u h =
+    let l = fold_text (first_subtag u) in
+    let ps = subtags_after u in
     let split = subtags_at_first_separator u in
-    let all : (is_language (fold_text (first_subtag u)) && is_tail (subtags_after u)) ≡ true = rw split at h in
-    rw split (IsText-join (fold_text (first_subtag u) ∷ map canonical_subtag (subtags_after u)) (plain_subtags (fold_text (first_subtag u)) (map canonical_subtag (subtags_after u)) (grind arith) (is_tail-canonical (subtags_after u) (grind arith))))
+    let all : (is_language l && is_tail ps) ≡ true = rw split at h in
+    rw split (All-join P each one (l ∷ map canonical_subtag ps) (plain_subtags l (map canonical_subtag ps) (grind arith) (is_tail-canonical ps (grind arith))))
 
 -- ---- letters alone
 
@@ -70,24 +71,13 @@ letters_refusal u letters wrong = rw (letters_alone u letters, is_language-fold_
 pub letters_few : (n : ℕ) → is_language_length n ≡ true → n ≤ 8
 letters_few n size = grind (arith, nat_tests)
 
--- ---- a language and a tail
-
-pub tail_id : (u : List ℕ) (e : ℕ) → HasTail e u → is_lang_id (subtags_of (fold_text u)) ≡ true
-tail_id u e h = id_of_example u e (length u - e) h.language h.more h.like
-
--- where not all bytes are letters, a tail follows the language of an identifier
-pub other_no_id : (u : List ℕ) (e : ℕ) → list_all is_alphabetic u ≡ false → e ≡ position_or_len is_separator u → (HasTail e u → ⊥) → is_lang_id (subtags_of (fold_text u)) ≡ false
-other_no_id u e other end none = false_from_ne_true (is_lang_id (subtags_of (fold_text u))) λ h.
-    let x = rw (← end) at (example_of_id u h) in
-    none record { language = x.language; more = more_than_letters u e (length u - e) other x.size x.like; like = x.like }
-
 -- ---- more bytes than an identifier has
 
 pub more_refused : (u : List ℕ) → 17 < length u → canonical_of u ≡ None
 more_refused u more =
-    let no = false_from_ne_true (is_lang_id (subtags_of (fold_text u))) (λ h. absurd (omega (arith, more, (sizes-id u h).1))) in
+    let no = false_from_ne_true (is_lang_id (subtags_of (fold_text u))) (λ h. absurd (omega (arith, more, most_id u h))) in
     rw no refl
 
-pub ruleset reading = (letters_id, letters_text, letters_refusal, letters_few, tail_id, other_no_id, fold_text-canonical_text, IsCanonical-canonical_text, end-le, take_all)
+pub ruleset reading = (letters_id, letters_text, letters_refusal, letters_few, fold_text-canonical_text, IsCanonical-canonical_text, take_all)
 
 pub ruleset refused_more = (first_subtag-take, refusal_by_language, more_refused)

@@ -1,7 +1,6 @@
 -- The text of an identifier in a vector: folded bytes, some of which are lowered into another case.
-use Rattle.std.proofs.Common.{inl, inr, ◌≡◌, ◌+◌, ◌-◌, ◌<◌, ◌≤◌, ℕ, zero, suc, true, List, [], ◌∷◌, ◌++◌, length, map, take, drop, get_or, replicate, cond, ap, ap₂, refl, sym, ◌∙◌, w8, arith}
+use Rattle.std.proofs.Common.{lit<, inl, inr, ◌≡◌, ◌+◌, ◌-◌, ◌<◌, ◌≤◌, ℕ, true, List, [], ◌∷◌, ◌++◌, length, map, take, drop, get_or, replicate, cond, ap, ap₂, refl, sym, ◌∙◌, arith}
 use lib.Lanes.{zip2}
-use mir.Val.{Fits}
 use Rattle.std.specs.List.{list_all, position_or_len}
 use Rattle.std.proofs.Math.ListN.{get_or-map, get_or-append}
 use Rattle.std.proofs.Math.Seq.{get_or-append_seam}
@@ -11,7 +10,7 @@ use Rattle.std.proofs.lemmas.Grind.{same_number_lists}
 use Rattle.std.proofs.lemmas.List.{take_all, take-take, length-append, length-take, length-drop, length-map, length-replicate, get_or-take, get_or-drop, get_or_past, drop-append-le, drop-replicate, drop-map}
 use Rattle.std.proofs.lemmas.List.Elements.{All-map}
 use Rattle.std.proofs.lemmas.Simd.{length-zip2, get_or-zip2}
-use Rattle.tinystr_words.specs.Classes.{is_alphabetic, is_upper}
+use Rattle.tinystr_words.specs.Classes.{is_alphabetic, is_alphanumeric, is_upper}
 use Rattle.tinystr_words.specs.Text.{IsPaddedText, IsText, IsTextByte, pad, text_of}
 use Rattle.tinystr_words.proofs.Texts.{NULS, length-pad, get_or-pad, IsPaddedText-places}
 use Rattle.subtags.specs.Grammar.{is_separator, fold_byte, fold_text, IsLangId, canonical_text}
@@ -19,24 +18,21 @@ use Rattle.subtags.specs.Private.Lanes.{IsLoaded, steps_of}
 use Rattle.subtags.specs.Private.Tails.{class_of, tail_example, example}
 use Rattle.subtags.proofs.FoldLemmas.{All-from_list_all}
 use Rattle.subtags.proofs.HeadLemmas.{end-le}
-use Rattle.subtags.proofs.IdentifierLemmas.{IsText-canonical_text}
+use Rattle.subtags.proofs.IdentifierLemmas.{All-canonical_text}
 use Rattle.subtags.proofs.LaneClasses.{less}
 use Rattle.subtags.proofs.PlaceLemmas.{length-canonical_text}
-use Rattle.subtags.proofs.TailLemmas.{length-tail_example, in_case_of, in_case_of_byte, text_by_classes, example_of_id, sizes-id, few_id, size_id}
+use Rattle.subtags.proofs.TailLemmas.{cased, cased-canonical_text, example_of_id, few_id, length-tail_example, most_id}
+use Rattle.subtags.proofs.CanonLemmas.{fold_text-canonical_text}
 
-less-step : (a b : ℕ) → b < 256 → class_of b ≡ class_of a → less (fold_byte b) (cond (is_upper a) 32 0) ≡ in_case_of_byte a (fold_byte b)
-less-step a b small same = grind (arith, nat_tests)
+-- a folded byte, lowered where its class has a capital
+abbrev lowered : ℕ → ℕ → ℕ
+lowered b a = less (fold_byte b) (cond (is_upper a) 32 0)
 
-less-digit : (b : ℕ) → class_of b ≡ 0x30 → less (fold_byte b) 0 ≡ b
-less-digit b digit = grind (arith, nat_tests)
+lowered-cased : (b : ℕ) → is_alphanumeric b ≡ true → lowered b (cased b) ≡ b
+lowered-cased b h = grind (arith, nat_tests)
 
--- at each place, bytes are put into the case of others of their classes
-lowered : (t u : List ℕ) (k : ℕ) → get_or u k 0 < 256 → map class_of u ≡ map class_of t → less (fold_byte (get_or u k 0)) (get_or (steps_of t) k 0) ≡ get_or (in_case_of t u) k 0
-lowered [] [] k small same = refl
-lowered [] (b ∷ u) k small same = absurd cc
-lowered (a ∷ t) [] k small same = absurd cc
-lowered (a ∷ t) (b ∷ u) zero small same = less-step a b small (ap (λ l. get_or l 0 0) same)
-lowered (a ∷ t) (b ∷ u) (suc k) small same = lowered t u k small (ap (drop 1) same)
+lowered-digit : (b : ℕ) → class_of b ≡ 0x30 → lowered b 0x30 ≡ b
+lowered-digit b digit = grind (arith, nat_tests)
 
 -- sixteen bytes and one more that are a text, at each place
 held : (xs : List ℕ) (x : ℕ) (t : List ℕ) → length xs ≡ 16 → IsText t → length t ≤ 17 → ((k : ℕ) → k < 16 → get_or xs k 0 ≡ get_or t k 0) → x ≡ get_or t 16 0 → IsPaddedText (xs ++ x ∷ []) 17 × (text_of (xs ++ x ∷ []) ≡ t)
@@ -65,31 +61,37 @@ folded_held u lanes folded made few letters load =
     (λ k below. folded-at lanes u k load below ∙ sym (get_or-map fold_byte u k 0)) (sym (get_or_past (fold_text u) 16 0 (omega (arith, len)))))
 
 -- the 17th byte is a digit, or there is none
-last_kept : (u : List ℕ) (e n : ℕ) → e ≤ 8 → n ≤ 9 → length u ≡ e + n → length (example e n) ≡ e + n → map class_of u ≡ map class_of (example e n) → less (fold_byte (get_or u 16 0)) (get_or (steps_of (example e n)) 16 0) ≡ get_or u 16 0
+last_kept : (u : List ℕ) (e n : ℕ) → e ≤ 8 → n ≤ 9 → length u ≡ e + n → length (example e n) ≡ e + n → map class_of u ≡ map class_of (example e n) → lowered (get_or u 16 0) (get_or (example e n) 16 0) ≡ get_or u 16 0
 last_kept u e n short tail len same like = elim (cases_lt (length u) 17) [
-  | inl few ↦ rw (get_or_past u 16 0 (omega arith), get_or_past (steps_of (example e n)) 16 0 (omega (arith, length-map {B = ℕ} (example e n) (λ a. cond (is_upper a) 32 0)))) refl
+  | inl few ↦ rw (get_or_past u 16 0 (omega arith), get_or_past (example e n) 16 0 (omega arith)) refl
   | inr all ↦
       let eight : e ≡ 8 = omega arith in
       let nine : n ≡ 9 = omega arith in
-      rw (nine, eight) (less-digit (get_or u 16 0) (sym (get_or-map class_of u 16 0) ∙ ap (λ l. get_or l 16 0) (rw (nine, eight) at like)))
+      rw (nine, eight) (lowered-digit (get_or u 16 0) (sym (get_or-map class_of u 16 0) ∙ ap (λ l. get_or l 16 0) (rw (nine, eight) at like)))
 ]
 
-pub in_case_held : (u lanes folded steps : List ℕ) (e last : ℕ) → folded ≡ map fold_byte lanes → ((i : ℕ) → Fits w8 (get_or u i 0)) → IsLangId u → e ≡ position_or_len is_separator u → IsLoaded lanes u → IsLoaded steps (steps_of (example e (length u - e))) → last ≡ get_or u 16 0
+pub in_case_held : (u lanes folded steps : List ℕ) (e last : ℕ) → folded ≡ map fold_byte lanes → IsLangId u → e ≡ position_or_len is_separator u → IsLoaded lanes u → IsLoaded steps (steps_of (example e (length u - e))) → last ≡ get_or u 16 0
     → IsPaddedText (zip2 less folded steps ++ last ∷ []) 17 × (text_of (zip2 less folded steps ++ last ∷ []) ≡ canonical_text u)
-in_case_held u lanes folded steps e last made small h is load stepped end =
+in_case_held u lanes folded steps e last made h is load stepped end =
     let n = length u - e in
+    let t = canonical_text u in
     let x = rw (← is) at (example_of_id u h) in
-    let s = sizes-id u h in
+    let few = few_id u h in
     let size : n ≤ 9 = omega (arith, x.size, length-tail_example n) in
     let inside = end-le u in
     let len : length (example e n) ≡ length u = sym (length-map (example e n) class_of) ∙ sym (ap (λ (l : List ℕ). length l) x.like) ∙ length-map u class_of in
-    let text : canonical_text u ≡ in_case_of (example e n) u = rw x.text at (text_by_classes u) in
-    let at : (k : ℕ) → less (fold_byte (get_or u k 0)) (get_or (steps_of (example e n)) k 0) ≡ get_or (canonical_text u) k 0 = λ k. rw text (lowered (example e n) u k (small k).fits x.like) in
+    let at : (k : ℕ) → lowered (get_or u k 0) (get_or (example e n) k 0) ≡ get_or t k 0 = λ k.
+    ap₂ (λ b a. less b (cond (is_upper a) 32 0)) (sym (get_or-map fold_byte u k 0) ∙ ap (λ l. get_or l k 0) (sym (fold_text-canonical_text u)) ∙ get_or-map fold_byte t k 0) (ap (λ l. get_or l k 0) (sym (cased-canonical_text u ∙ x.text)) ∙ get_or-map cased t k 0)
+    ∙ elim (cases_lt k (length t)) [
+      | inl below ↦ All-canonical_text (λ b. lowered b (cased b) ≡ b) lowered-cased refl u h k 0 below
+      | inr past ↦ rw (get_or_past t k 0 past) refl
+    ] in
     let long = length-map lanes fold_byte ∙ length-loaded lanes u load in
     let sixteen = length-loaded steps (steps_of (example e n)) stepped in
-    rw (end, made) (held (zip2 less (map fold_byte lanes) steps) (get_or u 16 0) (canonical_text u) (length-zip2 less (map fold_byte lanes) steps (long ∙ sym sixteen) ∙ long) (IsText-canonical_text u h) (omega (arith, length-canonical_text u, s.1))
-    (λ k below. get_or-zip2 less (map fold_byte lanes) steps k 0 0 0 (omega arith) (omega arith) ∙ ap₂ less (folded-at lanes u k load below) (at-loaded steps (steps_of (example e n)) k stepped below) ∙ at k)
-    (sym (last_kept u e n (omega arith) (omega arith) (omega arith) (omega arith) x.like) ∙ at 16))
+    let text = All-canonical_text IsTextByte (λ b plain. grind (arith, nat_tests)) (lit< tt, lit< tt) u h in
+    rw (end, made) (held (zip2 less (map fold_byte lanes) steps) (get_or u 16 0) t (length-zip2 less (map fold_byte lanes) steps (long ∙ sym sixteen) ∙ long) text (omega (arith, length-canonical_text u, most_id u h))
+    (λ k below. get_or-zip2 less (map fold_byte lanes) steps k 0 0 0 (omega arith) (omega arith) ∙ ap₂ less (folded-at lanes u k load below) (at-loaded steps (steps_of (example e n)) k stepped below ∙ get_or-map (λ a. cond (is_upper a) 32 0) (example e n) k 0) ∙ at k)
+    (sym (last_kept u e n (omega arith) size (omega arith) (omega arith) x.like) ∙ at 16))
 
 -- ---- the steps in a table
 
@@ -106,5 +108,3 @@ steps_in_table e n short size =
     ∙ sym (get_or-drop (8 - e) (steps_of (example 8 n)) k 0) ∙ ap (λ (m : List ℕ). get_or m k 0) (drop-map _ (8 - e) (example 8 n) ∙ ap steps_of from) ∙ sym (get_or-pad y 16 k ∙ get_or-take 16 (steps_of (example e n)) k 0 (omega (arith, front))))
 
 pub ruleset table_steps = (steps_in_table, length-tail_example)
-
-pub ruleset sizes = (few_id, size_id, end-le)

@@ -3,19 +3,17 @@ use Rattle.std.proofs.Common.{inl, inr, codes, ◌⊎◌, ◌&&◌, ◌≡◌, �
 use Rattle.std.specs.List.{list_all, slice_split, join_with_byte, position_or_len}
 use Rattle.std.proofs.lemmas.Bool.{or_cases, false≢true}
 use Rattle.std.proofs.lemmas.Bool.Decides.{nat_tests}
-use Rattle.std.proofs.lemmas.List.{length-map, length-append, length-replicate}
+use Rattle.std.proofs.lemmas.List.{map-append, length-map, length-append, length-replicate}
 use Rattle.std.proofs.lemmas.List.Folds.{list_all-map}
-use Rattle.std.proofs.lemmas.List.Splits.{join_with_byte-slice_split}
-use Rattle.std.proofs.lemmas.Simd.{map-map, zip2-map}
-use Rattle.std.specs.Simd.Lanes.{zip2}
+use Rattle.std.proofs.lemmas.Simd.{map-map}
 use Rattle.tinystr_words.specs.Classes.{is_alphabetic, is_digit, is_upper}
 use Rattle.tinystr_words.specs.Case.{lower, raise, titlecase}
 use Rattle.subtags.specs.Grammar.{dash, is_separator, fold_byte, fold_text, subtags_of, is_language, is_language_length, is_script, is_region, is_tail, is_lang_id, canonical_subtag, canonical_subtags, canonical_text, IsLangId}
 use Rattle.subtags.specs.Private.Tails.{first_subtag, class_of, tail_example, example}
-use Rattle.subtags.proofs.FoldLemmas.{map-map_absorbed, fold_text-canonical_subtag, is_language-fold_text, is_script-fold_text, is_region-fold_text}
+use Rattle.subtags.proofs.FoldLemmas.{map-map_absorbed}
 use Rattle.subtags.proofs.SplitLemmas.{slice_split-map, subtags_of-fold_text, subtags_after, subtags_at_first_separator}
-use Rattle.subtags.proofs.CanonLemmas.{fold_text-join, fold_text-canonical_text}
-use Rattle.subtags.proofs.HeadLemmas.{length-first_subtag}
+use Rattle.subtags.proofs.CanonLemmas.{fold_text-canonical_text}
+use Rattle.subtags.proofs.HeadLemmas.{length-first_subtag, end-le}
 
 pub is_alphabetic-class_of : (b : ℕ) → is_alphabetic (class_of b) ≡ is_alphabetic b
 is_alphabetic-class_of b = grind (arith, nat_tests)
@@ -30,75 +28,56 @@ ruleset class_steps = (list_all-map, length-map, is_alphabetic-class_of, is_digi
 
 -- ---- whether it is an identifier
 
-subtags_of-classes : (u : List ℕ) → subtags_of (map class_of u) ≡ map (λ p. map class_of p) (slice_split is_separator u)
-subtags_of-classes u = slice_split-map class_of (λ b. b == dash) is_separator (λ b. grind (arith, nat_tests)) u
-
--- where a change of each subtag leaves languages, scripts and regions, it leaves identifiers
-same_id : (f : List ℕ → List ℕ) → ((p : List ℕ) → is_language (f p) ≡ is_language p) → ((p : List ℕ) → is_script (f p) ≡ is_script p) → ((p : List ℕ) → is_region (f p) ≡ is_region p) → (ps : List (List ℕ)) → is_lang_id (map f ps) ≡ is_lang_id ps
-same_id f l s r ps = grind (arith, l, s, r)
-
-pub id_by_classes : (u : List ℕ) → is_lang_id (subtags_of (map class_of u)) ≡ is_lang_id (subtags_of (fold_text u))
-id_by_classes u =
-    rw (subtags_of-classes, subtags_of-fold_text) (same_id (λ p. map class_of p) (λ p. simp class_steps) (λ p. simp class_steps) (λ p. simp class_steps) (slice_split is_separator u)
-    ∙ sym (same_id fold_text is_language-fold_text is_script-fold_text is_region-fold_text (slice_split is_separator u)))
-
--- ---- its canonical text
-
--- a folded byte in the case of another
-abbrev pub in_case_of_byte : ℕ → ℕ → ℕ
-in_case_of_byte a b = cond (is_upper a) (raise b) b
-
--- bytes in the case of others, with '-' for '_'
-abbrev pub in_case_of : List ℕ → List ℕ → List ℕ
-in_case_of t u = zip2 in_case_of_byte t (fold_text u)
-
-in_case_of-append : (s t u v : List ℕ) → length s ≡ length u → in_case_of (s ++ t) (u ++ v) ≡ in_case_of s u ++ in_case_of t v
-in_case_of-append [] t [] v len = refl
-in_case_of-append (a ∷ s) t (b ∷ u) v len = ap (λ (w : List ℕ). in_case_of_byte a (fold_byte b) ∷ w) (in_case_of-append s t u v (omega arith))
-in_case_of-append [] t (b ∷ u) v len = absurd (omega arith)
-in_case_of-append (a ∷ s) t [] v len = absurd (omega arith)
-
--- bytes that are changed by their class alone
-changed : (f : ℕ → ℕ) → ((b : ℕ) → in_case_of_byte (f (class_of b)) (fold_byte b) ≡ f (fold_byte b)) → (p : List ℕ) → in_case_of (map f (map class_of p)) p ≡ map f (fold_text p)
-changed f e p = simp (map-map, zip2-map, e)
-
-in_title : (p : List ℕ) → in_case_of (titlecase (map class_of p)) p ≡ titlecase (fold_text p)
-in_title [] = refl
-in_title (b ∷ p) = ap₂ (λ (a : ℕ) (w : List ℕ). a ∷ w) (grind (arith, nat_tests)) (changed lower (λ c. grind (arith, nat_tests)) p)
-
-subtag_in_case : (p : List ℕ) → in_case_of (canonical_subtag (map class_of p)) p ≡ canonical_subtag (fold_text p)
-subtag_in_case p =
-    let title = in_title p in
-    let upper = changed raise (λ b. grind (arith, nat_tests)) p in
-    let same : is_script (map class_of p) ≡ is_script p = simp class_steps in
-    let folded = is_script-fold_text p in
-    grind arith
-
--- subtags that are joined, after a first
-joined_in_case : (t p l : List ℕ) (ps : List (List ℕ)) → length t ≡ length p → in_case_of t p ≡ l
-    → in_case_of (join_with_byte dash (t ∷ map canonical_subtag (map (λ p. map class_of p) ps))) (join_with_byte dash (p ∷ ps)) ≡ join_with_byte dash (l ∷ map canonical_subtag (map fold_text ps))
-joined_in_case t p l [] len e = e
-joined_in_case t p l (q ∷ ps) len e =
-    let size : length (canonical_subtag (map class_of q)) ≡ length q = sym (length-map (canonical_subtag (map class_of q)) fold_byte) ∙ ap (λ (w : List ℕ). length w) (fold_text-canonical_subtag (map class_of q)) ∙ length-map (map class_of q) fold_byte ∙ length-map q class_of in
-    in_case_of-append t _ p _ len ∙ ap₂ (λ (x y : List ℕ). x ++ dash ∷ y) e (joined_in_case (canonical_subtag (map class_of q)) q (canonical_subtag (fold_text q)) ps size (subtag_in_case q))
-
-parts_in_case : (ps : List (List ℕ)) → in_case_of (join_with_byte dash (canonical_subtags (map (λ p. map class_of p) ps))) (join_with_byte dash ps) ≡ join_with_byte dash (canonical_subtags (map fold_text ps))
-parts_in_case [] = refl
-parts_in_case (l ∷ ps) =
-    let stays : (b : ℕ) → in_case_of_byte (class_of b) (fold_byte b) ≡ fold_byte b = λ b. grind (arith, nat_tests) in
-    joined_in_case (map class_of l) l (fold_text l) ps (length-map l class_of) (simp (zip2-map, stays))
+classes-fold_text : (u : List ℕ) → map class_of (fold_text u) ≡ map class_of u
+classes-fold_text = map-map_absorbed class_of fold_byte (λ b. grind (arith, nat_tests))
 
 fold_text-classes : (u : List ℕ) → fold_text (map class_of u) ≡ map class_of u
 fold_text-classes u = let kept : (b : ℕ) → fold_byte (class_of b) ≡ class_of b = λ b. grind (arith, nat_tests) in simp (map-map, kept)
 
-classes-fold_text : (u : List ℕ) → map class_of (fold_text u) ≡ map class_of u
-classes-fold_text = map-map_absorbed class_of fold_byte (λ b. grind (arith, nat_tests))
+subtags_of-classes : (u : List ℕ) → subtags_of (fold_text (map class_of u)) ≡ map (λ p. map class_of p) (subtags_of (fold_text u))
+subtags_of-classes u =
+    rw (fold_text-classes, subtags_of-fold_text) (slice_split-map class_of (λ b. b == dash) is_separator (λ b. grind (arith, nat_tests)) u
+    ∙ sym (map-map_absorbed (λ p. map class_of p) fold_text classes-fold_text (slice_split is_separator u)))
 
-pub text_by_classes : (u : List ℕ) → canonical_text u ≡ in_case_of (canonical_text (map class_of u)) u
-text_by_classes u =
-    let parts = slice_split is_separator u in
-    let same : fold_text (join_with_byte dash parts) ≡ fold_text u = fold_text-join parts ∙ rw subtags_of-fold_text at (join_with_byte-slice_split dash (fold_text u)) in
-    rw (fold_text-classes, subtags_of-classes, subtags_of-fold_text, ← same) (sym (parts_in_case parts))
+pub id_by_classes : (u : List ℕ) → is_lang_id (subtags_of (fold_text (map class_of u))) ≡ is_lang_id (subtags_of (fold_text u))
+id_by_classes u =
+    let language : (p : List ℕ) → is_language (map class_of p) ≡ is_language p = λ p. simp class_steps in
+    let script : (p : List ℕ) → is_script (map class_of p) ≡ is_script p = λ p. simp class_steps in
+    let region : (p : List ℕ) → is_region (map class_of p) ≡ is_region p = λ p. simp class_steps in
+    rw subtags_of-classes (grind (arith, language, script, region))
+
+-- ---- its canonical text
+
+-- the class of a byte, as 'A' of a capital
+abbrev pub cased : ℕ → ℕ
+cased b = cond (is_upper b) 0x41 (class_of b)
+
+cased-raise : (b : ℕ) → cased (raise b) ≡ raise (class_of b)
+cased-raise b = grind (arith, nat_tests)
+
+cased-map : (f : ℕ → ℕ) → ((b : ℕ) → cased (f b) ≡ f (class_of b)) → (p : List ℕ) → map cased (map f p) ≡ map f (map class_of p)
+cased-map f e p = simp (map-map, e)
+
+cased-titlecase : (p : List ℕ) → map cased (titlecase p) ≡ titlecase (map class_of p)
+cased-titlecase [] = refl
+cased-titlecase (b ∷ p) = ap₂ (λ (a : ℕ) (w : List ℕ). a ∷ w) (cased-raise b) (cased-map lower (λ c. grind (arith, nat_tests)) p)
+
+cased-canonical_subtag : (p : List ℕ) → map cased (canonical_subtag p) ≡ canonical_subtag (map class_of p)
+cased-canonical_subtag p =
+    let title = cased-titlecase p in
+    let upper = cased-map raise cased-raise p in
+    let same : is_script (map class_of p) ≡ is_script p = simp class_steps in
+    grind arith
+
+cased-join : (l : List ℕ) (ps : List (List ℕ)) → map cased (join_with_byte dash (l ∷ map canonical_subtag ps)) ≡ join_with_byte dash (map cased l ∷ map canonical_subtag (map (λ p. map class_of p) ps))
+cased-join l [] = refl
+cased-join l (p ∷ ps) = map-append _ l _ ∙ ap (λ (w : List ℕ). map cased l ++ dash ∷ w) (rw cased-canonical_subtag at (cased-join (canonical_subtag p) ps))
+
+pub cased-canonical_text : (u : List ℕ) → map cased (canonical_text u) ≡ canonical_text (map class_of u)
+cased-canonical_text u =
+    let each : (b : ℕ) → cased (fold_byte b) ≡ class_of (fold_byte b) = λ b. grind (arith, nat_tests) in
+    let language : map cased (fold_text (first_subtag u)) ≡ map class_of (fold_text (first_subtag u)) = simp (map-map, each) in
+    rw (subtags_of-classes, subtags_at_first_separator u) (rw language at (cased-join (fold_text (first_subtag u)) (subtags_after u)))
 
 -- ---- examples
 
@@ -160,10 +139,9 @@ example_of_id u h =
     let all : (is_language l && is_tail (subtags_after u)) ≡ true = rw split at h in
     let tail = tail_like (subtags_after u) (grind arith) in
     let first : length l ≡ e = length-map (first_subtag u) fold_byte ∙ length-first_subtag u in
-    let parts : subtags_of (map class_of u) ≡ map (λ p. map class_of p) (subtags_of (fold_text u)) = rw (subtags_of-classes, subtags_of-fold_text) (sym (map-map_absorbed (λ p. map class_of p) fold_text classes-fold_text (slice_split is_separator u))) in
     let start : map class_of l ≡ replicate e 0x61 = rw first at (classes_of_letters l (grind arith)) in
     let text : canonical_text (map class_of u) ≡ example e tail.count =
-    ap (λ ps. join_with_byte dash (canonical_subtags ps)) (ap (λ w. subtags_of w) (fold_text-classes u) ∙ parts ∙ ap (λ ps. map (λ p. map class_of p) ps) split)
+    ap (λ ps. join_with_byte dash (canonical_subtags ps)) (subtags_of-classes u ∙ ap (λ ps. map (λ p. map class_of p) ps) split)
     ∙ tail.text (map class_of l) ∙ ap (λ (m : List ℕ). m ++ tail_example tail.count) start in
     let folded : map class_of u ≡ fold_text (example e tail.count) = sym (rw text at (fold_text-canonical_text (map class_of u)) ∙ fold_text-classes u) in
     let count : tail.count ≡ length u - e = omega (arith, ap (λ (t : List ℕ). length t) folded, length-map u class_of, length-map (example e tail.count) fold_byte, length-append (replicate e 0x61) (tail_example tail.count), length-replicate {A = ℕ} e 0x61, tail.size) in
@@ -185,7 +163,7 @@ example_id e n language more =
     grind (arith, nat_tests)
 
 pub id_of_example : (u : List ℕ) (e n : ℕ) → is_language_length e ≡ true → 0 < length (tail_example n) → map class_of u ≡ map class_of (example e n) → IsLangId u
-id_of_example u e n language more like = sym (id_by_classes u) ∙ ap (λ w. is_lang_id (subtags_of w)) like ∙ id_by_classes (example e n) ∙ example_id e n language more
+id_of_example u e n language more like = sym (id_by_classes u) ∙ ap (λ w. is_lang_id (subtags_of (fold_text w))) like ∙ id_by_classes (example e n) ∙ example_id e n language more
 
 -- a tail follows the language where not all bytes are letters
 pub more_than_letters : (u : List ℕ) (e n : ℕ) → list_all is_alphabetic u ≡ false → length (tail_example n) ≡ n → map class_of u ≡ map class_of (example e n) → 0 < length (tail_example n)
@@ -197,16 +175,16 @@ more_than_letters u e (suc n) other size like = omega (arith, size)
 pub length-tail_example : (n : ℕ) → length (tail_example n) ≤ 9
 length-tail_example n = grind (arith, nat_tests)
 
--- how many bytes a language has, and all of an identifier
-pub sizes-id : (u : List ℕ) → IsLangId u → (position_or_len is_separator u ≤ 8) × (length u ≤ 17)
-sizes-id u h =
-    let e = position_or_len is_separator u in
-    let x = example_of_id u h in
-    let few : e ≤ 8 = let language = x.language in grind (arith, nat_tests) in
-    (few, omega (arith, few, x.size, length-tail_example (length u - e)))
-
-pub few_id : (u : List ℕ) → IsLangId u → position_or_len is_separator u ≤ 8
-few_id u h = (sizes-id u h).0
+pub language_id : (u : List ℕ) → IsLangId u → is_language_length (position_or_len is_separator u) ≡ true
+language_id u h = (example_of_id u h).language
 
 pub size_id : (u : List ℕ) → IsLangId u → (let n = length u - position_or_len is_separator u in length (tail_example n) ≡ n)
 size_id u h = (example_of_id u h).size
+
+pub few_id : (u : List ℕ) → IsLangId u → position_or_len is_separator u ≤ 8
+few_id u h = let language = language_id u h in grind (arith, nat_tests)
+
+pub most_id : (u : List ℕ) → IsLangId u → length u ≤ 17
+most_id u h = omega (arith, few_id u h, size_id u h, length-tail_example (length u - position_or_len is_separator u))
+
+pub ruleset parts_of_id = (language_id, few_id, size_id, end-le)

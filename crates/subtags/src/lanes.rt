@@ -83,7 +83,7 @@ pub(crate) fn folded_text(_units: &[u8], lanes: u8x16) -> TinyAsciiStr<17>
 }
 
 /// The canonical text of an identifier, whose language has `end` letters: its tail is in the case of the example.
-#[tactic(auto, using(crate::proofs::LaneTexts::sizes))]
+#[tactic(auto, using(crate::proofs::TailLemmas::parts_of_id))]
 #[inline(always)]
 pub(crate) fn text_in_case(units: &[u8], lanes: u8x16, end: usize) -> TinyAsciiStr<17>
     requires accepted { IsLangId units.now }

@@ -1,20 +1,25 @@
 //! A language, and what follows it: a script, a region, or both, each after a separator.
 
-ghost use Rattle.std.specs.Prelude.{◌≡◌, ◌≤◌, ◌<◌, ◌↔◌, IsTrue, length};
-ghost use Rattle.subtags.specs.Private.Tails.{AreClassesOf, HasTail, one_more, tail_example};
+ghost use Rattle.std.specs.Prelude.{◌≡◌, ◌≤◌, ◌<◌, ◌↔◌, IsTrue, false, length};
+ghost use Rattle.std.specs.List.{list_all, position_or_len};
+ghost use Rattle.tinystr_words.specs.Classes.{is_alphabetic};
+ghost use Rattle.subtags.specs.Grammar.{IsLangId, is_separator};
+ghost use Rattle.subtags.specs.Private.Tails.{AreClassesOf, one_more, tail_example};
 
 use crate::classes::Classes;
 use crate::language::is_language_length;
 
-/// Whether the bytes are a language of `end` letters and then like the example of their length. In the number of the
-/// classes such letters are the lowest bits, all ones, so one more than it is one more than the example's, shifted.
-#[tactic(auto, using(crate::proofs::MaskLemmas::class_bits))]
+/// Whether the bytes, which aren't all letters, are an identifier: a language of `end` letters, and then like the example of
+/// their length. In the number of the classes such letters are the lowest bits, all ones, so one more than it is one more
+/// than the example's, shifted.
+#[tactic(auto, using(crate::proofs::MaskLemmas::class_bits, crate::proofs::TailLemmas::parts_of_id))]
 #[inline(always)]
 pub(crate) fn has_tail(classes: &Classes, units: &[u8], end: usize) -> bool
     requires few { length units.now ≤ 17 }
-    requires inside { end ≤ length units.now }
     requires bits { AreClassesOf classes.now units.now }
-    ensures { IsTrue result ↔ HasTail end units.now }
+    requires other { list_all is_alphabetic units.now ≡ false }
+    requires language { end ≡ position_or_len is_separator units.now }
+    ensures { IsTrue result ↔ IsLangId units.now }
 {
     if !is_language_length(end) {
         return false;

@@ -1,9 +1,9 @@
 -- The first subtag of an input, and what the classes of its bytes show, by examples. No public contract has one of these words.
-use Rattle.std.specs.Prelude.{◌≡◌, ℕ, ◌==◌, ◌<◌, ◌+◌, ◌-◌, ◌*◌, ◌^◌, if◌then◌else◌, IsTrue, List, [], ◌∷◌, ◌++◌, length, map, take, replicate, codes}
+use Rattle.std.specs.Prelude.{◌≡◌, ℕ, ◌==◌, ◌+◌, ◌*◌, ◌^◌, if◌then◌else◌, List, [], ◌∷◌, ◌++◌, map, take, replicate, codes}
 use Rattle.std.specs.List.{position_or_len}
 use Rattle.std.specs.Simd.Lanes.{mask_l}
 use Rattle.tinystr_words.specs.Classes.{is_alphabetic, is_digit}
-use Rattle.subtags.specs.Grammar.{dash, is_separator, is_language_length}
+use Rattle.subtags.specs.Grammar.{dash, is_separator}
 use Rattle.subtags.specs.declared.classes.Classes.{Classes}
 
 -- the bytes before the first separator
@@ -27,12 +27,6 @@ tail_example n =
 -- a language of e letters, and such bytes after it
 abbrev pub example : ℕ → ℕ → List ℕ
 example e n = replicate e 0x61 ++ tail_example n
-
--- a language of e letters and then a script, a region, or both, by the classes of the bytes
-pub record HasTail (e : ℕ) (u : List ℕ) : Type 0 where
-  pub language : IsTrue (is_language_length e)
-  pub more : 0 < length (tail_example (length u - e))
-  pub like : map class_of u ≡ map class_of (example e (length u - e))
 
 -- the bits of the letters, of the digits and of the separators among the bytes
 pub record AreClassesOf (c : Classes) (u : List ℕ) : Type 0 where

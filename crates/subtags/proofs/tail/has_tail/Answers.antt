@@ -5,6 +5,8 @@ use Rattle.std.proofs.lemmas.List.{length-append, length-replicate}
 use Rattle.subtags.specs.Grammar.{is_language_length}
 use Rattle.subtags.specs.Private.Tails.{tail_example, one_more}
 use Rattle.subtags.proofs.MaskLemmas.{number_like}
+use Rattle.subtags.proofs.HeadLemmas.{end-le}
+use Rattle.subtags.proofs.TailLemmas.{example_of_id, id_of_example, more_than_letters}
 use Rattle.subtags.proofs.tail.has_tail.Goals as goal
 
 size : (n : ℕ) → 0 < length (tail_example n) → length (tail_example n) ≡ n
@@ -19,12 +21,15 @@ unwrapped n e few =
 
 pub returns : goal.returns
 returns c =
+    let u = c.args.units.now in
     let e = c.args.end in
-    let n = length c.args.units.now - e in
+    let n = length u - e in
+    let r = c.requires in
     let right : is_language_length e ≡ true = sym c.is_language_length.ensures ∙ c.if-not-is_language_length.false in
     let few : e ≤ 8 = grind (arith, nat_tests) in
-    let like = number_like c.args.units.now (tail_example n) e (λ some. omega (arith, size n some, length-append (replicate e 0x61) (tail_example n), length-replicate {A = ℕ} e 0x61)) c.requires.few in
+    let inside = end-le u in
+    let like = number_like u (tail_example n) e (λ some. omega (arith, size n some, length-append (replicate e 0x61) (tail_example n), length-replicate {A = ℕ} e 0x61)) r.few in
     rw (c.packed.ensures, c.one_more.ensures, unwrapped n e few) (
-      λ h. (let x = like.0 (grind (arith, nat_tests)) in record { language = right; more = x.0; like = x.1 }),
-      λ h. (let same = like.1 (h.more, h.like) in grind (arith, nat_tests)),
+      λ h. (let x = like.0 (grind (arith, nat_tests)) in id_of_example u e n right x.0 x.1),
+      λ h. (let x = rw (← r.language) at (example_of_id u h) in let same = like.1 (more_than_letters u e n r.other x.size x.like, x.like) in grind (arith, nat_tests)),
     )
