@@ -35,7 +35,7 @@ pub(crate) fn letters_of(units: &[u8], lanes: u8x16) -> u64
     if units.len() <= 16 {
         letters
     } else {
-        with_last(letters, is_letter(units[16]))
+        with_last(letters, units[16].is_ascii_alphabetic())
     }
 }
 
@@ -51,7 +51,7 @@ pub(crate) fn digits_of(units: &[u8], lanes: u8x16) -> u64
     if units.len() <= 16 {
         digits
     } else {
-        with_last(digits, is_digit(units[16]))
+        with_last(digits, units[16].is_ascii_digit())
     }
 }
 
@@ -67,7 +67,7 @@ pub(crate) fn separators_of(units: &[u8], lanes: u8x16) -> u64
     if units.len() <= 16 {
         separators
     } else {
-        with_last(separators, is_separator(units[16]))
+        with_last(separators, (units[16] == b'-') | (units[16] == b'_'))
     }
 }
 
@@ -92,7 +92,7 @@ pub(crate) fn text_in_case(units: &[u8], lanes: u8x16, end: usize) -> TinyAsciiS
     ensures { result ≡ canonical_text units.now }
 {
     let steps = steps(end, units.len() - end);
-    text_of(folded(lanes) - steps, last_of(units))
+    text_of(folded(lanes) - steps, units.get(16).copied().unwrap_or(0))
 }
 
 // The bits of sixteen bytes and one more.
@@ -102,27 +102,6 @@ fn with_last(bits: u64, is_set: bool) -> u64
     ensures { result ≡ bits + (if is_set then 2 ^ 16 else 0) }
 {
     bits + (u64::from(is_set) << 16)
-}
-
-#[inline(always)]
-fn is_letter(byte: u8) -> bool
-    ensures { result ≡ is_alphabetic byte }
-{
-    byte.is_ascii_alphabetic()
-}
-
-#[inline(always)]
-fn is_digit(byte: u8) -> bool
-    ensures { result ≡ is_digit byte }
-{
-    byte.is_ascii_digit()
-}
-
-#[inline(always)]
-fn is_separator(byte: u8) -> bool
-    ensures { result ≡ is_separator byte }
-{
-    byte == b'-' || byte == b'_'
 }
 
 // One bit more makes a lowercase letter of an uppercase letter, and a letter of nothing else.
@@ -174,24 +153,21 @@ fn folded(lanes: u8x16) -> u8x16
 // By how much each byte of the example of each length is below a lowercase letter, after eight zeros for a language, and
 // before zeros.
 static LOWERED: [[u8; 24]; 10] = [
-    [0; 24],
-    [0; 24],
-    [0; 24],
-    [
-        0, 0, 0, 0, 0, 0, 0, 0, 0, 32, 32, 0, 0, 0, 0, 0, 0, 0, 0, 0, 0, 0, 0, 0,
-    ],
-    [0; 24],
-    [
-        0, 0, 0, 0, 0, 0, 0, 0, 0, 32, 0, 0, 0, 0, 0, 0, 0, 0, 0, 0, 0, 0, 0, 0,
-    ],
-    [0; 24],
-    [0; 24],
-    [
-        0, 0, 0, 0, 0, 0, 0, 0, 0, 32, 0, 0, 0, 0, 32, 32, 0, 0, 0, 0, 0, 0, 0, 0,
-    ],
-    [
-        0, 0, 0, 0, 0, 0, 0, 0, 0, 32, 0, 0, 0, 0, 0, 0, 0, 0, 0, 0, 0, 0, 0, 0,
-    ],
+    NONE, NONE, NONE, REGION, NONE, SCRIPT, NONE, NONE, BOTH, SCRIPT,
+];
+
+const NONE: [u8; 24] = [0; 24];
+
+const REGION: [u8; 24] = [
+    0, 0, 0, 0, 0, 0, 0, 0, 0, 32, 32, 0, 0, 0, 0, 0, 0, 0, 0, 0, 0, 0, 0, 0,
+];
+
+const SCRIPT: [u8; 24] = [
+    0, 0, 0, 0, 0, 0, 0, 0, 0, 32, 0, 0, 0, 0, 0, 0, 0, 0, 0, 0, 0, 0, 0, 0,
+];
+
+const BOTH: [u8; 24] = [
+    0, 0, 0, 0, 0, 0, 0, 0, 0, 32, 0, 0, 0, 0, 32, 32, 0, 0, 0, 0, 0, 0, 0, 0,
 ];
 
 // By how much the bytes of a folded identifier are lowered into the case of the example, where a language of `end` letters
@@ -213,17 +189,6 @@ fn table(len: usize) -> &'static [u8; 24]
     ensures { result.now ≡ pad (steps_of (example 8 len)) 24 }
 {
     &LOWERED[len]
-}
-
-// The 17th byte, or a NUL.
-#[inline(always)]
-fn last_of(units: &[u8]) -> u8
-    ensures { result ≡ slice_index units.now 16 }
-{
-    match units.get(16) {
-        Some(byte) => *byte,
-        None => 0,
-    }
 }
 
 // The text of sixteen bytes and one more.

@@ -21,34 +21,23 @@ pub(crate) fn has_tail(classes: &Classes, units: &[u8], end: usize) -> bool
     requires language { end ≡ position_or_len is_separator units.now }
     ensures { IsTrue result ↔ IsLangId units.now }
 {
-    if !is_language_length(end) {
-        return false;
-    }
-    classes.packed(units) + 1 == one_more(units.len() - end) << end
+    is_language_length(end) && classes.packed(units) + 1 == one_more(units.len() - end) << end
 }
 
-// One more than the classes in one number of `-US`, `-419`, `-Latn`, `-Latn-US` and `-Latn-419`, by their length, and 0 for
-// every other.
+// One more than the classes in one number of each example, by its length, and 0 for every other length.
 static EXAMPLES: [u64; 18] = [
-    0,
-    0,
-    0,
-    0x00001_00000_00007,
-    0x00001_0000e_00001,
-    0x00001_00000_0001f,
-    0,
-    0,
-    0x00021_00000_000df,
-    0x00021_001c0_0001f,
-    0,
-    0,
-    0,
-    0,
-    0,
-    0,
-    0,
-    0,
+    0, 0, 0, AA, DDD, AAAA, 0, 0, AAAA_AA, AAAA_DDD, 0, 0, 0, 0, 0, 0, 0, 0,
 ];
+
+const AA: u64 = 0x00001_00000_00007;
+
+const DDD: u64 = 0x00001_0000e_00001;
+
+const AAAA: u64 = 0x00001_00000_0001f;
+
+const AAAA_AA: u64 = 0x00021_00000_000df;
+
+const AAAA_DDD: u64 = 0x00021_001c0_0001f;
 
 #[inline(always)]
 fn one_more(len: usize) -> u64

@@ -19,13 +19,13 @@ unwrapped n e few =
     let scaled : one_more (tail_example n) * 2 ^ e ≤ 2 ^ 46 * 2 ^ 8 = mul-le-mul small most in
     mod-eq_of_lt (omega arith)
 
-pub returns : goal.returns
-returns c =
+pub returns-then-is_language_length : goal.returns-then-is_language_length
+returns-then-is_language_length c =
     let u = c.args.units.now in
     let e = c.args.end in
     let n = length u - e in
     let r = c.requires in
-    let right : is_language_length e ≡ true = sym c.is_language_length.ensures ∙ c.if-not-is_language_length.false in
+    let right : is_language_length e ≡ true = sym c.is_language_length.ensures ∙ c.if-is_language_length.true in
     let few : e ≤ 8 = grind (arith, nat_tests) in
     let inside = end-le u in
     let like = number_like u (tail_example n) e (λ some. omega (arith, size n some, length-append (replicate e 0x61) (tail_example n), length-replicate {A = ℕ} e 0x61)) r.few in
