@@ -24,7 +24,8 @@ pub(crate) fn has_tail(classes: &Classes, units: &[u8], end: usize) -> bool
     is_language_length(end) && classes.packed(units) + 1 == one_more(units.len() - end) << end
 }
 
-// One more than the classes in one number of each example, by its length, and 0 for every other length.
+// One more than the classes in one number of `-AA`, `-000`, `-Aaaa`, `-Aaaa-AA` and `-Aaaa-000`, by their length, and 0 for
+// every other.
 static EXAMPLES: [u64; 18] = [
     0, 0, 0, AA, DDD, AAAA, 0, 0, AAAA_AA, AAAA_DDD, 0, 0, 0, 0, 0, 0, 0, 0,
 ];
