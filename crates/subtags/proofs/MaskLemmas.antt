@@ -64,7 +64,7 @@ shifted-one n few = let most : 2 ^ n ≤ 2 ^ 17 = pow_mono few in ap (λ m. m % 
 pub mask_l-lt_17 : (p : ℕ → Bool) (u : List ℕ) → length u ≤ 17 → mask_l (map p u) < 2 ^ 17
 mask_l-lt_17 p u few = let most : 2 ^ length u ≤ 2 ^ 17 = pow_mono few in omega (arith, mask_l-under p u)
 
-same_bit : (a b : Bool) (m n : ℕ) → cond a 1 0 + 2 * m ≡ cond b 1 0 + 2 * n → (a ≡ b) × (m ≡ n)
+pub same_bit : (a b : Bool) (m n : ℕ) → cond a 1 0 + 2 * m ≡ cond b 1 0 + 2 * n → (a ≡ b) × (m ≡ n)
 same_bit true true m n e = (refl, omega arith)
 same_bit false false m n e = (refl, omega arith)
 same_bit true false m n e = absurd (omega arith)

@@ -31,12 +31,8 @@ pub(crate) fn letters_of(units: &[u8], lanes: u8x16) -> u64
     requires loaded { IsLoaded lanes units.now }
     ensures { result ≡ mask_l (map is_alphabetic units.now) }
 {
-    let letters = letters(lanes);
-    if units.len() <= 16 {
-        letters
-    } else {
-        with_last(letters, units[16].is_ascii_alphabetic())
-    }
+    let last = units.get(16).is_some_and(|b| b.is_ascii_alphabetic());
+    with_last(letters(lanes), last)
 }
 
 /// Which of at most 17 bytes are digits.
@@ -47,12 +43,8 @@ pub(crate) fn digits_of(units: &[u8], lanes: u8x16) -> u64
     requires loaded { IsLoaded lanes units.now }
     ensures { result ≡ mask_l (map is_digit units.now) }
 {
-    let digits = digits(lanes);
-    if units.len() <= 16 {
-        digits
-    } else {
-        with_last(digits, units[16].is_ascii_digit())
-    }
+    let last = units.get(16).is_some_and(|b| b.is_ascii_digit());
+    with_last(digits(lanes), last)
 }
 
 /// Which of at most 17 bytes are separators.
@@ -63,12 +55,8 @@ pub(crate) fn separators_of(units: &[u8], lanes: u8x16) -> u64
     requires loaded { IsLoaded lanes units.now }
     ensures { result ≡ mask_l (map is_separator units.now) }
 {
-    let separators = separators(lanes);
-    if units.len() <= 16 {
-        separators
-    } else {
-        with_last(separators, (units[16] == b'-') | (units[16] == b'_'))
-    }
+    let last = units.get(16).is_some_and(|b| (*b == b'-') | (*b == b'_'));
+    with_last(separators(lanes), last)
 }
 
 /// The folded text of at most eight letters. The bytes are there for the contract.
