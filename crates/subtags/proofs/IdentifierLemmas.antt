@@ -1,9 +1,11 @@
 -- An identifier is read from its first 17 bytes.
-use Rattle.std.proofs.Common.{not, zero, min, inl, inr, suc, ◌≡◌, ◌+◌, ◌-◌, ◌<◌, ◌≤◌, ◌&&◌, ℕ, Bool, true, false, List, [], ◌∷◌, length, map, take, None, refl, sym, ◌∙◌, cond, arith}
+use Rattle.std.proofs.Common.{not, zero, min, inl, inr, suc, ◌≡◌, ◌+◌, ◌-◌, ◌<◌, ◌≤◌, ◌&&◌, ℕ, Bool, true, false, List, [], ◌∷◌, length, map, take, None, refl, sym, ap, ◌∙◌, cond, arith}
+use Rattle.std.proofs.Math.Bool.{and-false}
+use Rattle.std.proofs.Math.Numerals.{one-add}
 use Rattle.std.specs.List.{All, list_all, join_with_byte, position_or_len}
 use Rattle.std.proofs.lemmas.Bool.{cases_lt, false_from_ne_true}
 use Rattle.std.proofs.lemmas.Bool.Decides.{nat_tests}
-use Rattle.std.proofs.lemmas.List.{take_all, take-take}
+use Rattle.std.proofs.lemmas.List.{take_all, length-take}
 use Rattle.std.proofs.lemmas.List.Elements.{All-append, All-nil, All-cons}
 use Rattle.tinystr_words.specs.Classes.{is_alphabetic, is_alphanumeric}
 use Rattle.subtags.specs.Grammar.{dash, is_separator, is_language, is_language_length, is_tail, fold_text, subtags_of, is_lang_id, IsLangId, canonical_subtag, canonical_text, canonical_of}
@@ -14,29 +16,26 @@ use Rattle.subtags.proofs.CanonLemmas.{IsCanonical-canonical_text, fold_text-can
 use Rattle.subtags.proofs.FoldLemmas.{All-from_list_all, is_language-fold_text, alphanumeric-fold_text, alphanumeric-from_letters}
 use Rattle.subtags.proofs.HeadLemmas.{length-first_subtag, end-le, refusal_by_language}
 use Rattle.subtags.proofs.SplitLemmas.{subtags_after, subtags_at_first_separator, subtags_of-alphanumeric}
-use Rattle.subtags.proofs.PlaceLemmas.{length-language}
 use Rattle.subtags.proofs.TailLemmas.{most_id}
 
--- the first that passes among the first n
-position_or_len-take : (p : ℕ → Bool) (n : ℕ) (xs : List ℕ) → position_or_len p (take n xs) ≡ min n (position_or_len p xs)
-position_or_len-take p zero xs = omega arith
-position_or_len-take p (suc n) [] = omega arith
-position_or_len-take p (suc n) (x ∷ xs) = step (not (p x)) (position_or_len p (take n xs)) (position_or_len p xs) (position_or_len-take p n xs) where
-  step : (b : Bool) (k m : ℕ) → k ≡ min n m → cond b (1 + k) 0 ≡ min (suc n) (cond b (1 + m) 0)
-  step true k m e = omega (arith, e)
-  step false k m e = omega arith
+-- the first subtag of the first n bytes is cut there
+first_subtag-take : (n : ℕ) (u : List ℕ) → first_subtag (take n u) ≡ take n (first_subtag u)
+first_subtag-take zero u = refl
+first_subtag-take (suc n) [] = refl
+first_subtag-take (suc n) (b ∷ u) = step (not (is_separator b)) _ _ (first_subtag-take n u) where
+  step : (go : Bool) (k m : ℕ) → take k (take n u) ≡ take n (take m u) → take (cond go (1 + k) 0) (b ∷ take n u) ≡ take (suc n) (take (cond go (1 + m) 0) (b ∷ u))
+  step true k m rest = rw (one-add k, one-add m) (ap (λ (l : List ℕ). b ∷ l) rest)
+  step false k m rest = refl
 
-long_is_no_language : (p : List ℕ) → 8 < length p → is_language p ≡ false
-long_is_no_language p long = false_from_ne_true (is_language p) (λ h. absurd (omega (arith, length-language p h)))
+long_is_no_language : (n : ℕ) → 8 < n → is_language_length n ≡ false
+long_is_no_language n long = grind (arith, nat_tests)
 
--- the first subtag is a language in the first 17 bytes exactly if it is one
-pub first_subtag-take : (u : List ℕ) → is_language (first_subtag (take 17 u)) ≡ is_language (first_subtag u)
-first_subtag-take u =
-    let found = position_or_len-take is_separator 17 u in
-    elim (cases_lt 17 (position_or_len is_separator u)) [
-      | inl far ↦ long_is_no_language (first_subtag (take 17 u)) (omega (arith, length-first_subtag (take 17 u), found, far)) ∙ sym (long_is_no_language (first_subtag u) (omega (arith, length-first_subtag u, far)))
-      | inr near ↦ (let at : position_or_len is_separator (take 17 u) ≡ position_or_len is_separator u = omega (arith, found, near) in rw (at, take-take (position_or_len is_separator u) 17 u near) refl)
-    ]
+-- it is a language in the first 17 bytes exactly if it is one
+pub language-take : (u : List ℕ) → is_language (first_subtag (take 17 u)) ≡ is_language (first_subtag u)
+language-take u = rw (first_subtag-take 17 u) (elim (cases_lt 8 (length (first_subtag u))) [
+  | inl long ↦ rw (long_is_no_language (length (take 17 (first_subtag u))) (omega (arith, length-take 17 (first_subtag u))), long_is_no_language (length (first_subtag u)) long) (simp and-false)
+  | inr few ↦ rw (take_all 17 (first_subtag u) (omega arith)) refl
+])
 
 -- what is so of letters, digits and dashes is so of all bytes of a canonical text
 All-join : (P : ℕ → Type 0) → ((b : ℕ) → is_alphanumeric b ≡ true → P b) → P dash → (ps : List (List ℕ)) → list_all (list_all is_alphanumeric) ps ≡ true → All P (join_with_byte dash ps)
@@ -80,4 +79,4 @@ more_refused u more =
 
 pub ruleset reading = (letters_id, letters_text, letters_refusal, letters_few, fold_text-canonical_text, IsCanonical-canonical_text, take_all)
 
-pub ruleset refused_more = (first_subtag-take, refusal_by_language, more_refused)
+pub ruleset refused_more = (language-take, refusal_by_language, more_refused)
