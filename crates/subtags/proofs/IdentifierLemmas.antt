@@ -16,7 +16,7 @@ use Rattle.subtags.proofs.CanonLemmas.{IsCanonical-canonical_text, fold_text-can
 use Rattle.subtags.proofs.FoldLemmas.{All-from_list_all, is_language-fold_text, alphanumeric-fold_text, alphanumeric-from_letters}
 use Rattle.subtags.proofs.HeadLemmas.{length-first_subtag, end-le, refusal_by_language}
 use Rattle.subtags.proofs.SplitLemmas.{subtags_after, subtags_at_first_separator, subtags_of-alphanumeric}
-use Rattle.subtags.proofs.TailLemmas.{most_id}
+use Rattle.subtags.proofs.TailLemmas.{few_id, short_id}
 
 -- the first subtag of the first n bytes is cut there
 first_subtag-take : (n : ℕ) (u : List ℕ) → first_subtag (take n u) ≡ take n (first_subtag u)
@@ -74,7 +74,7 @@ letters_few n size = grind (arith, nat_tests)
 
 pub more_refused : (u : List ℕ) → 17 < length u → canonical_of u ≡ None
 more_refused u more =
-    let no = false_from_ne_true (is_lang_id (subtags_of (fold_text u))) (λ h. absurd (omega (arith, more, most_id u h))) in
+    let no = false_from_ne_true (is_lang_id (subtags_of (fold_text u))) (λ h. absurd (omega (arith, more, few_id u h, short_id u h))) in
     rw no refl
 
 pub ruleset reading = (letters_id, letters_text, letters_refusal, letters_few, fold_text-canonical_text, IsCanonical-canonical_text, take_all)

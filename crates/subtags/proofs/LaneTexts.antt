@@ -21,7 +21,7 @@ use Rattle.subtags.proofs.HeadLemmas.{end-le}
 use Rattle.subtags.proofs.IdentifierLemmas.{All-canonical_text}
 use Rattle.subtags.proofs.LaneClasses.{less}
 use Rattle.subtags.proofs.PlaceLemmas.{length-canonical_text}
-use Rattle.subtags.proofs.TailLemmas.{cased, cased-canonical_text, example_of_id, few_id, length-tail_example, most_id}
+use Rattle.subtags.proofs.TailLemmas.{cased, cased-canonical_text, example_of_id, few_id, short_id}
 use Rattle.subtags.proofs.CanonLemmas.{fold_text-canonical_text}
 
 -- a folded byte, lowered where its class has a capital
@@ -70,32 +70,8 @@ last_kept u e n short tail len same like = elim (cases_lt (length u) 17) [
       rw (nine, eight) (lowered-digit (get_or u 16 0) (sym (get_or-map class_of u 16 0) ∙ ap (λ l. get_or l 16 0) (rw (nine, eight) at like)))
 ]
 
-pub in_case_held : (u lanes folded steps : List ℕ) (e last : ℕ) → folded ≡ map fold_byte lanes → IsLangId u → e ≡ position_or_len is_separator u → IsLoaded lanes u → IsLoaded steps (steps_of (example e (length u - e))) → last ≡ get_or u 16 0
-    → IsPaddedText (zip2 less folded steps ++ last ∷ []) 17 × (text_of (zip2 less folded steps ++ last ∷ []) ≡ canonical_text u)
-in_case_held u lanes folded steps e last made h is load stepped end =
-    let n = length u - e in
-    let t = canonical_text u in
-    let x = rw (← is) at (example_of_id u h) in
-    let few = few_id u h in
-    let size : n ≤ 9 = omega (arith, x.size, length-tail_example n) in
-    let inside = end-le u in
-    let len : length (example e n) ≡ length u = sym (length-map (example e n) class_of) ∙ sym (ap (λ (l : List ℕ). length l) x.like) ∙ length-map u class_of in
-    let at : (k : ℕ) → lowered (get_or u k 0) (get_or (example e n) k 0) ≡ get_or t k 0 = λ k.
-    ap₂ (λ b a. less b (cond (is_upper a) 32 0)) (sym (get_or-map fold_byte u k 0) ∙ ap (λ l. get_or l k 0) (sym (fold_text-canonical_text u)) ∙ get_or-map fold_byte t k 0) (ap (λ l. get_or l k 0) (sym (cased-canonical_text u ∙ x.text)) ∙ get_or-map cased t k 0)
-    ∙ elim (cases_lt k (length t)) [
-      | inl below ↦ All-canonical_text (λ b. lowered b (cased b) ≡ b) lowered-cased refl u h k 0 below
-      | inr past ↦ rw (get_or_past t k 0 past) refl
-    ] in
-    let long = length-map lanes fold_byte ∙ length-loaded lanes u load in
-    let sixteen = length-loaded steps (steps_of (example e n)) stepped in
-    let text = All-canonical_text IsTextByte (λ b plain. grind (arith, nat_tests)) (lit< tt, lit< tt) u h in
-    rw (end, made) (held (zip2 less (map fold_byte lanes) steps) (get_or u 16 0) t (length-zip2 less (map fold_byte lanes) steps (long ∙ sym sixteen) ∙ long) text (omega (arith, length-canonical_text u, most_id u h))
-    (λ k below. get_or-zip2 less (map fold_byte lanes) steps k 0 0 0 (omega arith) (omega arith) ∙ ap₂ less (folded-at lanes u k load below) (at-loaded steps (steps_of (example e n)) k stepped below ∙ get_or-map (λ a. cond (is_upper a) 32 0) (example e n) k 0) ∙ at k)
-    (sym (last_kept u e n (omega arith) size (omega arith) (omega arith) x.like) ∙ at 16))
-
--- ---- the steps in a table
-
-pub steps_in_table : (e n : ℕ) → e ≤ 8 → length (tail_example n) ≡ n → take 16 (take (24 - (8 - e)) (drop (8 - e) (pad (steps_of (example 8 n)) 24))) ≡ pad (take 16 (steps_of (example e n))) 16
+-- the steps of a language and a tail, in a row of a table
+steps_in_table : (e n : ℕ) → e ≤ 8 → length (tail_example n) ≡ n → take 16 (take (24 - (8 - e)) (drop (8 - e) (pad (steps_of (example 8 n)) 24))) ≡ pad (take 16 (steps_of (example e n))) 16
 steps_in_table e n short size =
     let x = pad (steps_of (example 8 n)) 24 in
     let y = take 16 (steps_of (example e n)) in
@@ -107,4 +83,27 @@ steps_in_table e n short size =
     (λ k below. get_or-take 16 (drop (8 - e) x) k 0 (omega (arith, front)) ∙ get_or-drop (8 - e) x k 0 ∙ get_or-pad (steps_of (example 8 n)) 24 (8 - e + k)
     ∙ sym (get_or-drop (8 - e) (steps_of (example 8 n)) k 0) ∙ ap (λ (m : List ℕ). get_or m k 0) (drop-map _ (8 - e) (example 8 n) ∙ ap steps_of from) ∙ sym (get_or-pad y 16 k ∙ get_or-take 16 (steps_of (example e n)) k 0 (omega (arith, front))))
 
-pub ruleset table_steps = (steps_in_table, length-tail_example)
+pub in_case_held : (u lanes folded row : List ℕ) (e last : ℕ) → folded ≡ map fold_byte lanes → IsLangId u → e ≡ position_or_len is_separator u → IsLoaded lanes u → row ≡ pad (steps_of (example 8 (length u - e))) 24 → last ≡ get_or u 16 0
+    → (let bytes = zip2 less folded (take 16 (take (24 - (8 - e)) (drop (8 - e) row))) ++ last ∷ [] in IsPaddedText bytes 17 × (text_of bytes ≡ canonical_text u))
+in_case_held u lanes folded row e last made h is load table end =
+    let n = length u - e in
+    let t = canonical_text u in
+    let x = rw (← is) at (example_of_id u h) in
+    let few = few_id u h in
+    let size : n ≤ 9 = rw (← is) at (short_id u h) in
+    let inside = end-le u in
+    let len : length (example e n) ≡ length u = sym (length-map (example e n) class_of) ∙ sym (ap (λ (l : List ℕ). length l) x.like) ∙ length-map u class_of in
+    let at : (k : ℕ) → lowered (get_or u k 0) (get_or (example e n) k 0) ≡ get_or t k 0 = λ k.
+    ap₂ (λ b a. less b (cond (is_upper a) 32 0)) (sym (get_or-map fold_byte u k 0) ∙ ap (λ l. get_or l k 0) (sym (fold_text-canonical_text u)) ∙ get_or-map fold_byte t k 0) (ap (λ l. get_or l k 0) (sym (cased-canonical_text u ∙ x.text)) ∙ get_or-map cased t k 0)
+    ∙ elim (cases_lt k (length t)) [
+      | inl below ↦ All-canonical_text (λ b. lowered b (cased b) ≡ b) lowered-cased refl u h k 0 below
+      | inr past ↦ rw (get_or_past t k 0 past) refl
+    ] in
+    let long = length-map lanes fold_byte ∙ length-loaded lanes u load in
+    let steps = take 16 (take (24 - (8 - e)) (drop (8 - e) row)) in
+    let stepped : IsLoaded steps (steps_of (example e n)) = rw table (steps_in_table e n (omega arith) x.size) in
+    let sixteen = length-loaded steps (steps_of (example e n)) stepped in
+    let text = All-canonical_text IsTextByte (λ b plain. grind (arith, nat_tests)) (lit< tt, lit< tt) u h in
+    rw (end, made) (held (zip2 less (map fold_byte lanes) steps) (get_or u 16 0) t (length-zip2 less (map fold_byte lanes) steps (long ∙ sym sixteen) ∙ long) text (omega (arith, length-canonical_text u))
+    (λ k below. get_or-zip2 less (map fold_byte lanes) steps k 0 0 0 (omega arith) (omega arith) ∙ ap₂ less (folded-at lanes u k load below) (at-loaded steps (steps_of (example e n)) k stepped below ∙ get_or-map (λ a. cond (is_upper a) 32 0) (example e n) k 0) ∙ at k)
+    (sym (last_kept u e n (omega arith) size (omega arith) (omega arith) x.like) ∙ at 16))

@@ -172,19 +172,16 @@ more_than_letters u e zero other size like =
     absurd (false≢true (sym other ∙ sym (same u) ∙ ap (list_all is_alphabetic) like ∙ same (example e 0) ∙ ap (list_all is_alphabetic) (append-nil (replicate e 0x61)) ∙ letters_example e))
 more_than_letters u e (suc n) other size like = omega (arith, size)
 
-pub length-tail_example : (n : ℕ) → length (tail_example n) ≤ 9
+length-tail_example : (n : ℕ) → length (tail_example n) ≤ 9
 length-tail_example n = grind (arith, nat_tests)
 
 pub language_id : (u : List ℕ) → IsLangId u → is_language_length (position_or_len is_separator u) ≡ true
 language_id u h = (example_of_id u h).language
 
-pub size_id : (u : List ℕ) → IsLangId u → (let n = length u - position_or_len is_separator u in length (tail_example n) ≡ n)
-size_id u h = (example_of_id u h).size
-
 pub few_id : (u : List ℕ) → IsLangId u → position_or_len is_separator u ≤ 8
 few_id u h = let language = language_id u h in grind (arith, nat_tests)
 
-pub most_id : (u : List ℕ) → IsLangId u → length u ≤ 17
-most_id u h = omega (arith, few_id u h, size_id u h, length-tail_example (length u - position_or_len is_separator u))
+pub short_id : (u : List ℕ) → IsLangId u → length u - position_or_len is_separator u ≤ 9
+short_id u h = omega (arith, (example_of_id u h).size, length-tail_example (length u - position_or_len is_separator u))
 
-pub ruleset parts_of_id = (language_id, few_id, size_id, end-le)
+pub ruleset parts_of_id = (language_id, few_id, short_id, end-le)

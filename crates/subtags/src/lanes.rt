@@ -85,7 +85,7 @@ pub(crate) fn text_in_case(units: &[u8], lanes: u8x16, end: usize) -> TinyAsciiS
     requires language { end ≡ position_or_len is_separator units.now }
     ensures { result ≡ canonical_text units.now }
 {
-    let steps = steps(end, units.len() - end);
+    let steps = u8x16::from_slice(&table(units.len() - end)[8 - end..]);
     text_of(folded(lanes) - steps, units.get(16).copied().unwrap_or(0))
 }
 
@@ -163,18 +163,6 @@ const SCRIPT: [u8; 24] = [
 const BOTH: [u8; 24] = [
     0, 0, 0, 0, 0, 0, 0, 0, 0, 32, 0, 0, 0, 0, 32, 32, 0, 0, 0, 0, 0, 0, 0, 0,
 ];
-
-// By how much the bytes of a folded identifier are lowered into the case of the example, where a language of `end` letters
-// and `len` more bytes are all.
-#[tactic(auto, using(crate::proofs::LaneTexts::table_steps))]
-#[inline(always)]
-fn steps(end: usize, len: usize) -> u8x16
-    requires language { end ≤ 8 }
-    requires tail { length (tail_example len) ≡ len }
-    ensures { IsLoaded result (steps_of (example end len)) }
-{
-    u8x16::from_slice(&table(len)[8 - end..])
-}
 
 // The steps of an example after eight letters, and then zeros.
 #[inline(always)]
