@@ -17,19 +17,16 @@ use Rattle.subtags.proofs.TailLemmas.{is_alphabetic-class_of, is_digit-class_of,
 pub mask_l-under : {X : Type 0} (p : X → Bool) (xs : List X) → mask_l (map p xs) < 2 ^ length xs
 mask_l-under p xs = rw (length-map xs p) at (mask_l-lt (map p xs))
 
+doubled : (n e : ℕ) → n * 2 ^ suc e ≡ n * 2 ^ e * 2
+doubled n e = ap (λ m. n * m) (pow-suc 2 e) ∙ sym (mul_assoc n (2 ^ e) 2)
+
 -- the bits of the first bytes, and those of the others
 pub mask_l-append : {X : Type 0} (p : X → Bool) (xs ys : List X) → mask_l (map p (xs ++ ys)) ≡ mask_l (map p ys) * 2 ^ length xs + mask_l (map p xs)
 mask_l-append p [] ys = omega arith
-mask_l-append p (x ∷ xs) ys =
-    let rest = mask_l-append p xs ys in
-    let power : mask_l (map p ys) * 2 ^ suc (length xs) ≡ mask_l (map p ys) * 2 ^ length xs * 2 = ap (λ n. mask_l (map p ys) * n) (pow-suc 2 (length xs)) ∙ sym (mul_assoc (mask_l (map p ys)) (2 ^ length xs) 2) in
-    omega (arith, rest, power)
+mask_l-append p (x ∷ xs) ys = omega (arith, mask_l-append p xs ys, doubled (mask_l (map p ys)) (length xs))
 
 pub mask_l-split : {X : Type 0} (p : X → Bool) (k : ℕ) (xs : List X) → k ≤ length xs → mask_l (map p xs) ≡ mask_l (map p (drop k xs)) * 2 ^ k + mask_l (map p (take k xs))
 mask_l-split p k xs le = let len : length (take k xs) ≡ k = omega (arith, length-take k xs) in rw (take-append-drop k xs, len) at (mask_l-append p (take k xs) (drop k xs))
-
-pub lowest-lt : {X : Type 0} (p : X → Bool) (k : ℕ) (xs : List X) → k ≤ length xs → mask_l (map p (take k xs)) < 2 ^ k
-lowest-lt p k xs le = let len : length (take k xs) ≡ k = omega (arith, length-take k xs) in rw len at (mask_l-under p (take k xs))
 
 -- all bits are set where all bytes pass
 mask_l-all : {X : Type 0} (p : X → Bool) (xs : List X) → (mask_l (map p xs) + 1 == 2 ^ length xs) ≡ list_all p xs
@@ -42,7 +39,7 @@ mask_l-all p (x ∷ xs) = one (p x) (list_all p xs) (mask_l (map p xs)) (2 ^ len
 pub first_letters : {X : Type 0} (p : X → Bool) (k : ℕ) (xs : List X) → k ≤ length xs → (mask_l (map p xs) % 2 ^ k + 1 == 2 ^ k) ≡ list_all p (take k xs)
 first_letters p k xs le =
     let len : length (take k xs) ≡ k = omega (arith, length-take k xs) in
-    rw (mask_l-split p k xs le, digits_mod (mask_l (map p (drop k xs))) (lowest-lt p k xs le)) (rw len at (mask_l-all p (take k xs)))
+    rw (mask_l-split p k xs le, digits_mod (mask_l (map p (drop k xs))) (rw len at (mask_l-under p (take k xs)))) (rw len at (mask_l-all p (take k xs)))
 
 -- the lowest bit, where one more marks the end, is the first that passes
 pub first_from_mask : (u : List ℕ) → length u ≤ 17 → count_trailing_zeros 64 (mask_l (map is_separator u) + 2 ^ length u) ≡ position_or_len is_separator u
@@ -51,18 +48,18 @@ first_from_mask u few =
     let first : position_or_len is_separator (u ++ dash ∷ []) ≡ position_or_len is_separator u = rw (position_or_len_push is_separator u dash) (grind (arith, nat_tests)) in
     rw (← last) (trailing_mask_l is_separator 64 (u ++ dash ∷ []) (omega (arith, length-append u (dash ∷ []))) (omega (arith, last, mask_l-under is_separator u)) ∙ first)
 
--- the marks and a bit after them fit into 64
-pub mask_l-end : (p : ℕ → Bool) (u : List ℕ) → length u ≤ 17 → mask_l (map p u) + 2 ^ length u < 2 ^ 64
-mask_l-end p u few = let most : 2 ^ length u ≤ 2 ^ 17 = pow_mono few in omega (arith, mask_l-under p u, most)
+-- the number after the bits of few bytes
+pub few-pow : (n : ℕ) → n ≤ 17 → 2 ^ n ≤ 2 ^ 17
+few-pow n few = pow_mono few
 
 -- one, shifted
 pub shifted-one : (n : ℕ) → n ≤ 17 → 1 * 2 ^ n % 2 ^ 64 ≡ 2 ^ n
-shifted-one n few = let most : 2 ^ n ≤ 2 ^ 17 = pow_mono few in ap (λ m. m % 2 ^ 64) (omega arith) ∙ mod-eq_of_lt (omega (arith, most))
+shifted-one n few = ap (λ m. m % 2 ^ 64) (omega arith) ∙ mod-eq_of_lt (omega (arith, few-pow n few))
 
 -- ---- bytes in one number, twenty bits for each class
 
 pub mask_l-lt_17 : (p : ℕ → Bool) (u : List ℕ) → length u ≤ 17 → mask_l (map p u) < 2 ^ 17
-mask_l-lt_17 p u few = let most : 2 ^ length u ≤ 2 ^ 17 = pow_mono few in omega (arith, mask_l-under p u)
+mask_l-lt_17 p u few = omega (arith, mask_l-under p u, few-pow (length u) few)
 
 pub same_bit : (a b : Bool) (m n : ℕ) → cond a 1 0 + 2 * m ≡ cond b 1 0 + 2 * n → (a ≡ b) × (m ≡ n)
 same_bit true true m n e = (refl, omega arith)
@@ -99,10 +96,7 @@ number_from_classes u = simp (map-map, is_alphabetic-class_of, is_digit-class_of
 -- letters before other bytes, in the number of these
 letters_first : (e : ℕ) (t : List ℕ) → classes_of (replicate e 0x61 ++ t) + 1 ≡ (classes_of t + 1) * 2 ^ e
 letters_first zero t = omega arith
-letters_first (suc e) t =
-    let rest = letters_first e t in
-    let power : (classes_of t + 1) * 2 ^ suc e ≡ (classes_of t + 1) * 2 ^ e * 2 = ap (λ n. (classes_of t + 1) * n) (pow-suc 2 e) ∙ sym (mul_assoc (classes_of t + 1) (2 ^ e) 2) in
-    omega (arith, rest, power)
+letters_first (suc e) t = omega (arith, letters_first e t, doubled (classes_of t + 1) e)
 
 -- bytes have the shifted number of others exactly if they are letters and then of the classes of these
 pub number_like : (u t : List ℕ) (e : ℕ) → (0 < length t → length u ≡ length (replicate e 0x61 ++ t)) → length u ≤ 17 → (classes_of u + 1 ≡ one_more t * 2 ^ e) ↔ ((0 < length t) × (map class_of u ≡ map class_of (replicate e 0x61 ++ t)))
@@ -113,4 +107,4 @@ number_like u (a ∷ t) e len few =
       λ h. omega (arith, shifted, sym (number_from_classes u) ∙ ap (λ w. classes_of w) h.1 ∙ number_from_classes (replicate e 0x61 ++ a ∷ t)),
     )
 
-pub ruleset class_bits = (mask_l-lt_17, mask_l-end, shifted-one, first_letters, first_from_mask)
+pub ruleset class_bits = (mask_l-lt_17, few-pow, shifted-one, first_letters, first_from_mask)
