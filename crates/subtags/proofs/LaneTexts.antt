@@ -71,17 +71,17 @@ last_kept u e n short tail len same like = elim (cases_lt (length u) 17) [
 ]
 
 -- the steps of a language and a tail, in a row of a table
-steps_in_table : (e n : ℕ) → e ≤ 8 → length (tail_example n) ≡ n → take 16 (take (24 - (8 - e)) (drop (8 - e) (pad (steps_of (example 8 n)) 24))) ≡ pad (take 16 (steps_of (example e n))) 16
-steps_in_table e n short size =
-    let x = pad (steps_of (example 8 n)) 24 in
-    let y = take 16 (steps_of (example e n)) in
-    let long : 24 ≤ length x = omega (arith, length-append (steps_of (example 8 n)) (NULS (24 - length (steps_of (example 8 n)))), length-replicate {A = ℕ} (24 - length (steps_of (example 8 n))) 0) in
-    let front : length (take 16 (drop (8 - e) x)) ≡ 16 = omega (arith, length-take 16 (drop (8 - e) x), length-drop (8 - e) x, long) in
-    let from : drop (8 - e) (example 8 n) ≡ example e n = drop-append-le (8 - e) (replicate 8 0x61) (tail_example n) (omega arith) ∙ ap (λ (m : List ℕ). m ++ tail_example n) (drop-replicate {X = ℕ} (8 - e) 8 0x61 ∙ ap (λ k. replicate k 0x61) (omega (arith, short))) in
-    take-take 16 (24 - (8 - e)) (drop (8 - e) x) (omega arith)
-    ∙ same_number_lists (take 16 (drop (8 - e) x)) (pad y 16) (front ∙ sym (length-pad y 16 (omega (arith, length-take 16 (steps_of (example e n))))))
-    (λ k below. get_or-take 16 (drop (8 - e) x) k 0 (omega (arith, front)) ∙ get_or-drop (8 - e) x k 0 ∙ get_or-pad (steps_of (example 8 n)) 24 (8 - e + k)
-    ∙ sym (get_or-drop (8 - e) (steps_of (example 8 n)) k 0) ∙ ap (λ (m : List ℕ). get_or m k 0) (drop-map _ (8 - e) (example 8 n) ∙ ap steps_of from) ∙ sym (get_or-pad y 16 k ∙ get_or-take 16 (steps_of (example e n)) k 0 (omega (arith, front))))
+row-at : (row : List ℕ) (e n k : ℕ) → e ≤ 8 → k < 16 → row ≡ pad (steps_of (example 8 n)) 24 → get_or (take 16 (take (24 - (8 - e)) (drop (8 - e) row))) k 0 ≡ cond (is_upper (get_or (example e n) k 0)) 32 0
+row-at row e n k short below is =
+    let from : drop (8 - e) (example 8 n) ≡ example e n = drop-append-le (8 - e) (replicate 8 0x61) (tail_example n) (omega arith) ∙ ap (λ (m : List ℕ). m ++ tail_example n) (drop-replicate {X = ℕ} (8 - e) 8 0x61 ∙ ap (λ j. replicate j 0x61) (omega (arith, short))) in
+    get_or-take 16 (take (24 - (8 - e)) (drop (8 - e) row)) k 0 below ∙ get_or-take (24 - (8 - e)) (drop (8 - e) row) k 0 (omega arith) ∙ get_or-drop (8 - e) row k 0
+    ∙ rw is (get_or-pad (steps_of (example 8 n)) 24 (8 - e + k)) ∙ get_or-map (λ a. cond (is_upper a) 32 0) (example 8 n) (8 - e + k) 0
+    ∙ ap (λ a. cond (is_upper a) 32 0) (sym (get_or-drop (8 - e) (example 8 n) k 0) ∙ ap (λ (m : List ℕ). get_or m k 0) from)
+
+length-row : (row s : List ℕ) (e : ℕ) → row ≡ pad s 24 → length (take 16 (take (24 - (8 - e)) (drop (8 - e) row))) ≡ 16
+length-row row s e is =
+    let long : 24 ≤ length row = rw is (omega (arith, length-append s (NULS (24 - length s)), length-replicate {A = ℕ} (24 - length s) 0)) in
+    omega (arith, long, length-take 16 (take (24 - (8 - e)) (drop (8 - e) row)), length-take (24 - (8 - e)) (drop (8 - e) row), length-drop (8 - e) row)
 
 pub in_case_held : (u lanes folded row : List ℕ) (e last : ℕ) → folded ≡ map fold_byte lanes → IsLangId u → e ≡ position_or_len is_separator u → IsLoaded lanes u → row ≡ pad (steps_of (example 8 (length u - e))) 24 → last ≡ get_or u 16 0
     → (let bytes = zip2 less folded (take 16 (take (24 - (8 - e)) (drop (8 - e) row))) ++ last ∷ [] in IsPaddedText bytes 17 × (text_of bytes ≡ canonical_text u))
@@ -101,9 +101,8 @@ in_case_held u lanes folded row e last made h is load table end =
     ] in
     let long = length-map lanes fold_byte ∙ length-loaded lanes u load in
     let steps = take 16 (take (24 - (8 - e)) (drop (8 - e) row)) in
-    let stepped : IsLoaded steps (steps_of (example e n)) = rw table (steps_in_table e n (omega arith) x.size) in
-    let sixteen = length-loaded steps (steps_of (example e n)) stepped in
+    let sixteen = length-row row (steps_of (example 8 n)) e table in
     let text = All-canonical_text IsTextByte (λ b plain. grind (arith, nat_tests)) (lit< tt, lit< tt) u h in
     rw (end, made) (held (zip2 less (map fold_byte lanes) steps) (get_or u 16 0) t (length-zip2 less (map fold_byte lanes) steps (long ∙ sym sixteen) ∙ long) text (omega (arith, length-canonical_text u))
-    (λ k below. get_or-zip2 less (map fold_byte lanes) steps k 0 0 0 (omega arith) (omega arith) ∙ ap₂ less (folded-at lanes u k load below) (at-loaded steps (steps_of (example e n)) k stepped below ∙ get_or-map (λ a. cond (is_upper a) 32 0) (example e n) k 0) ∙ at k)
+    (λ k below. get_or-zip2 less (map fold_byte lanes) steps k 0 0 0 (omega arith) (omega arith) ∙ ap₂ less (folded-at lanes u k load below) (row-at row e n k (omega arith) below table) ∙ at k)
     (sym (last_kept u e n (omega arith) size (omega arith) (omega arith) x.like) ∙ at 16))
