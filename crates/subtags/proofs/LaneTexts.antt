@@ -7,7 +7,7 @@ use Rattle.std.proofs.Math.Seq.{get_or-append_seam}
 use Rattle.std.proofs.lemmas.Bool.{cases_lt}
 use Rattle.std.proofs.lemmas.Bool.Decides.{nat_tests}
 use Rattle.std.proofs.lemmas.Grind.{same_number_lists}
-use Rattle.std.proofs.lemmas.List.{take_all, take-take, length-append, length-take, length-drop, length-map, length-replicate, get_or-take, get_or-drop, get_or_past, drop-append-le, drop-replicate, drop-map}
+use Rattle.std.proofs.lemmas.List.{take_all, take-take, length-append, length-take, length-drop, length-map, length-replicate, get_or-take, get_or-drop, get_or_past, places, drop-append-le, drop-replicate, drop-map}
 use Rattle.std.proofs.lemmas.List.Elements.{All-map}
 use Rattle.std.proofs.lemmas.Simd.{length-zip2, get_or-zip2}
 use Rattle.tinystr_words.specs.Classes.{is_alphabetic, is_alphanumeric, is_upper}
@@ -37,10 +37,7 @@ lowered-digit b digit = grind (arith, nat_tests)
 -- sixteen bytes and one more that are a text, at each place
 held : (xs : List ℕ) (x : ℕ) (t : List ℕ) → length xs ≡ 16 → IsText t → length t ≤ 17 → ((k : ℕ) → k < 16 → get_or xs k 0 ≡ get_or t k 0) → x ≡ get_or t 16 0 → IsPaddedText (xs ++ x ∷ []) 17 × (text_of (xs ++ x ∷ []) ≡ t)
 held xs x t long text fits same last =
-    let at : (k : ℕ) → k < 17 → get_or (xs ++ x ∷ []) k 0 ≡ get_or t k 0 = λ k below. elim (cases_lt k 16) [
-      | inl front ↦ get_or-append xs (x ∷ []) 0 k (omega arith) ∙ same k front
-      | inr end ↦ ap (λ n. get_or (xs ++ x ∷ []) n 0) (omega arith) ∙ get_or-append_seam xs x [] 0 ∙ last ∙ ap (λ n. get_or t n 0) (omega arith)
-    ] in
+    let at : (k : ℕ) → k < 17 → get_or (xs ++ x ∷ []) k 0 ≡ get_or t k 0 = λ k below. grind (arith, places, same k, last) in
     let made = IsPaddedText-places (xs ++ x ∷ []) t 17 (omega (arith, length-append xs (x ∷ []))) text at in
     (made.0, made.1 ∙ take_all 17 t fits)
 
@@ -71,17 +68,16 @@ last_kept u e n short tail len same like = elim (cases_lt (length u) 17) [
 ]
 
 -- the steps of a language and a tail, in a row of a table
-row-at : (row : List ℕ) (e n k : ℕ) → e ≤ 8 → k < 16 → row ≡ pad (steps_of (example 8 n)) 24 → get_or (take 16 (take (24 - (8 - e)) (drop (8 - e) row))) k 0 ≡ cond (is_upper (get_or (example e n) k 0)) 32 0
-row-at row e n k short below is =
-    let from : drop (8 - e) (example 8 n) ≡ example e n = drop-append-le (8 - e) (replicate 8 0x61) (tail_example n) (omega arith) ∙ ap (λ (m : List ℕ). m ++ tail_example n) (drop-replicate {X = ℕ} (8 - e) 8 0x61 ∙ ap (λ j. replicate j 0x61) (omega (arith, short))) in
+row-at : (row t : List ℕ) (e k : ℕ) → e ≤ 8 → k < 16 → row ≡ pad (steps_of (replicate 8 0x61 ++ t)) 24 → get_or (take 16 (take (24 - (8 - e)) (drop (8 - e) row))) k 0 ≡ cond (is_upper (get_or (replicate e 0x61 ++ t) k 0)) 32 0
+row-at row t e k short below is =
+    let from : drop (8 - e) (replicate 8 0x61 ++ t) ≡ replicate e 0x61 ++ t = drop-append-le (8 - e) (replicate 8 0x61) t (omega arith) ∙ ap (λ (m : List ℕ). m ++ t) (drop-replicate {X = ℕ} (8 - e) 8 0x61 ∙ ap (λ j. replicate j 0x61) (omega (arith, short))) in
     get_or-take 16 (take (24 - (8 - e)) (drop (8 - e) row)) k 0 below ∙ get_or-take (24 - (8 - e)) (drop (8 - e) row) k 0 (omega arith) ∙ get_or-drop (8 - e) row k 0
-    ∙ rw is (get_or-pad (steps_of (example 8 n)) 24 (8 - e + k)) ∙ get_or-map (λ a. cond (is_upper a) 32 0) (example 8 n) (8 - e + k) 0
-    ∙ ap (λ a. cond (is_upper a) 32 0) (sym (get_or-drop (8 - e) (example 8 n) k 0) ∙ ap (λ (m : List ℕ). get_or m k 0) from)
+    ∙ rw is (get_or-pad (steps_of (replicate 8 0x61 ++ t)) 24 (8 - e + k)) ∙ get_or-map (λ a. cond (is_upper a) 32 0) (replicate 8 0x61 ++ t) (8 - e + k) 0
+    ∙ ap (λ a. cond (is_upper a) 32 0) (sym (get_or-drop (8 - e) (replicate 8 0x61 ++ t) k 0) ∙ ap (λ (m : List ℕ). get_or m k 0) from)
 
 length-row : (row s : List ℕ) (e : ℕ) → row ≡ pad s 24 → length (take 16 (take (24 - (8 - e)) (drop (8 - e) row))) ≡ 16
 length-row row s e is =
-    let long : 24 ≤ length row = rw is (omega (arith, length-append s (NULS (24 - length s)), length-replicate {A = ℕ} (24 - length s) 0)) in
-    omega (arith, long, length-take 16 (take (24 - (8 - e)) (drop (8 - e) row)), length-take (24 - (8 - e)) (drop (8 - e) row), length-drop (8 - e) row)
+    rw is (grind (arith, places))
 
 pub in_case_held : (u lanes folded row : List ℕ) (e last : ℕ) → folded ≡ map fold_byte lanes → IsLangId u → e ≡ position_or_len is_separator u → IsLoaded lanes u → row ≡ pad (steps_of (example 8 (length u - e))) 24 → last ≡ get_or u 16 0
     → (let bytes = zip2 less folded (take 16 (take (24 - (8 - e)) (drop (8 - e) row))) ++ last ∷ [] in IsPaddedText bytes 17 × (text_of bytes ≡ canonical_text u))
@@ -104,5 +100,5 @@ in_case_held u lanes folded row e last made h is load table end =
     let sixteen = length-row row (steps_of (example 8 n)) e table in
     let text = All-canonical_text IsTextByte (λ b plain. grind (arith, nat_tests)) (lit< tt, lit< tt) u h in
     rw (end, made) (held (zip2 less (map fold_byte lanes) steps) (get_or u 16 0) t (length-zip2 less (map fold_byte lanes) steps (long ∙ sym sixteen) ∙ long) text (omega (arith, length-canonical_text u))
-    (λ k below. get_or-zip2 less (map fold_byte lanes) steps k 0 0 0 (omega arith) (omega arith) ∙ ap₂ less (folded-at lanes u k load below) (row-at row e n k (omega arith) below table) ∙ at k)
+    (λ k below. get_or-zip2 less (map fold_byte lanes) steps k 0 0 0 (omega arith) (omega arith) ∙ ap₂ less (folded-at lanes u k load below) (row-at row (tail_example n) e k (omega arith) below table) ∙ at k)
     (sym (last_kept u e n (omega arith) size (omega arith) (omega arith) x.like) ∙ at 16))
