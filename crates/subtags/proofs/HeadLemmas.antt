@@ -38,13 +38,11 @@ letters_of_language u h =
     let letters = AllPass-from_list_all is_alphabetic u (grind arith) in
     rw (take_all 8 u few) (prefix_len_is is_alphabetic u (length u) 0 (omega arith) (λ k below. letters k 0 below) (λ more. absurd (omega arith)))
 
-pub no_language : (u : List ℕ) (n : ℕ) → n ≡ prefix_len is_alphabetic (take 8 u) → is_language_length n ≡ false → is_language u ≡ false
+pub no_language : (u : List ℕ) (n : ℕ) → n ≡ prefix_len is_alphabetic (take 8 u) → (n ≡ length u → is_language_length n ≡ false) → is_language u ≡ false
 no_language u n is wrong = false_from_ne_true (is_language u) λ h.
+    let all : n ≡ length u = is ∙ letters_of_language u h in
     let right : is_language_length (length u) ≡ true = grind arith in
-    false≢true (sym wrong ∙ ap is_language_length (is ∙ letters_of_language u h) ∙ right)
-
-pub longer_than_language : (u : List ℕ) (n : ℕ) → n ≡ prefix_len is_alphabetic (take 8 u) → n ≢ length u → is_language u ≡ false
-longer_than_language u n is other = false_from_ne_true (is_language u) (λ h. other (is ∙ letters_of_language u h))
+    false≢true (sym (wrong all) ∙ ap is_language_length all ∙ right)
 
 pub whole_language : (u : List ℕ) (n : ℕ) → n ≡ prefix_len is_alphabetic (take 8 u) → is_language_length n ≡ true → n ≡ length u → is_language u ≡ true
 whole_language u n is right len =
@@ -52,4 +50,4 @@ whole_language u n is right len =
     let whole : prefix_len is_alphabetic u ≡ length u = ap (prefix_len is_alphabetic) (sym (take_all 8 u few)) ∙ sym is ∙ len in
     rw (list_all-from_AllPass is_alphabetic u (λ k d below. prefix_len_passes is_alphabetic u k d (omega (arith, whole, below))), ← len, right) refl
 
-pub ruleset language_read = (no_language, longer_than_language, whole_language, take_all, IsCanonicalSubtag-lowercase, nat_tests)
+pub ruleset language_read = (no_language, whole_language, take_all, IsCanonicalSubtag-lowercase, nat_tests)

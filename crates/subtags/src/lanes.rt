@@ -66,6 +66,7 @@ pub(crate) fn separators_of(units: &[u8], lanes: u8x16) -> u64
 }
 
 /// The folded text of at most eight letters. The bytes are there for the contract.
+#[tactic(auto, using(crate::proofs::LaneTexts::folded_held))]
 #[inline(always)]
 pub(crate) fn folded_text(_units: &[u8], lanes: u8x16) -> TinyAsciiStr<17>
     requires few { length _units.now ≤ 8 }
