@@ -2,7 +2,7 @@
 use Rattle.std.proofs.Common.{not, zero, min, inl, inr, suc, ◌≡◌, ◌+◌, ◌-◌, ◌<◌, ◌≤◌, ◌&&◌, ℕ, Bool, true, false, List, [], ◌∷◌, length, map, take, None, refl, sym, ap, ◌∙◌, cond, arith}
 use Rattle.std.proofs.Math.Bool.{and-false}
 use Rattle.std.proofs.Math.Numerals.{one-add}
-use Rattle.std.specs.List.{All, list_all, join_with_byte, position_or_len}
+use Rattle.std.specs.List.{All, list_all, join_with_byte}
 use Rattle.std.proofs.lemmas.Bool.{cases_lt, false_from_ne_true}
 use Rattle.std.proofs.lemmas.Bool.Decides.{nat_tests}
 use Rattle.std.proofs.lemmas.List.{take_all, length-take}

@@ -1,9 +1,8 @@
 -- The classes of bytes in a vector.
-use Rattle.std.proofs.Common.{◌≡◌, ◌+◌, ◌-◌, ◌*◌, ◌%◌, ◌^◌, ◌<◌, ◌≤◌, ℕ, zero, suc, Bool, true, false, not, List, [], ◌∷◌, length, map, take, drop, cond, eqb, ltb, bit_or, replicate, get_or, drop-cons, append-nil, ap, ap₂, refl, sym, ◌∙◌, w8, arith}
+use Rattle.std.proofs.Common.{◌≡◌, ◌+◌, ◌-◌, ◌*◌, ◌%◌, ◌^◌, ◌<◌, ◌≤◌, ℕ, zero, suc, Bool, true, false, List, [], ◌∷◌, length, map, take, drop, cond, eqb, ltb, bit_or, replicate, get_or, drop-cons, append-nil, ap, ap₂, refl, sym, ◌∙◌, w8, arith}
 use mir.Val.{Fits}
 use lib.Lanes.{Each1, mask_l, zip2, top, sel_l}
 use Rattle.std.proofs.lemmas.Bool.{eqb-true}
-use Rattle.std.proofs.lemmas.Bool.Decides.{nat_tests}
 use Rattle.std.proofs.lemmas.List.{length-map, length-take, take_all, drop_all}
 use Rattle.std.proofs.lemmas.Simd.{mask_l-mod}
 use Rattle.tinystr_words.specs.Classes.{is_alphabetic, is_digit}

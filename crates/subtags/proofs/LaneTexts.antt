@@ -2,26 +2,24 @@
 use Rattle.std.proofs.Common.{lit<, inl, inr, ◌≡◌, ◌+◌, ◌-◌, ◌<◌, ◌≤◌, ℕ, true, List, [], ◌∷◌, ◌++◌, length, map, take, drop, get_or, replicate, cond, ap, ap₂, refl, sym, ◌∙◌, arith}
 use lib.Lanes.{zip2}
 use Rattle.std.specs.List.{list_all, position_or_len}
-use Rattle.std.proofs.Math.ListN.{get_or-map, get_or-append}
-use Rattle.std.proofs.Math.Seq.{get_or-append_seam}
+use Rattle.std.proofs.Math.ListN.{get_or-map}
 use Rattle.std.proofs.lemmas.Bool.{cases_lt}
 use Rattle.std.proofs.lemmas.Bool.Decides.{nat_tests}
-use Rattle.std.proofs.lemmas.Grind.{same_number_lists}
-use Rattle.std.proofs.lemmas.List.{take_all, take-take, length-append, length-take, length-drop, length-map, length-replicate, get_or-take, get_or-drop, get_or_past, places, drop-append-le, drop-replicate, drop-map}
+use Rattle.std.proofs.lemmas.List.{take_all, length-append, length-take, length-map, get_or-take, get_or-drop, get_or_past, places, drop-append-le, drop-replicate}
 use Rattle.std.proofs.lemmas.List.Elements.{All-map}
 use Rattle.std.proofs.lemmas.Simd.{length-zip2, get_or-zip2}
 use Rattle.tinystr_words.specs.Classes.{is_alphabetic, is_alphanumeric, is_upper}
 use Rattle.tinystr_words.specs.Text.{IsPaddedText, IsText, IsTextByte, pad, text_of}
-use Rattle.tinystr_words.proofs.Texts.{NULS, length-pad, get_or-pad, IsPaddedText-places}
+use Rattle.tinystr_words.proofs.Texts.{length-pad, get_or-pad, IsPaddedText-places}
 use Rattle.subtags.specs.Grammar.{is_separator, fold_byte, fold_text, IsLangId, canonical_text}
 use Rattle.subtags.specs.Private.Lanes.{IsLoaded, steps_of}
-use Rattle.subtags.specs.Private.Tails.{class_of, tail_example, example}
+use Rattle.subtags.specs.Private.Tails.{tail_example, example}
 use Rattle.subtags.proofs.FoldLemmas.{All-from_list_all}
 use Rattle.subtags.proofs.HeadLemmas.{end-le}
 use Rattle.subtags.proofs.IdentifierLemmas.{All-canonical_text}
 use Rattle.subtags.proofs.LaneClasses.{less}
 use Rattle.subtags.proofs.PlaceLemmas.{length-canonical_text}
-use Rattle.subtags.proofs.TailLemmas.{cased, cased-canonical_text, example_of_id, few_id, short_id}
+use Rattle.subtags.proofs.TailLemmas.{class_of, cased, cased-canonical_text, example_of_id, few_id, short_id}
 use Rattle.subtags.proofs.CanonLemmas.{fold_text-canonical_text}
 
 -- a folded byte, lowered where its class has a capital

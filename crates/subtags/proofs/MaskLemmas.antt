@@ -11,8 +11,8 @@ use Rattle.std.proofs.lemmas.List.Folds.{position_or_len_push}
 use Rattle.std.proofs.lemmas.Simd.{map-map, mask_l-lt, trailing_mask_l}
 use Rattle.tinystr_words.specs.Classes.{is_alphabetic, is_digit}
 use Rattle.subtags.specs.Grammar.{dash, is_separator}
-use Rattle.subtags.specs.Private.Tails.{class_of, classes_of, one_more}
-use Rattle.subtags.proofs.TailLemmas.{is_alphabetic-class_of, is_digit-class_of, is_separator-class_of}
+use Rattle.subtags.specs.Private.Tails.{classes_of, one_more}
+use Rattle.subtags.proofs.TailLemmas.{class_of, is_alphabetic-class_of, is_digit-class_of, is_separator-class_of}
 
 pub mask_l-under : {X : Type 0} (p : X → Bool) (xs : List X) → mask_l (map p xs) < 2 ^ length xs
 mask_l-under p xs = rw (length-map xs p) at (mask_l-lt (map p xs))

@@ -9,11 +9,15 @@ use Rattle.std.proofs.lemmas.Simd.{map-map}
 use Rattle.tinystr_words.specs.Classes.{is_alphabetic, is_digit, is_upper}
 use Rattle.tinystr_words.specs.Case.{lower, raise, titlecase}
 use Rattle.subtags.specs.Grammar.{dash, is_separator, fold_byte, fold_text, subtags_of, is_language, is_language_length, is_script, is_region, is_tail, is_lang_id, canonical_subtag, canonical_subtags, canonical_text, IsLangId}
-use Rattle.subtags.specs.Private.Tails.{first_subtag, class_of, tail_example, example}
+use Rattle.subtags.specs.Private.Tails.{first_subtag, tail_example, example}
 use Rattle.subtags.proofs.FoldLemmas.{map-map_absorbed}
 use Rattle.subtags.proofs.SplitLemmas.{slice_split-map, subtags_of-fold_text, subtags_after, subtags_at_first_separator}
 use Rattle.subtags.proofs.CanonLemmas.{fold_text-canonical_text}
 use Rattle.subtags.proofs.HeadLemmas.{length-first_subtag, end-le}
+
+-- a letter as 'a', a digit as '0', a separator as '-', and any other byte as 0
+abbrev pub class_of : ℕ → ℕ
+class_of b = cond (is_alphabetic b) 0x61 (cond (is_digit b) 0x30 (cond (is_separator b) dash 0))
 
 pub is_alphabetic-class_of : (b : ℕ) → is_alphabetic (class_of b) ≡ is_alphabetic b
 is_alphabetic-class_of b = grind (arith, nat_tests)

@@ -31,9 +31,9 @@ pub(crate) fn letters_of(units: &[u8], lanes: u8x16) -> u64
     requires loaded { IsLoaded lanes units.now }
     ensures { result ≡ mask_l (map is_alphabetic units.now) }
 {
-    let letters = letters(lanes);
+    let bits = letters(lanes);
     let last = units.get(16);
-    last.map_or(letters, |b| with_last(letters, b.is_ascii_alphabetic()))
+    last.map_or(bits, |b| with_last(bits, b.is_ascii_alphabetic()))
 }
 
 /// Which of at most 17 bytes are digits.
@@ -44,9 +44,9 @@ pub(crate) fn digits_of(units: &[u8], lanes: u8x16) -> u64
     requires loaded { IsLoaded lanes units.now }
     ensures { result ≡ mask_l (map is_digit units.now) }
 {
-    let digits = digits(lanes);
+    let bits = digits(lanes);
     let last = units.get(16);
-    last.map_or(digits, |b| with_last(digits, b.is_ascii_digit()))
+    last.map_or(bits, |b| with_last(bits, b.is_ascii_digit()))
 }
 
 /// Which of at most 17 bytes are separators.
@@ -57,12 +57,9 @@ pub(crate) fn separators_of(units: &[u8], lanes: u8x16) -> u64
     requires loaded { IsLoaded lanes units.now }
     ensures { result ≡ mask_l (map is_separator units.now) }
 {
-    let separators = separators(lanes);
+    let bits = separators(lanes);
     let last = units.get(16);
-    last.map_or(
-        separators,
-        |b| with_last(separators, (*b == b'-') | (*b == b'_')),
-    )
+    last.map_or(bits, |b| with_last(bits, (*b == b'-') | (*b == b'_')))
 }
 
 /// The folded text of at most eight letters. The bytes are there for the contract.

@@ -1,18 +1,14 @@
--- The first subtag of an input, and what the classes of its bytes show, by examples. No public contract has one of these words.
+-- The first subtag of an input, the classes of its bytes, and examples. No public contract has one of these words.
 use Rattle.std.specs.Prelude.{◌≡◌, ℕ, ◌==◌, ◌+◌, ◌*◌, ◌^◌, if◌then◌else◌, List, [], ◌∷◌, ◌++◌, map, take, replicate, codes}
 use Rattle.std.specs.List.{position_or_len}
 use Rattle.std.specs.Simd.Lanes.{mask_l}
 use Rattle.tinystr_words.specs.Classes.{is_alphabetic, is_digit}
-use Rattle.subtags.specs.Grammar.{dash, is_separator}
+use Rattle.subtags.specs.Grammar.{is_separator}
 use Rattle.subtags.specs.declared.classes.Classes.{Classes}
 
 -- the bytes before the first separator
 abbrev pub first_subtag : List ℕ → List ℕ
 first_subtag u = take (position_or_len is_separator u) u
-
--- a letter as 'a', a digit as '0', a separator as '-', and any other byte as 0
-abbrev pub class_of : ℕ → ℕ
-class_of b = if is_alphabetic b then 0x61 else if is_digit b then 0x30 else if is_separator b then dash else 0
 
 -- a script, a region, or both, each after a dash, of n bytes; nothing where these have no such length
 abbrev pub tail_example : ℕ → List ℕ
