@@ -24,6 +24,9 @@ is_language-first_subtag u n is = rw (length-first_subtag u, ← is) refl
 pub end-le : (u : List ℕ) → position_or_len is_separator u ≤ length u
 end-le u = prefix_len-le-length (λ b. not (is_separator b)) u
 
+pub letters_few : (n : ℕ) → is_language_length n ≡ true → n ≤ 8
+letters_few n size = grind (arith, nat_tests)
+
 pub refusal_by_language : (u : List ℕ) → refusal_of u ≡ cond (is_language (first_subtag u)) InvalidSubtag InvalidLanguage
 refusal_by_language u = rw (subtags_at_first_separator u, is_language-fold_text (first_subtag u)) refl
 

@@ -6,7 +6,7 @@ use Rattle.std.specs.List.{All, list_all, join_with_byte}
 use Rattle.std.proofs.lemmas.Bool.{cases_lt, false_from_ne_true}
 use Rattle.std.proofs.lemmas.Bool.Decides.{nat_tests}
 use Rattle.std.proofs.lemmas.List.{take_all, length-take}
-use Rattle.std.proofs.lemmas.List.Elements.{All-append, All-nil, All-cons}
+use Rattle.std.proofs.lemmas.List.Elements.{All-append, All-cons}
 use Rattle.tinystr_words.specs.Classes.{is_alphabetic, is_alphanumeric}
 use Rattle.subtags.specs.Grammar.{dash, is_separator, is_language, is_language_length, is_tail, fold_text, subtags_of, is_lang_id, IsLangId, canonical_subtag, canonical_text, canonical_of}
 use Rattle.subtags.specs.declared.error.LangIdError.TheVariants.{InvalidLanguage}
@@ -14,7 +14,7 @@ use Rattle.subtags.specs.Answers.{refusal_of}
 use Rattle.subtags.specs.Private.Tails.{first_subtag}
 use Rattle.subtags.proofs.CanonLemmas.{IsCanonical-canonical_text, fold_text-canonical_text, is_tail-canonical, plain_subtags}
 use Rattle.subtags.proofs.FoldLemmas.{All-from_list_all, is_language-fold_text, alphanumeric-fold_text, alphanumeric-from_letters}
-use Rattle.subtags.proofs.HeadLemmas.{length-first_subtag, end-le, refusal_by_language}
+use Rattle.subtags.proofs.HeadLemmas.{letters_few, refusal_by_language}
 use Rattle.subtags.proofs.SplitLemmas.{subtags_after, subtags_at_first_separator, subtags_of-alphanumeric}
 use Rattle.subtags.proofs.TailLemmas.{few_id, short_id}
 
@@ -38,12 +38,11 @@ language-take u = rw (first_subtag-take 17 u) (elim (cases_lt 8 (length (first_s
 ])
 
 -- what is so of letters, digits and dashes is so of all bytes of a canonical text
-All-join : (P : ℕ → Type 0) → ((b : ℕ) → is_alphanumeric b ≡ true → P b) → P dash → (ps : List (List ℕ)) → list_all (list_all is_alphanumeric) ps ≡ true → All P (join_with_byte dash ps)
-All-join P each one [] plain = All-nil P
-All-join P each one (p ∷ []) plain = All-from_list_all is_alphanumeric P each p (grind arith)
-All-join P each one (p ∷ q ∷ ps) plain =
+All-join : (P : ℕ → Type 0) → ((b : ℕ) → is_alphanumeric b ≡ true → P b) → P dash → (p : List ℕ) (ps : List (List ℕ)) → list_all (list_all is_alphanumeric) (p ∷ ps) ≡ true → All P (join_with_byte dash (p ∷ ps))
+All-join P each one p [] plain = All-from_list_all is_alphanumeric P each p (grind arith)
+All-join P each one p (q ∷ ps) plain =
     All-append P p (dash ∷ join_with_byte dash (q ∷ ps)) (All-from_list_all is_alphanumeric P each p (grind arith))
-    (All-cons P dash (join_with_byte dash (q ∷ ps)) one (All-join P each one (q ∷ ps) (grind arith)))
+    (All-cons P dash (join_with_byte dash (q ∷ ps)) one (All-join P each one q ps (grind arith)))
 
 pub All-canonical_text : (P : ℕ → Type 0) → ((b : ℕ) → is_alphanumeric b ≡ true → P b) → P dash → (u : List ℕ) → IsLangId u → All P (canonical_text u)
 All-canonical_text P each one u h =
@@ -51,7 +50,7 @@ All-canonical_text P each one u h =
     let ps = subtags_after u in
     let split = subtags_at_first_separator u in
     let all : (is_language l && is_tail ps) ≡ true = rw split at h in
-    rw split (All-join P each one (l ∷ map canonical_subtag ps) (plain_subtags l (map canonical_subtag ps) (grind arith) (is_tail-canonical ps (grind arith))))
+    rw split (All-join P each one l (map canonical_subtag ps) (plain_subtags l (map canonical_subtag ps) (grind arith) (is_tail-canonical ps (grind arith))))
 
 -- ---- letters alone
 
@@ -66,9 +65,6 @@ letters_text u letters = rw (letters_alone u letters) refl
 
 pub letters_refusal : (u : List ℕ) → list_all is_alphabetic u ≡ true → is_language_length (length u) ≡ false → refusal_of u ≡ InvalidLanguage
 letters_refusal u letters wrong = rw (letters_alone u letters, is_language-fold_text u, letters, wrong) refl
-
-pub letters_few : (n : ℕ) → is_language_length n ≡ true → n ≤ 8
-letters_few n size = grind (arith, nat_tests)
 
 -- ---- more bytes than an identifier has
 

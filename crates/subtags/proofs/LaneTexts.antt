@@ -15,11 +15,11 @@ use Rattle.subtags.specs.Grammar.{is_separator, fold_byte, fold_text, IsLangId, 
 use Rattle.subtags.specs.Private.Lanes.{IsLoaded, steps_of}
 use Rattle.subtags.specs.Private.Tails.{tail_example, example}
 use Rattle.subtags.proofs.FoldLemmas.{All-from_list_all}
-use Rattle.subtags.proofs.HeadLemmas.{end-le}
+use Rattle.subtags.proofs.HeadLemmas.{letters_few, end-le}
 use Rattle.subtags.proofs.IdentifierLemmas.{All-canonical_text}
 use Rattle.subtags.proofs.LaneClasses.{less}
 use Rattle.subtags.proofs.PlaceLemmas.{length-canonical_text}
-use Rattle.subtags.proofs.TailLemmas.{class_of, cased, cased-canonical_text, example_of_id, few_id, short_id}
+use Rattle.subtags.proofs.TailLemmas.{class_of, cased, cased-canonical_text, example_of_id, short_id}
 use Rattle.subtags.proofs.CanonLemmas.{fold_text-canonical_text}
 
 -- a folded byte, lowered where its class has a capital
@@ -83,7 +83,7 @@ in_case_held u lanes folded row e last made h is load table end =
     let n = length u - e in
     let t = canonical_text u in
     let x = rw (← is) at (example_of_id u h) in
-    let few = few_id u h in
+    let few : e ≤ 8 = letters_few e (x.language) in
     let size : n ≤ 9 = rw (← is) at (short_id u h) in
     let inside = end-le u in
     let len : length (example e n) ≡ length u = sym (length-map (example e n) class_of) ∙ sym (ap (λ (l : List ℕ). length l) x.like) ∙ length-map u class_of in

@@ -13,7 +13,7 @@ use Rattle.subtags.specs.Private.Tails.{first_subtag, tail_example, example}
 use Rattle.subtags.proofs.FoldLemmas.{map-map_absorbed}
 use Rattle.subtags.proofs.SplitLemmas.{slice_split-map, subtags_of-fold_text, subtags_after, subtags_at_first_separator}
 use Rattle.subtags.proofs.CanonLemmas.{fold_text-canonical_text}
-use Rattle.subtags.proofs.HeadLemmas.{length-first_subtag, end-le}
+use Rattle.subtags.proofs.HeadLemmas.{length-first_subtag, letters_few, end-le}
 
 -- a letter as 'a', a digit as '0', a separator as '-', and any other byte as 0
 abbrev pub class_of : ℕ → ℕ
@@ -183,7 +183,7 @@ pub language_id : (u : List ℕ) → IsLangId u → is_language_length (position
 language_id u h = (example_of_id u h).language
 
 pub few_id : (u : List ℕ) → IsLangId u → position_or_len is_separator u ≤ 8
-few_id u h = let language = language_id u h in grind (arith, nat_tests)
+few_id u h = letters_few (position_or_len is_separator u) (language_id u h)
 
 pub short_id : (u : List ℕ) → IsLangId u → length u - position_or_len is_separator u ≤ 9
 short_id u h = omega (arith, (example_of_id u h).size, length-tail_example (length u - position_or_len is_separator u))

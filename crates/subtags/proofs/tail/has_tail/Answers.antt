@@ -5,7 +5,7 @@ use Rattle.std.proofs.lemmas.List.{length-append, length-replicate}
 use Rattle.subtags.specs.Grammar.{is_language_length}
 use Rattle.subtags.specs.Private.Tails.{tail_example, one_more}
 use Rattle.subtags.proofs.MaskLemmas.{number_like}
-use Rattle.subtags.proofs.HeadLemmas.{end-le}
+use Rattle.subtags.proofs.HeadLemmas.{letters_few, end-le}
 use Rattle.subtags.proofs.TailLemmas.{example_of_id, id_of_example, more_than_letters}
 use Rattle.subtags.proofs.tail.has_tail.Goals as goal
 
@@ -26,7 +26,7 @@ returns-then-is_language_length c =
     let n = length u - e in
     let r = c.requires in
     let right : is_language_length e ≡ true = sym c.is_language_length.ensures ∙ c.if-is_language_length.true in
-    let few : e ≤ 8 = grind (arith, nat_tests) in
+    let few = letters_few e right in
     let inside = end-le u in
     let like = number_like u (tail_example n) e (λ some. omega (arith, size n some, length-append (replicate e 0x61) (tail_example n), length-replicate {A = ℕ} e 0x61)) r.few in
     rw (c.packed.ensures, c.one_more.ensures, unwrapped n e few) (
