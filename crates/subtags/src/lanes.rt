@@ -8,7 +8,7 @@ ghost use Rattle.tinystr_words.specs.Classes.{is_alphabetic, is_digit};
 ghost use Rattle.tinystr_words.specs.Text.{IsPaddedText, pad, text_of};
 ghost use Rattle.subtags.specs.Grammar.{IsLangId, canonical_text, fold_byte, fold_text, is_separator};
 ghost use Rattle.subtags.specs.Private.Lanes.{IsLoaded, steps_of};
-ghost use Rattle.subtags.specs.Private.Tails.{example, tail_example};
+ghost use Rattle.subtags.specs.Private.Tails.{example};
 
 use std::simd::prelude::*;
 use tinystr::TinyAsciiStr;
