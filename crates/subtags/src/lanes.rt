@@ -1,14 +1,14 @@
 //! The first sixteen bytes of an input in a vector: their classes, and the texts that they become. This module alone is about
 //! padded bytes.
 
-ghost use Rattle.std.specs.Prelude.{◌≡◌, ◌<◌, ◌≤◌, ◌+◌, ◌^◌, ◌++◌, ◌∷◌, [], if◌then◌else◌, length, map, true};
+ghost use Rattle.std.specs.Prelude.{◌≡◌, ◌<◌, ◌≤◌, ◌+◌, ◌^◌, ◌++◌, ◌∷◌, [], if◌then◌else◌, length, map, replicate, true};
 ghost use Rattle.std.specs.List.{list_all, position_or_len, slice_index};
 ghost use Rattle.std.specs.Simd.Lanes.{mask_l};
 ghost use Rattle.tinystr_words.specs.Classes.{is_alphabetic, is_digit};
 ghost use Rattle.tinystr_words.specs.Text.{IsPaddedText, pad, text_of};
 ghost use Rattle.subtags.specs.Grammar.{IsLangId, canonical_text, fold_byte, fold_text, is_separator};
 ghost use Rattle.subtags.specs.Private.Lanes.{IsLoaded, steps_of};
-ghost use Rattle.subtags.specs.Private.Tails.{example};
+ghost use Rattle.subtags.specs.Private.Tails.{tail_example};
 
 use std::simd::prelude::*;
 use tinystr::TinyAsciiStr;
@@ -162,11 +162,11 @@ const BOTH: [u8; 24] = [
     0, 0, 0, 0, 0, 0, 0, 0, 0, 32, 0, 0, 0, 0, 32, 32, 0, 0, 0, 0, 0, 0, 0, 0,
 ];
 
-// The steps of an example after eight letters, and then zeros.
+// The steps of a tail after eight zeros, and then zeros.
 #[inline(always)]
 fn table(len: usize) -> &'static [u8; 24]
     requires { len ≤ 9 }
-    ensures { result.now ≡ pad (steps_of (example 8 len)) 24 }
+    ensures { result.now ≡ pad (replicate 8 0 ++ steps_of (tail_example len)) 24 }
 {
     &LOWERED[len]
 }
