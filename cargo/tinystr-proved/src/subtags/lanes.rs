@@ -168,10 +168,10 @@ const BOTH: [u8; 24] = [
     0, 0, 0, 0, 0, 0, 0, 0, 0, 32, 0, 0, 0, 0, 32, 32, 0, 0, 0, 0, 0, 0, 0, 0,
 ];
 
-// The steps of an example after eight letters, and then zeros.
+// The steps of a tail after eight zeros, and then zeros.
 // Proved:
 //     requires { len ≤ 9 }
-//     ensures { result.now ≡ pad (steps_of (example 8 len)) 24 }
+//     ensures { result.now ≡ pad (replicate 8 0 ++ steps_of (tail_example len)) 24 }
 #[inline(always)]
 fn table(len: usize) -> &'static [u8; 24] {
     &LOWERED[len]
