@@ -172,8 +172,8 @@ id_of_example u e n language more like = sym (id_by_classes u) ∙ ap (λ w. is_
 -- a tail follows the language where not all bytes are letters
 pub more_than_letters : (u : List ℕ) (e n : ℕ) → list_all is_alphabetic u ≡ false → length (tail_example n) ≡ n → map class_of u ≡ map class_of (example e n) → 0 < length (tail_example n)
 more_than_letters u e zero other size like =
-    let same : (w : List ℕ) → list_all is_alphabetic (map class_of w) ≡ list_all is_alphabetic w = λ w. simp class_steps in
-    absurd (false≢true (sym other ∙ sym (same u) ∙ ap (list_all is_alphabetic) like ∙ same (example e 0) ∙ ap (list_all is_alphabetic) (append-nil (replicate e 0x61)) ∙ letters_example e))
+    let same : list_all is_alphabetic u ≡ list_all is_alphabetic (example e 0) = simp class_steps at (ap (list_all is_alphabetic) like) in
+    absurd (false≢true (sym other ∙ same ∙ ap (list_all is_alphabetic) (append-nil (replicate e 0x61)) ∙ letters_example e))
 more_than_letters u e (suc n) other size like = omega (arith, size)
 
 length-tail_example : (n : ℕ) → length (tail_example n) ≤ 9
