@@ -2,7 +2,7 @@
 //! padded bytes.
 
 ghost use Rattle.std.specs.Prelude.{◌≡◌, ◌<◌, ◌≤◌, ◌+◌, ◌^◌, ◌++◌, ◌∷◌, [], if◌then◌else◌, length, map, replicate, true};
-ghost use Rattle.std.specs.List.{list_all, position_or_len, slice_index};
+ghost use Rattle.std.specs.List.{list_all, position_or_len};
 ghost use Rattle.std.specs.Simd.Lanes.{mask_l};
 ghost use Rattle.tinystr_words.specs.Classes.{is_alphabetic, is_digit};
 ghost use Rattle.tinystr_words.specs.Text.{IsPaddedText, pad, text_of};

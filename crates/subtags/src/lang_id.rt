@@ -1,11 +1,11 @@
 //! Language identifiers.
 
-ghost use Rattle.std.specs.Prelude.{◌≡◌, ◌<◌, ◌+◌, ◌≤◌, length, map, None, ◌∷◌, if◌then◌else◌, Some, IsOk, IfOk, IfErr, IfSome, ◌↔◌};
+ghost use Rattle.std.specs.Prelude.{◌≡◌, ◌<◌, ◌+◌, ◌≤◌, length, None, ◌∷◌, Some, IsOk, IfOk, IfErr, IfSome, ◌↔◌};
 ghost use Rattle.std.specs.Fmt.{debug_str, styled_text};
 ghost use Rattle.std.specs.Result.{result_ok};
 ghost use Rattle.tinystr_words.specs.Case.{lowercase, titlecase, uppercase};
 ghost use Rattle.subtags.specs.Private.Tails.{AreClassesOf};
-ghost use Rattle.subtags.specs.Grammar.{dash, fold_text, is_separator, is_language, is_script, is_region, IsLangId, IsCanonical, canonical_text, canonical_of};
+ghost use Rattle.subtags.specs.Grammar.{dash, fold_text, is_language, is_script, is_region, IsLangId, IsCanonical, canonical_text, canonical_of};
 ghost use Rattle.subtags.specs.Subtags.{IsCanonicalSubtag, language_of, script_of, region_of, join_subtags};
 ghost use Rattle.subtags.specs.Answers.{refusal_of, IsLangIdRead};
 
