@@ -1,8 +1,8 @@
 -- The classes of bytes in a vector.
-use Rattle.std.proofs.Common.{◌≡◌, ◌+◌, ◌-◌, ◌*◌, ◌%◌, ◌^◌, ◌<◌, ◌≤◌, ℕ, zero, suc, Bool, true, false, not, List, [], ◌∷◌, length, map, take, drop, cond, eqb, ltb, bit_or, replicate, get_or, drop-cons, append-nil, ap, ap₂, refl, sym, ◌∙◌, w8, arith}
+use Rattle.std.proofs.Common.{◌≡◌, ◌+◌, ◌-◌, ◌*◌, ◌%◌, ◌^◌, ◌<◌, ◌≤◌, ℕ, zero, suc, Bool, true, false, List, [], ◌∷◌, length, map, take, drop, cond, eqb, ltb, bit_or, replicate, get_or, drop-cons, append-nil, ap, ap₂, refl, sym, ◌∙◌, w8, arith}
 use mir.Val.{Fits}
 use lib.Lanes.{Each1, mask_l, zip2, top, sel_l}
-use Rattle.std.proofs.lemmas.Bool.Decides.{nat_tests}
+use Rattle.std.proofs.lemmas.Bool.{eqb-true}
 use Rattle.std.proofs.lemmas.List.{length-map, length-take, take_all, drop_all}
 use Rattle.std.proofs.lemmas.Simd.{mask_l-mod}
 use Rattle.tinystr_words.specs.Classes.{is_alphabetic, is_digit}
@@ -10,36 +10,24 @@ use Rattle.tinystr_words.specs.Text.{pad}
 use Rattle.tinystr_words.proofs.Words.Lanes.{below, below_at}
 use Rattle.tinystr_words.proofs.Texts.{NULS}
 use Rattle.subtags.specs.Grammar.{fold_byte, is_separator}
-use Rattle.subtags.proofs.MaskLemmas.{mask_l-append, mask_l-split, mask_l-under}
+use Rattle.subtags.proofs.MaskLemmas.{same_bit, mask_l-append, mask_l-split, mask_l-under}
 
 -- a byte with another taken from it
 abbrev pub less : ℕ → ℕ → ℕ
 less a b = (a + (256 - b)) % 256
 
--- a vector that is computed lane by lane
-lanewise : {A : Type 0} (V : ℕ → List ℕ → List A) (g : ℕ → A) → V 0 [] ≡ [] → ((n b : ℕ) (l : List ℕ) → b < 256 → V (suc n) (b ∷ l) ≡ g b ∷ V n l) → (n : ℕ) (lanes : List ℕ) → length lanes ≡ n → Each1 (Fits w8) lanes → V n lanes ≡ map g lanes
-lanewise V g none more zero [] long small = none
-lanewise V g none more zero (b ∷ l) long small = absurd (omega arith)
-lanewise V g none more (suc n) [] long small = absurd (omega arith)
-lanewise V g none more (suc n) (b ∷ l) long small = more n b l small.0.fits ∙ ap (λ m. g b ∷ m) (lanewise V g none more n l (omega arith) small.1)
+-- a vector that is computed lane by lane, by a test of each byte; the lanes are compared by their codes
+lanewise : {A : Type 0} (d : A) (code : A → ℕ) → ((x y : A) → code x ≡ code y → x ≡ y) → (V : ℕ → List ℕ → List A) (g : ℕ → A) → V 0 [] ≡ [] → ((n b : ℕ) (l : List ℕ) → V (suc n) (b ∷ l) ≡ get_or (V 1 (b ∷ [])) 0 d ∷ V n l)
+    → below (λ b. eqb (code (get_or (V 1 (b ∷ [])) 0 d)) (code (g b))) 256 ≡ true → (lanes : List ℕ) → Each1 (Fits w8) lanes → V (length lanes) lanes ≡ map g lanes
+lanewise d code same V g none more each [] small = none
+lanewise d code same V g none more each (b ∷ l) small =
+    let here = below_at (λ b. eqb (code (get_or (V 1 (b ∷ [])) 0 d)) (code (g b))) 256 each b small.0.fits in
+    more (length l) b l ∙ ap₂ (λ x m. x ∷ m) (same (get_or (V 1 (b ∷ [])) 0 d) (g b) (eqb-true _ _ here)) (lanewise d code same V g none more each l small.1)
 
--- bytes of bytes, by a test of each byte
-bytewise : (V : ℕ → List ℕ → List ℕ) (g : ℕ → ℕ) → V 0 [] ≡ [] → ((n b : ℕ) (l : List ℕ) → V (suc n) (b ∷ l) ≡ get_or (V 1 (b ∷ [])) 0 0 ∷ V n l) → below (λ b. eqb (get_or (V 1 (b ∷ [])) 0 0) (g b)) 256 ≡ true
-    → (lanes : List ℕ) → length lanes ≡ 16 → Each1 (Fits w8) lanes → V 16 lanes ≡ map g lanes
-bytewise V g none more each lanes long small = lanewise V g none (λ n b l fits. more n b l ∙ ap (λ (x : ℕ). x ∷ V n l) (byte b fits)) 16 lanes long small where
-  byte : (b : ℕ) → b < 256 → get_or (V 1 (b ∷ [])) 0 0 ≡ g b
-  byte b fits = let e = below_at (λ b. eqb (get_or (V 1 (b ∷ [])) 0 0) (g b)) 256 each b fits in grind (arith, nat_tests)
-
--- the marks of bytes that pass, by a test of each byte
-marks : (V : ℕ → List ℕ → List Bool) (p : ℕ → Bool) → V 0 [] ≡ [] → ((n b : ℕ) (l : List ℕ) → V (suc n) (b ∷ l) ≡ get_or (V 1 (b ∷ [])) 0 false ∷ V n l) → below (λ b. cond (get_or (V 1 (b ∷ [])) 0 false) (p b) (not (p b))) 256 ≡ true
+-- the marks of bytes that pass
+marks : (V : ℕ → List ℕ → List Bool) (p : ℕ → Bool) → V 0 [] ≡ [] → ((n b : ℕ) (l : List ℕ) → V (suc n) (b ∷ l) ≡ get_or (V 1 (b ∷ [])) 0 false ∷ V n l) → below (λ b. eqb (cond (get_or (V 1 (b ∷ [])) 0 false) 1 0) (cond (p b) 1 0)) 256 ≡ true
     → (lanes : List ℕ) → length lanes ≡ 16 → Each1 (Fits w8) lanes → mask_l (V 16 lanes) % 2 ^ 64 ≡ mask_l (map p lanes)
-marks V p none more each lanes long small = ap (λ ms. mask_l ms % 2 ^ 64) (lanewise V p none (λ n b l fits. more n b l ∙ ap (λ (x : Bool). x ∷ V n l) (byte b fits)) 16 lanes long small) ∙ mask_l-mod (map p lanes) 64 (omega (arith, length-map lanes p)) where
-  same : (a b : Bool) → cond a b (not b) ≡ true → a ≡ b
-  same true b e = sym e
-  same false b e = grind arith
-
-  byte : (b : ℕ) → b < 256 → get_or (V 1 (b ∷ [])) 0 false ≡ p b
-  byte b fits = same (get_or (V 1 (b ∷ [])) 0 false) (p b) (below_at (λ b. cond (get_or (V 1 (b ∷ [])) 0 false) (p b) (not (p b))) 256 each b fits)
+marks V p none more each lanes long small = ap (λ ms. mask_l ms % 2 ^ 64) (rw long at (lanewise false (λ x. cond x 1 0) (λ x y e. (same_bit x y 0 0 (omega arith)).0) V p none more each lanes small)) ∙ mask_l-mod (map p lanes) 64 (omega (arith, length-map lanes p))
 
 pub letter_marks : (lanes : List ℕ) → length lanes ≡ 16 → Each1 (Fits w8) lanes → mask_l (map (top 7) (zip2 (λ a b. cond (ltb a b) 255 0) (zip2 less (zip2 bit_or lanes (replicate 16 32)) (replicate 16 97)) (replicate 16 26))) % 2 ^ 64 ≡ mask_l (map is_alphabetic lanes)
 letter_marks = marks (λ n l. map (top 7) (zip2 (λ a b. cond (ltb a b) 255 0) (zip2 less (zip2 bit_or l (replicate n 32)) (replicate n 97)) (replicate n 26))) is_alphabetic refl (λ n b l. refl) refl
@@ -51,7 +39,7 @@ pub separator_marks : (lanes : List ℕ) → length lanes ≡ 16 → Each1 (Fits
 separator_marks = marks (λ n l. map (top 7) (zip2 bit_or (zip2 (λ a b. cond (eqb a b) 255 0) l (replicate n 45)) (zip2 (λ a b. cond (eqb a b) 255 0) l (replicate n 95)))) is_separator refl (λ n b l. refl) refl
 
 pub folded_lanes : (lanes : List ℕ) → length lanes ≡ 16 → Each1 (Fits w8) lanes → sel_l (map (top 7) (zip2 (λ a b. cond (ltb a b) 255 0) (zip2 less (zip2 bit_or lanes (replicate 16 32)) (replicate 16 97)) (replicate 16 26))) (zip2 bit_or lanes (replicate 16 32)) (sel_l (map (top 7) (zip2 (λ a b. cond (eqb a b) 255 0) lanes (replicate 16 95))) (replicate 16 45) lanes) ≡ map fold_byte lanes
-folded_lanes = bytewise (λ n l. sel_l (map (top 7) (zip2 (λ a b. cond (ltb a b) 255 0) (zip2 less (zip2 bit_or l (replicate n 32)) (replicate n 97)) (replicate n 26))) (zip2 bit_or l (replicate n 32)) (sel_l (map (top 7) (zip2 (λ a b. cond (eqb a b) 255 0) l (replicate n 95))) (replicate n 45) l)) fold_byte refl (λ n b l. refl) refl
+folded_lanes lanes long small = rw long at (lanewise 0 (λ x. x) (λ x y e. e) (λ n l. sel_l (map (top 7) (zip2 (λ a b. cond (ltb a b) 255 0) (zip2 less (zip2 bit_or l (replicate n 32)) (replicate n 97)) (replicate n 26))) (zip2 bit_or l (replicate n 32)) (sel_l (map (top 7) (zip2 (λ a b. cond (eqb a b) 255 0) l (replicate n 95))) (replicate n 45) l)) fold_byte refl (λ n b l. refl) refl lanes small)
 
 -- ---- at most 17 bytes, the first sixteen of which are in lanes, with NULs after them
 

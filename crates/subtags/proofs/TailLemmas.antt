@@ -1,134 +1,191 @@
--- What follows the language of an input, folded: a script, a region, or both, after a dash.
-use Rattle.std.proofs.Common.{◌≡◌, ◌+◌, ◌≤◌, ◌↔◌, ℕ, Bool, true, false, ◌==◌, ◌&&◌, ◌||◌, List, [], ◌∷◌, ◌++◌, length, map, replicate, refl, sym, ap, ap₂, ◌∙◌, arith}
-use lib.Lanes.{zip2}
-use Rattle.std.specs.List.{list_all, join_with_byte}
+-- The classes of an input's bytes, as a text: they show whether it is an identifier, and where its canonical text has capitals.
+use Rattle.std.proofs.Common.{inl, inr, codes, ◌⊎◌, ◌&&◌, ◌≡◌, ◌-◌, ◌≤◌, ◌<◌, ℕ, zero, suc, Bool, true, false, ◌==◌, List, [], ◌∷◌, ◌++◌, length, map, replicate, append-nil, refl, sym, ap, ap₂, ◌∙◌, cond, arith}
+use Rattle.std.specs.List.{list_all, slice_split, join_with_byte, position_or_len}
+use Rattle.std.proofs.lemmas.Bool.{or_cases, false≢true}
 use Rattle.std.proofs.lemmas.Bool.Decides.{nat_tests}
-use Rattle.std.proofs.lemmas.List.{length-map}
-use Rattle.tinystr_words.specs.Classes.{is_alphabetic, is_digit}
-use Rattle.tinystr_words.specs.Case.{raise}
-use Rattle.subtags.specs.Grammar.{dash, is_separator, fold_byte, fold_text, subtags_of, is_script, is_region, is_tail, canonical_subtag}
-use Rattle.subtags.specs.Private.Tails.{example, first_subtag, IsLike, in_case_of_byte}
-use Rattle.std.proofs.lemmas.List.Splits.{join_with_byte-slice_split}
-use Rattle.subtags.specs.Subtags.{first}
-use Rattle.subtags.proofs.FoldLemmas.{map-map_absorbed, fold_text-fold_text, is_alphabetic-fold_byte, is_digit-fold_byte}
-use Rattle.subtags.proofs.SplitLemmas.{subtags_after, subtags_at_first_separator, subtags_of-fold_text}
-use Rattle.subtags.proofs.CanonLemmas.{no_script-from_region}
+use Rattle.std.proofs.lemmas.List.{map-append, length-map, length-append, length-replicate}
+use Rattle.std.proofs.lemmas.List.Folds.{list_all-map}
+use Rattle.std.proofs.lemmas.Simd.{map-map}
+use Rattle.tinystr_words.specs.Classes.{is_alphabetic, is_digit, is_upper}
+use Rattle.tinystr_words.specs.Case.{lower, raise, titlecase}
+use Rattle.subtags.specs.Grammar.{dash, is_separator, fold_byte, fold_text, subtags_of, is_language, is_language_length, is_script, is_region, is_tail, is_lang_id, canonical_subtag, canonical_subtags, canonical_text, IsLangId}
+use Rattle.subtags.specs.Private.Tails.{first_subtag, tail_example, example}
+use Rattle.subtags.proofs.FoldLemmas.{map-map_absorbed}
+use Rattle.subtags.proofs.SplitLemmas.{slice_split-map, subtags_of-fold_text, subtags_after, subtags_at_first_separator}
+use Rattle.subtags.proofs.CanonLemmas.{fold_text-canonical_text}
+use Rattle.subtags.proofs.HeadLemmas.{length-first_subtag, letters_few, end-le}
 
-letter : (b : ℕ) → is_alphabetic b ≡ true → ((b == dash) ≡ false) × (is_digit b ≡ false) × (is_separator b ≡ false)
-letter b h = (grind (arith, nat_tests), grind (arith, nat_tests), grind (arith, nat_tests))
+-- a letter as 'a', a digit as '0', a separator as '-', and any other byte as 0
+abbrev pub class_of : ℕ → ℕ
+class_of b = cond (is_alphabetic b) 0x61 (cond (is_digit b) 0x30 (cond (is_separator b) dash 0))
 
-digit : (b : ℕ) → is_digit b ≡ true → ((b == dash) ≡ false) × (is_alphabetic b ≡ false) × (is_separator b ≡ false) × (raise b ≡ b)
-digit b h = (grind (arith, nat_tests), grind (arith, nat_tests), grind (arith, nat_tests), grind (arith, nat_tests))
+pub is_alphabetic-class_of : (b : ℕ) → is_alphabetic (class_of b) ≡ is_alphabetic b
+is_alphabetic-class_of b = grind (arith, nat_tests)
 
-separator : (b : ℕ) → is_separator b ≡ true → fold_byte b ≡ b → b ≡ dash
-separator b h f = grind (arith, nat_tests)
+pub is_digit-class_of : (b : ℕ) → is_digit (class_of b) ≡ is_digit b
+is_digit-class_of b = grind (arith, nat_tests)
 
--- ---- what is like the example of its length is a tail
+pub is_separator-class_of : (b : ℕ) → is_separator (class_of b) ≡ is_separator b
+is_separator-class_of b = grind (arith, nat_tests)
 
--- no example has more than nine bytes
-pub length-example : (n : ℕ) → length (example n) ≤ 9
-length-example n = grind (arith, nat_tests)
+ruleset class_steps = (list_all-map, length-map, is_alphabetic-class_of, is_digit-class_of)
 
-pub length-of_like : (n : ℕ) (v : List ℕ) → IsLike (example n) v → (length v ≡ length (example n)) × (length v ≤ 9)
-length-of_like n v like =
-    let same : length v ≡ length (example n) = omega (arith, length-map v is_alphabetic, length-map (example n) is_alphabetic, ap (λ (m : List Bool). length m) like.letters) in
-    (same, omega (arith, length-example n, same))
+-- ---- whether it is an identifier
 
-pub tail_like : (x : List ℕ) → fold_text x ≡ x → IsLike (example (1 + length x)) (dash ∷ x) → is_tail (subtags_of x) ≡ true
-tail_like (a ∷ b ∷ []) f like = grind (arith, letter)
-tail_like (a ∷ b ∷ c ∷ []) f like = grind (arith, digit)
-tail_like (a ∷ b ∷ c ∷ d ∷ []) f like = grind (arith, letter)
-tail_like (a ∷ b ∷ c ∷ d ∷ s ∷ e ∷ g ∷ []) f like = grind (arith, letter, separator)
-tail_like (a ∷ b ∷ c ∷ d ∷ s ∷ e ∷ g ∷ h ∷ []) f like = grind (arith, letter, digit, separator)
-tail_like [] f like = absurd cc
-tail_like (a ∷ []) f like = absurd cc
-tail_like (a ∷ b ∷ c ∷ d ∷ e ∷ []) f like = absurd cc
-tail_like (a ∷ b ∷ c ∷ d ∷ e ∷ g ∷ []) f like = absurd cc
-tail_like (a ∷ b ∷ c ∷ d ∷ e ∷ g ∷ h ∷ i ∷ j ∷ x) _ like = absurd (omega (arith, (length-of_like (1 + length (a ∷ b ∷ c ∷ d ∷ e ∷ g ∷ h ∷ i ∷ j ∷ x)) (dash ∷ a ∷ b ∷ c ∷ d ∷ e ∷ g ∷ h ∷ i ∷ j ∷ x) like).1))
+classes-fold_text : (u : List ℕ) → map class_of (fold_text u) ≡ map class_of u
+classes-fold_text = map-map_absorbed class_of fold_byte (λ b. grind (arith, nat_tests))
 
--- ---- a tail is like the example of its length, in whose case it is canonical
+fold_text-classes : (u : List ℕ) → fold_text (map class_of u) ≡ map class_of u
+fold_text-classes u = let kept : (b : ℕ) → fold_byte (class_of b) ≡ class_of b = λ b. grind (arith, nat_tests) in simp (map-map, kept)
 
--- folded bytes that are like the example of their length, in whose case they are their canonical subtags
-pub record IsCasedTail (x : List ℕ) (ps : List (List ℕ)) : Type 0 where
-  pub like : IsLike (example (1 + length x)) (dash ∷ x)
-  pub text : (l : List ℕ) → join_with_byte dash (l ∷ map canonical_subtag ps) ≡ l ++ zip2 in_case_of_byte (example (1 + length x)) (dash ∷ x)
+subtags_of-classes : (u : List ℕ) → subtags_of (fold_text (map class_of u)) ≡ map (λ p. map class_of p) (subtags_of (fold_text u))
+subtags_of-classes u =
+    rw (fold_text-classes, subtags_of-fold_text) (slice_split-map class_of (λ b. b == dash) is_separator (λ b. grind (arith, nat_tests)) u
+    ∙ sym (map-map_absorbed (λ p. map class_of p) fold_text classes-fold_text (slice_split is_separator u)))
 
-both_of : (x y : Bool) → (x && y) ≡ true → (x ≡ true) × (y ≡ true)
-both_of x y h = (grind arith, grind arith)
+pub id_by_classes : (u : List ℕ) → is_lang_id (subtags_of (fold_text (map class_of u))) ≡ is_lang_id (subtags_of (fold_text u))
+id_by_classes u =
+    let language : (p : List ℕ) → is_language (map class_of p) ≡ is_language p = λ p. simp class_steps in
+    let script : (p : List ℕ) → is_script (map class_of p) ≡ is_script p = λ p. simp class_steps in
+    let region : (p : List ℕ) → is_region (map class_of p) ≡ is_region p = λ p. simp class_steps in
+    rw subtags_of-classes (grind (arith, language, script, region))
+
+-- ---- its canonical text
+
+-- the class of a byte, as 'A' of a capital
+abbrev pub cased : ℕ → ℕ
+cased b = cond (is_upper b) 0x41 (class_of b)
+
+cased-raise : (b : ℕ) → cased (raise b) ≡ raise (class_of b)
+cased-raise b = grind (arith, nat_tests)
+
+cased-map : (f : ℕ → ℕ) → ((b : ℕ) → cased (f b) ≡ f (class_of b)) → (p : List ℕ) → map cased (map f p) ≡ map f (map class_of p)
+cased-map f e p = simp (map-map, e)
+
+cased-titlecase : (p : List ℕ) → map cased (titlecase p) ≡ titlecase (map class_of p)
+cased-titlecase [] = refl
+cased-titlecase (b ∷ p) = ap₂ (λ (a : ℕ) (w : List ℕ). a ∷ w) (cased-raise b) (cased-map lower (λ c. grind (arith, nat_tests)) p)
+
+cased-canonical_subtag : (p : List ℕ) → map cased (canonical_subtag p) ≡ canonical_subtag (map class_of p)
+cased-canonical_subtag p =
+    let title = cased-titlecase p in
+    let upper = cased-map raise cased-raise p in
+    let same : is_script (map class_of p) ≡ is_script p = simp class_steps in
+    grind arith
+
+cased-join : (l : List ℕ) (ps : List (List ℕ)) → map cased (join_with_byte dash (l ∷ map canonical_subtag ps)) ≡ join_with_byte dash (map cased l ∷ map canonical_subtag (map (λ p. map class_of p) ps))
+cased-join l [] = refl
+cased-join l (p ∷ ps) = map-append _ l _ ∙ ap (λ (w : List ℕ). map cased l ++ dash ∷ w) (rw cased-canonical_subtag at (cased-join (canonical_subtag p) ps))
+
+pub cased-canonical_text : (u : List ℕ) → map cased (canonical_text u) ≡ canonical_text (map class_of u)
+cased-canonical_text u =
+    let each : (b : ℕ) → cased (fold_byte b) ≡ class_of (fold_byte b) = λ b. grind (arith, nat_tests) in
+    let language : map cased (fold_text (first_subtag u)) ≡ map class_of (fold_text (first_subtag u)) = simp (map-map, each) in
+    rw (subtags_of-classes, subtags_at_first_separator u) (rw language at (cased-join (fold_text (first_subtag u)) (subtags_after u)))
+
+-- ---- examples
+
+classes_of_all : (t : ℕ → Bool) (c : ℕ) → ((b : ℕ) → t b ≡ true → class_of b ≡ c) → (p : List ℕ) → list_all t p ≡ true → map class_of p ≡ replicate (length p) c
+classes_of_all t c e [] h = refl
+classes_of_all t c e (b ∷ p) h = let here = e b (grind arith) in let rest = classes_of_all t c e p (grind arith) in cc
+
+pub classes_of_letters : (p : List ℕ) → list_all is_alphabetic p ≡ true → map class_of p ≡ replicate (length p) 0x61
+classes_of_letters = classes_of_all is_alphabetic 0x61 (λ b h. grind (arith, nat_tests))
 
 pub bytes_of_script : (p : List ℕ) → is_script p ≡ true → (length p ≡ 4) × (list_all is_alphabetic p ≡ true)
 bytes_of_script p h = (grind (arith, nat_tests), grind arith)
 
-pub bytes_of_region : (p : List ℕ) → is_region p ≡ true → (2 ≤ length p) × (length p ≤ 3) × (length p ≡ 2 → list_all is_alphabetic p ≡ true) × (length p ≡ 3 → list_all is_digit p ≡ true)
-bytes_of_region p h = (grind (arith, nat_tests), grind (arith, nat_tests), λ two. grind (arith, nat_tests), λ three. grind (arith, nat_tests))
+pub bytes_of_region : (p : List ℕ) → is_region p ≡ true → (2 ≤ length p) × (length p ≤ 3)
+bytes_of_region p h = (grind (arith, nat_tests), grind (arith, nat_tests))
 
-titled : (a b c d : ℕ) → fold_text (a ∷ b ∷ c ∷ d ∷ []) ≡ a ∷ b ∷ c ∷ d ∷ [] → is_script (a ∷ b ∷ c ∷ d ∷ []) ≡ true → canonical_subtag (a ∷ b ∷ c ∷ d ∷ []) ≡ raise a ∷ b ∷ c ∷ d ∷ []
-titled a b c d f h = grind (arith, nat_tests)
+classes_of_script : (p : List ℕ) → is_script p ≡ true → map class_of p ≡ codes "aaaa"
+classes_of_script p h = let is = bytes_of_script p h in rw is.0 at (classes_of_letters p is.1)
 
-four : (x y : Bool) → ((x && true) || ((x && false) || (y && false))) ≡ true → (x && true) ≡ true
-four true y h = refl
-four false y h = grind arith
+classes_of_region : (p : List ℕ) → is_region p ≡ true → (map class_of p ≡ codes "aa") ⊎ (map class_of p ≡ codes "000")
+classes_of_region p h = elim (or_cases (list_all is_alphabetic p && length p == 2) (list_all is_digit p && length p == 3) h) [
+  | inl letters ↦ (let two : length p ≡ 2 = grind (arith, nat_tests) in inl (rw two at (classes_of_letters p (grind arith))))
+  | inr digits ↦ (let three : length p ≡ 3 = grind (arith, nat_tests) in inr (rw three at (classes_of_all is_digit 0x30 (λ b d. grind (arith, nat_tests)) p (grind arith))))
+]
 
-only_letters : (p : List ℕ) → list_all is_alphabetic p ≡ true → (map is_alphabetic p ≡ replicate (length p) true) × (map is_digit p ≡ replicate (length p) false) × (map is_separator p ≡ replicate (length p) false)
-only_letters [] h = (refl, refl, refl)
-only_letters (b ∷ p) h = let is : is_alphabetic b ≡ true = grind arith in let here = letter b is in let rest = only_letters p (grind arith) in (cc, cc, cc)
+-- the canonical subtags of a tail after a language, by their classes: the example of some length
+record LikeExample (ps : List (List ℕ)) : Type 0 where
+  count : ℕ
+  size : length (tail_example count) ≡ count
+  text : (l : List ℕ) → join_with_byte dash (l ∷ map canonical_subtag (map (λ p. map class_of p) ps)) ≡ l ++ tail_example count
 
-only_digits : (p : List ℕ) → list_all is_digit p ≡ true → (map is_alphabetic p ≡ replicate (length p) false) × (map is_digit p ≡ replicate (length p) true) × (map is_separator p ≡ replicate (length p) false) × (map raise p ≡ p)
-only_digits [] h = (refl, refl, refl, refl)
-only_digits (b ∷ p) h = let is : is_digit b ≡ true = grind arith in let here = digit b is in let rest = only_digits p (grind arith) in (cc, cc, cc, cc)
+tail_like : (ps : List (List ℕ)) → is_tail ps ≡ true → LikeExample ps
+tail_like [] h = record { count = 0; size = refl; text = λ l. sym (append-nil l) }
+tail_like (p ∷ []) h = elim (or_cases (is_script p) (is_region p) h) [
+  | inl script ↦ record { count = 5; size = refl; text = λ l. rw (classes_of_script p script) refl }
+  | inr region ↦ elim (classes_of_region p region) [
+    | inl two ↦ record { count = 3; size = refl; text = λ l. rw two refl }
+    | inr three ↦ record { count = 4; size = refl; text = λ l. rw three refl }
+  ]
+]
+tail_like (p ∷ q ∷ []) h = elim (classes_of_region q (grind arith)) [
+  | inl two ↦ (let script = classes_of_script p (grind arith) in record { count = 8; size = refl; text = λ l. rw (script, two) refl })
+  | inr three ↦ (let script = classes_of_script p (grind arith) in record { count = 9; size = refl; text = λ l. rw (script, three) refl })
+]
+tail_like (p ∷ q ∷ r ∷ ps) h = absurd (grind arith)
 
-tail_of_subtags : (p : List ℕ) (ps : List (List ℕ)) → map fold_text (p ∷ ps) ≡ p ∷ ps → is_tail (p ∷ ps) ≡ true → IsCasedTail (join_with_byte dash (p ∷ ps)) (p ∷ ps)
-tail_of_subtags (a ∷ b ∷ []) [] f h =
-    let k = only_letters (a ∷ b ∷ []) (grind (arith, nat_tests)) in
-    record { like = record { letters = ap (λ (l : List Bool). false ∷ l) k.0; digits = ap (λ (l : List Bool). false ∷ l) k.1; separators = ap (λ (l : List Bool). true ∷ l) k.2 }; text = λ l. (let not : is_script (a ∷ b ∷ []) ≡ false = grind arith in rw not refl) }
-tail_of_subtags (a ∷ b ∷ c ∷ []) [] f h =
-    let k = only_digits (a ∷ b ∷ c ∷ []) (grind (arith, nat_tests)) in
-    record { like = record { letters = ap (λ (l : List Bool). false ∷ l) k.0; digits = ap (λ (l : List Bool). false ∷ l) k.1; separators = ap (λ (l : List Bool). true ∷ l) k.2 }; text = λ l. (let not : is_script (a ∷ b ∷ c ∷ []) ≡ false = grind arith in rw not (ap (λ (p : List ℕ). l ++ dash ∷ p) k.3)) }
-tail_of_subtags (a ∷ b ∷ c ∷ d ∷ []) [] f h =
-    let is : is_script (a ∷ b ∷ c ∷ d ∷ []) ≡ true = four (list_all is_alphabetic (a ∷ b ∷ c ∷ d ∷ [])) (list_all is_digit (a ∷ b ∷ c ∷ d ∷ [])) h in
-    let k = only_letters (a ∷ b ∷ c ∷ d ∷ []) ((bytes_of_script (a ∷ b ∷ c ∷ d ∷ []) is).1) in
-    record { like = record { letters = ap (λ (l : List Bool). false ∷ l) k.0; digits = ap (λ (l : List Bool). false ∷ l) k.1; separators = ap (λ (l : List Bool). true ∷ l) k.2 }; text = λ l. ap (λ (p : List ℕ). l ++ dash ∷ p) (titled a b c d (ap first f) is) }
-tail_of_subtags p (q ∷ []) f h = let is = both_of (is_script p) (is_region q) h in two p q (ap first f) is.0 is.1 where
-  two : (p q : List ℕ) → fold_text p ≡ p → is_script p ≡ true → is_region q ≡ true → IsCasedTail (p ++ dash ∷ q) (p ∷ q ∷ [])
-  two (a ∷ b ∷ c ∷ d ∷ []) (e ∷ g ∷ []) f is is_r =
-      let k = only_letters (a ∷ b ∷ c ∷ d ∷ []) ((bytes_of_script (a ∷ b ∷ c ∷ d ∷ []) is).1) in
-      let m = only_letters (e ∷ g ∷ []) ((bytes_of_region (e ∷ g ∷ []) is_r).2 refl) in
-      let not = no_script-from_region (e ∷ g ∷ []) is_r in
-      record { like = record { letters = ap₂ (λ (l m : List Bool). false ∷ l ++ false ∷ m) k.0 m.0; digits = ap₂ (λ (l m : List Bool). false ∷ l ++ false ∷ m) k.1 m.1; separators = ap₂ (λ (l m : List Bool). true ∷ l ++ true ∷ m) k.2 m.2 }; text = λ l. ap₂ (λ (p q : List ℕ). l ++ dash ∷ (p ++ dash ∷ q)) (titled a b c d f is) (rw not refl) }
-  two (a ∷ b ∷ c ∷ d ∷ []) (e ∷ g ∷ i ∷ []) f is is_r =
-      let k = only_letters (a ∷ b ∷ c ∷ d ∷ []) ((bytes_of_script (a ∷ b ∷ c ∷ d ∷ []) is).1) in
-      let m = only_digits (e ∷ g ∷ i ∷ []) ((bytes_of_region (e ∷ g ∷ i ∷ []) is_r).3 refl) in
-      let not = no_script-from_region (e ∷ g ∷ i ∷ []) is_r in
-      record { like = record { letters = ap₂ (λ (l m : List Bool). false ∷ l ++ false ∷ m) k.0 m.0; digits = ap₂ (λ (l m : List Bool). false ∷ l ++ false ∷ m) k.1 m.1; separators = ap₂ (λ (l m : List Bool). true ∷ l ++ true ∷ m) k.2 m.2 }; text = λ l. ap₂ (λ (p q : List ℕ). l ++ dash ∷ (p ++ dash ∷ q)) (titled a b c d f is) (rw not m.3) }
-  two [] q f is is_r = absurd (omega (arith, bytes_of_script [] is))
-  two (a ∷ []) q f is is_r = absurd (omega (arith, bytes_of_script (a ∷ []) is))
-  two (a ∷ b ∷ []) q f is is_r = absurd (omega (arith, bytes_of_script (a ∷ b ∷ []) is))
-  two (a ∷ b ∷ c ∷ []) q f is is_r = absurd (omega (arith, bytes_of_script (a ∷ b ∷ c ∷ []) is))
-  two (a ∷ b ∷ c ∷ d ∷ e ∷ p) q f is is_r = absurd (omega (arith, bytes_of_script (a ∷ b ∷ c ∷ d ∷ e ∷ p) is))
-  two (a ∷ b ∷ c ∷ d ∷ []) [] f is is_r = absurd (omega (arith, bytes_of_region [] is_r))
-  two (a ∷ b ∷ c ∷ d ∷ []) (e ∷ []) f is is_r = absurd (omega (arith, bytes_of_region (e ∷ []) is_r))
-  two (a ∷ b ∷ c ∷ d ∷ []) (e ∷ g ∷ i ∷ j ∷ q) f is is_r = absurd (omega (arith, bytes_of_region (e ∷ g ∷ i ∷ j ∷ q) is_r))
-tail_of_subtags [] [] f h = absurd (grind arith)
-tail_of_subtags (a ∷ []) [] f h = absurd (grind arith)
-tail_of_subtags (a ∷ b ∷ c ∷ d ∷ e ∷ p) [] f h = absurd (grind (arith, nat_tests))
-tail_of_subtags p (q ∷ r ∷ ps) f h = absurd (grind arith)
+-- an identifier is an example by its classes
+pub record IsExample (e n : ℕ) (u : List ℕ) : Type 0 where
+  pub language : is_language_length e ≡ true
+  pub size : length (tail_example n) ≡ n
+  pub text : canonical_text (map class_of u) ≡ example e n
+  pub like : map class_of u ≡ map class_of (example e n)
 
-pub tail_cased : (w : List ℕ) → is_tail (subtags_of (fold_text w)) ≡ true → IsCasedTail (fold_text w) (subtags_of (fold_text w))
-tail_cased w h =
-    let split = subtags_at_first_separator w in
-    let folded : map fold_text (subtags_of (fold_text w)) ≡ subtags_of (fold_text w) = rw subtags_of-fold_text (map-map_absorbed fold_text fold_text fold_text-fold_text _) in
-    rw join_with_byte-slice_split at (rw (← split) at (tail_of_subtags (fold_text (first_subtag w)) (subtags_after w) (rw split at folded) (rw split at h)))
+pub example_of_id : (u : List ℕ) → IsLangId u → (let e = position_or_len is_separator u in IsExample e (length u - e) u)
+example_of_id u h =
+    let e = position_or_len is_separator u in
+    let l = fold_text (first_subtag u) in
+    let split = subtags_at_first_separator u in
+    let all : (is_language l && is_tail (subtags_after u)) ≡ true = rw split at h in
+    let tail = tail_like (subtags_after u) (grind arith) in
+    let first : length l ≡ e = length-map (first_subtag u) fold_byte ∙ length-first_subtag u in
+    let start : map class_of l ≡ replicate e 0x61 = rw first at (classes_of_letters l (grind arith)) in
+    let text : canonical_text (map class_of u) ≡ example e tail.count =
+    ap (λ ps. join_with_byte dash (canonical_subtags ps)) (subtags_of-classes u ∙ ap (λ ps. map (λ p. map class_of p) ps) split)
+    ∙ tail.text (map class_of l) ∙ ap (λ (m : List ℕ). m ++ tail_example tail.count) start in
+    let folded : map class_of u ≡ fold_text (example e tail.count) = sym (rw text at (fold_text-canonical_text (map class_of u)) ∙ fold_text-classes u) in
+    let count : tail.count ≡ length u - e = omega (arith, ap (λ (t : List ℕ). length t) folded, length-map u class_of, length-map (example e tail.count) fold_byte, length-append (replicate e 0x61) (tail_example tail.count), length-replicate {A = ℕ} e 0x61, tail.size) in
+    rw (← count) record { language = grind arith; size = tail.size; text = text; like = sym (map-map_absorbed class_of class_of (λ b. grind (arith, nat_tests)) u) ∙ ap (λ w. map class_of w) folded ∙ classes-fold_text (example e tail.count) }
 
--- ---- folding keeps the classes
+split_example : (e : ℕ) (w : List ℕ) → subtags_of (fold_text (replicate e 0x61 ++ dash ∷ w)) ≡ replicate e 0x61 ∷ subtags_of (fold_text w)
+split_example zero w = refl
+split_example (suc e) w = let rest = split_example e w in rw rest refl
 
-is_separator-fold_byte : (b : ℕ) → is_separator (fold_byte b) ≡ is_separator b
-is_separator-fold_byte b = grind (arith, nat_tests)
+letters_example : (e : ℕ) → list_all is_alphabetic (replicate e 0x61) ≡ true
+letters_example zero = refl
+letters_example (suc e) = letters_example e
 
-pub like-fold_text : (t v : List ℕ) → IsLike t (fold_text v) ↔ IsLike t v
-like-fold_text t v =
-    let letters = map-map_absorbed is_alphabetic fold_byte is_alphabetic-fold_byte v in
-    let digits = map-map_absorbed is_digit fold_byte is_digit-fold_byte v in
-    let separators = map-map_absorbed is_separator fold_byte is_separator-fold_byte v in (
-      λ h. record { letters = sym letters ∙ h.letters; digits = sym digits ∙ h.digits; separators = sym separators ∙ h.separators },
-      λ h. record { letters = letters ∙ h.letters; digits = digits ∙ h.digits; separators = separators ∙ h.separators },
-    )
+example_id : (e n : ℕ) → is_language_length e ≡ true → 0 < length (tail_example n) → IsLangId (example e n)
+example_id e n language more =
+    let split = split_example e in
+    let letters = letters_example e in
+    let size = length-replicate {A = ℕ} e 0x61 in
+    grind (arith, nat_tests)
+
+pub id_of_example : (u : List ℕ) (e n : ℕ) → is_language_length e ≡ true → 0 < length (tail_example n) → map class_of u ≡ map class_of (example e n) → IsLangId u
+id_of_example u e n language more like = sym (id_by_classes u) ∙ ap (λ w. is_lang_id (subtags_of (fold_text w))) like ∙ id_by_classes (example e n) ∙ example_id e n language more
+
+-- a tail follows the language where not all bytes are letters
+pub more_than_letters : (u : List ℕ) (e n : ℕ) → list_all is_alphabetic u ≡ false → length (tail_example n) ≡ n → map class_of u ≡ map class_of (example e n) → 0 < length (tail_example n)
+more_than_letters u e zero other size like =
+    let same : list_all is_alphabetic u ≡ list_all is_alphabetic (example e 0) = simp class_steps at (ap (list_all is_alphabetic) like) in
+    absurd (false≢true (sym other ∙ same ∙ ap (list_all is_alphabetic) (append-nil (replicate e 0x61)) ∙ letters_example e))
+more_than_letters u e (suc n) other size like = omega (arith, size)
+
+length-tail_example : (n : ℕ) → length (tail_example n) ≤ 9
+length-tail_example n = grind (arith, nat_tests)
+
+pub language_id : (u : List ℕ) → IsLangId u → is_language_length (position_or_len is_separator u) ≡ true
+language_id u h = (example_of_id u h).language
+
+pub few_id : (u : List ℕ) → IsLangId u → position_or_len is_separator u ≤ 8
+few_id u h = letters_few (position_or_len is_separator u) (language_id u h)
+
+pub short_id : (u : List ℕ) → IsLangId u → length u - position_or_len is_separator u ≤ 9
+short_id u h = omega (arith, (example_of_id u h).size, length-tail_example (length u - position_or_len is_separator u))
+
+pub ruleset parts_of_id = (language_id, few_id, short_id, end-le)

@@ -3,10 +3,10 @@
 ghost use Rattle.std.specs.Prelude.{◌≡◌, ◌≤◌, length, map, take};
 ghost use Rattle.std.specs.List.{list_all, position_or_len};
 ghost use Rattle.std.specs.Simd.Lanes.{mask_l};
-ghost use Rattle.tinystr_words.specs.Classes.{is_alphabetic, is_digit};
+ghost use Rattle.tinystr_words.specs.Classes.{is_alphabetic};
 ghost use Rattle.subtags.specs.Grammar.{is_separator};
 ghost use Rattle.subtags.specs.Private.Lanes.{IsLoaded};
-ghost use Rattle.subtags.specs.Private.Tails.{classes_of};
+ghost use Rattle.subtags.specs.Private.Tails.{AreClassesOf, classes_of};
 
 use crate::lanes::{digits_of, separators_of};
 use std::simd::prelude::*;
@@ -25,9 +25,8 @@ impl Classes {
     pub(crate) fn of(letters: u64, units: &[u8], lanes: u8x16) -> Self
         requires few { length units.now ≤ 17 }
         requires loaded { IsLoaded lanes units.now }
-        ensures letters { result.letters ≡ letters }
-        ensures digits { result.digits ≡ mask_l (map is_digit units.now) }
-        ensures separators { result.separators ≡ mask_l (map is_separator units.now) }
+        requires letters { letters ≡ mask_l (map is_alphabetic units.now) }
+        ensures { AreClassesOf result units.now }
     {
         Classes {
             letters,
@@ -41,7 +40,7 @@ impl Classes {
     #[inline(always)]
     pub(crate) fn first_end(&self, units: &[u8]) -> usize
         requires few { length units.now ≤ 17 }
-        requires separators { self.now.separators ≡ mask_l (map is_separator units.now) }
+        requires bits { AreClassesOf self.now units.now }
         ensures { result ≡ position_or_len is_separator units.now }
     {
         (self.separators + (1 << units.len())).trailing_zeros() as usize
@@ -52,9 +51,7 @@ impl Classes {
     #[inline(always)]
     pub(crate) fn packed(&self, _units: &[u8]) -> u64
         requires few { length _units.now ≤ 17 }
-        requires letters { self.now.letters ≡ mask_l (map is_alphabetic _units.now) }
-        requires digits { self.now.digits ≡ mask_l (map is_digit _units.now) }
-        requires separators { self.now.separators ≡ mask_l (map is_separator _units.now) }
+        requires bits { AreClassesOf self.now _units.now }
         ensures { result ≡ classes_of _units.now }
     {
         self.letters + (self.digits << 20) + (self.separators << 40)

@@ -1,14 +1,14 @@
 //! The first sixteen bytes of an input in a vector: their classes, and the texts that they become. This module alone is about
 //! padded bytes.
 
-ghost use Rattle.std.specs.Prelude.{◌≡◌, ◌<◌, ◌≤◌, ◌+◌, ◌-◌, ◌^◌, ◌++◌, ◌∷◌, [], if◌then◌else◌, length, map, take, drop, replicate};
-ghost use Rattle.std.specs.List.{slice_index};
+ghost use Rattle.std.specs.Prelude.{◌≡◌, ◌<◌, ◌≤◌, ◌+◌, ◌^◌, ◌++◌, ◌∷◌, [], if◌then◌else◌, length, map, replicate, true};
+ghost use Rattle.std.specs.List.{list_all, position_or_len};
 ghost use Rattle.std.specs.Simd.Lanes.{mask_l};
 ghost use Rattle.tinystr_words.specs.Classes.{is_alphabetic, is_digit};
-ghost use Rattle.tinystr_words.specs.Text.{IsPaddedText, IsText, pad, text_of};
-ghost use Rattle.subtags.specs.Grammar.{fold_byte, is_separator};
+ghost use Rattle.tinystr_words.specs.Text.{IsPaddedText, pad, text_of};
+ghost use Rattle.subtags.specs.Grammar.{IsLangId, canonical_text, fold_byte, fold_text, is_separator};
 ghost use Rattle.subtags.specs.Private.Lanes.{IsLoaded, steps_of};
-ghost use Rattle.subtags.specs.Private.Tails.{IsLike, example, in_case_of};
+ghost use Rattle.subtags.specs.Private.Tails.{tail_example};
 
 use std::simd::prelude::*;
 use tinystr::TinyAsciiStr;
@@ -31,12 +31,9 @@ pub(crate) fn letters_of(units: &[u8], lanes: u8x16) -> u64
     requires loaded { IsLoaded lanes units.now }
     ensures { result ≡ mask_l (map is_alphabetic units.now) }
 {
-    let letters = letters(lanes);
-    if units.len() <= 16 {
-        letters
-    } else {
-        with_last(letters, is_letter(units[16]))
-    }
+    let bits = letters(lanes);
+    let last = units.get(16);
+    last.map_or(bits, |b| with_last(bits, b.is_ascii_alphabetic()))
 }
 
 /// Which of at most 17 bytes are digits.
@@ -47,12 +44,9 @@ pub(crate) fn digits_of(units: &[u8], lanes: u8x16) -> u64
     requires loaded { IsLoaded lanes units.now }
     ensures { result ≡ mask_l (map is_digit units.now) }
 {
-    let digits = digits(lanes);
-    if units.len() <= 16 {
-        digits
-    } else {
-        with_last(digits, is_digit(units[16]))
-    }
+    let bits = digits(lanes);
+    let last = units.get(16);
+    last.map_or(bits, |b| with_last(bits, b.is_ascii_digit()))
 }
 
 /// Which of at most 17 bytes are separators.
@@ -63,38 +57,34 @@ pub(crate) fn separators_of(units: &[u8], lanes: u8x16) -> u64
     requires loaded { IsLoaded lanes units.now }
     ensures { result ≡ mask_l (map is_separator units.now) }
 {
-    let separators = separators(lanes);
-    if units.len() <= 16 {
-        separators
-    } else {
-        with_last(separators, is_separator(units[16]))
-    }
+    let bits = separators(lanes);
+    let last = units.get(16);
+    last.map_or(bits, |b| with_last(bits, (*b == b'-') | (*b == b'_')))
 }
 
-/// The folded text of at most eight bytes. The bytes are there for the contract.
+/// The folded text of at most eight letters. The bytes are there for the contract.
+#[tactic(auto, using(crate::proofs::LaneTexts::folded_held))]
 #[inline(always)]
 pub(crate) fn folded_text(_units: &[u8], lanes: u8x16) -> TinyAsciiStr<17>
     requires few { length _units.now ≤ 8 }
     requires loaded { IsLoaded lanes _units.now }
-    requires text { IsText (map fold_byte _units.now) }
-    ensures { result ≡ map fold_byte _units.now }
+    requires letters { list_all is_alphabetic _units.now ≡ true }
+    ensures { result ≡ fold_text _units.now }
 {
     text_of(folded(lanes), 0)
 }
 
-/// The text of at most 17 bytes: a language of `end` letters in lowercase, and a tail in the case of the example.
+/// The canonical text of an identifier, whose language has `end` letters: its tail is in the case of the example.
+#[tactic(auto, using(crate::proofs::TailLemmas::parts_of_id))]
 #[inline(always)]
 pub(crate) fn text_in_case(units: &[u8], lanes: u8x16, end: usize) -> TinyAsciiStr<17>
-    requires few { length units.now ≤ 17 }
+    requires accepted { IsLangId units.now }
     requires loaded { IsLoaded lanes units.now }
-    requires language { end ≤ 8 }
-    requires inside { end < length units.now }
-    requires like { IsLike (example (length units.now - end)) (drop end units.now) }
-    requires text { IsText (map fold_byte (take end units.now) ++ in_case_of (example (length units.now - end)) (drop end units.now)) }
-    ensures { result ≡ map fold_byte (take end units.now) ++ in_case_of (example (length units.now - end)) (drop end units.now) }
+    requires language { end ≡ position_or_len is_separator units.now }
+    ensures { result ≡ canonical_text units.now }
 {
-    let steps = steps(end, units.len() - end);
-    text_of(folded(lanes) - steps, last_of(units))
+    let steps = u8x16::from_slice(&table(units.len() - end)[8 - end..]);
+    text_of(folded(lanes) - steps, units.get(16).copied().unwrap_or(0))
 }
 
 // The bits of sixteen bytes and one more.
@@ -104,27 +94,6 @@ fn with_last(bits: u64, is_set: bool) -> u64
     ensures { result ≡ bits + (if is_set then 2 ^ 16 else 0) }
 {
     bits + (u64::from(is_set) << 16)
-}
-
-#[inline(always)]
-fn is_letter(byte: u8) -> bool
-    ensures { result ≡ is_alphabetic byte }
-{
-    byte.is_ascii_alphabetic()
-}
-
-#[inline(always)]
-fn is_digit(byte: u8) -> bool
-    ensures { result ≡ is_digit byte }
-{
-    byte.is_ascii_digit()
-}
-
-#[inline(always)]
-fn is_separator(byte: u8) -> bool
-    ensures { result ≡ is_separator byte }
-{
-    byte == b'-' || byte == b'_'
 }
 
 // One bit more makes a lowercase letter of an uppercase letter, and a letter of nothing else.
@@ -176,69 +145,30 @@ fn folded(lanes: u8x16) -> u8x16
 // By how much each byte of the example of each length is below a lowercase letter, after eight zeros for a language, and
 // before zeros.
 static LOWERED: [[u8; 24]; 10] = [
-    [
-        0, 0, 0, 0, 0, 0, 0, 0, 0, 0, 0, 0, 0, 0, 0, 0, 0, 0, 0, 0, 0, 0, 0, 0,
-    ],
-    [
-        0, 0, 0, 0, 0, 0, 0, 0, 0, 0, 0, 0, 0, 0, 0, 0, 0, 0, 0, 0, 0, 0, 0, 0,
-    ],
-    [
-        0, 0, 0, 0, 0, 0, 0, 0, 0, 0, 0, 0, 0, 0, 0, 0, 0, 0, 0, 0, 0, 0, 0, 0,
-    ],
-    [
-        0, 0, 0, 0, 0, 0, 0, 0, 0, 32, 32, 0, 0, 0, 0, 0, 0, 0, 0, 0, 0, 0, 0, 0,
-    ],
-    [
-        0, 0, 0, 0, 0, 0, 0, 0, 0, 0, 0, 0, 0, 0, 0, 0, 0, 0, 0, 0, 0, 0, 0, 0,
-    ],
-    [
-        0, 0, 0, 0, 0, 0, 0, 0, 0, 32, 0, 0, 0, 0, 0, 0, 0, 0, 0, 0, 0, 0, 0, 0,
-    ],
-    [
-        0, 0, 0, 0, 0, 0, 0, 0, 0, 0, 0, 0, 0, 0, 0, 0, 0, 0, 0, 0, 0, 0, 0, 0,
-    ],
-    [
-        0, 0, 0, 0, 0, 0, 0, 0, 0, 0, 0, 0, 0, 0, 0, 0, 0, 0, 0, 0, 0, 0, 0, 0,
-    ],
-    [
-        0, 0, 0, 0, 0, 0, 0, 0, 0, 32, 0, 0, 0, 0, 32, 32, 0, 0, 0, 0, 0, 0, 0, 0,
-    ],
-    [
-        0, 0, 0, 0, 0, 0, 0, 0, 0, 32, 0, 0, 0, 0, 0, 0, 0, 0, 0, 0, 0, 0, 0, 0,
-    ],
+    NONE, NONE, NONE, REGION, NONE, SCRIPT, NONE, NONE, BOTH, SCRIPT,
 ];
 
-// By how much the bytes of a folded identifier are lowered into the case of the example, where a language of `end` letters
-// and `len` more bytes are all.
-#[tactic(auto, using(crate::proofs::LaneTexts::table_steps))]
-#[inline(always)]
-fn steps(end: usize, len: usize) -> u8x16
-    requires language { end ≤ 8 }
-    requires tail { length (example len) ≡ len }
-    requires few { end + len ≤ 17 }
-    ensures { result ≡ take 16 (pad (replicate end 0 ++ steps_of (example len)) 17) }
-{
-    u8x16::from_slice(&table(len)[8 - end..])
-}
+const NONE: [u8; 24] = [0; 24];
+
+const REGION: [u8; 24] = [
+    0, 0, 0, 0, 0, 0, 0, 0, 0, 32, 32, 0, 0, 0, 0, 0, 0, 0, 0, 0, 0, 0, 0, 0,
+];
+
+const SCRIPT: [u8; 24] = [
+    0, 0, 0, 0, 0, 0, 0, 0, 0, 32, 0, 0, 0, 0, 0, 0, 0, 0, 0, 0, 0, 0, 0, 0,
+];
+
+const BOTH: [u8; 24] = [
+    0, 0, 0, 0, 0, 0, 0, 0, 0, 32, 0, 0, 0, 0, 32, 32, 0, 0, 0, 0, 0, 0, 0, 0,
+];
 
 // The steps of a tail after eight zeros, and then zeros.
 #[inline(always)]
 fn table(len: usize) -> &'static [u8; 24]
     requires { len ≤ 9 }
-    ensures { result.now ≡ pad (replicate 8 0 ++ steps_of (example len)) 24 }
+    ensures { result.now ≡ pad (replicate 8 0 ++ steps_of (tail_example len)) 24 }
 {
     &LOWERED[len]
-}
-
-// The 17th byte, or a NUL.
-#[inline(always)]
-fn last_of(units: &[u8]) -> u8
-    ensures { result ≡ slice_index units.now 16 }
-{
-    match units.get(16) {
-        Some(byte) => *byte,
-        None => 0,
-    }
 }
 
 // The text of sixteen bytes and one more.

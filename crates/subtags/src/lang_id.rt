@@ -1,20 +1,16 @@
 //! Language identifiers.
 
-ghost use Rattle.std.specs.Prelude.{◌≡◌, ◌<◌, ◌+◌, ◌≤◌, length, map, None, ◌∷◌, if◌then◌else◌, Some, IsOk, IfOk, IfErr, IfSome, ◌↔◌};
+ghost use Rattle.std.specs.Prelude.{◌≡◌, ◌<◌, ◌+◌, ◌≤◌, length, None, ◌∷◌, Some, IsOk, IfOk, IfErr, IfSome, ◌↔◌};
 ghost use Rattle.std.specs.Fmt.{debug_str, styled_text};
 ghost use Rattle.std.specs.Result.{result_ok};
-ghost use Rattle.std.specs.Simd.Lanes.{mask_l};
-ghost use Rattle.tinystr_words.specs.Classes.{is_alphabetic};
 ghost use Rattle.tinystr_words.specs.Case.{lowercase, titlecase, uppercase};
-ghost use Rattle.subtags.specs.declared.error.LangIdError.TheVariants.{InvalidLanguage, InvalidSubtag};
-ghost use Rattle.subtags.specs.Private.Tails.{first_subtag};
-ghost use Rattle.subtags.specs.Grammar.{dash, fold_text, is_separator, is_language, is_script, is_region, IsLangId, IsCanonical, canonical_text, canonical_of};
+ghost use Rattle.subtags.specs.Private.Tails.{AreClassesOf};
+ghost use Rattle.subtags.specs.Grammar.{dash, fold_text, is_language, is_script, is_region, IsLangId, IsCanonical, canonical_text, canonical_of};
 ghost use Rattle.subtags.specs.Subtags.{IsCanonicalSubtag, language_of, script_of, region_of, join_subtags};
 ghost use Rattle.subtags.specs.Answers.{refusal_of, IsLangIdRead};
 
 use crate::classes::{Classes, are_letters};
 use crate::error::LangIdError;
-use crate::head::has_language;
 use crate::lanes::{first_lanes, folded_text, letters_of, text_in_case};
 use crate::language::{Language, is_language_length};
 use crate::places::{has_byte_at, language_end, region_start};
@@ -235,15 +231,16 @@ impl fmt::Debug for LangId {
     }
 }
 
-// The error for at most 17 bytes that aren't an identifier.
+// The error for at most 17 bytes that aren't an identifier, by the first subtag.
+#[tactic(auto, using(crate::proofs::HeadLemmas::first_subtag_bits))]
 #[inline(always)]
 fn refusal(classes: &Classes, units: &[u8]) -> LangIdError
     requires few { length units.now ≤ 17 }
-    requires letters { classes.now.letters ≡ mask_l (map is_alphabetic units.now) }
-    requires separators { classes.now.separators ≡ mask_l (map is_separator units.now) }
-    ensures { result ≡ (if is_language (first_subtag units.now) then InvalidSubtag else InvalidLanguage) }
+    requires bits { AreClassesOf classes.now units.now }
+    ensures { result ≡ refusal_of units.now }
 {
-    if has_language(classes, units) {
+    let end = classes.first_end(units);
+    if is_language_length(end) && are_letters(classes.letters, units, end) {
         LangIdError::InvalidSubtag
     } else {
         LangIdError::InvalidLanguage

@@ -5,7 +5,6 @@
 
 mod classes;
 pub mod error;
-mod head;
 mod lanes;
 pub mod lang_id;
 pub mod language;

@@ -19,9 +19,8 @@ impl Classes {
     /// ```text
     /// requires few { length units.now ≤ 17 }
     /// requires loaded { IsLoaded lanes units.now }
-    /// ensures letters { result.letters ≡ letters }
-    /// ensures digits { result.digits ≡ mask_l (map is_digit units.now) }
-    /// ensures separators { result.separators ≡ mask_l (map is_separator units.now) }
+    /// requires letters { letters ≡ mask_l (map is_alphabetic units.now) }
+    /// ensures { AreClassesOf result units.now }
     /// ```
     #[inline(always)]
     pub(crate) fn of(letters: u64, units: &[u8], lanes: u8x16) -> Self {
@@ -38,7 +37,7 @@ impl Classes {
     ///
     /// ```text
     /// requires few { length units.now ≤ 17 }
-    /// requires separators { self.now.separators ≡ mask_l (map is_separator units.now) }
+    /// requires bits { AreClassesOf self.now units.now }
     /// ensures { result ≡ position_or_len is_separator units.now }
     /// ```
     #[inline(always)]
@@ -52,9 +51,7 @@ impl Classes {
     ///
     /// ```text
     /// requires few { length _units.now ≤ 17 }
-    /// requires letters { self.now.letters ≡ mask_l (map is_alphabetic _units.now) }
-    /// requires digits { self.now.digits ≡ mask_l (map is_digit _units.now) }
-    /// requires separators { self.now.separators ≡ mask_l (map is_separator _units.now) }
+    /// requires bits { AreClassesOf self.now _units.now }
     /// ensures { result ≡ classes_of _units.now }
     /// ```
     #[inline(always)]

@@ -29,12 +29,9 @@ pub(crate) fn first_lanes(units: &[u8]) -> u8x16 {
 /// ```
 #[inline(always)]
 pub(crate) fn letters_of(units: &[u8], lanes: u8x16) -> u64 {
-    let letters = letters(lanes);
-    if units.len() <= 16 {
-        letters
-    } else {
-        with_last(letters, is_letter(units[16]))
-    }
+    let bits = letters(lanes);
+    let last = units.get(16);
+    last.map_or(bits, |b| with_last(bits, b.is_ascii_alphabetic()))
 }
 
 /// Which of at most 17 bytes are digits.
@@ -48,12 +45,9 @@ pub(crate) fn letters_of(units: &[u8], lanes: u8x16) -> u64 {
 /// ```
 #[inline(always)]
 pub(crate) fn digits_of(units: &[u8], lanes: u8x16) -> u64 {
-    let digits = digits(lanes);
-    if units.len() <= 16 {
-        digits
-    } else {
-        with_last(digits, is_digit(units[16]))
-    }
+    let bits = digits(lanes);
+    let last = units.get(16);
+    last.map_or(bits, |b| with_last(bits, b.is_ascii_digit()))
 }
 
 /// Which of at most 17 bytes are separators.
@@ -67,46 +61,40 @@ pub(crate) fn digits_of(units: &[u8], lanes: u8x16) -> u64 {
 /// ```
 #[inline(always)]
 pub(crate) fn separators_of(units: &[u8], lanes: u8x16) -> u64 {
-    let separators = separators(lanes);
-    if units.len() <= 16 {
-        separators
-    } else {
-        with_last(separators, is_separator(units[16]))
-    }
+    let bits = separators(lanes);
+    let last = units.get(16);
+    last.map_or(bits, |b| with_last(bits, (*b == b'-') | (*b == b'_')))
 }
 
-/// The folded text of at most eight bytes. The bytes are there for the contract.
+/// The folded text of at most eight letters. The bytes are there for the contract.
 ///
 /// # Contract
 ///
 /// ```text
 /// requires few { length _units.now ≤ 8 }
 /// requires loaded { IsLoaded lanes _units.now }
-/// requires text { IsText (map fold_byte _units.now) }
-/// ensures { result ≡ map fold_byte _units.now }
+/// requires letters { list_all is_alphabetic _units.now ≡ true }
+/// ensures { result ≡ fold_text _units.now }
 /// ```
 #[inline(always)]
 pub(crate) fn folded_text(_units: &[u8], lanes: u8x16) -> TinyAsciiStr<17> {
     text_of(folded(lanes), 0)
 }
 
-/// The text of at most 17 bytes: a language of `end` letters in lowercase, and a tail in the case of the example.
+/// The canonical text of an identifier, whose language has `end` letters: its tail is in the case of the example.
 ///
 /// # Contract
 ///
 /// ```text
-/// requires few { length units.now ≤ 17 }
+/// requires accepted { IsLangId units.now }
 /// requires loaded { IsLoaded lanes units.now }
-/// requires language { end ≤ 8 }
-/// requires inside { end < length units.now }
-/// requires like { IsLike (example (length units.now - end)) (drop end units.now) }
-/// requires text { IsText (map fold_byte (take end units.now) ++ in_case_of (example (length units.now - end)) (drop end units.now)) }
-/// ensures { result ≡ map fold_byte (take end units.now) ++ in_case_of (example (length units.now - end)) (drop end units.now) }
+/// requires language { end ≡ position_or_len is_separator units.now }
+/// ensures { result ≡ canonical_text units.now }
 /// ```
 #[inline(always)]
 pub(crate) fn text_in_case(units: &[u8], lanes: u8x16, end: usize) -> TinyAsciiStr<17> {
-    let steps = steps(end, units.len() - end);
-    text_of(folded(lanes) - steps, last_of(units))
+    let steps = u8x16::from_slice(&table(units.len() - end)[8 - end..]);
+    text_of(folded(lanes) - steps, units.get(16).copied().unwrap_or(0))
 }
 
 // The bits of sixteen bytes and one more.
@@ -116,27 +104,6 @@ pub(crate) fn text_in_case(units: &[u8], lanes: u8x16, end: usize) -> TinyAsciiS
 #[inline(always)]
 fn with_last(bits: u64, is_set: bool) -> u64 {
     bits + (u64::from(is_set) << 16)
-}
-
-// Proved:
-//     ensures { result ≡ is_alphabetic byte }
-#[inline(always)]
-fn is_letter(byte: u8) -> bool {
-    byte.is_ascii_alphabetic()
-}
-
-// Proved:
-//     ensures { result ≡ is_digit byte }
-#[inline(always)]
-fn is_digit(byte: u8) -> bool {
-    byte.is_ascii_digit()
-}
-
-// Proved:
-//     ensures { result ≡ is_separator byte }
-#[inline(always)]
-fn is_separator(byte: u8) -> bool {
-    byte == b'-' || byte == b'_'
 }
 
 // One bit more makes a lowercase letter of an uppercase letter, and a letter of nothing else.
@@ -184,68 +151,30 @@ fn folded(lanes: u8x16) -> u8x16 {
 // By how much each byte of the example of each length is below a lowercase letter, after eight zeros for a language, and
 // before zeros.
 static LOWERED: [[u8; 24]; 10] = [
-    [
-        0, 0, 0, 0, 0, 0, 0, 0, 0, 0, 0, 0, 0, 0, 0, 0, 0, 0, 0, 0, 0, 0, 0, 0,
-    ],
-    [
-        0, 0, 0, 0, 0, 0, 0, 0, 0, 0, 0, 0, 0, 0, 0, 0, 0, 0, 0, 0, 0, 0, 0, 0,
-    ],
-    [
-        0, 0, 0, 0, 0, 0, 0, 0, 0, 0, 0, 0, 0, 0, 0, 0, 0, 0, 0, 0, 0, 0, 0, 0,
-    ],
-    [
-        0, 0, 0, 0, 0, 0, 0, 0, 0, 32, 32, 0, 0, 0, 0, 0, 0, 0, 0, 0, 0, 0, 0, 0,
-    ],
-    [
-        0, 0, 0, 0, 0, 0, 0, 0, 0, 0, 0, 0, 0, 0, 0, 0, 0, 0, 0, 0, 0, 0, 0, 0,
-    ],
-    [
-        0, 0, 0, 0, 0, 0, 0, 0, 0, 32, 0, 0, 0, 0, 0, 0, 0, 0, 0, 0, 0, 0, 0, 0,
-    ],
-    [
-        0, 0, 0, 0, 0, 0, 0, 0, 0, 0, 0, 0, 0, 0, 0, 0, 0, 0, 0, 0, 0, 0, 0, 0,
-    ],
-    [
-        0, 0, 0, 0, 0, 0, 0, 0, 0, 0, 0, 0, 0, 0, 0, 0, 0, 0, 0, 0, 0, 0, 0, 0,
-    ],
-    [
-        0, 0, 0, 0, 0, 0, 0, 0, 0, 32, 0, 0, 0, 0, 32, 32, 0, 0, 0, 0, 0, 0, 0, 0,
-    ],
-    [
-        0, 0, 0, 0, 0, 0, 0, 0, 0, 32, 0, 0, 0, 0, 0, 0, 0, 0, 0, 0, 0, 0, 0, 0,
-    ],
+    NONE, NONE, NONE, REGION, NONE, SCRIPT, NONE, NONE, BOTH, SCRIPT,
 ];
 
-// By how much the bytes of a folded identifier are lowered into the case of the example, where a language of `end` letters
-// and `len` more bytes are all.
-// Proved:
-//     requires language { end ≤ 8 }
-//     requires tail { length (example len) ≡ len }
-//     requires few { end + len ≤ 17 }
-//     ensures { result ≡ take 16 (pad (replicate end 0 ++ steps_of (example len)) 17) }
-#[inline(always)]
-fn steps(end: usize, len: usize) -> u8x16 {
-    u8x16::from_slice(&table(len)[8 - end..])
-}
+const NONE: [u8; 24] = [0; 24];
+
+const REGION: [u8; 24] = [
+    0, 0, 0, 0, 0, 0, 0, 0, 0, 32, 32, 0, 0, 0, 0, 0, 0, 0, 0, 0, 0, 0, 0, 0,
+];
+
+const SCRIPT: [u8; 24] = [
+    0, 0, 0, 0, 0, 0, 0, 0, 0, 32, 0, 0, 0, 0, 0, 0, 0, 0, 0, 0, 0, 0, 0, 0,
+];
+
+const BOTH: [u8; 24] = [
+    0, 0, 0, 0, 0, 0, 0, 0, 0, 32, 0, 0, 0, 0, 32, 32, 0, 0, 0, 0, 0, 0, 0, 0,
+];
 
 // The steps of a tail after eight zeros, and then zeros.
 // Proved:
 //     requires { len ≤ 9 }
-//     ensures { result.now ≡ pad (replicate 8 0 ++ steps_of (example len)) 24 }
+//     ensures { result.now ≡ pad (replicate 8 0 ++ steps_of (tail_example len)) 24 }
 #[inline(always)]
 fn table(len: usize) -> &'static [u8; 24] {
     &LOWERED[len]
-}
-
-// The 17th byte, or a NUL.
-// Proved:
-//     ensures { result ≡ slice_index units.now 16 }
-#[inline(always)]
-fn last_of(units: &[u8]) -> u8 {
-    match units.get(16) {
-        Some(byte) => *byte,
-        None => 0,
-    }
 }
 
 // The text of sixteen bytes and one more.

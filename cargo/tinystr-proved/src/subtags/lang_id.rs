@@ -2,7 +2,6 @@
 
 use crate::subtags::classes::{Classes, are_letters};
 use crate::subtags::error::LangIdError;
-use crate::subtags::head::has_language;
 use crate::subtags::lanes::{first_lanes, folded_text, letters_of, text_in_case};
 use crate::subtags::language::{Language, is_language_length};
 use crate::subtags::places::{has_byte_at, language_end, region_start};
@@ -221,15 +220,15 @@ impl fmt::Debug for LangId {
     }
 }
 
-// The error for at most 17 bytes that aren't an identifier.
+// The error for at most 17 bytes that aren't an identifier, by the first subtag.
 // Proved:
 //     requires few { length units.now ≤ 17 }
-//     requires letters { classes.now.letters ≡ mask_l (map is_alphabetic units.now) }
-//     requires separators { classes.now.separators ≡ mask_l (map is_separator units.now) }
-//     ensures { result ≡ (if is_language (first_subtag units.now) then InvalidSubtag else InvalidLanguage) }
+//     requires bits { AreClassesOf classes.now units.now }
+//     ensures { result ≡ refusal_of units.now }
 #[inline(always)]
 fn refusal(classes: &Classes, units: &[u8]) -> LangIdError {
-    if has_language(classes, units) {
+    let end = classes.first_end(units);
+    if is_language_length(end) && are_letters(classes.letters, units, end) {
         LangIdError::InvalidSubtag
     } else {
         LangIdError::InvalidLanguage
