@@ -35,16 +35,12 @@ pub ruleset first_subtag_bits = (refusal_by_language, is_language-first_subtag, 
 -- ---- a language alone, read by its first letters
 
 -- all bytes of a language are letters
-letters_of_language : (u : List ℕ) → is_language u ≡ true → prefix_len is_alphabetic (take 8 u) ≡ length u
-letters_of_language u h =
-    let few : length u ≤ 8 = grind (arith, nat_tests) in
-    let letters = AllPass-from_list_all is_alphabetic u (grind arith) in
-    rw (take_all 8 u few) (prefix_len_is is_alphabetic u (length u) 0 (omega arith) (λ k below. letters k 0 below) (λ more. absurd (omega arith)))
-
 pub no_language : (u : List ℕ) (n : ℕ) → n ≡ prefix_len is_alphabetic (take 8 u) → (n ≡ length u → is_language_length n ≡ false) → is_language u ≡ false
 no_language u n is wrong = false_from_ne_true (is_language u) λ h.
-    let all : n ≡ length u = is ∙ letters_of_language u h in
     let right : is_language_length (length u) ≡ true = grind arith in
+    let few = letters_few (length u) right in
+    let letters = AllPass-from_list_all is_alphabetic u (grind arith) in
+    let all : n ≡ length u = is ∙ rw (take_all 8 u few) (prefix_len_is is_alphabetic u (length u) 0 (omega arith) (λ k below. letters k 0 below) (λ more. absurd (omega arith))) in
     false≢true (sym (wrong all) ∙ ap is_language_length all ∙ right)
 
 pub whole_language : (u : List ℕ) (n : ℕ) → n ≡ prefix_len is_alphabetic (take 8 u) → is_language_length n ≡ true → n ≡ length u → is_language u ≡ true

@@ -42,11 +42,10 @@ held xs x t long text fits same last =
 length-loaded : (lanes u : List ℕ) → IsLoaded lanes u → length lanes ≡ 16
 length-loaded lanes u load = rw load (length-pad (take 16 u) 16 (omega (arith, length-take 16 u)))
 
-at-loaded : (lanes u : List ℕ) (k : ℕ) → IsLoaded lanes u → k < 16 → get_or lanes k 0 ≡ get_or u k 0
-at-loaded lanes u k load below = rw load (get_or-pad (take 16 u) 16 k ∙ get_or-take 16 u k 0 below)
-
 folded-at : (lanes u : List ℕ) (k : ℕ) → IsLoaded lanes u → k < 16 → get_or (map fold_byte lanes) k 0 ≡ fold_byte (get_or u k 0)
-folded-at lanes u k load below = get_or-map fold_byte lanes k 0 ∙ ap fold_byte (at-loaded lanes u k load below)
+folded-at lanes u k load below =
+    let at : get_or lanes k 0 ≡ get_or u k 0 = rw load (get_or-pad (take 16 u) 16 k ∙ get_or-take 16 u k 0 below) in
+    get_or-map fold_byte lanes k 0 ∙ ap fold_byte at
 
 pub folded_held : (u lanes folded : List ℕ) → folded ≡ map fold_byte lanes → length u ≤ 8 → list_all is_alphabetic u ≡ true → IsLoaded lanes u → IsPaddedText (folded ++ 0 ∷ []) 17 × (text_of (folded ++ 0 ∷ []) ≡ fold_text u)
 folded_held u lanes folded made few letters load =

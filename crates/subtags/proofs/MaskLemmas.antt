@@ -62,10 +62,7 @@ pub mask_l-lt_17 : (p : ℕ → Bool) (u : List ℕ) → length u ≤ 17 → mas
 mask_l-lt_17 p u few = omega (arith, mask_l-under p u, few-pow (length u) few)
 
 pub same_bit : (a b : Bool) (m n : ℕ) → cond a 1 0 + 2 * m ≡ cond b 1 0 + 2 * n → (a ≡ b) × (m ≡ n)
-same_bit true true m n e = (refl, omega arith)
-same_bit false false m n e = (refl, omega arith)
-same_bit true false m n e = absurd (omega arith)
-same_bit false true m n e = absurd (omega arith)
+same_bit a b m n e = (grind (arith, nat_tests), grind (arith, nat_tests))
 
 -- the bits show the class of each byte
 same_classes : (u v : List ℕ) → length u ≡ length v → mask_l (map is_alphabetic u) ≡ mask_l (map is_alphabetic v) → mask_l (map is_digit u) ≡ mask_l (map is_digit v) → mask_l (map is_separator u) ≡ mask_l (map is_separator v) → map class_of u ≡ map class_of v

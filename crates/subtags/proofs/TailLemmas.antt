@@ -159,15 +159,13 @@ letters_example : (e : ℕ) → list_all is_alphabetic (replicate e 0x61) ≡ tr
 letters_example zero = refl
 letters_example (suc e) = letters_example e
 
-example_id : (e n : ℕ) → is_language_length e ≡ true → 0 < length (tail_example n) → IsLangId (example e n)
-example_id e n language more =
+pub id_of_example : (u : List ℕ) (e n : ℕ) → is_language_length e ≡ true → 0 < length (tail_example n) → map class_of u ≡ map class_of (example e n) → IsLangId u
+id_of_example u e n language more like =
     let split = split_example e in
     let letters = letters_example e in
     let size = length-replicate {A = ℕ} e 0x61 in
-    grind (arith, nat_tests)
-
-pub id_of_example : (u : List ℕ) (e n : ℕ) → is_language_length e ≡ true → 0 < length (tail_example n) → map class_of u ≡ map class_of (example e n) → IsLangId u
-id_of_example u e n language more like = sym (id_by_classes u) ∙ ap (λ w. is_lang_id (subtags_of (fold_text w))) like ∙ id_by_classes (example e n) ∙ example_id e n language more
+    let id : IsLangId (example e n) = grind (arith, nat_tests) in
+    sym (id_by_classes u) ∙ ap (λ w. is_lang_id (subtags_of (fold_text w))) like ∙ id_by_classes (example e n) ∙ id
 
 -- a tail follows the language where not all bytes are letters
 pub more_than_letters : (u : List ℕ) (e n : ℕ) → list_all is_alphabetic u ≡ false → length (tail_example n) ≡ n → map class_of u ≡ map class_of (example e n) → 0 < length (tail_example n)
@@ -176,9 +174,6 @@ more_than_letters u e zero other size like =
     absurd (false≢true (sym other ∙ same ∙ ap (list_all is_alphabetic) (append-nil (replicate e 0x61)) ∙ letters_example e))
 more_than_letters u e (suc n) other size like = omega (arith, size)
 
-length-tail_example : (n : ℕ) → length (tail_example n) ≤ 9
-length-tail_example n = grind (arith, nat_tests)
-
 pub language_id : (u : List ℕ) → IsLangId u → is_language_length (position_or_len is_separator u) ≡ true
 language_id u h = (example_of_id u h).language
 
@@ -186,6 +181,8 @@ pub few_id : (u : List ℕ) → IsLangId u → position_or_len is_separator u �
 few_id u h = letters_few (position_or_len is_separator u) (language_id u h)
 
 pub short_id : (u : List ℕ) → IsLangId u → length u - position_or_len is_separator u ≤ 9
-short_id u h = omega (arith, (example_of_id u h).size, length-tail_example (length u - position_or_len is_separator u))
+short_id u h =
+    let most : (n : ℕ) → length (tail_example n) ≤ 9 = λ n. grind (arith, nat_tests) in
+    omega (arith, (example_of_id u h).size, most (length u - position_or_len is_separator u))
 
 pub ruleset parts_of_id = (language_id, few_id, short_id, end-le)
