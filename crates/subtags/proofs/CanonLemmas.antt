@@ -6,11 +6,9 @@ use Rattle.std.proofs.lemmas.List.Splits.{join_with_byte-slice_split}
 use Rattle.std.proofs.lemmas.Grind.{common_steps}
 use Rattle.std.proofs.lemmas.Bool.Decides.{nat_tests}
 use Rattle.tinystr_words.specs.Classes.{is_alphanumeric}
-use Rattle.subtags.specs.Grammar.{dash, fold_text, subtags_of, is_script, is_region, is_language, is_tail, is_lang_id, IsLangId, canonical_subtag, canonical_subtags, canonical_text, IsCanonical}
+use Rattle.subtags.specs.Grammar.{dash, fold_text, subtags_of, is_script, is_region, is_language, is_tail, IsLangId, canonical_subtag, canonical_subtags, canonical_text, IsCanonical}
 use Rattle.subtags.specs.Subtags.{join_subtags}
-use Rattle.subtags.specs.declared.error.LangIdError.TheVariants.{InvalidLanguage}
-use Rattle.subtags.specs.Answers.{refusal_of}
-use Rattle.subtags.proofs.FoldLemmas.{map-map_absorbed, fold_text-fold_text, fold_text-canonical_subtag, is_language-fold_text, is_script-fold_text, is_region-fold_text, alphanumeric-from_subtag}
+use Rattle.subtags.proofs.FoldLemmas.{map-map_absorbed, fold_text-fold_text, fold_text-canonical_subtag, is_script-fold_text, is_region-fold_text, alphanumeric-from_subtag}
 use Rattle.subtags.proofs.SplitLemmas.{subtags_of-fold_text}
 
 -- to join and then fold is to fold and then join
@@ -55,9 +53,3 @@ join_with_byte-tail l ps h = grind (arith, common_steps, no_script-from_region)
 -- two inputs have the same canonical text exactly if they fold alike
 pub same_canonical_text : (u v : List ℕ) → (canonical_text u ≡ canonical_text v) ↔ (fold_text u ≡ fold_text v)
 same_canonical_text u v = let of_u = fold_text-canonical_text u in let of_v = fold_text-canonical_text v in (λ e. cc, λ e. cc)
-
--- ---- an input whose subtags are l and ps
-
--- where the first isn't a language, the input isn't an identifier, for that reason
-pub refused_without_language : (u l : List ℕ) (ps : List (List ℕ)) → subtags_of (fold_text u) ≡ fold_text l ∷ ps → is_language l ≡ false → (is_lang_id (subtags_of (fold_text u)) ≡ false) × (refusal_of u ≡ InvalidLanguage)
-refused_without_language u l ps split h = rw (split, is_language-fold_text l, h) (refl, refl)

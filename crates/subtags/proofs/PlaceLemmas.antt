@@ -100,7 +100,3 @@ length_bits n small =
 -- the fold keeps the length
 pub length-canonical_text : (u : List ℕ) → length (canonical_text u) ≡ length u
 length-canonical_text u = omega (arith, length-map (canonical_text u) fold_byte, length-map u fold_byte, ap length (fold_text-canonical_text u))
-
--- a language, and perhaps a script and a region, each after a dash
-pub length-IsCanonical : (t : List ℕ) → IsCanonical t → (2 ≤ length t) × (length t ≤ 17)
-length-IsCanonical t h = let place = InPlace-canonical t h in (place.least, place.most)
