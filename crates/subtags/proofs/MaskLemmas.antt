@@ -1,5 +1,5 @@
 -- Bits that say which bytes pass a test.
-use Rattle.std.proofs.Common.{◌≡◌, ◌+◌, ◌*◌, ◌%◌, ◌^◌, ◌<◌, ◌≤◌, ◌↔◌, ℕ, zero, suc, replicate, ap₂, Bool, true, false, ◌&&◌, ◌==◌, List, [], ◌∷◌, ◌++◌, length, map, take, drop, cond, pow_mono, ap, refl, sym, ◌∙◌, arith}
+use Rattle.std.proofs.Common.{◌≡◌, ◌+◌, ◌*◌, ◌%◌, ◌^◌, ◌<◌, ◌≤◌, ◌↔◌, ℕ, zero, suc, replicate, ap₂, Bool, ◌&&◌, ◌==◌, List, [], ◌∷◌, ◌++◌, length, map, take, drop, cond, pow_mono, ap, refl, sym, ◌∙◌, arith}
 use lib.Lanes.{mask_l}
 use lib.Count.{count_trailing_zeros}
 use Rattle.std.specs.List.{list_all, position_or_len}
