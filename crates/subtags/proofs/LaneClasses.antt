@@ -61,7 +61,6 @@ mask_l_last p u bit more few is =
     rw (is, sixteen, append-nil (take 16 u)) (one (p (get_or u 16 0)) (mask_l (map p (take 16 u))) ∙ sym (rw back at (mask_l-split p 16 u (omega arith))))
   where
     one : (b : Bool) (n : ℕ) → n + cond b (2 ^ 16) 0 ≡ (cond b 1 0 + 2 * 0) * 2 ^ 16 + n
-    one true n = omega arith
-    one false n = omega arith
+    one b n = grind arith
 
 pub ruleset seventeen = (mask_l_few, mask_l_sixteen, mask_l_last)

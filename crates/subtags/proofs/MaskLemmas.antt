@@ -1,5 +1,5 @@
 -- Bits that say which bytes pass a test.
-use Rattle.std.proofs.Common.{◌≡◌, ◌+◌, ◌*◌, ◌%◌, ◌^◌, ◌<◌, ◌≤◌, ◌↔◌, ℕ, zero, suc, replicate, ap₂, Bool, true, false, ◌&&◌, ◌==◌, List, [], ◌∷◌, ◌++◌, length, map, take, drop, cond, pow_mono, ap, refl, sym, ◌∙◌, arith}
+use Rattle.std.proofs.Common.{◌≡◌, ◌+◌, ◌*◌, ◌%◌, ◌^◌, ◌<◌, ◌≤◌, ◌↔◌, ℕ, zero, suc, replicate, ap₂, Bool, ◌&&◌, ◌==◌, List, [], ◌∷◌, ◌++◌, length, map, take, drop, cond, pow_mono, ap, refl, sym, ◌∙◌, arith}
 use lib.Lanes.{mask_l}
 use lib.Count.{count_trailing_zeros}
 use Rattle.std.specs.List.{list_all, position_or_len}
@@ -33,8 +33,7 @@ mask_l-all : {X : Type 0} (p : X → Bool) (xs : List X) → (mask_l (map p xs) 
 mask_l-all p [] = refl
 mask_l-all p (x ∷ xs) = one (p x) (list_all p xs) (mask_l (map p xs)) (2 ^ length xs) (2 ^ suc (length xs)) (mask_l-all p xs) (pow-suc 2 (length xs)) where
   one : (b all : Bool) (n m w : ℕ) → (n + 1 == m) ≡ all → w ≡ m * 2 → (cond b 1 0 + 2 * n + 1 == w) ≡ (b && all)
-  one true all n m w rest power = grind (arith, nat_tests)
-  one false all n m w rest power = grind (arith, nat_tests)
+  one b all n m w rest power = grind (arith, nat_tests)
 
 pub first_letters : {X : Type 0} (p : X → Bool) (k : ℕ) (xs : List X) → k ≤ length xs → (mask_l (map p xs) % 2 ^ k + 1 == 2 ^ k) ≡ list_all p (take k xs)
 first_letters p k xs le =

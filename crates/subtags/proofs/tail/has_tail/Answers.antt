@@ -9,9 +9,6 @@ use Rattle.subtags.proofs.HeadLemmas.{letters_few, end-le}
 use Rattle.subtags.proofs.TailLemmas.{example_of_id, id_of_example, more_than_letters}
 use Rattle.subtags.proofs.tail.has_tail.Goals as goal
 
-size : (n : ℕ) → 0 < length (tail_example n) → length (tail_example n) ≡ n
-size n some = grind (arith, nat_tests)
-
 unwrapped : (n e : ℕ) → e ≤ 8 → one_more (tail_example n) * 2 ^ e % 2 ^ 64 ≡ one_more (tail_example n) * 2 ^ e
 unwrapped n e few =
     let most : 2 ^ e ≤ 2 ^ 8 = pow_mono few in
@@ -28,6 +25,7 @@ returns-then-is_language_length c =
     let right : is_language_length e ≡ true = sym c.is_language_length.ensures ∙ c.if-is_language_length.true in
     let few = letters_few e right in
     let inside = end-le u in
+    let size : (m : ℕ) → 0 < length (tail_example m) → length (tail_example m) ≡ m = λ m some. grind (arith, nat_tests) in
     let like = number_like u (tail_example n) e (λ some. omega (arith, size n some, length-append (replicate e 0x61) (tail_example n), length-replicate {A = ℕ} e 0x61)) r.few in
     rw (c.packed.ensures, c.one_more.ensures, unwrapped n e few) (
       λ h. (let x = like.0 (grind (arith, nat_tests)) in id_of_example u e n right x.0 x.1),
