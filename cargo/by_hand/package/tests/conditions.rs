@@ -74,9 +74,9 @@ fn table() -> Table<'static, 3> {
 }
 
 /// (A release build calls it of texts alone.)
-fn unchecked(bytes: [u8; 3]) -> TinyAsciiStr<3> {
-    // SAFETY: the bytes are a text and then NULs, or a debug build panics before it makes a text of them.
-    unsafe { TinyAsciiStr::from_utf8_unchecked(bytes) }
+fn unchecked(raw: [u8; 3]) -> TinyAsciiStr<3> {
+    // SAFETY: they are a text and then NULs, or a debug build panics before it makes a text of them.
+    unsafe { TinyAsciiStr::from_utf8_unchecked(raw) }
 }
 
 fn ignore<T>(_: T) {}
