@@ -147,7 +147,7 @@ tinystr_result tinystr_change_case(void *text, size_t text_len, uint32_t letter_
 /* ---- Records. A capacity is 2, 3, 4, 8 or 16. Each function below checks this first. At any other capacity the code is
  * BAD_ARGUMENT, and the value of a tinystr_result is the capacity. */
 
-/* Whether the bytes are records.
+/* Whether the bytes are records. They hold neither the capacity nor their number, so a cut table can pass.
  *   OK                 value: how many.
  *   BAD_LENGTH         value: `bytes_len`.
  *   NUL, NON_ASCII     value: the index of the first record that isn't a padded text. */

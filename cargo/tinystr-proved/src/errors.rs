@@ -1,5 +1,6 @@
 //! The texts of the errors that the original doesn't have, and that each is an `Error` of std.
 
+use crate::error::ParseError;
 use crate::forms::{BytesReadError, FormWriteError};
 #[cfg(feature = "alloc")]
 use crate::hashed::PackHashedError;
@@ -35,6 +36,8 @@ impl Display for UleError {
     fn fmt(&self, f: &mut Formatter<'_>) -> Result {
         match self {
             UleError::Length { len } => write!(f, "{len} bytes can't be divided into records"),
+            // a record may have NULs, after its text
+            UleError::Parse { index, fault: ParseError::ContainsNull } => write!(f, "record {index}: {}", BytesReadError::Null),
             UleError::Parse { index, fault } => write!(f, "record {index}: {fault}"),
         }
     }
@@ -78,7 +81,7 @@ impl Display for TextMapError {
         match self {
             TextMapError::Keys(fault) => write!(f, "keys: {fault}"),
             TextMapError::Values(fault) => write!(f, "values: {fault}"),
-            TextMapError::Count { keys, values } => write!(f, "{values} values aren't one for each of {keys} keys"),
+            TextMapError::Count { keys, values } => write!(f, "there are {values} values for {keys} keys"),
         }
     }
 }
@@ -117,7 +120,7 @@ impl Display for HashedTextMapError {
         match self {
             HashedTextMapError::Keys(fault) => write!(f, "keys: {fault}"),
             HashedTextMapError::Values(fault) => write!(f, "values: {fault}"),
-            HashedTextMapError::Count { keys, values } => write!(f, "{values} values aren't one for each of {keys} keys"),
+            HashedTextMapError::Count { keys, values } => write!(f, "there are {values} values for {keys} keys"),
         }
     }
 }

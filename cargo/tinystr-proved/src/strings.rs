@@ -17,7 +17,8 @@ impl<const N: usize> Deref for TinyAsciiStr<N> {
     }
 }
 
-/// As in the original, although a text's hash isn't that of its `str`: a map with texts as keys finds none by a `str`.
+/// As in the original, although a text's hash isn't that of its `str`: a `HashMap` with texts as keys finds none by a `str`, and a
+/// `BTreeMap` does.
 impl<const N: usize> Borrow<str> for TinyAsciiStr<N> {
     #[inline]
     fn borrow(&self) -> &str {

@@ -112,6 +112,7 @@ fn each_error_says_what_is_wrong() {
     assert_eq!(table(b"EURJP"), Err("5 bytes can't be divided into records".into()));
     let fault = "record 1: attempted to construct TinyAsciiStr from a non-ASCII string";
     assert_eq!(table(b"EURJP\xff"), Err(fault.into()));
+    assert_eq!(table(b"EU\0E\0U"), Err("record 1: a byte other than NUL follows a NUL".into()));
     let sorted = SortedTable::new(Table::<3>::new(b"CHFJPYEUR").unwrap()).map_err(message).map(|table| table.table().len());
     assert_eq!(sorted, Err("record 2 isn't above the one before it".into()));
     let opened = |bytes| SortedTable::<3>::from_bytes(bytes).map_err(message).map(|table| table.table().len());
@@ -125,7 +126,7 @@ fn each_error_says_what_is_wrong() {
     assert_eq!(texts(b"CHJ", b"CHF"), Err("keys: 3 bytes can't be divided into records".into()));
     assert_eq!(texts(b"JPCH", b"JPYCHF"), Err("keys: record 1 isn't above the one before it".into()));
     assert_eq!(texts(b"CHJP", b"CHFJP"), Err("values: 5 bytes can't be divided into records".into()));
-    assert_eq!(texts(b"CHJP", b"CHF"), Err("1 values aren't one for each of 2 keys".into()));
+    assert_eq!(texts(b"CHJP", b"CHF"), Err("there are 1 values for 2 keys".into()));
 }
 
 #[test]
@@ -145,7 +146,7 @@ fn each_error_of_a_hashed_table_says_what_is_wrong() {
     let texts = |keys: &[u8], values: &[u8]| HashedTextMap::<3, 2>::new(keys, values).map_err(message).map(|map| map.len());
     assert_eq!(texts(b"EUR", b"EU"), Err("keys: 3 bytes are fewer than the sixteen of a header".into()));
     assert_eq!(texts(&one, b"E"), Err("values: 1 bytes can't be divided into records".into()));
-    assert_eq!(texts(&one, b"EUUS"), Err("2 values aren't one for each of 1 keys".into()));
+    assert_eq!(texts(&one, b"EUUS"), Err("there are 2 values for 1 keys".into()));
     assert_eq!(pack_hashed(&[EURO, EURO]).map_err(message), Err("a text occurs twice: EUR".into()));
     assert_eq!(message(PackHashedError::<3>::NoSeed), "no seed gives each text a place of its own");
 }
