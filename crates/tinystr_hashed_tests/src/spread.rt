@@ -1,6 +1,8 @@
 //! Many texts packed as a hashed table. The digests are of the bytes of another program, which is written from the definition:
-//! it takes the first seed that passes, one displacement for four texts for the first eight seeds and then one for each, and
+//! it takes the first seed that passes, for each four seeds one displacement for four texts, one, 16 and then 4,096 for each, and
 //! the least displacements, those of the most texts first, and of equal numbers of texts that of the least hash.
+
+ghost use Rattle.std.specs.Prelude.{◌<◌, ◌^◌};
 
 use std::alloc::{AllocError, Global};
 use std::test::Fail;
@@ -8,11 +10,11 @@ use tinystr::{TinyAsciiStr, tinystr};
 use tinystr_hashed::{HashedTable, pack_hashed};
 
 // A front, two bytes, whether there is the empty text, and the digest of a table of the front with each other byte from 1 to 127
-// after it. The hashes of these texts are spread so evenly that no seed places them by shared displacements.
+// after it. The hashes of these texts are spread so evenly that the first four seeds fail, and the fifth passes.
 const EVENLY_SPREAD: &[(&str, [u8; 2], bool, u64)] = &[
-    ("", *b"\x1dy", true, 0xe7ea_6c03_b3be_8e33),
-    ("k-", *b"my", true, 0xb689_2f26_9b74_5de8),
-    ("key", *b"$<", false, 0x8cb2_9e3c_dca9_bfbd),
+    ("", *b"\x1dy", true, 0xb4d3_e25f_5893_3231),
+    ("k-", *b"my", true, 0x9922_37fa_b217_216f),
+    ("key", *b"$<", false, 0xf715_b2a4_cda8_ee67),
 ];
 
 #[test]
@@ -23,6 +25,35 @@ fn texts_of_evenly_spread_hashes_are_packed(rt: HostRuntime) -> Result<(), Fail>
             texts.push(tinystr!(8, "")?)?;
         }
         assert!(rt; is_packed_alike(rt.alloc(), &texts, *digest), "{front}");
+    }
+    Ok(())
+}
+
+// What is before a letter, the first of 26 letters, what is after it, and the digest of a table of these 26 texts. Their hashes are
+// so close to each other that only more displacements than texts separate them: the second four seeds pass for the first row,
+// the next four for the second, and the last four for the others.
+const CLOSE: &[(&str, u8, &str, u64)] = &[
+    ("B", b'A', ":2026-01-13#7", 0xfc59_0ddf_76b9_0b8c),
+    ("gate-", b'A', "-005JFK", 0x880e_84ff_d96a_80f5),
+    ("h", b'a', "52911d0iv25y74", 0xf233_55e8_a712_f2a0),
+    ("e", b'a', "5byhhggt9u3y7i", 0x31ad_a9ef_3f26_5286),
+];
+
+#[test]
+fn texts_of_close_hashes_are_packed(rt: HostRuntime) -> Result<(), Fail> {
+    for (front, first, back, digest) in CLOSE {
+        let front = TinyAsciiStr::<8>::from_utf8_lossy(front.as_bytes(), b'?');
+        let back = TinyAsciiStr::<16>::from_utf8_lossy(back.as_bytes(), b'?');
+        let mut texts = Vec::new(rt.alloc());
+        for letter in *first..*first + 26 {
+            let letter = TinyAsciiStr::<1>::from_utf8_lossy(&[letter], b'?');
+            let text: TinyAsciiStr<16> = front.concat::<1, 9>(letter).concat(back);
+            texts.push(text)?;
+        }
+        assert!(rt;
+            is_packed_alike::<16>(rt.alloc(), &texts, *digest),
+            "{back}"
+        );
     }
     Ok(())
 }
@@ -44,15 +75,20 @@ fn texts_after(
 }
 
 /// Whether texts are packed as the table with this digest, in any order.
-fn is_packed_alike(alloc: Global, texts: &[TinyAsciiStr<8>], digest: u64) -> bool {
+fn is_packed_alike<const N: usize>(alloc: Global, texts: &[TinyAsciiStr<N>], digest: u64) -> bool
+    requires positive { 0 < N }
+    requires sized { N < 2 ^ 62 }
+{
     match pack_hashed(alloc, texts) {
         Ok(made) => digest_of(&made) == digest && has_all(&made, texts),
         Err(_) => false,
     }
 }
 
-fn has_all(bytes: &[u8], texts: &[TinyAsciiStr<8>]) -> bool {
-    match HashedTable::<8>::from_bytes(bytes) {
+fn has_all<const N: usize>(bytes: &[u8], texts: &[TinyAsciiStr<N>]) -> bool
+    requires { 0 < N }
+{
+    match HashedTable::<N>::from_bytes(bytes) {
         Ok(table) => texts.iter().all(|text| table.contains(text)),
         Err(_) => false,
     }

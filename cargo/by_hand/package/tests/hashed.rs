@@ -205,7 +205,7 @@ fn the_bytes_are_those_of_the_proved_crate_in_any_order() {
     }
 }
 
-/// All texts of one byte but two, and the empty text: their hashes are spread so evenly that the first eight seeds fail.
+/// All texts of one byte but two, and the empty text: their hashes are spread so evenly that the first four seeds fail.
 #[test]
 fn texts_of_evenly_spread_hashes_are_packed() {
     let texts: HashSet<TinyAsciiStr<8>> = (1..128)
@@ -213,7 +213,20 @@ fn texts_of_evenly_spread_hashes_are_packed() {
         .map(|byte| TinyAsciiStr::try_from_utf8(&[byte]).unwrap())
         .chain([TinyAsciiStr::EMPTY])
         .collect();
+    packs_alike(&texts, 0xb4d3_e25f_5893_3231);
+}
+
+/// Texts that differ in one letter: their hashes are so close to each other that only many displacements separate them.
+#[test]
+fn texts_of_close_hashes_are_packed() {
+    let letters = |front: &str, back: &str| ('a'..='z').map(|letter| format!("{front}{letter}{back}").parse().unwrap()).collect();
+    packs_alike::<16>(&letters("h", "52911d0iv25y74"), 0xf233_55e8_a712_f2a0);
+    packs_alike::<16>(&letters("e", "5byhhggt9u3y7i"), 0x31ad_a9ef_3f26_5286);
+}
+
+/// The texts are packed as the table with this digest.
+fn packs_alike<const N: usize>(texts: &HashSet<TinyAsciiStr<N>>, digest: u64) {
     let bytes = pack_hashed(&texts.iter().copied().collect::<Vec<_>>()).unwrap();
-    assert_eq!(digest_of(&bytes), 0xe7ea_6c03_b3be_8e33);
-    agrees(&bytes, &texts, texts.iter().copied());
+    assert_eq!(digest_of(&bytes), digest);
+    agrees(&bytes, texts, texts.iter().copied());
 }

@@ -11,12 +11,14 @@ const SEEDS: u64 = 16;
 
 const OF_SEEDS: u64 = 0x2545_f491_4f6c_dd1d;
 
-// For how many seeds texts share displacements, and how many share one on average. More of them make the search longer and the
-// table shorter. For the later seeds there is one for each text: if the hashes are spread evenly, all groups that share a
-// displacement are of a similar size, and the last of them rarely fits the last free places.
-const SHARING_SEEDS: u64 = 8;
-
+// How many texts share a displacement on average for the first seeds. More of them make the search longer and the table shorter.
 const SHARING: usize = 4;
+
+// How many seeds are tried for each number of displacements.
+const SEEDS_OF_ONE_NUMBER: u64 = 4;
+
+// How many more displacements than texts there are at most.
+const MORE_DISPLACEMENTS: usize = 1 << 20;
 
 /// Why texts aren't packed as a hashed table.
 ///
@@ -69,8 +71,8 @@ pub fn pack_hashed<const N: usize>(
     if let Some(text) = repeated(texts) {
         return Err(PackHashedError::Duplicate { text });
     }
-    for index in 1..=SEEDS {
-        let seed = index.wrapping_mul(OF_SEEDS);
+    for index in 0..SEEDS {
+        let seed = (index + 1).wrapping_mul(OF_SEEDS);
         let count = displacement_count(texts.len(), index);
         if let Some(bytes) = pack_with_seed(texts, seed, count) {
             return Ok(bytes);
@@ -79,12 +81,16 @@ pub fn pack_hashed<const N: usize>(
     Err(PackHashedError::NoSeed)
 }
 
-// The number of displacements for a number of texts, by the index of the seed.
+// The number of displacements for a number of texts, by the index of the seed: more for the later seeds. If hashes are spread
+// evenly, all groups that share a displacement are of a similar size, and the last of them rarely fits the last free places.
+// If hashes are close to each other, a group is larger than any displacement can place.
 fn displacement_count(texts: usize, index: u64) -> usize {
-    if index <= SHARING_SEEDS {
-        texts.div_ceil(SHARING)
-    } else {
-        texts
+    let most = texts.saturating_add(MORE_DISPLACEMENTS);
+    match index / SEEDS_OF_ONE_NUMBER {
+        0 => texts.div_ceil(SHARING),
+        1 => texts,
+        2 => texts.saturating_mul(16).min(most),
+        _ => texts.saturating_mul(4096).min(most),
     }
 }
 
