@@ -30,8 +30,8 @@ fn texts_of_evenly_spread_hashes_are_packed(rt: HostRuntime) -> Result<(), Fail>
 }
 
 // What is before a letter, the first of 26 letters, what is after it, and the digest of a table of these 26 texts. Their hashes are
-// so close to each other that only more displacements than texts separate them: the second four seeds pass for the first row,
-// the next four for the second, and the last four for the others.
+// so close to each other that one displacement for four texts doesn't separate them. For the first row one of the second four
+// seeds passes, for the second one of the third four, and for the others one of the last four.
 const CLOSE: &[(&str, u8, &str, u64)] = &[
     ("B", b'A', ":2026-01-13#7", 0xfc59_0ddf_76b9_0b8c),
     ("gate-", b'A', "-005JFK", 0x880e_84ff_d96a_80f5),
@@ -74,7 +74,7 @@ fn texts_after(
     Ok(texts)
 }
 
-/// Whether texts are packed as the table with this digest, in any order.
+/// Whether texts are packed as the table with this digest, which has each of them.
 fn is_packed_alike<const N: usize>(alloc: Global, texts: &[TinyAsciiStr<N>], digest: u64) -> bool
     requires positive { 0 < N }
     requires sized { N < 2 ^ 62 }
