@@ -1,16 +1,8 @@
--- The laws as lemmas over plain variables, for callers: a law's clause `c` is `LAW_c`, and the set `LAW` holds them all. The
--- functions of `laws` rest on them, and they keep their names and statements.
-use Rattle.std.proofs.Common.{◌≡◌}
-use Rattle.tinystr_words.specs.Reading.{Fault}
-use Rattle.tinystr.specs.Error.{fault_of, parse_error_of}
-use Rattle.tinystr.specs.declared.error.ParseError.{ParseError}
-use Rattle.tinystr.proofs.Errors.{fault_of-parse_error_of, parse_error_of-fault_of}
-
--- Each `ParseError` names one fault, and each fault is named by one `ParseError`.
-pub error_back_error : (e : ParseError) → parse_error_of (fault_of e) ≡ e
-error_back_error = parse_error_of-fault_of
-
-pub error_back_fault : (f : Fault) → fault_of (parse_error_of f) ≡ f
-error_back_fault = fault_of-parse_error_of
+-- The laws as lemmas over plain variables, for callers: clause `c` of the law `LAW` of src/laws.rt is the lemma `LAW_c`, and
+-- the set `LAW` holds the lemmas of a law. The proofs of `laws` cite them, and they keep their names.
+pub use Rattle.tinystr.proofs.Errors.{parse_error_of-fault_of as error_back_error, fault_of-parse_error_of as error_back_fault}
+pub use Rattle.tinystr.proofs.ShortInputs.{mask_l-all as bits_of_class_all, mask_l-under as bits_of_class_fits, mask_l-append as bits_of_class_joined}
 
 pub ruleset error_back = (error_back_error, error_back_fault)
+
+pub ruleset bits_of_class = (bits_of_class_all, bits_of_class_fits, bits_of_class_joined)

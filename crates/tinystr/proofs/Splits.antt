@@ -10,7 +10,6 @@ use Rattle.std.proofs.lemmas.List.Quantifiers.{position-Some}
 use Rattle.std.proofs.lemmas.Simd.{bitmask_splat, first_set_mask_l}
 use Rattle.std.proofs.lemmas.List.Sums.{fails_before_first, passes_at_first, position_or_len_is}
 use Rattle.tinystr_words.specs.Text.{IsPadded, IsPaddedText, IsText, pad, text_of}
-use Rattle.tinystr_words.proofs.Padding.KeptLanes.{IsPadded-first_lanes}
 use Rattle.tinystr_words.proofs.Parts.Splits.{slice_split-found, slice_split-missed}
 use Rattle.tinystr_words.proofs.Parts.Positions.{position-None, position-None-fails, position-at}
 use Rattle.tinystr_words.proofs.Texts.{IsPaddedText-made, IsPaddedText-drop, IsPaddedText-take, get_or-text_of, length-pad, length-text_of-le, text_of-drop, text_of-made, text_of-take}
@@ -84,15 +83,11 @@ IsPadded-fewer l r q few is =
       text_of-made r (text_of l) 16 is q.text ∙ sym (take_all 16 (text_of l) fits),
     )
 
--- where a byte is found in them, the lanes before it are the front of the text up to it
-pub IsPadded-before_found : (p : ℕ → Bool) (l sixteen lanes : List ℕ) (i : ℕ) → length sixteen ≡ 16 → IsPadded sixteen → text_of sixteen ≡ take 16 (text_of l)
-    → Some i ≡ position p (text_of sixteen) → lanes ≡ pad (take i sixteen) 16 → (i < length (text_of l)) × (IsPadded lanes) × (text_of lanes ≡ take i (text_of l))
-IsPadded-before_found p l sixteen lanes i long q is found made =
-    let at : position p (take 16 (text_of l)) ≡ Some i = rw is at (sym found) in
-    let inside = position-Some p (take 16 (text_of l)) i 0 at in
-    let few : i ≤ 16 = omega (arith, inside.0, length-take 16 (text_of l)) in
-    let front = IsPadded-first_lanes sixteen lanes 16 i (rw long at q) few made in
-    (omega (arith, inside.0, length-take 16 (text_of l)), front.0, front.1 ∙ ap (take i) is ∙ take-take i 16 (text_of l) few)
+-- a byte that is found is inside
+pub position-inside : (p : ℕ → Bool) (t : List ℕ) (i : ℕ) → Some i ≡ position p t → i < length t
+position-inside p t i at = (position-Some p t i 0 (sym at)).0
+
+pub ruleset found_in_sixteen = (position-inside, length-take, length-text_of-le)
 
 -- ---- the text from a place on
 

@@ -3,6 +3,7 @@ pub mod Reading
 pub mod Unvalidated
 pub mod Forms
 pub mod Records
+pub mod ShortInput
 pub mod Private
 pub use Rattle.tinystr_words.specs.ByteForm
 pub use Rattle.tinystr_words.specs.Case

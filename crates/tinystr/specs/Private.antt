@@ -2,3 +2,4 @@
 -- `parts_left`.
 pub mod RecordLists
 pub mod Splitting
+pub mod ShortInputs

@@ -7,6 +7,7 @@ use Rattle.tinystr.specs.declared.ule.UleError.{UleError}
 use Rattle.tinystr.specs.declared.ule.UleError.TheVariants.{Length, Parse}
 
 -- the length isn't divisible by n, or it is, and this is the first bad record and its own fault
+-- e.g. at 2, Length 3 of 61 62 63, and Parse 1 ContainsNull of 61 00 00 62
 abbrev pub RefusesRecords : UleError → List ℕ → ℕ → Type 0
 RefusesRecords (Length len) bytes n = (len ≡ length bytes) × (length bytes % n ≢ 0)
 RefusesRecords (Parse index fault) bytes n =

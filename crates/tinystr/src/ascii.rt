@@ -1,6 +1,7 @@
 //! The type of a text of bounded length.
 
 ghost use Rattle.std.specs.Prelude.{◌≡◌, []};
+ghost use Rattle.tinystr_words.specs.Text.{IsPaddedText, text_of};
 ghost use Rattle.tinystr.specs.Reading.{IsStrictRead};
 ghost use Rattle.tinystr.specs.Error.{fault_of};
 
@@ -101,6 +102,16 @@ impl<const N: usize> TinyAsciiStr<N> {
         ensures { result ≡ [] }
     {
         TinyAsciiStr { bytes: [0; N] }
+    }
+
+    // `from_utf8_unchecked` for this crate alone. The crate for Cargo makes only that one an `unsafe fn`: the conditions of
+    // this one are proved at its calls.
+    #[inline]
+    pub(crate) fn from_padded(bytes: [u8; N]) -> Self
+        requires { IsPaddedText bytes N }
+        ensures { result ≡ text_of bytes.entry }
+    {
+        TinyAsciiStr { bytes }
     }
 }
 

@@ -1,11 +1,13 @@
 //! Laws of the type, each a function whose contract is the law.
 
-ghost use Rattle.std.specs.Prelude.{◌≡◌, ◌<◌, ◌↔◌, Ok, Err, IsTrue};
+ghost use Rattle.std.specs.Prelude.{◌≡◌, ◌<◌, ◌+◌, ◌*◌, ◌^◌, ◌==◌, ◌++◌, ◌↔◌, ℕ, Bool, List, Ok, Err, IsTrue, length};
+ghost use Rattle.std.specs.List.{list_all};
 ghost use Rattle.std.specs.declared.cmp.Ordering.TheVariants.{Less, Equal};
 ghost use Rattle.tinystr_words.specs.Order.{IsBefore};
 ghost use Rattle.tinystr_words.specs.Reading.{Fault};
 ghost use Rattle.tinystr_words.specs.Text.{IsStrictText};
 ghost use Rattle.tinystr.specs.Error.{fault_of, parse_error_of};
+ghost use Rattle.tinystr.specs.ShortInput.{bits_of};
 
 use crate::ascii::TinyAsciiStr;
 use crate::error::ParseError;
@@ -38,6 +40,16 @@ pub fn text_order<const N: usize>(
     tinystr_words::laws::order_compared();
     (text == other, text.cmp(other))
 }
+
+/// A bit for each byte of a class: all are set exactly if all bytes are of the class, none is set past the last byte, and the
+/// bits of joined lists follow each other.
+#[tactic(auto, using(crate::proofs::ForCallers::bits_of_class))]
+pub fn bits_of_class()
+    ensures all { (class : ℕ → Bool) (u : List ℕ) → (bits_of class u + 1 == 2 ^ length u) ≡ list_all class u }
+    ensures fits { (class : ℕ → Bool) (u : List ℕ) → bits_of class u < 2 ^ length u }
+    ensures joined { (class : ℕ → Bool) (u v : List ℕ) →
+        bits_of class (u ++ v) ≡ bits_of class v * 2 ^ length u + bits_of class u }
+{}
 
 /// A text that is made unvalidated bytes and tested again comes back.
 pub fn unvalidated_back<const N: usize>(

@@ -8,10 +8,12 @@ pub mod error;
 pub mod forms;
 pub mod laws;
 pub mod macros;
+pub mod short_input;
 pub mod ule;
 pub mod unvalidated;
 
 pub use ascii::{Parts, TinyAsciiStr, TinyStr4, TinyStr8, TinyStr16};
 pub use error::ParseError;
+pub use short_input::ShortInput;
 pub use tinystr_words::{Case, Question};
 pub use unvalidated::UnvalidatedTinyAsciiStr;

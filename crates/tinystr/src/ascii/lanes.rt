@@ -6,7 +6,7 @@ ghost use Rattle.tinystr_words.specs.Text.{IsPadded, text_of};
 use crate::ascii::TinyAsciiStr;
 use std::simd::prelude::*;
 use tinystr_words::int_ops::Aligned16;
-use tinystr_words::padded::resize;
+use tinystr_words::padded::{first_lanes_of_sixteen, resize};
 
 /// The first sixteen bytes of the text, and then NULs.
 #[inline(always)]
@@ -30,4 +30,16 @@ pub(crate) fn text_of_lanes<const N: usize>(lanes: u8x16) -> TinyAsciiStr<N>
     ensures { result ≡ text_of lanes }
 {
     TinyAsciiStr::from_padded(resize(&lanes.to_array()[..]))
+}
+
+/// The first `count` bytes of the text in the lanes, which has to fit.
+#[inline(always)]
+pub(crate) fn text_of_first_lanes<const N: usize>(lanes: u8x16, count: usize) -> TinyAsciiStr<N>
+    requires len { length lanes ≡ 16 }
+    requires padded { IsPadded lanes }
+    requires count { count ≤ 16 }
+    requires fits { length (text_of lanes) ≤ N }
+    ensures { result ≡ take count (text_of lanes) }
+{
+    text_of_lanes(first_lanes_of_sixteen(lanes, count))
 }

@@ -142,14 +142,4 @@ impl<const N: usize> TinyAsciiStr<N> {
     {
         TinyAsciiStr { bytes: code_units }
     }
-
-    // `from_utf8_unchecked` for this crate alone. The crate for Cargo makes only that one an `unsafe fn`: the conditions of
-    // this one are proved at its calls.
-    #[inline]
-    pub(crate) fn from_padded(bytes: [u8; N]) -> Self
-        requires { IsPaddedText bytes N }
-        ensures { result ≡ text_of bytes.entry }
-    {
-        TinyAsciiStr { bytes }
-    }
 }

@@ -3,10 +3,10 @@
 ghost use Rattle.std.specs.Prelude.{◌≡◌, ◌≤◌, ◌-◌, take, drop};
 
 use crate::ascii::TinyAsciiStr;
-use crate::ascii::lanes::{first_sixteen, text_of_lanes};
+use crate::ascii::lanes::{first_sixteen, text_of_first_lanes, text_of_lanes};
 use std::ops::Range;
 use std::simd::prelude::*;
-use tinystr_words::padded::{first_lanes_of_eight, first_lanes_of_sixteen, resize, resize_at_once};
+use tinystr_words::padded::{first_lanes_of_eight, resize, resize_at_once};
 
 impl<const N: usize> TinyAsciiStr<N> {
     /// The bytes of the text at a range of indices, as a text of capacity `M`: those that exist, and at most the first
@@ -72,7 +72,7 @@ impl<const N: usize> TinyAsciiStr<N> {
             return TinyAsciiStr::from_padded(resize(&lanes.to_array()[..]));
         }
         if len <= 16 {
-            return text_of_lanes(first_lanes_of_sixteen(first_sixteen(bytes), len));
+            return text_of_first_lanes(first_sixteen(bytes), len);
         }
         TinyAsciiStr::from_padded(resize_at_once(&bytes[..len]))
     }

@@ -8,12 +8,12 @@ ghost use Rattle.tinystr_words.specs.Text.{IsPadded, text_of};
 ghost use Rattle.tinystr.specs.Private.Splitting.{parts_left};
 
 use crate::ascii::TinyAsciiStr;
-use crate::ascii::lanes::{first_sixteen, text_of_lanes};
+use crate::ascii::lanes::{first_sixteen, text_of_first_lanes, text_of_lanes};
 use crate::laws;
 use std::marker::Model;
 use std::simd::prelude::*;
 use tinystr_words::int_ops::Aligned8;
-use tinystr_words::padded::{first_lanes_of_sixteen, resize_at_once};
+use tinystr_words::padded::resize_at_once;
 use tinystr_words::word::Word;
 
 /// An iterator over the parts of a text, in order. A contract sees it as the list of those that are left.
@@ -196,6 +196,7 @@ fn split_around(text: TinyAsciiStr<8>, at: usize) -> (TinyAsciiStr<8>, TinyAscii
 
 // The first part of padded bytes, and the bytes after its separator, if there is one. A part that ends in the first
 // sixteen bytes stays in a vector.
+#[tactic(auto, using(crate::proofs::Splits::found_in_sixteen))]
 #[inline(always)]
 fn split_first<const N: usize>(bytes: &[u8], separator: u8) -> (TinyAsciiStr<N>, Option<&[u8]>)
     requires padded { IsPadded bytes.now }
@@ -206,10 +207,7 @@ fn split_first<const N: usize>(bytes: &[u8], separator: u8) -> (TinyAsciiStr<N>,
 {
     let lanes = first_sixteen(bytes);
     match find_in_sixteen(lanes, separator) {
-        Some(at) => (
-            text_of_lanes(first_lanes_of_sixteen(lanes, at)),
-            Some(&bytes[at + 1..]),
-        ),
+        Some(at) => (text_of_first_lanes(lanes, at), Some(&bytes[at + 1..])),
         None if bytes.len() <= 16 || bytes[16] == 0 => (text_of_lanes(lanes), None),
         None => split_first_by_copy(bytes, separator),
     }

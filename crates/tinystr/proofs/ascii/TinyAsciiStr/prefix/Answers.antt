@@ -23,20 +23,9 @@ returns-then-this-le8 g c =
     ∙ take_all g.row.N (take c.args.len t) (omega (arith, length-take c.args.len t))
     ∙ ap (take c.args.len) c.self.view_is
 
-pub text_of_lanes-requires : goal.text_of_lanes-requires
-text_of_lanes-requires g c =
-    let t = text_of c.self.inside.bytes in
-    let sixteen = rw c.first_sixteen.ensures.len at c.first_sixteen.ensures.padded in
-    let made = IsPadded-first_lanes c.first_sixteen.result c.first_lanes_of_sixteen.result 16 c.args.len sixteen (omega arith) c.first_lanes_of_sixteen.ensures in
-    let front = made.1 ∙ ap (take c.args.len) c.first_sixteen.ensures.text in
-    (search rules, (made.0, rw front (omega (arith, length-take c.args.len (take 16 t), length-take 16 t, c.self.invariant.fits))))
-
 pub returns-then-len-le16 : goal.returns-then-len-le16
 returns-then-len-le16 g c =
-    let t = text_of c.self.inside.bytes in
-    let sixteen = rw c.first_sixteen.ensures.len at c.first_sixteen.ensures.padded in
-    let made = IsPadded-first_lanes c.first_sixteen.result c.first_lanes_of_sixteen.result 16 c.args.len sixteen (omega arith) c.first_lanes_of_sixteen.ensures in
-    c.text_of_lanes.ensures ∙ made.1 ∙ ap (take c.args.len) c.first_sixteen.ensures.text ∙ take-take c.args.len 16 t (omega arith)
+    c.text_of_first_lanes.ensures ∙ ap (take c.args.len) c.first_sixteen.ensures.text ∙ take-take c.args.len 16 (text_of c.self.inside.bytes) (omega arith)
     ∙ ap (take c.args.len) c.self.view_is
 
 pub resize_at_once-requires : goal.resize_at_once-requires

@@ -1,33 +1,21 @@
-use Rattle.std.proofs.Common.{ℕ, ◌==◌, ◌≡◌, ◌≤◌, ◌+◌, ◌∙◌, Some, arith, length, position, sym, take, take_all, rules}
+use Rattle.std.proofs.Common.{ℕ, ◌==◌, ◌≡◌, ◌≤◌, ◌+◌, ◌∙◌, Some, ap, arith, length, position, sym, take, take_all, rules}
 use Rattle.std.proofs.lemmas.Bool.Decides.{nat_tests}
-use Rattle.std.proofs.lemmas.List.{length-drop, length-take, take_rest}
+use Rattle.std.proofs.lemmas.List.{length-drop, length-take, take-take, take_rest}
 use Rattle.tinystr_words.specs.Text.{text_of}
 use Rattle.tinystr_words.proofs.Parts.Positions.{position-front}
 use Rattle.tinystr_words.proofs.Texts.{length-text_of-le}
-use Rattle.tinystr.proofs.Splits.{IsPadded-before_found, IsPadded-rest, length-text_of-nul, slice_split-padded, slice_split-whole}
+use Rattle.tinystr.proofs.Splits.{IsPadded-rest, length-text_of-nul, position-inside, slice_split-padded, slice_split-whole}
 use Rattle.tinystr.proofs.ascii.splitting.split_first.Goals as goal
 use Rattle.tinystr.proofs.ascii.splitting.split_first.Goals.{then-bytes-le16, else-bytes-le16}
 
-pub text_of_lanes-requires : goal.text_of_lanes-requires
-text_of_lanes-requires g c =
+pub text_of_first_lanes-requires : goal.text_of_first_lanes-requires
+text_of_first_lanes-requires g c =
     let bytes = c.args.bytes.now in
     let lanes = c.first_sixteen-lanes.ensures in
-    let found = IsPadded-before_found (λ b. b == c.args.separator) bytes c.first_sixteen-lanes.result c.first_lanes_of_sixteen.result c.in-Some.at lanes.len lanes.padded lanes.text c.in-Some.ensures c.first_lanes_of_sixteen.ensures in
-    (search rules, (found.1, rw found.2 (omega (arith, length-take c.in-Some.at (text_of bytes), length-text_of-le bytes))))
-
-pub slice_bounds-result-count : goal.slice_bounds-result-count
-slice_bounds-result-count g c =
-    let bytes = c.args.bytes.now in
-    let lanes = c.first_sixteen-lanes.ensures in
-    let found = IsPadded-before_found (λ b. b == c.args.separator) bytes c.first_sixteen-lanes.result c.first_lanes_of_sixteen.result c.in-Some.at lanes.len lanes.padded lanes.text c.in-Some.ensures c.first_lanes_of_sixteen.ensures in
-    omega (arith, found.0, length-text_of-le bytes)
-
-pub slice_bounds-result-start : goal.slice_bounds-result-start
-slice_bounds-result-start g c =
-    let bytes = c.args.bytes.now in
-    let lanes = c.first_sixteen-lanes.ensures in
-    let found = IsPadded-before_found (λ b. b == c.args.separator) bytes c.first_sixteen-lanes.result c.first_lanes_of_sixteen.result c.in-Some.at lanes.len lanes.padded lanes.text c.in-Some.ensures c.first_lanes_of_sixteen.ensures in
-    omega (arith, found.0, length-text_of-le bytes)
+    let front = text_of c.first_sixteen-lanes.result in
+    let inside = position-inside (λ b. b == c.args.separator) front c.in-Some.at c.in-Some.ensures in
+    let fits : length front ≤ length bytes = rw lanes.text (omega (arith, length-take 16 (text_of bytes), length-text_of-le bytes)) in
+    (search rules, (lanes.len, (lanes.padded, (omega (arith, inside, length-text_of-le c.first_sixteen-lanes.result), omega (arith, fits)))))
 
 pub returns-in-Some-clause-parts : goal.returns-in-Some-clause-parts
 returns-in-Some-clause-parts g c =
@@ -36,8 +24,7 @@ returns-in-Some-clause-parts g c =
     let t = text_of bytes in
     let lanes = c.first_sixteen-lanes.ensures in
     let at : position p (take 16 t) ≡ Some c.in-Some.at = rw lanes.text at (sym c.in-Some.ensures) in
-    let found = IsPadded-before_found p bytes c.first_sixteen-lanes.result c.first_lanes_of_sixteen.result c.in-Some.at lanes.len lanes.padded lanes.text c.in-Some.ensures c.first_lanes_of_sixteen.ensures in
-    slice_split-padded p bytes c.text_of_lanes.result c.in-Some.at c.requires.padded (position-front p t 16 c.in-Some.at at) (c.text_of_lanes.ensures ∙ found.2)
+    slice_split-padded p bytes c.text_of_first_lanes.result c.in-Some.at c.requires.padded (position-front p t 16 c.in-Some.at at) (c.text_of_first_lanes.ensures ∙ ap (take c.in-Some.at) lanes.text ∙ take-take c.in-Some.at 16 t (omega (arith, position-inside p (take 16 t) c.in-Some.at (sym at), length-take 16 t)))
 
 pub returns-in-Some-clause-rest : goal.returns-in-Some-clause-rest
 returns-in-Some-clause-rest g c =
@@ -55,4 +42,4 @@ returns-in-None-clause-parts g c =
       | else-bytes-le16 w ↦ length-text_of-nul bytes (length bytes) 16 c.requires.padded (grind (arith, nat_tests))
     ] in
     let all : text_of c.first_sixteen-lanes.result ≡ t = c.first_sixteen-lanes.ensures.text ∙ take_all 16 t ends in
-    slice_split-whole p t c.text_of_lanes-in-None.result (rw all at (sym c.in-None.ensures)) (c.text_of_lanes-in-None.ensures ∙ all)
+    slice_split-whole p t c.text_of_lanes.result (rw all at (sym c.in-None.ensures)) (c.text_of_lanes.ensures ∙ all)
