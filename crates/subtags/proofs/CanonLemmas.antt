@@ -5,7 +5,7 @@ use Rattle.std.proofs.lemmas.List.{map-append}
 use Rattle.std.proofs.lemmas.List.Splits.{join_with_byte-slice_split}
 use Rattle.std.proofs.lemmas.Grind.{common_steps}
 use Rattle.std.proofs.lemmas.Bool.Decides.{nat_tests}
-use Rattle.tinystr_words.specs.Classes.{is_alphanumeric}
+use Rattle.tinystr.specs.Classes.{is_alphanumeric}
 use Rattle.subtags.specs.Grammar.{dash, fold_text, subtags_of, is_script, is_region, is_language, is_tail, IsLangId, canonical_subtag, canonical_subtags, canonical_text, IsCanonical}
 use Rattle.subtags.specs.Subtags.{join_subtags}
 use Rattle.subtags.proofs.FoldLemmas.{map-map_absorbed, fold_text-fold_text, fold_text-canonical_subtag, is_script-fold_text, is_region-fold_text, alphanumeric-from_subtag}

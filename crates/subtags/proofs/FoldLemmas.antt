@@ -6,9 +6,9 @@ use Rattle.std.proofs.lemmas.List.{length-map}
 use Rattle.std.proofs.lemmas.List.Folds.{list_all-map}
 use Rattle.std.proofs.lemmas.List.Sums.{AllPass-from_list_all, list_all-from_AllPass}
 use Rattle.std.proofs.lemmas.Simd.{map-map}
-use Rattle.tinystr_words.specs.Text.{IsTextByte, IsStrictText}
-use Rattle.tinystr_words.specs.Classes.{is_alphabetic, is_digit, is_alphanumeric, ask}
-use Rattle.tinystr_words.specs.Case.{lower, raise, lowercase, titlecase, uppercase}
+use Rattle.tinystr.specs.Text.{IsTextByte, IsStrictText}
+use Rattle.tinystr.specs.Classes.{is_alphabetic, is_digit, is_alphanumeric, ask}
+use Rattle.tinystr.specs.Case.{lower, raise, lowercase, titlecase, uppercase}
 use Rattle.subtags.specs.Grammar.{fold_byte, fold_text, is_language, is_script, is_region, canonical_subtag}
 use Rattle.subtags.specs.Subtags.{IsCanonicalSubtag}
 

@@ -7,7 +7,7 @@ use Rattle.std.proofs.lemmas.Bool.{cases_lt, false_from_ne_true}
 use Rattle.std.proofs.lemmas.Bool.Decides.{nat_tests}
 use Rattle.std.proofs.lemmas.List.{take_all, length-take}
 use Rattle.std.proofs.lemmas.List.Elements.{All-append, All-cons}
-use Rattle.tinystr_words.specs.Classes.{is_alphabetic, is_alphanumeric}
+use Rattle.tinystr.specs.Classes.{is_alphabetic, is_alphanumeric}
 use Rattle.subtags.specs.Grammar.{dash, is_separator, is_language, is_language_length, is_tail, fold_text, subtags_of, is_lang_id, IsLangId, canonical_subtag, canonical_text, canonical_of}
 use Rattle.subtags.specs.declared.error.LangIdError.TheVariants.{InvalidLanguage}
 use Rattle.subtags.specs.Answers.{refusal_of}
@@ -66,12 +66,14 @@ letters_text u letters = rw (letters_alone u letters) refl
 pub letters_refusal : (u : List ℕ) → list_all is_alphabetic u ≡ true → is_language_length (length u) ≡ false → refusal_of u ≡ InvalidLanguage
 letters_refusal u letters wrong = rw (letters_alone u letters, is_language-fold_text u, letters, wrong) refl
 
+pub no_id : (u : List ℕ) → ¬ IsLangId u → None ≡ canonical_of u
+no_id u fails = let is = false_from_ne_true (is_lang_id (subtags_of (fold_text u))) fails in rw is refl
+
 -- ---- more bytes than an identifier has
 
 pub more_refused : (u : List ℕ) → 17 < length u → canonical_of u ≡ None
 more_refused u more =
-    let no = false_from_ne_true (is_lang_id (subtags_of (fold_text u))) (λ h. absurd (omega (arith, more, few_id u h, short_id u h))) in
-    rw no refl
+    sym (no_id u (λ h. absurd (omega (arith, more, few_id u h, short_id u h))))
 
 pub ruleset reading = (letters_id, letters_text, letters_refusal, letters_few, fold_text-canonical_text, IsCanonical-canonical_text, take_all)
 

@@ -4,7 +4,7 @@ use Rattle.std.specs.Option.{IfSome, option_to_list}
 use Rattle.std.proofs.lemmas.Option.{IfSome_then}
 use Rattle.std.specs.List.{find, join_with_byte}
 use Rattle.std.proofs.lemmas.List.{append-nil, length-append, take_all}
-use Rattle.tinystr_words.specs.Case.{lowercase, titlecase, uppercase}
+use Rattle.tinystr.specs.Case.{lowercase, titlecase, uppercase}
 use Rattle.subtags.specs.Grammar.{dash, fold_text, subtags_of, is_language, is_script, is_region, is_tail, canonical_subtag, IsCanonical}
 use Rattle.subtags.specs.Subtags.{IsCanonicalSubtag, language_of, script_of, region_of, join_subtags}
 use Rattle.subtags.proofs.FoldLemmas.{is_script-fold_text, is_region-fold_text, canonical_subtag-fold_text, alphanumeric-from_subtag, fold_text-alphanumeric}

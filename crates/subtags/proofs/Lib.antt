@@ -1,10 +1,9 @@
 pub mod MaskLemmas
-pub mod LaneClasses
 pub mod FoldLemmas
 pub mod SplitLemmas
 pub mod CanonLemmas
 pub mod TailLemmas
-pub mod LaneTexts
+pub mod CaseLemmas
 pub mod JoinLemmas
 pub mod PlaceLemmas
 pub mod HeadLemmas

@@ -9,8 +9,8 @@ use Rattle.std.proofs.lemmas.Simd.{bit_mask_l}
 use Rattle.std.proofs.lemmas.List.FromFn.{get_or-map-range_with_len}
 use Rattle.std.specs.Option.{IfSome, unwrap_or}
 use Rattle.std.proofs.lemmas.Option.{IfSome_then}
-use Rattle.tinystr_words.specs.Classes.{is_alphanumeric}
-use Rattle.tinystr_words.specs.Case.{lowercase, titlecase, uppercase}
+use Rattle.tinystr.specs.Classes.{is_alphanumeric}
+use Rattle.tinystr.specs.Case.{lowercase, titlecase, uppercase}
 use Rattle.subtags.specs.Grammar.{dash, fold_byte, fold_text, subtags_of, is_language, is_language_length, is_script, is_region, is_tail, canonical_subtag, canonical_text, IsCanonical}
 use Rattle.subtags.specs.Subtags.{IsCanonicalSubtag, language_of, script_of, region_of, after_dash, join_subtags}
 use Rattle.subtags.specs.Private.Tails.{first_subtag}

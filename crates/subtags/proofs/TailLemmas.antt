@@ -6,8 +6,8 @@ use Rattle.std.proofs.lemmas.Bool.Decides.{nat_tests}
 use Rattle.std.proofs.lemmas.List.{map-append, length-map, length-append, length-replicate}
 use Rattle.std.proofs.lemmas.List.Folds.{list_all-map}
 use Rattle.std.proofs.lemmas.Simd.{map-map}
-use Rattle.tinystr_words.specs.Classes.{is_alphabetic, is_digit, is_upper}
-use Rattle.tinystr_words.specs.Case.{lower, raise, titlecase}
+use Rattle.tinystr.specs.Classes.{is_alphabetic, is_digit, is_upper}
+use Rattle.tinystr.specs.Case.{lower, raise, titlecase}
 use Rattle.subtags.specs.Grammar.{dash, is_separator, fold_byte, fold_text, subtags_of, is_language, is_language_length, is_script, is_region, is_tail, is_lang_id, canonical_subtag, canonical_subtags, canonical_text, IsLangId}
 use Rattle.subtags.specs.Private.Tails.{first_subtag, tail_example, example}
 use Rattle.subtags.proofs.FoldLemmas.{map-map_absorbed}

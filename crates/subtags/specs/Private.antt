@@ -1,4 +1,3 @@
 -- The words of private functions. No public contract has one of them.
-pub mod Lanes
 pub mod SubtagPlaces
 pub mod Tails

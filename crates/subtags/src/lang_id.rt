@@ -3,26 +3,25 @@
 ghost use Rattle.std.specs.Prelude.{◌≡◌, ◌<◌, ◌+◌, ◌≤◌, length, None, ◌∷◌, Some, IsOk, IfOk, IfErr, IfSome, ◌↔◌};
 ghost use Rattle.std.specs.Fmt.{debug_str, styled_text};
 ghost use Rattle.std.specs.Result.{result_ok};
-ghost use Rattle.tinystr_words.specs.Case.{lowercase, titlecase, uppercase};
-ghost use Rattle.subtags.specs.Private.Tails.{AreClassesOf};
+ghost use Rattle.tinystr.specs.Case.{lowercase, titlecase, uppercase};
 ghost use Rattle.subtags.specs.Grammar.{dash, fold_text, is_language, is_script, is_region, IsLangId, IsCanonical, canonical_text, canonical_of};
 ghost use Rattle.subtags.specs.Subtags.{IsCanonicalSubtag, language_of, script_of, region_of, join_subtags};
 ghost use Rattle.subtags.specs.Answers.{refusal_of, IsLangIdRead};
 
-use crate::classes::{Classes, are_letters};
+use crate::classes::{Classes, is_alphabetic};
 use crate::error::LangIdError;
-use crate::lanes::{first_lanes, folded_text, letters_of, text_in_case};
 use crate::language::{Language, is_language_length};
 use crate::places::{has_byte_at, language_end, region_start};
 use crate::region::Region;
 use crate::script::Script;
 use crate::subtag::{Subtag, SubtagKind};
 use crate::tail::has_tail;
+use crate::texts::text_in_case;
 use std::convert::{AsSlice, AsStr};
 use std::fmt;
 use std::marker::Model;
 use std::str::FromStr;
-use tinystr::{TinyAsciiStr, tinystr};
+use tinystr::{ShortInput, TinyAsciiStr, tinystr};
 
 /// The most bytes of an identifier, as `mmmmmmmm-Latn-419` has them.
 const MOST: usize = 17;
@@ -63,7 +62,7 @@ impl LangId {
     /// assert_eq!(rt; LangId::try_from_utf8(b"e"), Err(LangIdError::InvalidLanguage));
     /// assert_eq!(rt; LangId::try_from_utf8(b"en-US-posix"), Err(LangIdError::InvalidSubtag));
     /// ```
-    #[tactic(auto, using(crate::proofs::IdentifierLemmas::reading))]
+    #[tactic(auto, using(crate::proofs::IdentifierLemmas::reading, crate::proofs::CaseLemmas::text_of_letters))]
     pub fn try_from_utf8(code_units: &[u8]) -> Result<Self, LangIdError>
         ensures accepted { IsOk result ↔ IsLangId code_units.now }
         ensures text { IfOk result (λ id. id ≡ canonical_text code_units.now) }
@@ -71,26 +70,24 @@ impl LangId {
         ensures refusal { IfErr result (λ e. e ≡ refusal_of code_units.now) }
         ensures value { result_ok result ≡ canonical_of code_units.now }
     {
-        if code_units.len() > MOST {
+        let Some(input) = ShortInput::new(code_units) else {
             return Err(refusal_of_more(code_units));
-        }
-        let lanes = first_lanes(code_units);
-        let letters = letters_of(code_units, lanes);
-        if are_letters(letters, code_units, code_units.len()) {
-            if !is_language_length(code_units.len()) {
+        };
+        if is_alphabetic(&input) {
+            if !is_language_length(input.len()) {
                 return Err(LangIdError::InvalidLanguage);
             }
             return Ok(LangId {
-                text: folded_text(code_units, lanes),
+                text: input.in_lowercase(b'_', b'-'),
             });
         }
-        let classes = Classes::of(letters, code_units, lanes);
-        let end = classes.first_end(code_units);
-        if !has_tail(&classes, code_units, end) {
-            return Err(refusal(&classes, code_units));
+        let classes = Classes::of(input);
+        let end = classes.first_end();
+        if !has_tail(&classes, end) {
+            return Err(refusal(&classes));
         }
         Ok(LangId {
-            text: text_in_case(code_units, lanes, end),
+            text: text_in_case(classes.input(), end),
         })
     }
 
@@ -234,13 +231,11 @@ impl fmt::Debug for LangId {
 // The error for at most 17 bytes that aren't an identifier, by the first subtag.
 #[tactic(auto, using(crate::proofs::HeadLemmas::first_subtag_bits))]
 #[inline(always)]
-fn refusal(classes: &Classes, units: &[u8]) -> LangIdError
-    requires few { length units.now ≤ 17 }
-    requires bits { AreClassesOf classes.now units.now }
-    ensures { result ≡ refusal_of units.now }
+fn refusal(classes: &Classes<'_>) -> LangIdError
+    ensures { result ≡ refusal_of classes.now }
 {
-    let end = classes.first_end(units);
-    if is_language_length(end) && are_letters(classes.letters, units, end) {
+    let end = classes.first_end();
+    if is_language_length(end) && classes.are_letters(end) {
         LangIdError::InvalidSubtag
     } else {
         LangIdError::InvalidLanguage
@@ -256,14 +251,12 @@ fn refusal_of_more(units: &[u8]) -> LangIdError
     ensures error { result ≡ refusal_of units.now }
     ensures refused { canonical_of units.now ≡ None }
 {
-    let front = &units[..MOST];
-    let lanes = first_lanes(front);
-    let classes = Classes::of(letters_of(front, lanes), front, lanes);
-    refusal(&classes, front)
+    let front = ShortInput::new(&units[..MOST]).unwrap();
+    refusal(&Classes::of(front))
 }
 
 // The subtags, joined by dashes; and that they are canonical, each by its invariant. The language and one later subtag fit
-// into one word.
+// into sixteen bytes.
 #[inline]
 fn join_subtags(
     language: Language,
@@ -284,7 +277,7 @@ fn join_subtags(
     }
 }
 
-// The same of all three, which fit into one word unless the language has 8 letters.
+// The same of all three, which fit into sixteen bytes unless the language has 8 letters.
 #[tactic(auto, using(crate::proofs::JoinLemmas::take_take_append))]
 #[inline]
 fn join_three(language: TinyAsciiStr<8>, script: Script, region: Region) -> TinyAsciiStr<17>

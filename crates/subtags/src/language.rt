@@ -1,7 +1,7 @@
 //! Languages.
 
 ghost use Rattle.std.specs.Prelude.{◌≡◌, ◌<◌};
-ghost use Rattle.tinystr_words.specs.Case.{lowercase};
+ghost use Rattle.tinystr.specs.Case.{lowercase};
 ghost use Rattle.subtags.specs.Grammar.{is_language, is_language_length};
 ghost use Rattle.subtags.specs.declared.error.LangIdError.TheVariants.{InvalidLanguage};
 

@@ -5,7 +5,7 @@ ghost use Rattle.std.specs.List.{slice_split};
 ghost use Rattle.std.specs.Ordering.{nat_cmp};
 ghost use Rattle.std.specs.Cmp.Lexicographic.{slice_cmp};
 ghost use Rattle.std.specs.declared.cmp.Ordering.TheVariants.{Less};
-ghost use Rattle.tinystr_words.specs.Order.{IsBefore};
+ghost use Rattle.tinystr.specs.Order.{IsBefore};
 ghost use Rattle.subtags.specs.Grammar.{is_separator, fold_text, subtags_of, IsLangId, IsCanonical, canonical_text};
 ghost use Rattle.subtags.specs.Subtags.{language_of, script_of, region_of, join_subtags};
 

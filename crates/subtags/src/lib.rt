@@ -5,7 +5,6 @@
 
 mod classes;
 pub mod error;
-mod lanes;
 pub mod lang_id;
 pub mod language;
 pub mod laws;
@@ -14,6 +13,7 @@ pub mod region;
 pub mod script;
 pub mod subtag;
 mod tail;
+mod texts;
 
 pub use error::LangIdError;
 pub use lang_id::LangId;

@@ -1,6 +1,6 @@
 //! Regions.
 
-ghost use Rattle.tinystr_words.specs.Case.{uppercase};
+ghost use Rattle.tinystr.specs.Case.{uppercase};
 ghost use Rattle.subtags.specs.Grammar.{is_region};
 ghost use Rattle.subtags.specs.declared.error.LangIdError.TheVariants.{InvalidSubtag};
 

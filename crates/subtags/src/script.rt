@@ -1,6 +1,6 @@
 //! Scripts.
 
-ghost use Rattle.tinystr_words.specs.Case.{titlecase};
+ghost use Rattle.tinystr.specs.Case.{titlecase};
 ghost use Rattle.subtags.specs.Grammar.{is_script};
 ghost use Rattle.subtags.specs.declared.error.LangIdError.TheVariants.{InvalidSubtag};
 

@@ -2,9 +2,9 @@
 
 ghost use Rattle.std.specs.Prelude.{◌≡◌, ◌≤◌, ◌<◌, ◌↔◌, IsTrue, false, length};
 ghost use Rattle.std.specs.List.{list_all, position_or_len};
-ghost use Rattle.tinystr_words.specs.Classes.{is_alphabetic};
+ghost use Rattle.tinystr.specs.Classes.{is_alphabetic};
 ghost use Rattle.subtags.specs.Grammar.{IsLangId, is_separator};
-ghost use Rattle.subtags.specs.Private.Tails.{AreClassesOf, one_more, tail_example};
+ghost use Rattle.subtags.specs.Private.Tails.{one_more, tail_example};
 
 use crate::classes::Classes;
 use crate::language::is_language_length;
@@ -14,14 +14,13 @@ use crate::language::is_language_length;
 /// than the example's, shifted.
 #[tactic(auto, using(crate::proofs::MaskLemmas::class_bits, crate::proofs::TailLemmas::parts_of_id))]
 #[inline(always)]
-pub(crate) fn has_tail(classes: &Classes, units: &[u8], end: usize) -> bool
-    requires few { length units.now ≤ 17 }
-    requires bits { AreClassesOf classes.now units.now }
-    requires other { list_all is_alphabetic units.now ≡ false }
-    requires language { end ≡ position_or_len is_separator units.now }
-    ensures { IsTrue result ↔ IsLangId units.now }
+pub(crate) fn has_tail(classes: &Classes<'_>, end: usize) -> bool
+    requires other { list_all is_alphabetic classes.now ≡ false }
+    requires language { end ≡ position_or_len is_separator classes.now }
+    ensures { IsTrue result ↔ IsLangId classes.now }
 {
-    is_language_length(end) && classes.packed(units) + 1 == one_more(units.len() - end) << end
+    let len = classes.len();
+    is_language_length(end) && classes.packed() + 1 == one_more(len - end) << end
 }
 
 // One more than the classes in one number of `-AA`, `-000`, `-Aaaa`, `-Aaaa-AA` and `-Aaaa-000`, by their length, and 0 for

@@ -1,10 +1,9 @@
 -- The first subtag of an input, the classes of its bytes, and examples. No public contract has one of these words.
-use Rattle.std.specs.Prelude.{◌≡◌, ℕ, ◌==◌, ◌+◌, ◌*◌, ◌^◌, if◌then◌else◌, List, [], ◌∷◌, ◌++◌, map, take, replicate, codes}
+use Rattle.std.specs.Prelude.{◌≡◌, ◌≤◌, ℕ, length, ◌==◌, ◌+◌, ◌*◌, ◌^◌, if◌then◌else◌, List, [], ◌∷◌, ◌++◌, take, replicate, codes}
 use Rattle.std.specs.List.{position_or_len}
-use Rattle.std.specs.Simd.Lanes.{mask_l}
-use Rattle.tinystr_words.specs.Classes.{is_alphabetic, is_digit}
+use Rattle.tinystr.specs.Classes.{is_alphabetic, is_digit}
+use Rattle.tinystr.specs.ShortInput.{bits_of}
 use Rattle.subtags.specs.Grammar.{is_separator}
-use Rattle.subtags.specs.declared.classes.Classes.{Classes}
 
 -- the bytes before the first separator
 abbrev pub first_subtag : List ℕ → List ℕ
@@ -24,15 +23,16 @@ tail_example n =
 abbrev pub example : ℕ → ℕ → List ℕ
 example e n = replicate e 0x61 ++ tail_example n
 
--- the bits of the letters, of the digits and of the separators among the bytes
-pub record AreClassesOf (c : Classes) (u : List ℕ) : Type 0 where
-  pub letters : c.letters ≡ mask_l (map is_alphabetic u)
-  pub digits : c.digits ≡ mask_l (map is_digit u)
-  pub separators : c.separators ≡ mask_l (map is_separator u)
+-- at most 17 bytes, and the bits of the letters, of the digits and of the separators among them
+pub record AreClassesOf (l d s : ℕ) (u : List ℕ) : Type 0 where
+  pub few : length u ≤ 17
+  pub letters : l ≡ bits_of is_alphabetic u
+  pub digits : d ≡ bits_of is_digit u
+  pub separators : s ≡ bits_of is_separator u
 
 -- all of them in one number: a bit for each letter, twenty bits higher one for each digit, and then separators
 abbrev pub classes_of : List ℕ → ℕ
-classes_of u = mask_l (map is_alphabetic u) + mask_l (map is_digit u) * 2 ^ 20 + mask_l (map is_separator u) * 2 ^ 40
+classes_of u = bits_of is_alphabetic u + bits_of is_digit u * 2 ^ 20 + bits_of is_separator u * 2 ^ 40
 
 -- one more than that number, or 0 of no bytes
 abbrev pub one_more : List ℕ → ℕ

@@ -18,7 +18,7 @@ unwrapped n e few =
 
 pub returns-then-is_language_length : goal.returns-then-is_language_length
 returns-then-is_language_length c =
-    let u = c.args.units.now in
+    let u = c.args.classes.now in
     let e = c.args.end in
     let n = length u - e in
     let r = c.requires in
@@ -26,8 +26,8 @@ returns-then-is_language_length c =
     let few = letters_few e right in
     let inside = end-le u in
     let size : (m : ℕ) → 0 < length (tail_example m) → length (tail_example m) ≡ m = λ m some. grind (arith, nat_tests) in
-    let like = number_like u (tail_example n) e (λ some. omega (arith, size n some, length-append (replicate e 0x61) (tail_example n), length-replicate {A = ℕ} e 0x61)) r.few in
-    rw (c.packed.ensures, c.one_more.ensures, unwrapped n e few) (
+    let like = number_like u (tail_example n) e (λ some. omega (arith, size n some, length-append (replicate e 0x61) (tail_example n), length-replicate {A = ℕ} e 0x61)) c.len-len.ensures.fits in
+    rw (c.packed.ensures, c.one_more.ensures, c.len-len.ensures.len, unwrapped n e few) (
       λ h. (let x = like.0 (grind (arith, nat_tests)) in id_of_example u e n right x.0 x.1),
       λ h. (let x = rw (← r.language) at (example_of_id u h) in let same = like.1 (more_than_letters u e n r.other x.size x.like, x.like) in grind (arith, nat_tests)),
     )
