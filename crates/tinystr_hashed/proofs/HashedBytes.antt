@@ -4,7 +4,7 @@ use Rattle.std.specs.Simd.{first_chunks}
 use Rattle.std.proofs.Math.Nat.{suc-mul}
 use Rattle.std.proofs.lemmas.List.{drop-drop, drop-take, length-drop, length-take-le, take-take, take_all}
 use Rattle.tinystr_words.specs.Words.{word}
-use Rattle.tinystr_hashed.specs.Reading.{displacements_of, records_in, count_of}
+use Rattle.tinystr_hashed.specs.Reading.{index_size, move_count, moves_of, pilot_count, pilots_of, records_in}
 
 -- chunks of a front
 first_chunks-front : (m k : ℕ) (xs : List ℕ) → first_chunks m k (take (k * m) xs) ≡ first_chunks m k xs
@@ -19,13 +19,22 @@ first_chunks-front m (suc k) xs =
 pub after_header : (bytes rest : List ℕ) → rest ≡ take (length bytes - 16) (drop 16 bytes) → rest ≡ drop 16 bytes
 after_header bytes rest is = is ∙ take_all (length bytes - 16) (drop 16 bytes) (omega (arith, length-drop 16 bytes))
 
-pub displacements-read : (bytes rest front : List ℕ) (chunks : List (List ℕ)) (count : ℕ) → count ≡ count_of bytes → rest ≡ drop 16 bytes → count ≤ length rest / 4 → front ≡ take (4 * count) rest
-    → chunks ≡ first_chunks 4 (length front / 4) front → map word chunks ≡ displacements_of bytes
-displacements-read bytes rest front chunks count same is fits first are =
-    let long : length front / 4 ≡ count = rw first (ap (λ k. k / 4) (length-take-le (4 * count) rest (omega arith)) ∙ omega arith) in
-    let here : front ≡ take (count * 4) (drop 16 bytes) = first ∙ ap (λ k. take k rest) (omega arith) ∙ ap (λ l. take (count * 4) l) is in
-    ap (λ l. map word l) (are ∙ rw (long, here) (first_chunks-front 4 count (drop 16 bytes)) ∙ ap (λ k. first_chunks 4 k (drop 16 bytes)) same)
+pub pilots-read : (bytes rest index front : List ℕ) (pilots size : ℕ) → pilots ≡ pilot_count bytes → rest ≡ drop 16 bytes → pilots ≤ size → index ≡ take size rest → front ≡ take pilots index → front ≡ pilots_of bytes
+pilots-read bytes rest index front pilots size same is fits of_rest first =
+    first ∙ ap (λ l. take pilots l) of_rest ∙ take-take pilots size rest fits ∙ ap (λ l. take pilots l) is ∙ ap (λ k. take k (drop 16 bytes)) same
 
-pub records-read : (bytes rest back : List ℕ) (count : ℕ) → count ≡ count_of bytes → rest ≡ drop 16 bytes → back ≡ drop (4 * count) rest → back ≡ records_in bytes
-records-read bytes rest back count same is last =
-    last ∙ ap (λ l. drop (4 * count) l) is ∙ drop-drop (4 * count) 16 bytes ∙ ap (λ k. drop (16 + 4 * k) bytes) same
+pub moves-read : (bytes rest index back : List ℕ) (chunks : List (List ℕ)) (pilots moves size : ℕ) → pilots ≡ pilot_count bytes → moves ≡ move_count bytes → size ≡ pilots + 4 * moves → rest ≡ drop 16 bytes → size ≤ length rest → index ≡ take size rest
+    → back ≡ drop pilots index → chunks ≡ first_chunks 4 (length back / 4) back → map word chunks ≡ moves_of bytes
+moves-read bytes rest index back chunks pilots moves size same same_moves sum is fits of_rest last are =
+    let far : drop pilots rest ≡ drop (16 + pilots) bytes = ap (λ l. drop pilots l) is ∙ drop-drop pilots 16 bytes in
+    let cut : take size rest ≡ take (pilots + 4 * moves) rest = ap (λ k. take k rest) sum in
+    let here : back ≡ take (moves * 4) (drop (16 + pilots) bytes) =
+    last ∙ ap (λ l. drop pilots l) (of_rest ∙ cut) ∙ drop-take pilots (4 * moves) rest ∙ ap (λ k. take k (drop pilots rest)) (omega arith) ∙ ap (λ l. take (moves * 4) l) far in
+    let room : moves * 4 ≤ length (drop (16 + pilots) bytes) = rw (← far) (omega (arith, length-drop pilots rest)) in
+    let long : length back / 4 ≡ moves = rw here (ap (λ k. k / 4) (length-take-le (moves * 4) (drop (16 + pilots) bytes) room) ∙ omega arith) in
+    ap (λ l. map word l) (are ∙ rw (long, here) (first_chunks-front 4 moves (drop (16 + pilots) bytes)))
+    ∙ ap (λ k. map word (first_chunks 4 k (drop (16 + pilots) bytes))) same_moves ∙ ap (λ k. map word (first_chunks 4 (move_count bytes) (drop (16 + k) bytes))) same
+
+pub records-read : (bytes rest back : List ℕ) (size : ℕ) → size ≡ index_size bytes → rest ≡ drop 16 bytes → back ≡ drop size rest → back ≡ records_in bytes
+records-read bytes rest back size same is last =
+    last ∙ ap (λ l. drop size l) is ∙ drop-drop size 16 bytes ∙ ap (λ k. drop (16 + k) bytes) same

@@ -1,5 +1,5 @@
 -- Bytes that were checked before, and their records.
-use Rattle.std.proofs.Common.{All, List, [], ap, arith, length, map, refl, ℕ, ◌*◌, ◌/◌, ◌<◌, ◌∙◌, ◌∷◌, ◌≡◌, ◌≢◌}
+use Rattle.std.proofs.Common.{All, List, [], ap, arith, length, map, refl, sym, ℕ, ◌*◌, ◌/◌, ◌<◌, ◌∙◌, ◌∷◌, ◌≡◌, ◌≢◌}
 use Rattle.std.specs.List.{slice_get}
 use Rattle.std.specs.Simd.{first_chunks}
 use Rattle.std.specs.declared.option.Option.TheVariants.{None, Some}
@@ -10,7 +10,8 @@ use Rattle.tinystr_words.specs.Text.{IsPaddedText, pad, text_of}
 use Rattle.tinystr_words.proofs.Reading.Records.{length-joined}
 use Rattle.tinystr_packed.proofs.InPlace.{missed_record, no_text_at}
 use Rattle.tinystr_packed.proofs.PackedTexts.{AllPadded-chunks, texts_of-records}
-use Rattle.tinystr_hashed.specs.Reading.{IsHashed, records_in}
+use Rattle.tinystr_packed.specs.Rising.{ArePackedRising}
+use Rattle.tinystr_hashed.specs.Reading.{IsHashed, pilots_of, records_in}
 
 -- the records of a hashed table
 pub hashed_records : (bytes part : List ℕ) (records texts : List (List ℕ)) (n : ℕ) → 0 < n → IsHashed texts bytes n → part ≡ records_in bytes → records ≡ first_chunks n (length part / n) part → length records ≡ length part / n
@@ -38,3 +39,8 @@ pub another : (records texts : List (List ℕ)) (raw bytes key : List ℕ) (n i 
 another records texts raw bytes key n i padded are here is differs found =
     let at_it : slice_get (map text_of records) i ≡ Some key = rw are found in
     missed_record records raw bytes key n i padded here is differs (slice_get_within (map text_of records) i key at_it) (get_or_from_slice_get (map text_of records) i key [] at_it)
+
+-- the records of a table without pilots
+pub ArePackedRising-hashed : (texts : List (List ℕ)) (bytes part pilots : List ℕ) (n : ℕ) → IsHashed texts bytes n → part ≡ records_in bytes → pilots ≡ pilots_of bytes → length pilots ≡ 0 → ArePackedRising texts part n
+ArePackedRising-hashed texts bytes part pilots n h here is none =
+    record { strict = h.strict; joined = here ∙ h.joined; rising = h.ordered.rising (ap (λ (l : List ℕ). length l) (sym is) ∙ none) }

@@ -5,5 +5,7 @@ pub mod Hashes
 pub mod InPlace
 pub mod Lookups
 pub mod MapPacks
+pub mod Marks
 pub mod Packs
 pub mod Placed
+pub mod SortedTables

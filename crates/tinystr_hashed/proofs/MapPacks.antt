@@ -31,12 +31,12 @@ use Rattle.tinystr_packed.proofs.PackedMaps.{get-absent}
 use Rattle.tinystr_hashed.specs.Hashing.{AreDistinct}
 use Rattle.tinystr_hashed.specs.Packing.{ArePackedHashed, RefusesToPack}
 use Rattle.tinystr_hashed.specs.PackingMaps.{ArePackedHashedEntries, ArePackedHashedTexts, IsNotDuplicate}
-use Rattle.tinystr_hashed.specs.Reading.{IsHashed, place_by}
+use Rattle.tinystr_hashed.specs.Reading.{IsHashed, pilots_of, place_by}
 use Rattle.tinystr_hashed.specs.declared.packing.PackHashedError.{PackHashedError}
-use Rattle.tinystr_hashed.specs.declared.packing.PackHashedError.TheVariants.{Duplicate, NoSeed, Memory}
+use Rattle.tinystr_hashed.specs.declared.packing.PackHashedError.TheVariants.{Duplicate, Memory}
 use Rattle.tinystr_hashed.proofs.ForCallers.{hashed_once}
 use Rattle.tinystr_hashed.proofs.HashedMaps.{get-at, same-Decides}
-use Rattle.tinystr_hashed.proofs.Lookups.{AreDistinct-placed}
+use Rattle.tinystr_hashed.proofs.Lookups.{AreDistinct-ordered}
 
 abbrev Entries : Type 0
 Entries = List (List ℕ × List ℕ)
@@ -57,7 +57,6 @@ at_most_once ks t sorted =
 
 IsNotDuplicate-sorted : {n : ℕ} (e : PackHashedError n) (ks : List (List ℕ)) → IsStrictlySortedBy (slice_cmp nat_cmp) ks → RefusesToPack e ks → IsNotDuplicate e
 IsNotDuplicate-sorted (Duplicate t) ks sorted twice = absurd (omega (arith, at_most_once ks t sorted))
-IsNotDuplicate-sorted NoSeed ks sorted h = tt
 IsNotDuplicate-sorted Memory ks sorted h = tt
 
 pub fault-sorted : {n : ℕ} {A : Type 0} (r : Result A (PackHashedError n)) (ks : List (List ℕ)) → IsStrictlySortedBy (slice_cmp nat_cmp) ks → IfErr r (λ e. RefusesToPack e ks) → IfErr r (λ e. IsNotDuplicate e)
@@ -147,7 +146,7 @@ same_value es ks key (Some v) distinct same is =
 
 get-same : (es : Entries) (ks : List (List ℕ)) (keys key : List ℕ) (n : ℕ) → 0 < n → IsHashed ks keys n → ArePackedHashed (keys_of es) keys n → get (entries_by es ks) key ≡ get es key
 get-same es ks keys key n some h packed =
-    same_value es ks key (get es key) (AreDistinct-placed (place_by keys n (length ks)) ks h.placed) (same_keys es ks keys n some h packed) refl
+    same_value es ks key (get es key) (AreDistinct-ordered (pilots_of keys) (place_by keys n (length ks)) ks h.ordered) (same_keys es ks keys n some h packed) refl
 
 -- arrays of m bytes
 pub ArePackedHashedEntries-new : (es : Entries) (ks rest : List (List ℕ)) (keys values : List ℕ) (n m : ℕ) → 0 < n → IsHashed ks keys n → ArePackedHashed (keys_of es) keys n

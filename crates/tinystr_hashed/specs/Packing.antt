@@ -4,7 +4,7 @@ use Rattle.std.specs.List.{IsDistinct}
 use Rattle.std.specs.Str.{bytes_eq}
 use Rattle.tinystr_hashed.specs.Reading.{IsHashed}
 use Rattle.tinystr_hashed.specs.declared.packing.PackHashedError.{PackHashedError}
-use Rattle.tinystr_hashed.specs.declared.packing.PackHashedError.TheVariants.{Duplicate, NoSeed, Memory}
+use Rattle.tinystr_hashed.specs.declared.packing.PackHashedError.TheVariants.{Duplicate, Memory}
 
 -- the bytes are a hashed table of these texts, no two of which are equal, in some order
 pub record ArePackedHashed (texts : List (List ℕ)) (bytes : List ℕ) (n : ℕ) : Type 0 where
@@ -14,8 +14,7 @@ pub record ArePackedHashed (texts : List (List ℕ)) (bytes : List ℕ) (n : ℕ
   pub same : (t : List ℕ) → Contains made t ↔ Contains texts t
   pub distinct : IsDistinct bytes_eq texts
 
--- the text occurs twice; or no text does, and nothing is said of the seeds; of a failed allocation nothing is said
+-- the text occurs twice; of a failed allocation nothing is said
 abbrev pub RefusesToPack : {n : ℕ} → PackHashedError n → List (List ℕ) → Type 0
 RefusesToPack (Duplicate text) texts = 2 ≤ count_by (bytes_eq text) texts
-RefusesToPack NoSeed texts = IsDistinct bytes_eq texts
 RefusesToPack Memory texts = Unit {0}

@@ -4,7 +4,7 @@ use Rattle.tinystr_packed.specs.Map.{get}
 use Rattle.tinystr_hashed.specs.Map.{AreHashed}
 use Rattle.tinystr_hashed.specs.TextMap.{AreHashedTexts}
 use Rattle.tinystr_hashed.specs.declared.packing.PackHashedError.{PackHashedError}
-use Rattle.tinystr_hashed.specs.declared.packing.PackHashedError.TheVariants.{Duplicate, NoSeed, Memory}
+use Rattle.tinystr_hashed.specs.declared.packing.PackHashedError.TheVariants.{Duplicate, Memory}
 
 -- the bytes are a hashed map that has the value of each key, in some order
 pub record ArePackedHashedEntries (entries : List (List ℕ × List ℕ)) (keys values : List ℕ) (n m : ℕ) : Type 0 where
@@ -21,5 +21,4 @@ pub record ArePackedHashedTexts (entries : List (List ℕ × List ℕ)) (keys va
 -- the fault isn't that a text occurs twice
 abbrev pub IsNotDuplicate : {n : ℕ} → PackHashedError n → Type 0
 IsNotDuplicate (Duplicate text) = ⊥
-IsNotDuplicate NoSeed = Unit {0}
 IsNotDuplicate Memory = Unit {0}

@@ -8,6 +8,7 @@ ghost use Rattle.tinystr_hashed.specs.Reading.{IsHashed, records_in};
 
 use crate::table::Parts;
 use tinystr::TinyAsciiStr;
+use tinystr_packed::in_place::search;
 
 /// The index of a text in the bytes of a hashed table, as `HashedTable::position` returns it, or `None` if the table doesn't
 /// have it. For any other bytes an index is inside them. `N` must be above 0.
@@ -31,10 +32,12 @@ pub fn position<const N: usize>(bytes: &[u8], key: &TinyAsciiStr<N>) -> Option<u
         return None;
     }
     let records = parts.records.as_chunks().0;
-    let key = key.all_bytes();
-    let place = parts.places.place(key, records.len());
-    let Some(raw) = records.get(place) else {
+    let raw = key.all_bytes();
+    let Some(place) = parts.places.place(raw, records.len()) else {
+        return search(parts.records, key).ok();
+    };
+    let Some(found) = records.get(place) else {
         return None;
     };
-    if raw == key { Some(place) } else { None }
+    if found == raw { Some(place) } else { None }
 }

@@ -1,18 +1,20 @@
 //! Hashed tables, and the look-up in them.
 
-ghost use Rattle.std.specs.Prelude.{◌≡◌, ◌<◌, ◌^◌, ◌↔◌, ℕ, List, [], IsOk, IsSome, IsTrue, IfOk, IfErr, IfSome, Some, Contains, length, map, slice_get};
+ghost use Rattle.std.specs.Prelude.{◌≡◌, ◌<◌, ◌^◌, ◌↔◌, ℕ, List, [], IsOk, IsSome, IsNone, IsTrue, IfOk, IfErr, IfSome, Some, Contains, length, map, slice_get};
 ghost use Rattle.tinystr_words.specs.Words.{word};
 ghost use Rattle.std.specs.List as list;
 ghost use Rattle.std.specs.Result.{result_ok};
 ghost use Rattle.std.specs.Str.{bytes_eq};
-ghost use Rattle.tinystr_hashed.specs.Hashing.{AreDistinct};
-ghost use Rattle.tinystr_hashed.specs.Reading.{IsHashed, IsWhole, RefusesHashed, seed_of, displacements_of, records_in, hashed_table_of};
+ghost use Rattle.tinystr_packed.specs.Rising.{IsRising};
+ghost use Rattle.tinystr_hashed.specs.Hashing.{start_of, place_in, AreOrdered, IsFirstOutOfOrder, AreDistinct};
+ghost use Rattle.tinystr_hashed.specs.Reading.{IsHashed, IsWhole, RefusesHashed, seed_of, pilots_of, moves_of, records_in, hashed_table_of};
 
-use crate::hashing::{Places, number, short_number};
+use crate::hashing::{Places, short_number, start_of};
 use std::marker::Model;
 use tinystr::TinyAsciiStr;
 use tinystr::ule::UleError;
-use tinystr_packed::Table;
+use tinystr_packed::in_place::search;
+use tinystr_packed::{SortedTable, Table};
 use tinystr_words::padded;
 
 /// The version of the bytes, which their first four are.
@@ -21,18 +23,21 @@ pub(crate) const VERSION: u32 = 1;
 /// A table of packed texts in the order of a hash: a key is looked up in one record. A contract sees it as the list of its
 /// texts, no two of which are equal.
 ///
-/// Its bytes are a header, displacements and records, one after another. All numbers are little-endian.
+/// Its bytes are a header, pilots, moves and records, one after another. All numbers are little-endian.
 ///
 /// | bytes | what they are |
 /// |---|---|
 /// | 0 to 3 | the version, which is 1 |
-/// | 4 to 7 | `D`, the number of displacements |
-/// | 8 to 15 | the seed |
-/// | 16 to 15 + 4 `D` | the displacements, of four bytes each |
+/// | 4 to 7 | `D`, the number of pilots |
+/// | 8 to 11 | `M`, the number of moves |
+/// | 12 to 15 | the seed |
+/// | 16 to 15 + `D` | the pilots, of one byte each |
+/// | the next 4 `M` | the moves, of four bytes each |
 /// | the rest | the records, of `N` bytes each |
 ///
-/// The place of each text comes from its hash and one displacement, as the definition `place_of` says. `pack_hashed` makes
-/// the bytes of any texts that differ.
+/// The place of each text comes from its hash, one pilot and, for some texts, one move, as the definition `place_of` says. If
+/// `D` is 0, the texts are strictly ascending, and a key is searched for by halves. `pack_hashed` makes the bytes of any
+/// texts that differ.
 ///
 /// ```rust
 /// let bytes = b"\x01\0\0\0\0\0\0\0\0\0\0\0\0\0\0\0EUR";
@@ -47,15 +52,16 @@ pub struct HashedTable<'a, const N: usize> {
 }
 
 impl<'a, const N: usize> Model for HashedTable<'a, N> {
-    ghost use Rattle.std.specs.Prelude.{List, ℕ, length, map};
+    ghost use Rattle.std.specs.Prelude.{◌<◌, List, ℕ, length, map};
     ghost use Rattle.tinystr_words.specs.Words.{word};
-    ghost use Rattle.tinystr_hashed.specs.Hashing.{place_in, ArePlaced};
+    ghost use Rattle.tinystr_hashed.specs.Hashing.{place_in, AreOrdered};
 
     ghost Value = { List (List ℕ) };
 
     ghost view = { λ s. s.table };
 
-    ghost invariant = { λ s. ArePlaced (place_in s.places.seed (map word s.places.displacements.now) N (length s.table)) s.table };
+    ghost invariant = { λ s. (0 < N) × AreOrdered s.places.pilots.now
+        (place_in s.places.start s.places.pilots.now (map word s.places.moves.now) N (length s.table)) s.table };
 }
 
 /// Why bytes aren't a hashed table.
@@ -69,18 +75,18 @@ pub enum HashedError {
     Header { len: usize },
     /// The version isn't 1.
     Version { version: u32 },
-    /// Only `len` bytes follow the header, fewer than the `count` displacements have.
-    Displacements { count: usize, len: usize },
-    /// The bytes after the displacements aren't packed records.
+    /// Only `len` bytes follow the header, fewer than the `size` bytes of the pilots and the moves.
+    Index { size: usize, len: usize },
+    /// The bytes after the moves aren't packed records.
     Records(UleError),
-    /// The text at `index` is the first that isn't at its place.
+    /// The text at `index` is the first that isn't at its place or, if there are no pilots, isn't above the one before it.
     Place { index: usize },
 }
 
 impl<'a, const N: usize> HashedTable<'a, N> {
     /// Reads a hashed table from bytes, which only this call checks, in time linear in their number. `N` must be above 0.
     ///
-    /// The error names the first fault: `Header`, `Version`, `Displacements`, `Records`, and then `Place`.
+    /// The error names the first fault: `Header`, `Version`, `Index`, `Records`, and then `Place`.
     ///
     /// ```rust
     /// let bytes = b"\x01\0\0\0\0\0\0\0\0\0\0\0\0\0\0\0EUR";
@@ -107,7 +113,7 @@ impl<'a, const N: usize> HashedTable<'a, N> {
         if table.is_empty() {
             return Ok(HashedTable { table, places });
         }
-        match places.first_misplaced(table.records()) {
+        match first_out_of_order(&table, &places) {
             None => Ok(HashedTable { table, places }),
             Some(index) => Err(HashedError::Place { index }),
         }
@@ -127,19 +133,34 @@ impl<'a, const N: usize> HashedTable<'a, N> {
         self.table.is_empty()
     }
 
-    /// The index of a text, or `None` if the table doesn't have it. Each key takes one hash, one displacement and one record.
+    /// The index of a text, or `None` if the table doesn't have it. Each key takes one hash, one pilot and one record, and some
+    /// keys one move. If there are no pilots, a key is searched for by halves.
     pub fn position(&self, key: &TinyAsciiStr<N>) -> Option<usize>
         ensures found { IfSome result (λ index. slice_get self.now index ≡ Some key.now) }
         ensures exact { IsSome result ↔ Contains self.now key.now }
         ensures position { result ≡ list.position (bytes_eq key.now) self.now }
         ensures distinct { AreDistinct self.now }
     {
-        let place = self.places.place(key.all_bytes(), self.table.len());
+        let count = self.table.records().len();
+        let Some(place) = self.places.place(key.all_bytes(), count) else {
+            return self.position_by_halves(key);
+        };
         if self.has_text_at(place, key) {
             Some(place)
         } else {
             None
         }
+    }
+
+    // The index of a text in a table without pilots. It isn't inlined, since few tables are.
+    #[cold]
+    #[inline(never)]
+    fn position_by_halves(&self, key: &TinyAsciiStr<N>) -> Option<usize>
+        requires positive { 0 < N }
+        requires rising { IsRising self.now }
+        ensures { result ≡ list.position (bytes_eq key.now) self.now }
+    {
+        search(self.table.records().as_flattened(), key).ok()
     }
 
     // Whether a text is at an index. It is compared in place, since a copy would be stored before it is loaded.
@@ -181,6 +202,24 @@ impl<'a, const N: usize> HashedTable<'a, N> {
     }
 }
 
+// The index of the first text that isn't at its place or, if there are no pilots, isn't above the one before it.
+fn first_out_of_order<const N: usize>(table: &Table<'_, N>, places: &Places<'_>) -> Option<usize>
+    requires positive { 0 < N }
+    requires sized { N < 2 ^ 63 }
+    ensures none { IsNone result → AreOrdered places.now.pilots.now
+        (place_in places.now.start places.now.pilots.now (map word places.now.moves.now) N (length table.now)) table.now }
+    ensures first { IfSome result (λ index. IsFirstOutOfOrder places.now.pilots.now
+        (place_in places.now.start places.now.pilots.now (map word places.now.moves.now) N (length table.now)) table.now index) }
+{
+    if places.pilots.is_empty() {
+        return match SortedTable::new(table.slice(0..table.len())) {
+            Ok(_) => None,
+            Err(fault) => Some(fault.index),
+        };
+    }
+    places.first_misplaced(table.records())
+}
+
 /// The parts of the bytes of a hashed table: what places its records, and these.
 #[derive(Clone, Copy)]
 pub(crate) struct Parts<'a> {
@@ -189,13 +228,14 @@ pub(crate) struct Parts<'a> {
 }
 
 impl<'a> Parts<'a> {
-    /// The parts of bytes that have a header and all displacements. It is inlined, so that a loop over keys of the same bytes
-    /// reads the header once.
+    /// The parts of bytes that have a header, all pilots and all moves. It is inlined, so that a loop over keys of the same
+    /// bytes reads the header once.
     #[inline(always)]
     pub(crate) fn of(bytes: &'a [u8]) -> Result<Self, HashedError>
         ensures whole { IsOk result ↔ IsWhole bytes.now }
-        ensures seed { IfOk result (λ parts. parts.places.seed ≡ seed_of bytes.now) }
-        ensures displacements { IfOk result (λ parts. map word parts.places.displacements.now ≡ displacements_of bytes.now) }
+        ensures start { IfOk result (λ parts. parts.places.start ≡ start_of (seed_of bytes.now)) }
+        ensures pilots { IfOk result (λ parts. parts.places.pilots.now ≡ pilots_of bytes.now) }
+        ensures moves { IfOk result (λ parts. map word parts.places.moves.now ≡ moves_of bytes.now) }
         ensures records { IfOk result (λ parts. parts.records.now ≡ records_in bytes.now) }
         ensures fault { IfErr result (λ e. (n : ℕ) → RefusesHashed e bytes.now n) }
     {
@@ -206,21 +246,25 @@ impl<'a> Parts<'a> {
         if version != VERSION {
             return Err(HashedError::Version { version });
         }
-        let count = short_number(&bytes[4..8]) as usize;
-        let seed = number(&bytes[8..16]);
+        let pilot_count = short_number(&bytes[4..8]) as usize;
+        let move_count = short_number(&bytes[8..12]) as usize;
+        let start = start_of(short_number(&bytes[12..16]));
+        let size = pilot_count + 4 * move_count;
         let rest = &bytes[16..];
-        if rest.len() / 4 < count {
-            return Err(HashedError::Displacements {
-                count,
+        if rest.len() < size {
+            return Err(HashedError::Index {
+                size,
                 len: rest.len(),
             });
         }
-        let (displacements, records) = rest.split_at(4 * count);
-        let displacements = displacements.as_chunks().0;
+        let (index, records) = rest.split_at(size);
+        let (pilots, moves) = index.split_at(pilot_count);
+        let moves = moves.as_chunks().0;
         Ok(Parts {
             places: Places {
-                seed,
-                displacements,
+                start,
+                pilots,
+                moves,
             },
             records,
         })

@@ -105,7 +105,7 @@ impl<'a, const N: usize, const M: usize> HashedTextMap<'a, N, M> {
         self.len() == 0
     }
 
-    /// The value of a key, or `None` if the map doesn't have the key. Each key takes one hash, one displacement and one record.
+    /// The value of a key, or `None` if the map doesn't have the key. Each key takes a look-up of `HashedTable::position`.
     pub fn get(&self, key: &TinyAsciiStr<N>) -> Option<TinyAsciiStr<M>>
         ensures value { result ≡ Spec.get self.now key.now }
         ensures distinct { AreDistinct (keys_of self.now) }

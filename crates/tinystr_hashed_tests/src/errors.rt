@@ -14,9 +14,9 @@ const FAULTS: &[HashedError] = &[
     HashedError::Header { len: 1 },
     HashedError::Version { version: 0 },
     HashedError::Version { version: 2 },
-    HashedError::Displacements { count: 2, len: 3 },
-    HashedError::Displacements { count: 2, len: 4 },
-    HashedError::Displacements { count: 3, len: 3 },
+    HashedError::Index { size: 6, len: 3 },
+    HashedError::Index { size: 6, len: 4 },
+    HashedError::Index { size: 7, len: 3 },
     HashedError::Records(UleError::Length { len: 7 }),
     HashedError::Records(UleError::Length { len: 8 }),
     HashedError::Records(UleError::Parse {
@@ -52,8 +52,8 @@ const PRINTED: &[(HashedError, &str)] = &[
         "Version { version: 2 }",
     ),
     (
-        HashedError::Displacements { count: 2, len: 3 },
-        "Displacements { count: 2, len: 3 }",
+        HashedError::Index { size: 6, len: 3 },
+        "Index { size: 6, len: 3 }",
     ),
     (
         HashedError::Records(UleError::Length { len: 7 }),
@@ -136,16 +136,10 @@ fn faults_of_packing_are_different_and_printed(rt: HostRuntime) -> Result<(), Fa
     let other = PackHashedError::Duplicate {
         text: TinyAsciiStr::from_utf8_unchecked(*b"EU\0"),
     };
-    let faults = [
-        duplicate,
-        other,
-        PackHashedError::NoSeed,
-        PackHashedError::Memory,
-    ];
+    let faults = [duplicate, other, PackHashedError::Memory];
     assert!(rt; are_different(&faults));
     assert!(rt; is_printed(rt.alloc(), &duplicate, "Duplicate { text: \"EUR\" }")?);
-    let [.., no_seed, memory] = faults;
-    assert!(rt; is_printed(rt.alloc(), &no_seed, "NoSeed")?);
+    let [.., memory] = faults;
     assert!(rt; is_printed(rt.alloc(), &memory, "Memory")?);
     Ok(())
 }

@@ -5,31 +5,32 @@ use std::alloc::{AllocError, Global};
 use std::test::Fail;
 use tinystr::ParseError::{ContainsNull, NonAscii};
 use tinystr::ule::UleError::{Length, Parse};
-use tinystr_hashed::HashedError::{Displacements, Header, Place, Records, Version};
+use tinystr_hashed::HashedError::{Header, Index, Place, Records, Version};
 use tinystr_hashed::{HashedError, HashedTable};
 
-// A table of five texts: 16 bytes of the header, two displacements from index 16 on, and the records from index 24 on.
-const FILE: &[u8; 39] = b"\x01\0\0\0\x02\0\0\0\xd2\xd3\0\x5c\x81\x45\x4e\x5f\
-    \xc7\xfa\x99\xc5\x4c\xf1\xf4\x86EUR\0\0\0USDA\0\0JPY";
+// A table of five texts: 16 bytes of the header, three pilots from index 16 on, a move from index 19 on, and the records from index
+// 23 on.
+const FILE: &[u8; 38] = b"\x01\0\0\0\x03\0\0\0\x01\0\0\0\xce\x2c\x23\x0f\xe0\x7c\xc6\x02\0\0\0\
+    EUR\0\0\0USDA\0\0JPY";
 
 // How many bytes of the file are read, and the fault of these.
 const LENGTHS: &[(usize, Option<HashedError>)] = &[
     (0, Some(Header { len: 0 })),
     (1, Some(Header { len: 1 })),
     (15, Some(Header { len: 15 })),
-    (16, Some(Displacements { count: 2, len: 0 })),
-    (19, Some(Displacements { count: 2, len: 3 })),
-    (23, Some(Displacements { count: 2, len: 7 })),
-    (24, None),
-    (25, Some(Records(Length { len: 1 }))),
-    (26, Some(Records(Length { len: 2 }))),
-    (27, None),
-    (28, Some(Records(Length { len: 4 }))),
-    (30, Some(Place { index: 1 })),
-    (33, Some(Place { index: 1 })),
-    (36, Some(Place { index: 1 })),
-    (38, Some(Records(Length { len: 14 }))),
-    (39, None),
+    (16, Some(Index { size: 7, len: 0 })),
+    (19, Some(Index { size: 7, len: 3 })),
+    (22, Some(Index { size: 7, len: 6 })),
+    (23, None),
+    (24, Some(Records(Length { len: 1 }))),
+    (25, Some(Records(Length { len: 2 }))),
+    (26, None),
+    (27, Some(Records(Length { len: 4 }))),
+    (29, Some(Place { index: 1 })),
+    (32, Some(Place { index: 1 })),
+    (35, Some(Place { index: 1 })),
+    (37, Some(Records(Length { len: 14 }))),
+    (38, None),
 ];
 
 #[test]
@@ -55,71 +56,121 @@ fn has_fault(len: usize, changes: &[(usize, u8)], fault: Option<HashedError>) ->
     }
 }
 
-// Other versions and numbers of displacements. These have all displacements up to the end of the bytes.
+// Other versions and numbers of pilots and of moves. The sizes have all pilots and moves up to the end of the bytes, and more.
 const HEADERS: &[(usize, &[(usize, u8)], Option<HashedError>)] = &[
-    (39, &[(0, 0)], Some(Version { version: 0 })),
-    (39, &[(0, 2)], Some(Version { version: 2 })),
-    (39, &[(0, 0), (1, 1)], Some(Version { version: 256 })),
-    (39, &[(1, 1)], Some(Version { version: 257 })),
-    (39, &[(2, 1)], Some(Version { version: 65_537 })),
+    (38, &[(0, 0)], Some(Version { version: 0 })),
+    (38, &[(0, 2)], Some(Version { version: 2 })),
+    (38, &[(0, 0), (1, 1)], Some(Version { version: 256 })),
+    (38, &[(1, 1)], Some(Version { version: 257 })),
+    (38, &[(2, 1)], Some(Version { version: 65537 })),
     (
-        39,
+        38,
         &[(3, 128)],
         Some(Version {
-            version: 2_147_483_649,
+            version: 2147483649,
         }),
     ),
-    (39, &[(4, 0)], Some(Records(Length { len: 23 }))),
-    (39, &[(4, 1)], Some(Records(Length { len: 19 }))),
-    (39, &[(4, 3)], Some(Records(Length { len: 11 }))),
-    (39, &[(4, 4)], Some(Records(Length { len: 7 }))),
-    (39, &[(4, 5)], None),
-    (39, &[(4, 6)], Some(Displacements { count: 6, len: 23 })),
+    (38, &[(4, 0)], Some(Place { index: 2 })),
+    (38, &[(4, 1)], Some(Records(Length { len: 17 }))),
+    (38, &[(4, 2)], Some(Records(Length { len: 16 }))),
+    (38, &[(4, 4)], Some(Records(Length { len: 14 }))),
+    (38, &[(4, 6)], Some(Place { index: 1 })),
+    (38, &[(4, 18)], None),
+    (38, &[(4, 19)], Some(Index { size: 23, len: 22 })),
+    (38, &[(4, 255)], Some(Index { size: 259, len: 22 })),
+    (38, &[(5, 1)], Some(Index { size: 263, len: 22 })),
     (
-        39,
-        &[(4, 255)],
-        Some(Displacements {
-            count: 255,
-            len: 23,
-        }),
-    ),
-    (
-        39,
-        &[(5, 1)],
-        Some(Displacements {
-            count: 258,
-            len: 23,
-        }),
-    ),
-    (
-        39,
+        38,
         &[(6, 1)],
-        Some(Displacements {
-            count: 65_538,
-            len: 23,
+        Some(Index {
+            size: 65543,
+            len: 22,
         }),
     ),
     (
-        39,
+        38,
         &[(7, 1)],
-        Some(Displacements {
-            count: 16_777_218,
-            len: 23,
+        Some(Index {
+            size: 16777223,
+            len: 22,
         }),
     ),
     (
-        39,
+        38,
         &[(4, 255), (5, 255), (6, 255), (7, 255)],
-        Some(Displacements {
-            count: 4_294_967_295,
-            len: 23,
+        Some(Index {
+            size: 4294967299,
+            len: 22,
         }),
     ),
-    (24, &[(4, 1)], Some(Records(Length { len: 4 }))),
-    (24, &[(4, 3)], Some(Displacements { count: 3, len: 8 })),
-    (27, &[(4, 3)], Some(Displacements { count: 3, len: 11 })),
-    (28, &[(4, 3)], None),
-    (36, &[(4, 5)], None),
+    (38, &[(8, 0)], Some(Records(Length { len: 19 }))),
+    (38, &[(8, 2)], Some(Records(Length { len: 11 }))),
+    (38, &[(8, 3)], Some(Records(Length { len: 7 }))),
+    (38, &[(8, 4)], Some(Place { index: 0 })),
+    (38, &[(8, 5)], Some(Index { size: 23, len: 22 })),
+    (
+        38,
+        &[(8, 255)],
+        Some(Index {
+            size: 1023,
+            len: 22,
+        }),
+    ),
+    (
+        38,
+        &[(9, 1)],
+        Some(Index {
+            size: 1031,
+            len: 22,
+        }),
+    ),
+    (
+        38,
+        &[(10, 1)],
+        Some(Index {
+            size: 262151,
+            len: 22,
+        }),
+    ),
+    (
+        38,
+        &[(11, 1)],
+        Some(Index {
+            size: 67108871,
+            len: 22,
+        }),
+    ),
+    (
+        38,
+        &[(8, 255), (9, 255), (10, 255), (11, 255)],
+        Some(Index {
+            size: 17179869183,
+            len: 22,
+        }),
+    ),
+    (
+        38,
+        &[
+            (4, 255),
+            (5, 255),
+            (6, 255),
+            (7, 255),
+            (8, 255),
+            (9, 255),
+            (10, 255),
+            (11, 255),
+        ],
+        Some(Index {
+            size: 21474836475,
+            len: 22,
+        }),
+    ),
+    (23, &[(4, 1)], Some(Records(Length { len: 2 }))),
+    (23, &[(8, 2)], Some(Index { size: 11, len: 7 })),
+    (23, &[(4, 7), (8, 0)], None),
+    (23, &[(4, 8), (8, 0)], Some(Index { size: 8, len: 7 })),
+    (16, &[(4, 0), (8, 0)], None),
+    (26, &[(4, 0), (8, 0)], Some(Records(Length { len: 10 }))),
 ];
 
 #[test]
@@ -129,31 +180,31 @@ fn another_header_has_its_fault(rt: HostRuntime) {
     }
 }
 
-// The index of each byte after the version and the number, another byte, and the fault. A few of them make other tables.
+// The index of each byte after the numbers, another byte, and the fault. A few of them make other tables.
 const BYTES: &[(usize, u8, Option<HashedError>)] = &[
-    // the seed
-    (8, 0xd3, Some(Place { index: 0 })),
-    (9, 0xd2, Some(Place { index: 0 })),
-    (10, 0x01, Some(Place { index: 1 })),
-    (11, 0x5d, Some(Place { index: 0 })),
-    (12, 0x80, Some(Place { index: 0 })),
-    (13, 0x44, Some(Place { index: 0 })),
-    (14, 0x4f, Some(Place { index: 0 })),
-    (15, 0x5e, Some(Place { index: 0 })),
-    // the displacements
-    (16, 0xc6, Some(Place { index: 4 })),
-    (17, 0xfb, None),
-    (18, 0x98, Some(Place { index: 3 })),
-    (19, 0xc4, Some(Place { index: 3 })),
-    (20, 0x4d, Some(Place { index: 0 })),
-    (21, 0xf0, Some(Place { index: 1 })),
-    (22, 0xf5, Some(Place { index: 0 })),
-    (23, 0x87, Some(Place { index: 0 })),
-    // the records
-    (24, b'D', Some(Place { index: 0 })),
-    (25, b'T', Some(Place { index: 0 })),
-    (26, b'S', None),
-    (27, 0x01, Some(Place { index: 1 })),
+    (12, 0xcf, Some(Place { index: 0 })),
+    (13, 0x2d, Some(Place { index: 0 })),
+    (14, 0x22, Some(Place { index: 0 })),
+    (15, 0x0e, Some(Place { index: 0 })),
+    (16, 0xe1, Some(Place { index: 2 })),
+    (17, 0x7d, Some(Place { index: 0 })),
+    (18, 0xc7, Some(Place { index: 1 })),
+    (19, 0x03, Some(Place { index: 2 })),
+    (20, 0x01, Some(Place { index: 2 })),
+    (21, 0x01, Some(Place { index: 2 })),
+    (22, 0x01, Some(Place { index: 2 })),
+    (23, 0x46, Some(Place { index: 0 })),
+    (24, 0x56, Some(Place { index: 0 })),
+    (25, 0x53, Some(Place { index: 0 })),
+    (26, 0x01, Some(Place { index: 1 })),
+    (
+        27,
+        0x01,
+        Some(Records(Parse {
+            index: 1,
+            fault: ContainsNull,
+        })),
+    ),
     (
         28,
         0x01,
@@ -162,32 +213,24 @@ const BYTES: &[(usize, u8, Option<HashedError>)] = &[
             fault: ContainsNull,
         })),
     ),
+    (29, 0x56, None),
+    (30, 0x54, None),
+    (31, 0x45, None),
+    (32, 0x42, Some(Place { index: 3 })),
+    (33, 0x01, Some(Place { index: 3 })),
     (
-        29,
-        0x01,
-        Some(Records(Parse {
-            index: 1,
-            fault: ContainsNull,
-        })),
-    ),
-    (30, b'T', Some(Place { index: 2 })),
-    (31, b'R', Some(Place { index: 2 })),
-    (32, b'E', Some(Place { index: 2 })),
-    (33, b'@', Some(Place { index: 3 })),
-    (34, 0x01, Some(Place { index: 3 })),
-    (
-        35,
+        34,
         0x01,
         Some(Records(Parse {
             index: 3,
             fault: ContainsNull,
         })),
     ),
-    (36, b'K', None),
-    (37, b'Q', Some(Place { index: 4 })),
-    (38, b'X', None),
+    (35, 0x4b, Some(Place { index: 4 })),
+    (36, 0x51, Some(Place { index: 4 })),
+    (37, 0x5a, Some(Place { index: 4 })),
     (
-        24,
+        23,
         0xc5,
         Some(Records(Parse {
             index: 0,
@@ -195,7 +238,7 @@ const BYTES: &[(usize, u8, Option<HashedError>)] = &[
         })),
     ),
     (
-        25,
+        24,
         0x00,
         Some(Records(Parse {
             index: 0,
@@ -203,7 +246,7 @@ const BYTES: &[(usize, u8, Option<HashedError>)] = &[
         })),
     ),
     (
-        29,
+        28,
         0x80,
         Some(Records(Parse {
             index: 1,
@@ -211,7 +254,7 @@ const BYTES: &[(usize, u8, Option<HashedError>)] = &[
         })),
     ),
     (
-        31,
+        30,
         0xff,
         Some(Records(Parse {
             index: 2,
@@ -219,7 +262,7 @@ const BYTES: &[(usize, u8, Option<HashedError>)] = &[
         })),
     ),
     (
-        38,
+        37,
         0xd9,
         Some(Records(Parse {
             index: 4,
@@ -231,61 +274,69 @@ const BYTES: &[(usize, u8, Option<HashedError>)] = &[
 #[test]
 fn another_byte_has_its_fault(rt: HostRuntime) {
     for (index, byte, fault) in BYTES {
-        assert!(rt; has_fault(39, &[(*index, *byte)], *fault), "{index} {byte}");
+        assert!(rt; has_fault(38, &[(*index, *byte)], *fault), "{index} {byte}");
     }
 }
 
-// Where there are two faults or more, the first of the header, the version, the number of displacements, the length of the
+// Where there are two faults or more, the first of the header, the version, the numbers of pilots and of moves, the length of the
 // records, a record, and its place.
 const FIRST_FAULTS: &[(usize, &[(usize, u8)], Option<HashedError>)] = &[
     (15, &[(0, 2)], Some(Header { len: 15 })),
     (16, &[(0, 2)], Some(Version { version: 2 })),
-    (39, &[(0, 2), (7, 1)], Some(Version { version: 2 })),
-    (39, &[(0, 2), (8, 0)], Some(Version { version: 2 })),
+    (38, &[(0, 2), (7, 1)], Some(Version { version: 2 })),
+    (38, &[(0, 2), (12, 207)], Some(Version { version: 2 })),
+    (
+        37,
+        &[(7, 1), (12, 0)],
+        Some(Index {
+            size: 16777223,
+            len: 21,
+        }),
+    ),
     (
         38,
-        &[(7, 1), (8, 0)],
-        Some(Displacements {
-            count: 16_777_218,
+        &[(7, 1), (23, 128)],
+        Some(Index {
+            size: 16777223,
             len: 22,
         }),
     ),
     (
-        39,
-        &[(7, 1), (24, 128)],
-        Some(Displacements {
-            count: 16_777_218,
-            len: 23,
+        38,
+        &[(11, 1), (23, 128)],
+        Some(Index {
+            size: 67108871,
+            len: 22,
         }),
     ),
-    (38, &[(8, 0)], Some(Records(Length { len: 14 }))),
-    (38, &[(24, 128)], Some(Records(Length { len: 14 }))),
+    (37, &[(12, 0)], Some(Records(Length { len: 14 }))),
+    (37, &[(23, 128)], Some(Records(Length { len: 14 }))),
     (
-        39,
-        &[(8, 0), (38, 128)],
+        38,
+        &[(12, 0), (37, 128)],
         Some(Records(Parse {
             index: 4,
             fault: NonAscii,
         })),
     ),
     (
-        39,
-        &[(24, b'D'), (38, 128)],
+        38,
+        &[(23, 68), (37, 128)],
         Some(Records(Parse {
             index: 4,
             fault: NonAscii,
         })),
     ),
     (
-        39,
-        &[(30, 128), (35, 1)],
+        38,
+        &[(29, 128), (34, 1)],
         Some(Records(Parse {
             index: 2,
             fault: NonAscii,
         })),
     ),
-    (39, &[(24, b'D'), (37, b'Q')], Some(Place { index: 0 })),
-    (39, &[(30, b'T'), (37, b'Q')], Some(Place { index: 2 })),
+    (38, &[(23, 68), (36, 81)], Some(Place { index: 4 })),
+    (38, &[(29, 84), (36, 81)], Some(Place { index: 2 })),
 ];
 
 #[test]
@@ -321,9 +372,32 @@ fn the_first_text_that_is_not_at_its_place_is_named(rt: HostRuntime) -> Result<(
     Ok(())
 }
 
+// Texts without pilots, with the first index at which the text isn't above the one before it.
+const FALLING: &[(&[&str], usize)] = &[
+    (&["", ""], 1),
+    (&["EUR", "CHF"], 1),
+    (&["A", "AB", "AA"], 2),
+    (&["A", "B", "B"], 2),
+    (&["AB", "A"], 1),
+    (&["", "A", "B", "C", "B"], 4),
+    (&["JPY", "USD", "EUR", "CHF"], 2),
+];
+
+#[test]
+fn without_pilots_the_first_text_that_is_not_above_the_one_before_it_is_named(
+    rt: HostRuntime,
+) -> Result<(), Fail> {
+    for (texts, index) in FALLING {
+        let file = file::<3>(rt.alloc(), b"\x01\0\0\0\0\0\0\0\0\0\0\0\0\0\0\0", texts)?;
+        let fault = HashedTable::<3>::from_bytes(&file).err();
+        assert!(rt; fault == Some(Place { index: *index }), "{texts:?}");
+    }
+    Ok(())
+}
+
 /// Whether these texts, in this order in the file, are rejected because of the one at an index.
 fn is_misplaced_at(alloc: Global, texts: &[&str], index: usize) -> Result<bool, AllocError> {
-    let (front, _) = FILE.split_at(24);
+    let (front, _) = FILE.split_at(23);
     let file = file::<3>(alloc, front, texts)?;
     Ok(HashedTable::<3>::from_bytes(&file).err() == Some(Place { index }))
 }

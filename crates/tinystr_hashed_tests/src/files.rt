@@ -2,7 +2,7 @@
 
 use std::alloc::{AllocError, Global};
 
-/// The front of a table, which is its header and its displacements, and texts as records of `N` bytes.
+/// The front of a table, which is its header, its pilots and its moves, and texts as records of `N` bytes.
 pub(crate) fn file<const N: usize>(
     alloc: Global,
     front: &[u8],

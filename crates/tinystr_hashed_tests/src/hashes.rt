@@ -1,4 +1,4 @@
-//! Two texts under many seeds and displacements. The results come from another program, which is written from the
+//! Two texts under many seeds, pilots and moves. The results come from another program, which is written from the
 //! definition.
 
 ghost use Rattle.std.specs.Prelude.{◌<◌};
@@ -10,26 +10,26 @@ use tinystr_hashed::{HashedError, HashedTable};
 
 #[test]
 fn short_texts_are_placed_by_each_seed(rt: HostRuntime) -> Result<(), Fail> {
-    let results = "1110.01111..10.0000011000.0.0100..10.0.0101000.01.01.0.0010..100";
+    let results = "1001100.00.0.00100100100100000001.00.101.11100.0100.00100.01.000";
     assert!(rt; has_results::<1>(rt.alloc(), &["", "a"], results)?);
     assert!(rt; has_results::<3>(rt.alloc(), &["", "a"], results)?);
     assert!(rt; has_results::<16>(rt.alloc(), &["", "a"], results)?);
-    let results = "000001001.100.10.1..0.01.0000.001.100100111000.10100.01011010..0";
+    let results = "1000010001000011000.01001000001001.10.00011000001000.0100.0000.1";
     assert!(rt; has_results::<3>(rt.alloc(), &["EUR", "USD"], results)?);
-    let results = "00.01...100.00110111010001.1.110.0000.0011.010.0010.1.01..010000";
+    let results = "100.001.01.0010.00101101100100000100..010000.1.1..01010.0100.011";
     assert!(rt; has_results::<7>(rt.alloc(), &["abcdefg", "abcdef~"], results)?);
-    let results = "0000.010.11000001.1010110.10.000.00010100.00.0000.010010001...01";
+    let results = "1001.0100..0.0010.101100110001.001..10000010000..0..001.010.10.1";
     assert!(rt; has_results::<8>(rt.alloc(), &["abcdefgh", "abcdefg~"], results)?);
     Ok(())
 }
 
 #[test]
 fn texts_of_up_to_sixteen_bytes_are_placed_by_each_seed(rt: HostRuntime) -> Result<(), Fail> {
-    let results = ".00.01.0011000100000000..01.0100110.1001.01010.00.01.100.000.000";
+    let results = "1..0000111010011.01.0.00.100.000010..111101.100.0.0101100.101.10";
     assert!(rt; has_results::<9>(rt.alloc(), &["abcdefghi", "abcdefgh~"], results)?);
-    let results = ".0.10001.00010.10.000.01001001101..0000110.001.1010101011110.000";
+    let results = "100000100100.01.000000000001101.00001...111.0.1100.0001.01011000";
     assert!(rt; has_results::<15>(rt.alloc(), &["abcdefghijklmno", "abcdefghijklmn~"], results)?);
-    let results = "0.00001010000.100..01110010010001..00.101100.1001..00.01001..1.0";
+    let results = "10010010110010.000111.01101.01100.0.00.101.01.00100.01.0110001..";
     assert!(rt;
         has_results::<16>(
             rt.alloc(),
@@ -43,25 +43,25 @@ fn texts_of_up_to_sixteen_bytes_are_placed_by_each_seed(rt: HostRuntime) -> Resu
 #[test]
 fn longer_texts_are_placed_by_each_seed(rt: HostRuntime) -> Result<(), Fail> {
     let texts = ["abcdefghijklmnopq", "abcdefghijklmnop~"];
-    let results = "1110..100000.0.000.0.11010.1000110100.000.011.0..0000..0010.1000";
+    let results = "100000.101001001.0.00000000100110100101.00.10.001.00.01000000.01";
     assert!(rt; has_results::<17>(rt.alloc(), &texts, results)?);
     let texts = [
         "abcdefghijklmnopqrstuvwxyzABCDEF",
         "abcdefghijklmnopqrstuvwxyzABCDE~",
     ];
-    let results = "00..00100000000000.011.0100.0.1111010000010..0001.100.01.000.100";
+    let results = "1010000.01100..000100..1..11.0..0..1..00.00011.0011.00100110..01";
     assert!(rt; has_results::<32>(rt.alloc(), &texts, results)?);
     let texts = [
         "abcdefghijklmnopqrstuvwxyzABCDEFG",
         "abcdefghijklmnopqrstuvwxyzABCDEF~",
     ];
-    let results = "0.10.0100010.01.0000.00..0.0.00011.00010..00.00100..1010..010.0.";
+    let results = "101001.0011..00.00.0111.1..00010110010010010.0.01.01.0001.001.0.";
     assert!(rt; has_results::<33>(rt.alloc(), &texts, results)?);
     let texts = [
         "abcdefghijklmnopqrstuvwxyzABCDEFGHIJKLMNOPQRSTUVW",
         "abcdefghijklmnopqrstuvwxyzABCDEFGHIJKLMNOPQRSTUV~",
     ];
-    let results = "1011..0.0.000010.0.001.010..110000.1..1..0011001.0..0.1..01.11.0";
+    let results = "101100100100110101110.101001.0..0.00101000.00.01.000.01001101.00";
     assert!(rt; has_results::<49>(rt.alloc(), &texts, results)?);
     Ok(())
 }
@@ -96,14 +96,12 @@ fn result_of<const N: usize>(alloc: Global, number: u32, texts: &[&str]) -> Resu
     })
 }
 
-/// A header and three displacements, whose seed and displacements depend on a number.
+/// A header, three pilots and a move, all of which depend on a number.
 fn front(alloc: Global, number: u32) -> Result<Vec<u8>, AllocError> {
-    let mut front = b"\x01\0\0\0\x03\0\0\0".to_vec(alloc)?;
-    let seed = u64::from(number).wrapping_mul(0x9e37_79b9_7f4a_7c15);
-    front.extend_from_slice(&seed.to_le_bytes())?;
-    let displacement = number.wrapping_mul(0x9e37_79b1);
-    for displacement in [displacement, !displacement, displacement / 2] {
-        front.extend_from_slice(&displacement.to_le_bytes())?;
-    }
+    let mut front = b"\x01\0\0\0\x03\0\0\0\x01\0\0\0".to_vec(alloc)?;
+    let seed = number.wrapping_mul(0x9e37_79b1).to_le_bytes();
+    front.extend_from_slice(&seed)?;
+    front.extend_from_slice(&seed[1..])?;
+    front.extend_from_slice(&(number % 3).to_le_bytes())?;
     Ok(front)
 }

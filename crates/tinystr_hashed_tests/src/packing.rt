@@ -1,5 +1,5 @@
-//! Texts packed as hashed tables. The bytes come from another program, which is written from the definition: it takes the
-//! seed that is tried first, and the least displacements, those of the most texts first.
+//! Texts packed as hashed tables. The bytes come from another program, which is written from the definition of the format and of
+//! the search.
 
 ghost use Rattle.std.specs.Prelude.{◌<◌, ◌^◌};
 
@@ -10,98 +10,92 @@ use std::test::Fail;
 use tinystr::TinyAsciiStr;
 use tinystr_hashed::{PackHashedError, pack_hashed};
 
-// Fronts, each with its texts of at most three bytes. A number of texts that share a displacement differs from the others.
+// Fronts, each with its texts of at most three bytes. No text and one text have no pilots.
 const SHORT: &[(&[u8], &[&str])] = &[
-    (b"\x01\0\0\0\0\0\0\0\x1d\xdd\x6c\x4f\x91\xf4\x45\x25", &[]),
+    (b"\x01\0\0\0\0\0\0\0\0\0\0\0\0\0\0\0", &[]),
+    (b"\x01\0\0\0\0\0\0\0\0\0\0\0\0\0\0\0", &["EUR"]),
+    (b"\x01\0\0\0\0\0\0\0\0\0\0\0\0\0\0\0", &[""]),
     (
-        b"\x01\0\0\0\x01\0\0\0\x1d\xdd\x6c\x4f\x91\xf4\x45\x25\0\0\0\0",
-        &["EUR"],
-    ),
-    (
-        b"\x01\0\0\0\x01\0\0\0\x1d\xdd\x6c\x4f\x91\xf4\x45\x25\0\0\0\0",
-        &[""],
-    ),
-    (
-        b"\x01\0\0\0\x01\0\0\0\x1d\xdd\x6c\x4f\x91\xf4\x45\x25\x02\0\0\0",
+        b"\x01\0\0\0\x02\0\0\0\0\0\0\0\x01\0\0\0\x01\x01",
         &["USD", "EUR"],
     ),
     (
-        b"\x01\0\0\0\x01\0\0\0\x1d\xdd\x6c\x4f\x91\xf4\x45\x25\x1e\0\0\0",
-        &["EUR", "USD", "GB", "JPY"],
+        b"\x01\0\0\0\x03\0\0\0\0\0\0\0\x01\0\0\0\x01\x01\x02",
+        &["USD", "JPY", "EUR", "GB"],
     ),
     (
-        b"\x01\0\0\0\x02\0\0\0\x1d\xdd\x6c\x4f\x91\xf4\x45\x25\x05\0\0\0\x03\0\0\0",
-        &["EUR", "JPY", "USD", "A", ""],
+        b"\x01\0\0\0\x04\0\0\0\0\0\0\0\x01\0\0\0\x02\x01\x01\x01",
+        &["USD", "", "EUR", "JPY", "A"],
     ),
     (
-        b"\x01\0\0\0\x02\0\0\0\x1d\xdd\x6c\x4f\x91\xf4\x45\x25\x11\0\0\0\x03\0\0\0",
-        &["CAD", "TND", "AUD", "CHF", "BHD"],
+        b"\x01\0\0\0\x04\0\0\0\0\0\0\0\x01\0\0\0\0\x01\x01\0",
+        &["CAD", "TND", "CHF", "AUD", "BHD"],
     ),
     (
-        b"\x01\0\0\0\x03\0\0\0\x1d\xdd\x6c\x4f\x91\xf4\x45\x25\0\0\0\0\x26\0\0\0\x02\0\0\0",
+        b"\x01\0\0\0\x05\0\0\0\0\0\0\0\x01\0\0\0\0\x05\0\x0a\x0c",
         &[
-            "CAD", "TND", "AUD", "GBP", "CLF", "KWD", "EUR", "CHF", "BHD",
+            "CLF", "CAD", "CHF", "BHD", "KWD", "EUR", "AUD", "TND", "GBP",
         ],
     ),
 ];
 
 // Tables of longer texts, and of shorter ones.
 const OF_1: (&[u8], &[&str]) = (
-    b"\x01\0\0\0\x01\0\0\0\x1d\xdd\x6c\x4f\x91\xf4\x45\x25\x30\0\0\0",
-    &["b", "c", "a", ""],
+    b"\x01\0\0\0\x03\0\0\0\0\0\0\0\x01\0\0\0\x04\x02\x03",
+    &["c", "a", "", "b"],
 );
 
 const OF_8: (&[u8], &[&str]) = (
-    b"\x01\0\0\0\x02\0\0\0\x1d\xdd\x6c\x4f\x91\xf4\x45\x25\0\0\0\0\x06\0\0\0",
-    &["bbcdefgh", "a", "", "abcdefgh", "abcdefgi"],
+    b"\x01\0\0\0\x04\0\0\0\0\0\0\0\x01\0\0\0\x01\x02\x01\x02",
+    &["abcdefgi", "", "bbcdefgh", "a", "abcdefgh"],
 );
 
 const OF_9: (&[u8], &[&str]) = (
-    b"\x01\0\0\0\x02\0\0\0\x1d\xdd\x6c\x4f\x91\xf4\x45\x25\0\0\0\0\x25\0\0\0",
-    &["bbcdefghi", "", "abcdefghj", "abcdefgh", "abcdefghi"],
+    b"\x01\0\0\0\x04\0\0\0\0\0\0\0\x01\0\0\0\x01\0\x04\x01",
+    &["", "bbcdefghi", "abcdefgh", "abcdefghi", "abcdefghj"],
 );
 
 const OF_16: (&[u8], &[&str]) = (
-    b"\x01\0\0\0\x02\0\0\0\x1d\xdd\x6c\x4f\x91\xf4\x45\x25\x01\0\0\0\x02\0\0\0",
+    b"\x01\0\0\0\x04\0\0\0\0\0\0\0\x01\0\0\0\x06\0\x01\x01",
     &[
         "abcdefghijklmnoq",
-        "abcdefghi",
-        "abcdefgh",
         "bbcdefghijklmnop",
+        "abcdefgh",
+        "abcdefghi",
         "abcdefghijklmnop",
     ],
 );
 
 const OF_17: (&[u8], &[&str]) = (
-    b"\x01\0\0\0\x02\0\0\0\x1d\xdd\x6c\x4f\x91\xf4\x45\x25\x01\0\0\0\x06\0\0\0",
+    b"\x01\0\0\0\x04\0\0\0\0\0\0\0\x01\0\0\0\x01\x02\0\x01",
     &[
-        "abcdefghijklmnop",
-        "abcdefghijklmnopr",
         "bbcdefghijklmnopq",
         "abcdefghi",
+        "abcdefghijklmnop",
         "abcdefghijklmnopq",
+        "abcdefghijklmnopr",
     ],
 );
 
 const OF_32: (&[u8], &[&str]) = (
-    b"\x01\0\0\0\x02\0\0\0\x1d\xdd\x6c\x4f\x91\xf4\x45\x25\x03\0\0\0\x0f\0\0\0",
+    b"\x01\0\0\0\x04\0\0\0\0\0\0\0\x01\0\0\0\x03\0\x19\x04",
     &[
         "abcdefghijklmnop",
-        "abcdefghijklmnopqrstuvwxyzABCDEG",
         "abcdefghijklmnopr",
-        "abcdefghijklmnopqrstuvwx",
+        "abcdefghijklmnopqrstuvwxyzABCDEG",
         "abcdefghijklmnopqrstuvwxyzABCDEF",
+        "abcdefghijklmnopqrstuvwx",
     ],
 );
 
 const OF_33: (&[u8], &[&str]) = (
-    b"\x01\0\0\0\x02\0\0\0\x1d\xdd\x6c\x4f\x91\xf4\x45\x25\x0c\0\0\0\x01\0\0\0",
+    b"\x01\0\0\0\x04\0\0\0\0\0\0\0\x01\0\0\0\x01\x03\x01\x0c",
     &[
+        "abcdefghijklmnopqrstuvwxyzABCDEFG",
         "",
         "abcdefghijklmnopqrstuvwxyzABCDEFH",
-        "abcdefghijklmnopqrstuvwxyzABCDEF",
         "abcdefghijklmnop",
-        "abcdefghijklmnopqrstuvwxyzABCDEFG",
+        "abcdefghijklmnopqrstuvwxyzABCDEF",
     ],
 );
 

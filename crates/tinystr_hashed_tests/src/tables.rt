@@ -1,4 +1,4 @@
-//! Literal tables. Their seeds, displacements and order come from another program, which is written from the definition.
+//! Literal tables. Their seeds, pilots, moves and order come from another program, which is written from the definition.
 
 ghost use Rattle.std.specs.Prelude.{◌<◌, ◌≤◌, ◌^◌};
 
@@ -6,108 +6,151 @@ use crate::files::file;
 use std::alloc::{AllocError, Global};
 use std::test::Fail;
 use tinystr::TinyAsciiStr;
-use tinystr_hashed::{HashedTable, in_place};
+use tinystr::ule::UleError;
+use tinystr_hashed::{HashedError, HashedTable, in_place};
+
+// The front of a table without pilots.
+const SORTED: &[u8] = b"\x01\0\0\0\0\0\0\0\0\0\0\0\0\0\0\0";
 
 // Fronts, each with its texts of at most three bytes.
 const SHORT: &[(&[u8], &[&str])] = &[
     // no text
-    (b"\x01\0\0\0\0\0\0\0\x25\x13\x9b\x9b\x5e\xe5\xa6\xd1", &[]),
+    (b"\x01\0\0\0\0\0\0\0\0\0\0\0\x79\xf1\xfd\x05", &[]),
+    (b"\x01\0\0\0\x01\0\0\0\0\0\0\0\xd9\x97\x50\x17\xca", &[]),
     (
-        b"\x01\0\0\0\x01\0\0\0\xf8\x45\x5a\xc5\xd7\xf9\x6b\x56\x52\xed\x43\x42",
+        b"\x01\0\0\0\0\0\0\0\x01\0\0\0\x9c\x51\x63\x0d\x28\xf7\x4a\x1b",
         &[],
     ),
     (
-        b"\x01\0\0\0\x02\0\0\0\xef\x26\x0c\xcf\xa9\xed\x5b\x26\x7f\xcf\x96\x5d\x0c\xcc\xde\xb7",
+        b"\x01\0\0\0\x02\0\0\0\x02\0\0\0\x7a\xc1\x2c\xd9\x02\x1b\x7b\xe1\x03\x79\xfb\xc8\x1d\x0b",
         &[],
     ),
-    // one text with no displacement, one, and three
+    // one text
     (
-        b"\x01\0\0\0\0\0\0\0\xff\x7c\xd7\xc1\x4d\xe3\x70\xdd",
+        b"\x01\0\0\0\x01\0\0\0\0\0\0\0\x0a\xf2\x88\x90\xdf",
         &["EUR"],
     ),
     (
-        b"\x01\0\0\0\x01\0\0\0\x2e\x0a\x6a\x5e\xcd\x0e\xac\x55\x37\x51\x63\x04",
+        b"\x01\0\0\0\x01\0\0\0\x01\0\0\0\x87\x17\x82\xd7\0\x4b\xcd\x94\xf0",
         &["EUR"],
     ),
+    (b"\x01\0\0\0\x01\0\0\0\0\0\0\0\x6e\x22\xc5\x7d\x95", &[""]),
     (
-        b"\x01\0\0\0\x01\0\0\0\xe2\x3e\x4a\x3b\xa5\x23\x75\xb3\x36\x5a\x91\xad",
-        &[""],
-    ),
-    (
-        b"\x01\0\0\0\x03\0\0\0\x21\x53\xe4\x4d\xd7\x3a\xba\xe6\xb1\xbe\x23\x98\x80\xb9\xcf\x1f\xbd\xab\x4e\xdd",
+        b"\x01\0\0\0\x03\0\0\0\x02\0\0\0\x84\x44\xd6\x91\x08\x6f\x15\xe9\xb7\xac\xbb\xd8\x2f\xe6\x58",
         &["EUR"],
     ),
     // several
     (
-        b"\x01\0\0\0\x02\0\0\0\xd2\xd3\0\x5c\x81\x45\x4e\x5f\xc7\xfa\x99\xc5\x4c\xf1\xf4\x86",
-        &["EUR", "", "USD", "A", "JPY"],
+        b"\x01\0\0\0\x02\0\0\0\x01\0\0\0\x9f\xd6\x20\xea\x51\xdc\x02\0\0\0",
+        &["EUR", "", "JPY", "A", "USD"],
     ),
     (
-        b"\x01\0\0\0\x05\0\0\0\xc8\x15\xb6\xbd\x7e\x1e\x69\x7d\
-        \x51\x81\x36\x09\x5a\xbf\xba\x58\x23\x5a\x62\xbc\xd8\xa3\xbd\x9b\xdd\x24\x37\xf4",
-        &["JPY", "AB", "USD", "A", "ABC", "EUR"],
+        b"\x01\0\0\0\x04\0\0\0\0\0\0\0\x5e\x1c\xa2\x0a\x43\x47\xe9\xae",
+        &["A", "JPY", "USD", "", "EUR"],
+    ),
+    (
+        b"\x01\0\0\0\x05\0\0\0\x03\0\0\0\x1e\xaf\xf5\x76\x59\x8b\x86\xde\x41\x99\x45\xa2\x6e\x05\0\0\0\0\0\0\0",
+        &["USD", "A", "JPY", "ABC", "EUR", "AB"],
+    ),
+    // ascending texts, without pilots: any moves and any seed are accepted
+    (b"\x01\0\0\0\0\0\0\0\0\0\0\0\0\0\0\0", &["EUR"]),
+    (
+        b"\x01\0\0\0\0\0\0\0\0\0\0\0\0\0\0\0",
+        &["", "A", "EUR", "JPY", "USD"],
+    ),
+    (
+        b"\x01\0\0\0\0\0\0\0\x01\0\0\0\xd8\xd2\xe5\xcf\x5d\x03\x53\x7b",
+        &["A", "AB", "ABC", "EUR", "JPY", "USD"],
     ),
 ];
 
 // Tables of longer texts, and of shorter ones.
 const OF_1: (&[u8], &[&str]) = (
-    b"\x01\0\0\0\x02\0\0\0\x95\xdf\x83\x09\x85\x41\x65\x98\x59\xb0\xd2\x10\x74\x89\xd1\x80",
-    &["b", "", "c", "a"],
+    b"\x01\0\0\0\x02\0\0\0\x01\0\0\0\xb5\x8b\x2f\x45\x34\xc4\x02\0\0\0",
+    &["a", "", "b", "c"],
 );
 
 const OF_8: (&[u8], &[&str]) = (
-    b"\x01\0\0\0\x03\0\0\0\xb7\x0d\x60\x53\x6c\x1b\x2a\xb0\xb6\x71\xe3\xf8\x3a\xbc\xa6\x5b\x15\xe6\x40\xe1",
-    &["bbcdefgh", "a", "abcdefgh", "abcdefgi", ""],
+    b"\x01\0\0\0\x03\0\0\0\x01\0\0\0\x31\x5d\xd7\x12\x24\x7b\xdb\x04\0\0\0",
+    &["", "abcdefgi", "bbcdefgh", "a", "abcdefgh"],
 );
 
 const OF_9: (&[u8], &[&str]) = (
-    b"\x01\0\0\0\x02\0\0\0\x9b\x1b\x9c\xc6\x8f\x03\x1f\x6a\x43\x06\x29\xad\x90\x41\x33\xc8",
-    &["", "abcdefgh", "abcdefghj", "bbcdefghi", "abcdefghi"],
+    b"\x01\0\0\0\x02\0\0\0\x02\0\0\0\x18\xec\xaa\x66\xa2\xbb\x02\0\0\0\x28\xa2\x0c\x61",
+    &["bbcdefghi", "abcdefghi", "", "abcdefghj", "abcdefgh"],
 );
 
 const OF_16: (&[u8], &[&str]) = (
-    b"\x01\0\0\0\x02\0\0\0\xe8\x71\x8a\xe8\x79\x38\xa5\xa3\x50\x30\x35\xe6\x5f\x06\x51\xd7",
+    b"\x01\0\0\0\x02\0\0\0\x01\0\0\0\xb8\xe0\xad\x25\x63\x0f\x01\0\0\0",
     &[
-        "bbcdefghijklmnop",
-        "abcdefghijklmnop",
         "abcdefghi",
         "abcdefghijklmnoq",
         "abcdefgh",
+        "bbcdefghijklmnop",
+        "abcdefghijklmnop",
     ],
 );
 
 const OF_17: (&[u8], &[&str]) = (
-    b"\x01\0\0\0\x02\0\0\0\xcc\x1b\x0f\x1a\x5c\xd4\x6f\x56\xcd\xdf\x08\x08\xe8\x94\xe7\x71",
+    b"\x01\0\0\0\x02\0\0\0\x01\0\0\0\xf2\xed\xe6\x2b\x0c\x07\x04\0\0\0",
     &[
-        "abcdefghi",
-        "abcdefghijklmnop",
         "bbcdefghijklmnopq",
         "abcdefghijklmnopq",
+        "abcdefghi",
+        "abcdefghijklmnop",
         "abcdefghijklmnopr",
     ],
 );
 
 const OF_32: (&[u8], &[&str]) = (
-    b"\x01\0\0\0\x02\0\0\0\x13\x91\x98\xb7\x0c\x2b\x57\x06\x9e\xe5\xbc\x93\x32\xf5\xcc\x32",
+    b"\x01\0\0\0\x02\0\0\0\x01\0\0\0\x5f\x8d\x7a\xc9\x32\x9d\x03\0\0\0",
     &[
-        "abcdefghijklmnopqrstuvwxyzABCDEG",
-        "abcdefghijklmnopqrstuvwxyzABCDEF",
-        "abcdefghijklmnopqrstuvwx",
-        "abcdefghijklmnopr",
         "abcdefghijklmnop",
+        "abcdefghijklmnopqrstuvwxyzABCDEF",
+        "abcdefghijklmnopr",
+        "abcdefghijklmnopqrstuvwx",
+        "abcdefghijklmnopqrstuvwxyzABCDEG",
     ],
 );
 
 const OF_33: (&[u8], &[&str]) = (
-    b"\x01\0\0\0\x02\0\0\0\xe1\xfe\xba\x11\xa1\x2f\x9d\x15\x8c\xdd\xf3\x4a\x44\xa4\xa4\x6c",
+    b"\x01\0\0\0\x02\0\0\0\0\0\0\0\x59\x60\x1e\0\x63\xcf",
     &[
-        "abcdefghijklmnopqrstuvwxyzABCDEF",
-        "abcdefghijklmnopqrstuvwxyzABCDEFH",
         "abcdefghijklmnop",
+        "abcdefghijklmnopqrstuvwxyzABCDEFH",
         "",
+        "abcdefghijklmnopqrstuvwxyzABCDEF",
         "abcdefghijklmnopqrstuvwxyzABCDEFG",
     ],
 );
+
+const OF_3: (&[u8], &[&str]) = (
+    b"\x01\0\0\0\x02\0\0\0\x01\0\0\0\x3a\x92\xae\x66\xed\x28\x01\0\0\0",
+    &["EUR", "", "A", "USD", "JPY"],
+);
+
+// The same texts without pilots.
+const SORTED_OF_1: &[&str] = &["", "a", "b", "c"];
+
+const SORTED_OF_3: &[&str] = &["", "A", "EUR", "JPY", "USD"];
+
+const SORTED_OF_8: &[&str] = &["", "a", "abcdefgh", "abcdefgi", "bbcdefgh"];
+
+const SORTED_OF_16: &[&str] = &[
+    "abcdefgh",
+    "abcdefghi",
+    "abcdefghijklmnop",
+    "abcdefghijklmnoq",
+    "bbcdefghijklmnop",
+];
+
+const SORTED_OF_33: &[&str] = &[
+    "",
+    "abcdefghijklmnop",
+    "abcdefghijklmnopqrstuvwxyzABCDEF",
+    "abcdefghijklmnopqrstuvwxyzABCDEFG",
+    "abcdefghijklmnopqrstuvwxyzABCDEFH",
+];
 
 // The texts of all tables, and others that differ from one of them in a byte or in their length.
 const KEYS: &str = "|A|AB|ABC|ABD|B|E|EU|EUR|EUS|EVR|FUR|eur|USD|US|JPY|JPZ|EURO|a|b|c|d|aa|\
@@ -136,6 +179,9 @@ fn each_byte_of_longer_texts_counts(rt: HostRuntime) -> Result<(), Fail> {
     assert!(rt; is_table::<17>(rt.alloc(), &OF_17)?);
     assert!(rt; is_table::<32>(rt.alloc(), &OF_32)?);
     assert!(rt; is_table::<33>(rt.alloc(), &OF_33)?);
+    assert!(rt; is_table::<8>(rt.alloc(), &(SORTED, SORTED_OF_8))?);
+    assert!(rt; is_table::<16>(rt.alloc(), &(SORTED, SORTED_OF_16))?);
+    assert!(rt; is_table::<33>(rt.alloc(), &(SORTED, SORTED_OF_33))?);
     Ok(())
 }
 
@@ -240,4 +286,81 @@ fn is_found_by_text<const N: usize>(
         Ok(longer) => is_found_if_it_fits && table.find_text(&longer) == index,
         Err(_) => false,
     }
+}
+
+#[test]
+fn each_flipped_bit_has_its_fault(rt: HostRuntime) -> Result<(), Fail> {
+    assert!(rt; has_digest_of_flips::<1>(rt.alloc(), OF_1.0, OF_1.1, 0x593b_4e71_0bda_21c7)?);
+    assert!(rt; has_digest_of_flips::<1>(rt.alloc(), SORTED, SORTED_OF_1, 0x20ae_62ba_5986_6e35)?);
+    assert!(rt; has_digest_of_flips::<3>(rt.alloc(), OF_3.0, OF_3.1, 0x8f1c_cea3_9f48_de3f)?);
+    assert!(rt; has_digest_of_flips::<3>(rt.alloc(), SORTED, SORTED_OF_3, 0x1064_334a_9469_0981)?);
+    assert!(rt; has_digest_of_flips::<8>(rt.alloc(), OF_8.0, OF_8.1, 0x1789_0683_5899_603e)?);
+    assert!(rt; has_digest_of_flips::<8>(rt.alloc(), SORTED, SORTED_OF_8, 0x77ad_47cd_00d5_f9be)?);
+    assert!(rt; has_digest_of_flips::<16>(rt.alloc(), OF_16.0, OF_16.1, 0x4802_0558_19ff_7780)?);
+    assert!(rt;
+        has_digest_of_flips::<16>(rt.alloc(), SORTED, SORTED_OF_16, 0x0809_9bda_9673_5e22)?
+    );
+    assert!(rt; has_digest_of_flips::<33>(rt.alloc(), OF_33.0, OF_33.1, 0xa419_50a1_31c6_0980)?);
+    assert!(rt;
+        has_digest_of_flips::<33>(rt.alloc(), SORTED, SORTED_OF_33, 0x80d3_28bb_c1c3_ef56)?
+    );
+    Ok(())
+}
+
+/// Whether the results of a table's bytes, with each bit flipped in turn, have a digest, and each that is accepted is a table.
+fn has_digest_of_flips<const N: usize>(
+    alloc: Global,
+    front: &[u8],
+    texts: &[&str],
+    digest: u64,
+) -> Result<bool, AllocError>
+    requires positive { 0 < N }
+    requires sized { N < 2 ^ 63 }
+{
+    let mut file = file::<N>(alloc, front, texts)?;
+    let mut found: u64 = 0xcbf2_9ce4_8422_2325;
+    for index in 0..file.len() {
+        for bit in [1, 2, 4, 8, 16, 32, 64, 128] {
+            flip(&mut file, index, bit);
+            let result = match HashedTable::<N>::from_bytes(&file) {
+                Ok(table) if !has_each_at_its_index(&table) => return Ok(false),
+                Ok(_) => 0,
+                Err(fault) => number_of(fault),
+            };
+            flip(&mut file, index, bit);
+            found = (found ^ result).wrapping_mul(0x100_0000_01b3);
+        }
+    }
+    Ok(found == digest)
+}
+
+fn flip(file: &mut Vec<u8>, index: usize, bit: u8) {
+    if let Some(byte) = file.get_mut(index) {
+        *byte ^= bit;
+    }
+}
+
+fn has_each_at_its_index<const N: usize>(table: &HashedTable<'_, N>) -> bool
+    requires { N < 2 ^ 63 }
+{
+    for index in 0..table.len() {
+        match table.table().get(index) {
+            Some(text) if table.position(&text) == Some(index) => {}
+            _ => return false,
+        }
+    }
+    true
+}
+
+/// The number of a fault: its kind, and its first number.
+fn number_of(fault: HashedError) -> u64 {
+    let (kind, number) = match fault {
+        HashedError::Header { len } => (1, len),
+        HashedError::Version { version } => (2, version as usize),
+        HashedError::Index { size, .. } => (3, size),
+        HashedError::Records(UleError::Length { len }) => (4, len),
+        HashedError::Records(UleError::Parse { index, .. }) => (5, index),
+        HashedError::Place { index } => (6, index),
+    };
+    (number as u64).wrapping_mul(8) | kind
 }

@@ -5,13 +5,13 @@ use std::collections::BTreeMap;
 use tinystr::ParseError::{ContainsNull, NonAscii};
 use tinystr::TinyAsciiStr;
 use tinystr::ule::UleError::{Length, Parse};
-use tinystr_hashed::HashedError::{Displacements, Header, Place, Records, Version};
+use tinystr_hashed::HashedError::{Header, Index, Place, Records, Version};
 use tinystr_hashed::HashedTextMapError::{Count, Keys, Values};
 use tinystr_hashed::{HashedTextMap, HashedTextMapError, pack_hashed_text_map};
 
 // A table of the keys below, in their order. Another program computes it from the definition.
-const KEYS: &[u8] = b"\x01\0\0\0\x02\0\0\0\xd2\xd3\0\x5c\x81\x45\x4e\x5f\
-    \xc7\xfa\x99\xc5\x4c\xf1\xf4\x86EUR\0\0\0USDA\0\0JPY";
+const KEYS: &[u8] = b"\x01\0\0\0\x03\0\0\0\x01\0\0\0\xce\x2c\x23\x0f\xe0\x7c\xc6\x02\0\0\0\
+    EUR\0\0\0USDA\0\0JPY";
 
 const VALUES: &[u8] = b"EUnoUSa\0\0\0";
 
@@ -123,9 +123,9 @@ const REJECTED: &[(&[u8], &[u8], HashedTextMapError)] = &[
         Keys(Version { version: 2 }),
     ),
     (
-        b"\x01\0\0\0\x01\0\0\0\0\0\0\0\0\0\0\0EUR",
+        b"\x01\0\0\0\x04\0\0\0\0\0\0\0\0\0\0\0EUR",
         b"EU",
-        Keys(Displacements { count: 1, len: 3 }),
+        Keys(Index { size: 4, len: 3 }),
     ),
     (
         b"\x01\0\0\0\0\0\0\0\0\0\0\0\0\0\0\0EURO",
@@ -141,16 +141,16 @@ const REJECTED: &[(&[u8], &[u8], HashedTextMapError)] = &[
         })),
     ),
     (
-        b"\x01\0\0\0\x02\0\0\0\xd2\xd3\0\x5c\x81\x45\x4e\x5f\
-            \xc7\xfa\x99\xc5\x4c\xf1\xf4\x86EUR\0\0\0USDJPYA\0\0",
+        b"\x01\0\0\0\x03\0\0\0\x01\0\0\0\xce\x2c\x23\x0f\xe0\x7c\xc6\x02\0\0\0\
+            EUR\0\0\0USDJPYA\0\0",
         VALUES,
         Keys(Place { index: 3 }),
     ),
     // that, though the values are bad and too few
     (b"EUR", b"\xff", Keys(Header { len: 3 })),
     (
-        b"\x01\0\0\0\x02\0\0\0\xd2\xd3\0\x5c\x81\x45\x4e\x5f\
-            \xc7\xfa\x99\xc5\x4c\xf1\xf4\x86EUR\0\0\0USDJPYA\0\0",
+        b"\x01\0\0\0\x03\0\0\0\x01\0\0\0\xce\x2c\x23\x0f\xe0\x7c\xc6\x02\0\0\0\
+            EUR\0\0\0USDJPYA\0\0",
         b"\xffU",
         Keys(Place { index: 3 }),
     ),
@@ -197,23 +197,23 @@ fn is_rejected(keys: &[u8], values: &[u8], fault: HashedTextMapError) -> bool {
 }
 
 // The entries above as they are packed, in another order. Another program computes the keys, as it does those of `packing`.
-const PACKED_KEYS: &[u8] = b"\x01\0\0\0\x02\0\0\0\x1d\xdd\x6c\x4f\x91\xf4\x45\x25\
-    \x05\0\0\0\x03\0\0\0EURJPYUSDA\0\0\0\0\0";
+const PACKED_KEYS: &[u8] =
+    b"\x01\0\0\0\x04\0\0\0\0\0\0\0\x01\0\0\0\x02\x01\x01\x01USD\0\0\0EURJPYA\0\0";
 
-const PACKED_VALUES: &[u8] = b"EU\0\0USa\0no";
+const PACKED_VALUES: &[u8] = b"USnoEU\0\0a\0";
 
 const PACKED_ENTRIES: &[(&str, &str)] = &[
+    ("USD", "US"),
+    ("", "no"),
     ("EUR", "EU"),
     ("JPY", ""),
-    ("USD", "US"),
     ("A", "a"),
-    ("", "no"),
 ];
 
 // The keys that are packed of none and of one.
-const PACKED_NO_KEY: &[u8] = b"\x01\0\0\0\0\0\0\0\x1d\xdd\x6c\x4f\x91\xf4\x45\x25";
+const PACKED_NO_KEY: &[u8] = b"\x01\0\0\0\0\0\0\0\0\0\0\0\0\0\0\0";
 
-const PACKED_ONE_KEY: &[u8] = b"\x01\0\0\0\x01\0\0\0\x1d\xdd\x6c\x4f\x91\xf4\x45\x25\0\0\0\0EUR";
+const PACKED_ONE_KEY: &[u8] = b"\x01\0\0\0\0\0\0\0\0\0\0\0\0\0\0\0EUR";
 
 #[test]
 fn a_map_of_std_is_packed(rt: HostRuntime) {

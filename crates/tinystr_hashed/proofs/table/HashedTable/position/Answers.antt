@@ -1,39 +1,53 @@
-use Rattle.std.proofs.Common.{List, ℕ, length, map, refl, sym, ◌∙◌, ◌≡◌, ◌≢◌}
+use Rattle.std.proofs.Common.{List, ℕ, ap, arith, length, map, refl, sym, ◌<◌, ◌≤◌, ◌*◌, ◌∙◌, ◌≡◌, ◌≢◌}
 use Rattle.std.specs.List.{slice_get}
-use Rattle.std.specs.declared.option.Option.TheVariants.{Some}
+use Rattle.std.specs.declared.option.Option.TheVariants.{None, Some}
+use Rattle.std.proofs.Math.Nat.{le-mul_of_pos_right}
 use Rattle.std.proofs.lemmas.Bool.{false≢true}
+use Rattle.std.proofs.lemmas.List.{length-map}
+use Rattle.tinystr_words.specs.Text.{text_of}
 use Rattle.tinystr_words.specs.Words.{word}
-use Rattle.tinystr_hashed.specs.Hashing.{place_in, ArePlaced}
-use Rattle.tinystr_hashed.proofs.Lookups.{AreDistinct-placed, position-at, position-none, Contains-absent}
+use Rattle.tinystr_hashed.specs.Hashing.{place_in, AreOrdered, ArePlaced}
+use Rattle.tinystr_hashed.proofs.Lookups.{AreDistinct-ordered, Contains-absent, found-exactly, position-at, position-none}
 use Rattle.tinystr_hashed.proofs.table.HashedTable.position.Goals as goal
 
-pub returns-then-has_text_at-clause-position : goal.returns-then-has_text_at-clause-position
-returns-then-has_text_at-clause-position g c =
-    let place : List ℕ → ℕ = place_in c.self.inside.places.seed (map word c.self.inside.places.displacements.now) g.row.N (length c.args.self.now) in
-    let placed : ArePlaced place c.args.self.now = rw c.self.view_is at c.self.invariant in
-    let is : c.place-place.result ≡ place c.args.key.now = c.place-place.ensures ∙ rw (c.len.ensures.len, c.all_bytes.ensures.bytes, c.self.view_is) refl in
-    position-at place c.args.self.now c.args.key.now c.place-place.result placed is (c.has_text_at.ensures.0 c.if-has_text_at.true)
+pub place-requires : goal.place-requires
+place-requires g c =
+    let fewer : length c.records-count.result.now ≤ length c.records-count.result.now * (g.row.N * 1) = le-mul_of_pos_right (length c.records-count.result.now) (omega (arith, c.self.invariant.0)) in
+    (omega arith, omega (arith, fewer, c.records-count.type_inv.1))
 
-pub returns-else-has_text_at-clause-exact : goal.returns-else-has_text_at-clause-exact
-returns-else-has_text_at-clause-exact g c =
-    let place : List ℕ → ℕ = place_in c.self.inside.places.seed (map word c.self.inside.places.displacements.now) g.row.N (length c.args.self.now) in
-    let placed : ArePlaced place c.args.self.now = rw c.self.view_is at c.self.invariant in
-    let is : c.place-place.result ≡ place c.args.key.now = c.place-place.ensures ∙ rw (c.len.ensures.len, c.all_bytes.ensures.bytes, c.self.view_is) refl in
-    let other : slice_get c.args.self.now c.place-place.result ≢ Some c.args.key.now = λ at_it. false≢true (sym c.if-has_text_at.false ∙ c.has_text_at.ensures.1 at_it) in
-    (λ no. absurd (false≢true no), λ found. absurd (Contains-absent place c.args.self.now c.args.key.now c.place-place.result placed is other found))
+pub position_by_halves-requires : goal.position_by_halves-requires
+position_by_halves-requires g c =
+    let no_pilots : ¬ (0 < length c.self.inside.places.pilots.now) = λ some. false≢true (c.in_default.ensures.exact.1 some) in
+    let none : length c.self.inside.places.pilots.now ≡ 0 = omega (arith, no_pilots) in
+    (omega arith, (omega arith, (c.self.invariant.0, rw c.self.view_is at c.self.invariant.1.rising none)))
 
-pub returns-else-has_text_at-clause-position : goal.returns-else-has_text_at-clause-position
-returns-else-has_text_at-clause-position g c =
-    let place : List ℕ → ℕ = place_in c.self.inside.places.seed (map word c.self.inside.places.displacements.now) g.row.N (length c.args.self.now) in
-    let placed : ArePlaced place c.args.self.now = rw c.self.view_is at c.self.invariant in
-    let is : c.place-place.result ≡ place c.args.key.now = c.place-place.ensures ∙ rw (c.len.ensures.len, c.all_bytes.ensures.bytes, c.self.view_is) refl in
-    let other : slice_get c.args.self.now c.place-place.result ≢ Some c.args.key.now = λ at_it. false≢true (sym c.if-has_text_at.false ∙ c.has_text_at.ensures.1 at_it) in
-    position-none place c.args.self.now c.args.key.now c.place-place.result placed is other
+pub returns-in_default : goal.returns-in_default
+returns-in_default g c =
+    let places = c.self.inside.places in
+    let ordered : AreOrdered places.pilots.now (place_in places.start places.pilots.now (map word places.moves.now) g.row.N (length c.args.self.now)) c.args.self.now = rw c.self.view_is at c.self.invariant.1 in
+    let distinct = AreDistinct-ordered places.pilots.now (place_in places.start places.pilots.now (map word places.moves.now) g.row.N (length c.args.self.now)) c.args.self.now ordered in
+    let exactly = found-exactly c.args.self.now c.args.key.now c.position_by_halves.result c.position_by_halves.ensures in
+    record { found = exactly.0; exact = exactly.1; position = c.position_by_halves.ensures; distinct = distinct }
 
-pub returns-then-has_text_at-clause-distinct : goal.returns-then-has_text_at-clause-distinct
-returns-then-has_text_at-clause-distinct g c =
-    rw c.self.view_is at (AreDistinct-placed (place_in c.self.inside.places.seed (map word c.self.inside.places.displacements.now) g.row.N (length c.self.inside.table)) c.self.inside.table c.self.invariant)
+pub returns-then-has_text_at : goal.returns-then-has_text_at
+returns-then-has_text_at g c =
+    let places = c.self.inside.places in
+    let ordered : AreOrdered places.pilots.now (place_in places.start places.pilots.now (map word places.moves.now) g.row.N (length c.args.self.now)) c.args.self.now = rw c.self.view_is at c.self.invariant.1 in
+    let distinct = AreDistinct-ordered places.pilots.now (place_in places.start places.pilots.now (map word places.moves.now) g.row.N (length c.args.self.now)) c.args.self.now ordered in
+    let is = position-at c.args.self.now c.args.key.now c.in-Some.place distinct (c.has_text_at.ensures.0 c.if-has_text_at.true) in
+    let exactly = found-exactly c.args.self.now c.args.key.now (Some c.in-Some.place) is in
+    record { found = exactly.0; exact = exactly.1; position = is; distinct = distinct }
 
-pub returns-else-has_text_at-clause-distinct : goal.returns-else-has_text_at-clause-distinct
-returns-else-has_text_at-clause-distinct g c =
-    rw c.self.view_is at (AreDistinct-placed (place_in c.self.inside.places.seed (map word c.self.inside.places.displacements.now) g.row.N (length c.self.inside.table)) c.self.inside.table c.self.invariant)
+pub returns-else-has_text_at : goal.returns-else-has_text_at
+returns-else-has_text_at g c =
+    let places = c.self.inside.places in
+    let place : List ℕ → ℕ = place_in places.start places.pilots.now (map word places.moves.now) g.row.N (length c.args.self.now) in
+    let ordered : AreOrdered places.pilots.now place c.args.self.now = rw c.self.view_is at c.self.invariant.1 in
+    let distinct = AreDistinct-ordered places.pilots.now place c.args.self.now ordered in
+    let placed : ArePlaced place c.args.self.now = ordered.placed (c.in-Some.ensures.exact.0 refl) in
+    let count : length c.records-count.result.now ≡ length c.args.self.now = sym (length-map c.records-count.result.now text_of) ∙ ap (λ (l : List (List ℕ)). length l) (c.records-count.ensures.texts ∙ c.self.view_is) in
+    let at_it : c.in-Some.place ≡ place c.args.key.now = c.in-Some.ensures.place ∙ rw (count, c.all_bytes.ensures.bytes) refl in
+    let other : slice_get c.args.self.now c.in-Some.place ≢ Some c.args.key.now = λ here. false≢true (sym c.if-has_text_at.false ∙ c.has_text_at.ensures.1 here) in
+    let is = position-none c.args.self.now c.args.key.now (Contains-absent place c.args.self.now c.args.key.now c.in-Some.place placed at_it other) in
+    let exactly = found-exactly c.args.self.now c.args.key.now None is in
+    record { found = exactly.0; exact = exactly.1; position = is; distinct = distinct }
