@@ -18,6 +18,7 @@ byte_fault_at n input i =
     else None))
 
 -- the fault at the first position below n that has one, or `None`
+-- e.g. at 4, of 61 00 it is Some (too_short 4), of 61 00 62 00 Some null, and of 61 62 00 00 None
 unfoldable pub byte_fault : ℕ → List ℕ → Option ByteFault
 byte_fault n input =
     option_and_then (byte_fault_at n input) (find (λ i. is_some (byte_fault_at n input i)) (range_with_len 0 n))

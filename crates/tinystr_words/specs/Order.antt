@@ -12,6 +12,7 @@ pub record IsLesserAt (t s : List ℕ) (i : ℕ) : Type 0 where
   pub same : take i t ≡ take i s
   pub lesser : slice_index t i < slice_index s i
 
--- t comes before s
+-- t comes before s. By the law order_compared, `slice_cmp nat_cmp` is Less exactly then
+-- e.g. "ab" before "abc" and before "b"
 abbrev pub IsBefore : List ℕ → List ℕ → Type 0
 IsBefore t s = IsProperBeginning t s ⊎ ((i : ℕ) × IsLesserAt t s i)

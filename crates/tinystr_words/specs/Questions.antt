@@ -7,7 +7,7 @@ use Rattle.tinystr_words.specs.declared.question.Case.TheVariants.{Lower, Title,
 use Rattle.tinystr_words.specs.Classes.{is_upper, is_lower, is_digit, is_alphabetic, is_alphanumeric, is_not_upper, is_not_lower, ask}
 use Rattle.tinystr_words.specs.Case.{lowercase, titlecase, uppercase}
 
--- where the first byte has to be
+-- the class of the first byte
 abbrev pub first_class : Question → ℕ → Bool
 first_class Alphabetic = is_alphabetic
 first_class Alphanumeric = is_alphanumeric
@@ -19,7 +19,7 @@ first_class AlphabeticLowercase = is_lower
 first_class AlphabeticTitlecase = is_upper
 first_class AlphabeticUppercase = is_upper
 
--- and each later one
+-- the class of each later byte
 abbrev pub later_class : Question → ℕ → Bool
 later_class Alphabetic = is_alphabetic
 later_class Alphanumeric = is_alphanumeric
@@ -31,21 +31,27 @@ later_class AlphabeticLowercase = is_lower
 later_class AlphabeticTitlecase = is_lower
 later_class AlphabeticUppercase = is_upper
 
+-- the answer to a question about a text
+-- e.g. ask_question Titlecase is true of "Ab", and false of "AB"
 abbrev pub ask_question : Question → List ℕ → Bool
 ask_question q t = ask (first_class q) (later_class q) t
 
--- the question with no first byte of its own
+-- the question about the remainder of a text, which has no first byte of its own
+-- e.g. Lowercase for Titlecase, Numeric for Numeric
 abbrev pub later_question : Question → Question
 later_question Titlecase = Lowercase
 later_question AlphabeticTitlecase = AlphabeticLowercase
 later_question q = q
 
+-- a text in a case
+-- e.g. in_case Title "tEsT" is "Test"
 abbrev pub in_case : Case → List ℕ → List ℕ
 in_case Lower t = lowercase t
 in_case Title t = titlecase t
 in_case Upper t = uppercase t
 
--- the case with no first byte of its own
+-- the case of the remainder of a text
+-- e.g. Lower for Title, Upper for Upper
 abbrev pub later_case : Case → Case
 later_case Title = Lower
 later_case c = c

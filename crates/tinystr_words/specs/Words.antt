@@ -3,11 +3,13 @@ use Rattle.std.specs.Prelude.{ℕ, ◌+◌, ◌*◌, ◌/◌, ◌%◌, ◌^◌, 
 use Rattle.tinystr_words.specs.Text.{IsText, pad, text_of}
 
 -- the sum of `l[i] * 256 ^ i`
+-- e.g. of 01 02 it is 0x0201
 abbrev pub word : List ℕ → ℕ
 word [] = 0
 word (b ∷ rest) = b + 256 * word rest
 
 -- the byte at place i of a word
+-- e.g. lane 0x0201 1 is 2
 abbrev pub lane : ℕ → ℕ → ℕ
 lane w i = w / 256 ^ i % 256
 
@@ -30,6 +32,7 @@ unfoldable pub text_in : ℕ → ℕ → List ℕ
 text_in n w = text_of (lanes_of n w)
 
 -- a word is a text padded to n bytes
+-- e.g. 0x6261 holds "ab" at 4
 pub record HoldsText (n w : ℕ) : Type 0 where
   pub text : IsText (text_in n w)
   pub fits : length (text_in n w) ≤ n

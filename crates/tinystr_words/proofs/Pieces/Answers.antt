@@ -27,7 +27,7 @@ IsCut-at : (q : ℕ) (t : List ℕ) → IsCut q (take (suc q) t) (drop (suc q) t
 IsCut-at q t =
     ⊎_elim (λ short. inr (drop_all (suc q) t (omega arith))) (λ long. inl (length-take-le (suc q) t long)) (cases_lt (length t) (suc q))
 
--- one class for all bytes
+-- one class for all bytes; callers cite same_as_std_each
 pub ask-same : (f : ℕ → Bool) (t : List ℕ) → ask f f t ≡ list_all f t
 ask-same f [] = refl
 ask-same f (b ∷ t) = refl

@@ -96,7 +96,7 @@ IsPaddedText-read n input none =
     (first_fault-clean (take n input) (λ k inside.
     is_faulty-take n input k (omega arith) ∙ (is_faulty-byte_fault_at n input k (byte_fault-none_at n input none k (omega arith))).1))
 
--- bytes whose first n are a padded text have no fault
+-- bytes whose first n are a padded text have no fault; callers cite bytes_back_front
 pub byte_fault-first_padded : (n : ℕ) (input : List ℕ) → n ≤ length input → IsPaddedText (take n input) n → byte_fault n input ≡ None
 byte_fault-first_padded n input enough padded =
     let long = length-take-le n input enough in

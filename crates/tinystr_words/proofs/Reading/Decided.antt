@@ -27,7 +27,7 @@ is_text-Decides t =
 fits-Decides : (t : List ℕ) (n : ℕ) → Decides (nat_le (length t) n) (length t ≤ n)
 fits-Decides t n = (λ yes. grind (arith, nat_tests), λ h. grind (arith, nat_tests))
 
--- of a strict text
+-- of a strict text; callers cite tests_decide_strict
 pub is_strict_text-Decides : (t : List ℕ) (n : ℕ) → Decides (is_strict_text t n) (IsStrictText t n)
 is_strict_text-Decides t n =
     Decides-like (is_strict_text t n) (λ h. record { text = h.1; fits = h.0 }) (λ h. (h.fits, h.text))

@@ -21,7 +21,7 @@ AllPadded n records = All (λ raw. IsPaddedText raw n) records
 abbrev pub AllStrict : ℕ → List (List ℕ) → Type 0
 AllStrict n ts = All (λ t. IsStrictText t n) ts
 
--- texts that are padded to n bytes and joined have n bytes for each
+-- texts that are padded to n bytes and joined have n bytes for each; callers cite texts_packed_len
 pub length-joined : (n : ℕ) (ts : List (List ℕ)) → AllStrict n ts → length (flat_map (padded n) ts) ≡ length ts * n
 length-joined n [] h = sym (zero-mul n)
 length-joined n (t ∷ ts) h =

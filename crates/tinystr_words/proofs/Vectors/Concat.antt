@@ -5,6 +5,7 @@ use Rattle.std.proofs.lemmas.Grind.{same_number_lists}
 use Rattle.std.proofs.lemmas.Bool.Decides.{nat_tests}
 use Rattle.std.proofs.lemmas.Simd.{Each1-from_get_or, SwzOk, SwzOk-from_Each1, get_or-swz_l, get_or-zip2, length-swz_l, length-zip2, swz_l}
 use Rattle.std.specs.Int.Bits.{bit_or, or_zero_l, or_zero_r}
+use Rattle.std.specs.List.{flat_map}
 use Rattle.std.specs.Simd.Lanes.{chunk, zip2}
 use mir.Val.{zeroes}
 use Rattle.tinystr_words.specs.Text.{IsPadded, IsPaddedText, IsText, IsTextByte, pad, text_of}
@@ -12,7 +13,7 @@ use Rattle.std.proofs.lemmas.List.Elements.{All-append}
 use Rattle.tinystr_words.proofs.Pieces.Copying.{IsPaddedText-pad_take}
 use Rattle.tinystr_words.proofs.Texts.{IsPaddedText-drop, NULS, get_or-nuls, get_or-pad, length-text_of-le, text_of-drop, text_of-take}
 use Rattle.tinystr_words.specs.Private.Padded.{sixteen_from}
-use Rattle.tinystr_words.specs.declared.padded.concatenation.TheConstants.{TAKEN_LANES}
+use Rattle.tinystr_words.specs.declared.padded.concatenation.TheConstants.{TAKEN_LANES as rows}
 use Rattle.tinystr_words.proofs.Words.Lanes.{below_at}
 
 get_or-nuls_left : (n : ℕ) (l : List ℕ) (k : ℕ) → k < n → get_or (NULS n ++ l) k 0 ≡ 0
@@ -40,6 +41,9 @@ sixteen_from-HasLanes xs t at x =
     same_number_lists xs (sixteen_from t at) (x.0 ∙ sym (length-piece t 16 at)) (λ i inside. let small : i < 16 = omega (arith, x.0) in x.1 i small ∙ sym (get_or-piece t 16 at i small))
 
 -- ---- lanes shifted by a table
+
+abbrev pub TAKEN_LANES : List ℕ
+TAKEN_LANES = flat_map (λ row. row) rows
 
 -- 128, or the lane after 48 others
 TAKEN_LANES-at : (k : ℕ) → k < 112 → get_or TAKEN_LANES k 0 ≡ cond (nat_le 48 k && nat_lt k 64) (k - 48) 128

@@ -19,16 +19,15 @@ const LONGEST: usize = 2 * LANES;
 // The number of NULs before the lanes in the table: `shifted` begins at most this far before them.
 const NULS_BEFORE: usize = 3 * LANES;
 
-// The lane that each byte of `shifted` takes. 128 takes none, and gives a NUL.
-static TAKEN_LANES: [u8; 7 * LANES] = [
-    128, 128, 128, 128, 128, 128, 128, 128, 128, 128, 128, 128, 128, 128, 128, 128, //
-    128, 128, 128, 128, 128, 128, 128, 128, 128, 128, 128, 128, 128, 128, 128, 128, //
-    128, 128, 128, 128, 128, 128, 128, 128, 128, 128, 128, 128, 128, 128, 128, 128, //
-    0, 1, 2, 3, 4, 5, 6, 7, 8, 9, 10, 11, 12, 13, 14, 15, //
-    128, 128, 128, 128, 128, 128, 128, 128, 128, 128, 128, 128, 128, 128, 128, 128, //
-    128, 128, 128, 128, 128, 128, 128, 128, 128, 128, 128, 128, 128, 128, 128, 128, //
-    128, 128, 128, 128, 128, 128, 128, 128, 128, 128, 128, 128, 128, 128, 128, 128, //
+// The lane that each byte of `shifted` takes, in rows of a vector.
+static TAKEN_LANES: [[u8; LANES]; 7] = [
+    NO_LANES, NO_LANES, NO_LANES, ALL_LANES, NO_LANES, NO_LANES, NO_LANES,
 ];
+
+const ALL_LANES: [u8; LANES] = [0, 1, 2, 3, 4, 5, 6, 7, 8, 9, 10, 11, 12, 13, 14, 15];
+
+// 128 takes no lane, and gives a NUL.
+const NO_LANES: [u8; LANES] = [128; LANES];
 
 /// Whether `concat_in_vectors` takes arrays of these lengths. If it doesn't, another way gives the same text.
 #[inline(always)]
@@ -122,7 +121,7 @@ fn shifted(lanes: u8x16, start: usize) -> u8x16
     requires start { start ≤ 6 * LANES }
     ensures { result ≡ sixteen_from (replicate NULS_BEFORE 0 ++ lanes) start }
 {
-    lanes.swizzle_dyn(u8x16::from_slice(&TAKEN_LANES[start..]))
+    lanes.swizzle_dyn(u8x16::from_slice(&TAKEN_LANES.as_flattened()[start..]))
 }
 
 /// The first `Q` bytes of the two texts joined, the second stored after the first: for an array of more than `LONGEST`
