@@ -87,6 +87,7 @@ is_space b = b == 32
 
 -- the reply to a line: its capacity ends at its first space, its command at the second or at the end, and the code
 -- units are all that follow
+-- e.g. of "8 titlecase 001z" it is "true"
 unfoldable pub reply : List ℕ → List ℕ
 reply line =
     let rest = after_first is_space line in

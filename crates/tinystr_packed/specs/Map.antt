@@ -14,11 +14,13 @@ use Rattle.tinystr_packed.specs.declared.map.MapError.{MapError}
 use Rattle.tinystr_packed.specs.declared.map.MapError.TheVariants.{Keys, Order, Values}
 
 -- the value of the first entry with a key; of a `BTreeMap` with these entries, what std's `get (slice_cmp nat_cmp)` is
+-- e.g. of "a" with 07 it is Some of 07 for "a", and None for "b"
 abbrev pub get : List (List ℕ × List ℕ) → List ℕ → Option (List ℕ)
 get entries key = lookup (is_at (slice_cmp nat_cmp key)) entries
 
 -- the keys are strictly ascending texts of at most n bytes, and each value has m bytes; the bytes are the padded keys,
 -- joined, and the values, joined
+-- e.g. of "a" with 07 at 2 and 1 they are 61 00 and 07
 pub record ArePacked (entries : List (List ℕ × List ℕ)) (keys values : List ℕ) (n m : ℕ) : Type 0 where
   pub strict : All (λ t. IsStrictText t n) (keys_of entries)
   pub rising : IsRising (keys_of entries)
@@ -28,6 +30,7 @@ pub record ArePacked (entries : List (List ℕ × List ℕ)) (keys values : List
 
 -- the keys aren't packed, for this fault; or they are, and this is the first that isn't above the one before it; or they
 -- are strictly ascending, and there aren't m bytes for each
+-- e.g. Values 1 2 of 61 00 and 07 08 at 2 and 1
 abbrev pub RefusesMap : MapError → List ℕ → List ℕ → ℕ → ℕ → Type 0
 RefusesMap (Keys fault) keys values n m = RefusesRecords fault keys n
 RefusesMap (Order fault) keys values n m = (packed : IsPacked keys n) × IsFirstFall packed.texts fault.index

@@ -11,6 +11,7 @@ use Rattle.std.specs.declared.result.Result.TheVariants.{Ok, Err}
 use Rattle.tinystr_packed.specs.Rising.{order}
 
 -- the index of the text that is the key, or else how many texts are below the key
+-- e.g. in "a" "c" it is Ok 1 of "c", and Err 1 of "b"
 unfoldable pub search_result : List (List ℕ) → List ℕ → Result ℕ ℕ
 search_result texts key = ok_or (position (bytes_eq key) texts) (count_by (λ t. is_lt (order t key)) texts)
 

@@ -7,7 +7,7 @@ ghost use Rattle.tinystr_packed.specs.Rising.{text_at, IsRising};
 ghost use Rattle.tinystr_packed.specs.Search.{search_result};
 
 use crate::eight::{SingleBlocks, search_first_eight};
-use crate::search::{answer_at, binary_search, first_not_below_next};
+use crate::search::{answer_at, binary_search, lower_bound_near};
 use std::cmp::Ordering;
 use std::marker::Model;
 use tinystr::TinyAsciiStr;
@@ -119,7 +119,7 @@ fn answer_after<const N: usize>(
                 Ok(index) => index + 1,
                 Err(place) => place,
             };
-            let place = first_not_below_next(records, key.all_bytes(), start)?;
+            let place = lower_bound_near(records, key.all_bytes(), start)?;
             Some(answer_at(records, place, key))
         }
         Ordering::Equal => Some(answer),

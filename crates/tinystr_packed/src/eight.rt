@@ -10,7 +10,7 @@ ghost use Rattle.tinystr_packed.specs.Rising.{order, text_at, IsFirstNotBelow};
 
 use crate::record::{Pair, bit_below, is_below};
 use crate::search::{
-    LongRecords, answer_at, binary_search, binary_search_as, first_not_below, shared_len,
+    LongRecords, answer_at, binary_search, binary_search_as, lower_bound, shared_len,
 };
 use std::ops::Range;
 use tinystr::TinyAsciiStr;
@@ -62,7 +62,7 @@ pub(crate) fn search_first_eight<const N: usize>(
             left: single_blocks.left - 1,
         };
     }
-    let (places, was_tied) = first_not_below_each(records, keys, near);
+    let (places, was_tied) = lower_bound_each(records, keys, near);
     *answers = answers_at(records, keys, &places);
     if was_tied {
         SingleBlocks::AFTER_A_TIE
@@ -85,7 +85,7 @@ pub(crate) fn answers_of_short<const N: usize>(
     if are_alternating(keys) {
         return answers_of_two(records, keys);
     }
-    let places = first_not_below_each_by_number(records, keys, near);
+    let places = lower_bound_each_short(records, keys, near);
     answers_at(records, keys, &places)
 }
 
@@ -412,7 +412,7 @@ fn shared_len_of_each<const N: usize>(records: &[[u8; N]], keys: &[TinyAsciiStr<
 
 // The places of eight keys among records of at most sixteen bytes. Keys in order are searched for first after the index `near`.
 #[inline(always)]
-fn first_not_below_each_by_number<const N: usize>(
+fn lower_bound_each_short<const N: usize>(
     records: &[[u8; N]],
     keys: &[TinyAsciiStr<N>],
     near: usize,
@@ -429,7 +429,7 @@ fn first_not_below_each_by_number<const N: usize>(
 // The places of eight keys among records, and whether one of them was searched for by itself. Keys in order are searched for
 // first after the index `near`.
 #[inline(always)]
-fn first_not_below_each<const N: usize>(
+fn lower_bound_each<const N: usize>(
     records: &[[u8; N]],
     keys: &[TinyAsciiStr<N>],
     near: usize,
@@ -440,9 +440,9 @@ fn first_not_below_each<const N: usize>(
         (i : ℕ) → i < 8 → IsFirstNotBelow (pad (text_at keys.now i) N) records.now (slice_index result.0 i) }
 {
     if N <= 16 {
-        (first_not_below_each_by_number(records, keys, near), false)
+        (lower_bound_each_short(records, keys, near), false)
     } else {
-        first_not_below_each_long(records, keys, near)
+        lower_bound_each_long(records, keys, near)
     }
 }
 
@@ -470,7 +470,7 @@ fn is_tied_below<const N: usize>(
 // The places among records of more than sixteen bytes. If the record at the place of a key's pair is below the key, the key is
 // searched for by itself.
 #[inline(always)]
-fn first_not_below_each_long<const N: usize>(
+fn lower_bound_each_long<const N: usize>(
     records: &[[u8; N]],
     keys: &[TinyAsciiStr<N>],
     near: usize,
@@ -487,7 +487,7 @@ fn first_not_below_each_long<const N: usize>(
     for lane in 0..8usize {
         let key = keys[lane].all_bytes();
         if is_tied_below(records, start, places[lane], key) {
-            places[lane] = first_not_below(records, key);
+            places[lane] = lower_bound(records, key);
             alone = true;
         }
     }

@@ -7,7 +7,7 @@ ghost use Rattle.tinystr_words.specs.Text.{IsPaddedText, pad, text_of};
 ghost use Rattle.tinystr_packed.specs.Private.Numbers.{AreRisingRecords, IsRecord};
 ghost use Rattle.tinystr_packed.specs.Rising.{IsRising, IsFirstNotBelow};
 
-use crate::search::{first_not_below, first_not_below_whole, is_below_at};
+use crate::search::{is_below_at, lower_bound, lower_bound_whole};
 use tinystr::TinyAsciiStr;
 
 /// How many records begin with a text. No record may be below it.
@@ -27,7 +27,7 @@ pub(crate) fn count_with_prefix<const N: usize>(
     };
     let mut above = *beginning.all_bytes();
     above[last] += 1;
-    first_not_below_near_start(records, &above)
+    lower_bound_near_start(records, &above)
 }
 
 // The place of a key.
@@ -35,7 +35,7 @@ pub(crate) fn count_with_prefix<const N: usize>(
 // mostly few records begin with a text: steps that grow eightfold pass the place, and the records that the last step passed are
 // searched.
 #[inline(always)]
-fn first_not_below_near_start<const N: usize>(records: &[[u8; N]], key: &[u8; N]) -> usize
+fn lower_bound_near_start<const N: usize>(records: &[[u8; N]], key: &[u8; N]) -> usize
     requires records { AreRisingRecords N records.now }
     requires key { IsRecord N key.now }
     ensures { IsFirstNotBelow key.now records.now result }
@@ -49,7 +49,7 @@ fn first_not_below_near_start<const N: usize>(records: &[[u8; N]], key: &[u8; N]
         start = 8 * start + 1;
     }
     let end = len.min(start.saturating_mul(8));
-    start + first_not_below(&records[start..end], key)
+    start + lower_bound(&records[start..end], key)
 }
 
 /// The place of a text among records, and how many of those from there on begin with it. Of any records it is a range inside
@@ -67,7 +67,7 @@ pub(crate) fn range_by_fronts<const N: usize>(
         take result.1 (drop result.0 (map text_of records.now))
         ≡ filter (λ t. starts_with nat_eq t beginning.now) (map text_of records.now) }
 {
-    let start = first_not_below_whole(records, beginning.all_bytes());
+    let start = lower_bound_whole(records, beginning.all_bytes());
     let (_, rest) = records.split_at(start);
     let beginning = beginning.as_utf8();
     let len = rest.partition_point(

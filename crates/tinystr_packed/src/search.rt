@@ -59,7 +59,7 @@ pub(crate) fn binary_search<const N: usize>(
 ) -> Result<usize, usize>
     ensures { IsAnswer N key.now records.now result }
 {
-    let place = first_not_below(records, key.all_bytes());
+    let place = lower_bound(records, key.all_bytes());
     answer_at(records, place, key)
 }
 
@@ -71,7 +71,7 @@ pub(crate) fn binary_search_whole<const N: usize>(
 ) -> Result<usize, usize>
     ensures { IsAnswer N key.now records.now result }
 {
-    let place = first_not_below_whole(records, key.all_bytes());
+    let place = lower_bound_whole(records, key.all_bytes());
     answer_at(records, place, key)
 }
 
@@ -103,31 +103,31 @@ pub(crate) fn answer_at<const N: usize>(
 // One number is all of a record of at most sixteen bytes. The eight bytes after those that all records share distinguish a longer
 // one from most others, sixteen from most of the remaining ones, and all bytes from the last few.
 #[inline(always)]
-pub(crate) fn first_not_below<const N: usize>(records: &[[u8; N]], key: &[u8; N]) -> usize
+pub(crate) fn lower_bound<const N: usize>(records: &[[u8; N]], key: &[u8; N]) -> usize
     ensures bound { result ≤ length records.now }
     ensures place { AreRisingRecords N records.now → IsRecord N key.now → IsFirstNotBelow key.now records.now result }
 {
     if N <= 16 || records.len() < FEWEST_NARROWED {
-        return first_not_below_whole(records, key);
+        return lower_bound_whole(records, key);
     }
-    first_not_below_of_many(records, key)
+    lower_bound_long(records, key)
 }
 
 /// The same, where records of more than sixteen bytes are compared whole.
 #[inline(always)]
-pub(crate) fn first_not_below_whole<const N: usize>(records: &[[u8; N]], key: &[u8; N]) -> usize
+pub(crate) fn lower_bound_whole<const N: usize>(records: &[[u8; N]], key: &[u8; N]) -> usize
     ensures bound { result ≤ length records.now }
     ensures place { AreRisingRecords N records.now → IsRecord N key.now → IsFirstNotBelow key.now records.now result }
 {
     if N <= 16 {
-        return first_not_below_by_number(records, key);
+        return lower_bound_short(records, key);
     }
-    first_not_below_by_halves(records, key)
+    lower_bound_by_halves(records, key)
 }
 
 // The place among records of at most sixteen bytes.
 #[inline(always)]
-fn first_not_below_by_number<const N: usize>(records: &[[u8; N]], key: &[u8; N]) -> usize
+fn lower_bound_short<const N: usize>(records: &[[u8; N]], key: &[u8; N]) -> usize
     requires { N ≤ 16 }
     ensures bound { result ≤ length records.now }
     ensures place { AreRisingRecords N records.now → IsRecord N key.now → IsFirstNotBelow key.now records.now result }
@@ -142,7 +142,7 @@ fn first_not_below_by_number<const N: usize>(records: &[[u8; N]], key: &[u8; N])
 // The place among many records of more than sixteen bytes.
 // Speed: it isn't inlined, so that a search among few records doesn't save the registers that only this one uses.
 #[inline(never)]
-fn first_not_below_of_many<const N: usize>(records: &[[u8; N]], key: &[u8; N]) -> usize
+fn lower_bound_long<const N: usize>(records: &[[u8; N]], key: &[u8; N]) -> usize
     requires { 16 < N }
     ensures bound { result ≤ length records.now }
     ensures place { AreRisingRecords N records.now → IsRecord N key.now → IsFirstNotBelow key.now records.now result }
@@ -150,14 +150,14 @@ fn first_not_below_of_many<const N: usize>(records: &[[u8; N]], key: &[u8; N]) -
     let start = shared_len(records, key);
     let range = narrow::<N, u64>(records, key, start, 0..records.len());
     let range = narrow::<N, u128>(records, key, start, range);
-    first_not_below_within(records, key, range)
+    lower_bound_within(records, key, range)
 }
 
 /// The place of a key that is above all records before an index, if the place is near: that index or, among long records or
 /// among many of more than eight bytes, one of a few after it.
 // Speed: these records are compared one after another, since a processor loads neighbours ahead.
 #[inline(always)]
-pub(crate) fn first_not_below_next<const N: usize>(
+pub(crate) fn lower_bound_near<const N: usize>(
     records: &[[u8; N]],
     key: &[u8; N],
     start: usize,
@@ -242,7 +242,7 @@ fn narrow<const N: usize, T: Number<N>>(
 // The place of a key within a range that holds the place, by whole records.
 // Speed: the middle is first, since it is mostly the key where `narrow` ends.
 #[inline(always)]
-fn first_not_below_within<const N: usize>(
+fn lower_bound_within<const N: usize>(
     records: &[[u8; N]],
     key: &[u8; N],
     range: Range<usize>,
@@ -259,15 +259,15 @@ fn first_not_below_within<const N: usize>(
     }
     let middle = start + (end - start) / 2;
     match compare(&records[middle][..], &key[..]) {
-        Ordering::Less => middle + 1 + first_not_below_by_halves(&records[middle + 1..end], key),
+        Ordering::Less => middle + 1 + lower_bound_by_halves(&records[middle + 1..end], key),
         Ordering::Equal => middle,
-        Ordering::Greater => start + first_not_below_by_halves(&records[start..middle], key),
+        Ordering::Greater => start + lower_bound_by_halves(&records[start..middle], key),
     }
 }
 
 // The place of a key, by whole records and by halves.
 #[inline(always)]
-fn first_not_below_by_halves<const N: usize>(records: &[[u8; N]], key: &[u8; N]) -> usize
+fn lower_bound_by_halves<const N: usize>(records: &[[u8; N]], key: &[u8; N]) -> usize
     ensures bound { result ≤ length records.now }
     ensures place { IsRising records.now → IsFirstNotBelow key.now records.now result }
 {

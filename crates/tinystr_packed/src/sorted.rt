@@ -11,7 +11,7 @@ ghost use Rattle.tinystr_packed.specs.Sorting.{RefusesSorted};
 use crate::each::BinarySearchEach;
 use crate::laws;
 use crate::prefix::count_with_prefix;
-use crate::search::{self, first_not_below};
+use crate::search::{self, lower_bound};
 use crate::table::Table;
 use std::marker::Model;
 use std::ops::Range;
@@ -210,7 +210,7 @@ impl<'a, const N: usize> SortedTable<'a, N> {
     {
         tinystr::laws::fits(beginning);
         let records = self.table.records();
-        let start = first_not_below(records, beginning.all_bytes());
+        let start = lower_bound(records, beginning.all_bytes());
         let (_, rest) = records.split_at(start);
         let len = count_with_prefix(rest, beginning);
         start..start + len

@@ -15,8 +15,8 @@ overflow_add-start g c =
     let not_above = not_above_before (map text_of records) c.args.before.now c.args.answer c.requires.rising c.requires.answer in
     omega (arith, rw c.in-Ok.is at not_above.0, length-map records text_of)
 
-pub first_not_below_next-requires : goal.first_not_below_next-requires
-first_not_below_next-requires g c =
+pub lower_bound_near-requires : goal.lower_bound_near-requires
+lower_bound_near-requires g c =
     let records = c.args.records.now in
     let texts = map text_of records in
     let key = c.all_bytes.ensures in

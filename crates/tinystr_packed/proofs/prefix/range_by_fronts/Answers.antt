@@ -10,8 +10,8 @@ pub returns-clause-start : goal.returns-clause-start
 returns-clause-start g c padded rising =
     let records = c.args.records.now in
     let key = c.all_bytes.ensures in
-    let place = c.first_not_below_whole-start.ensures.place (AreRisingRecords-texts records (map text_of records) g.row.N padded refl rising) (IsRecord-padded c.all_bytes.result.now g.row.N key.padded) in
-    IsFirstNotBelow-texts records (map text_of records) c.args.beginning.now c.all_bytes.result.now g.row.N c.first_not_below_whole-start.result padded refl key.padded key.text place
+    let place = c.lower_bound_whole-start.ensures.place (AreRisingRecords-texts records (map text_of records) g.row.N padded refl rising) (IsRecord-padded c.all_bytes.result.now g.row.N key.padded) in
+    IsFirstNotBelow-texts records (map text_of records) c.args.beginning.now c.all_bytes.result.now g.row.N c.lower_bound_whole-start.result padded refl key.padded key.text place
 
 pub returns-clause-range : goal.returns-clause-range
 returns-clause-range g c = λ padded rising.
@@ -19,7 +19,7 @@ returns-clause-range g c = λ padded rising.
     let ts = map text_of records in
     let p = c.as_utf8-beginning.result.now in
     let rest = c.split_at.result.1.now in
-    let start = c.first_not_below_whole-start.result in
+    let start = c.lower_bound_whole-start.result in
     let len = c.partition_point-len.result in
     let first = rw (← c.as_utf8-beginning.ensures.text) at (returns-clause-start g c padded rising) in
     let parted = IsPartitionedBy-begins records rest ts p g.row.N start padded refl c.as_utf8-beginning.ensures.ascii rising first c.split_at.ensures.back in

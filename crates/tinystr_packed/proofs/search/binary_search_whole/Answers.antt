@@ -9,8 +9,8 @@ answer_at-requires g c =
       (
         search rules,
         (
-          c.first_not_below_whole-place.ensures.bound,
-          λ padded up. rw key.bytes at (c.first_not_below_whole-place.ensures.place up (IsRecord-padded c.all_bytes.result.now g.row.N key.padded)),
+          c.lower_bound_whole-place.ensures.bound,
+          λ padded up. rw key.bytes at (c.lower_bound_whole-place.ensures.place up (IsRecord-padded c.all_bytes.result.now g.row.N key.padded)),
         ),
       ),
     )

@@ -1,7 +1,7 @@
 use Rattle.std.proofs.Common.{◌≡◌, ℕ, ◌<◌, ◌≤◌, ◌-◌, length}
 use Rattle.std.specs.declared.cmp.Ordering.TheVariants.{Less}
 use Rattle.tinystr_packed.specs.Rising.{order, text_at}
-use Rattle.tinystr_packed.proofs.search.first_not_below_next.Given as goal
+use Rattle.tinystr_packed.proofs.search.lower_bound_near.Given as goal
 
 abbrev pub invariant-loop-place : goal.invariant-loop-place
 invariant-loop-place g l = record {

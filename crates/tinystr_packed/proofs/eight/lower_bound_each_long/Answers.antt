@@ -11,8 +11,8 @@ use Rattle.tinystr_packed.specs.Private.EightSearches.{IsPlaceWithin}
 use Rattle.tinystr_packed.proofs.NumberPlaces.{AreNumbered-rising, IsFirstNotBelow-tested}
 use Rattle.tinystr_packed.proofs.RisingTexts.{IsRecord-padded}
 use Rattle.tinystr_packed.proofs.EightSearches.{so_far-set, still-set}
-use Rattle.tinystr_packed.proofs.eight.first_not_below_each_long.Goals.{then-is_tied_below, else-is_tied_below}
-use Rattle.tinystr_packed.proofs.eight.first_not_below_each_long.Goals as goal
+use Rattle.tinystr_packed.proofs.eight.lower_bound_each_long.Goals.{then-is_tied_below, else-is_tied_below}
+use Rattle.tinystr_packed.proofs.eight.lower_bound_each_long.Goals as goal
 
 -- a bound of numbers stays that of them where one is replaced
 bound-set : (xs : List ℕ) (m x i n : ℕ) → m < length xs → x ≤ n → slice_index xs i ≤ n → slice_index (slice_set xs m x) i ≤ n
@@ -38,10 +38,10 @@ loop-lane-preserved g c =
     let padded : IsPaddedText key g.row.N = rw bytes at c.all_bytes-key.ensures.padded in
     elim c.if-is_tied_below.branch [
       | then-is_tied_below w ↦ rw w.places-is (record {
-        long = length-set places lane w.first_not_below.result ∙ h.long;
-        bound = λ i within. bound-set places lane w.first_not_below.result i (length records) (omega (arith, h.long)) w.first_not_below.ensures.bound (h.bound i within);
-        done = λ all up. so_far-set 0 Done places lane w.first_not_below.result (omega (arith, h.long)) (h.done all up) (rw bytes at (w.first_not_below.ensures.place up (IsRecord-padded c.all_bytes-key.result.now g.row.N c.all_bytes-key.ensures.padded)));
-        left = still-set Left places lane w.first_not_below.result h.left;
+        long = length-set places lane w.lower_bound.result ∙ h.long;
+        bound = λ i within. bound-set places lane w.lower_bound.result i (length records) (omega (arith, h.long)) w.lower_bound.ensures.bound (h.bound i within);
+        done = λ all up. so_far-set 0 Done places lane w.lower_bound.result (omega (arith, h.long)) (h.done all up) (rw bytes at (w.lower_bound.ensures.place up (IsRecord-padded c.all_bytes-key.result.now g.row.N c.all_bytes-key.ensures.padded)));
+        left = still-set Left places lane w.lower_bound.result h.left;
       })
       | else-is_tied_below w ↦ (let place = slice_index places lane in
           let bytes_here = c.all_bytes-key.result.now in

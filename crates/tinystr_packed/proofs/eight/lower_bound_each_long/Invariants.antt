@@ -4,7 +4,7 @@ use Rattle.tinystr_words.specs.Text.{IsPaddedText, pad}
 use Rattle.tinystr_packed.specs.Private.Numbers.{AreRisingRecords, pair_at}
 use Rattle.tinystr_packed.specs.Rising.{text_at, IsFirstNotBelow}
 use Rattle.tinystr_packed.specs.Private.EightSearches.{IsPlaceWithin}
-use Rattle.tinystr_packed.proofs.eight.first_not_below_each_long.Given as goal
+use Rattle.tinystr_packed.proofs.eight.lower_bound_each_long.Given as goal
 
 abbrev pub invariant-loop-lane : goal.invariant-loop-lane
 invariant-loop-lane g l = record {

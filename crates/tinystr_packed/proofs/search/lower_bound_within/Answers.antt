@@ -3,7 +3,7 @@ use Rattle.std.proofs.lemmas.List.{get_or_default}
 use Rattle.std.specs.declared.cmp.Ordering.TheVariants.{Less, Equal, Greater}
 use Rattle.tinystr_packed.specs.Rising.{order, text_at}
 use Rattle.tinystr_packed.proofs.RisingTexts.{IsRising-range, IsFirstNotBelow-after_middle, IsFirstNotBelow-same, IsFirstNotBelow-before_middle, IsFirstNotBelow-empty}
-use Rattle.tinystr_packed.proofs.search.first_not_below_within.Goals as goal
+use Rattle.tinystr_packed.proofs.search.lower_bound_within.Goals as goal
 
 pub returns-then-start-end-clause-place : goal.returns-then-start-end-clause-place
 returns-then-start-end-clause-place g c rising within = IsFirstNotBelow-empty c.args.records.now c.args.key.now c.args.range.start c.args.range.end within (omega arith)
@@ -16,7 +16,7 @@ returns-in-Less-clause-place g c rising within =
     let some : range.start < range.end = omega arith in
     let here = get_or_default records middle c.index-records-middle.result [] (omega (arith, within.inside)) in
     let less : order (text_at records middle) c.args.key.now ≡ Less = rw (← here, ← c.index-records-middle.is) (sym c.compare.ensures ∙ c.in-Less.is) in
-    IsFirstNotBelow-after_middle records c.args.key.now range.start range.end middle c.first_not_below_by_halves.result rising within (omega arith) less (c.first_not_below_by_halves.ensures.place (IsRising-range records (middle + 1) (range.end - (middle + 1)) (omega (arith, within.inside)) rising))
+    IsFirstNotBelow-after_middle records c.args.key.now range.start range.end middle c.lower_bound_by_halves.result rising within (omega arith) less (c.lower_bound_by_halves.ensures.place (IsRising-range records (middle + 1) (range.end - (middle + 1)) (omega (arith, within.inside)) rising))
 
 pub returns-in-Equal-clause-place : goal.returns-in-Equal-clause-place
 returns-in-Equal-clause-place g c rising within =
@@ -37,4 +37,4 @@ returns-in-Greater-clause-place g c rising within =
     let here = get_or_default records middle c.index-records-middle.result [] (omega (arith, within.inside)) in
     let above : order (text_at records middle) c.args.key.now ≡ Greater = rw (← here, ← c.index-records-middle.is) (sym c.compare.ensures ∙ c.in-Greater.is) in
     let other : order (text_at records middle) c.args.key.now ≢ Less = λ less. cc in
-    IsFirstNotBelow-before_middle records c.args.key.now range.start range.end middle c.first_not_below_by_halves-in-Greater.result rising within (omega arith) (omega arith) other (c.first_not_below_by_halves-in-Greater.ensures.place (IsRising-range records range.start (middle - range.start) (omega (arith, within.inside)) rising))
+    IsFirstNotBelow-before_middle records c.args.key.now range.start range.end middle c.lower_bound_by_halves-in-Greater.result rising within (omega arith) (omega arith) other (c.lower_bound_by_halves-in-Greater.ensures.place (IsRising-range records range.start (middle - range.start) (omega (arith, within.inside)) rising))

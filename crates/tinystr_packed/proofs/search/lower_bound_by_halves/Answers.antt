@@ -1,7 +1,7 @@
 use Rattle.std.proofs.Common.{rules}
 use Rattle.std.proofs.lemmas.List.Sorted.{IsPartitionPoint-from_clause}
 use Rattle.tinystr_packed.proofs.RisingTexts.{is_below_key, IsPartitionedBy-rising, IsFirstNotBelow-cut}
-use Rattle.tinystr_packed.proofs.search.first_not_below_by_halves.Goals as goal
+use Rattle.tinystr_packed.proofs.search.lower_bound_by_halves.Goals as goal
 
 pub returns-clause-place : goal.returns-clause-place
 returns-clause-place g c = λ rising.

@@ -1,7 +1,7 @@
 use Rattle.std.proofs.Common.{arith}
 use Rattle.tinystr_packed.proofs.RecordOrder.{AreDistinguished-short, AreDistinguished-pair}
 use Rattle.tinystr_packed.proofs.RisingTexts.{IsFirstNotBelowWithin-all, IsFirstNotBelow-empty}
-use Rattle.tinystr_packed.proofs.search.first_not_below_by_number.Goals as goal
+use Rattle.tinystr_packed.proofs.search.lower_bound_short.Goals as goal
 
 pub returns-then-this-le8-clause-place : goal.returns-then-this-le8-clause-place
 returns-then-this-le8-clause-place g c = λ up one.

@@ -1,7 +1,7 @@
 use Rattle.std.proofs.Common.{◌≡◌, ℕ, ◌<◌, ◌≤◌, ◌-◌, length}
 use Rattle.std.specs.declared.cmp.Ordering.TheVariants.{Less}
 use Rattle.tinystr_packed.specs.Rising.{order, text_at}
-use Rattle.tinystr_packed.proofs.prefix.first_not_below_near_start.Given as goal
+use Rattle.tinystr_packed.proofs.prefix.lower_bound_near_start.Given as goal
 
 abbrev pub invariant-loop-start : goal.invariant-loop-start
 invariant-loop-start g l = record {

@@ -5,7 +5,7 @@ use Rattle.tinystr_words.proofs.Texts.{IsPaddedText-pad}
 use Rattle.tinystr_packed.specs.Rising.{text_at}
 use Rattle.tinystr_packed.proofs.NumberPlaces.{AreNumbered-rising, IsFirstNotBelow-number}
 use Rattle.tinystr_packed.proofs.RisingTexts.{IsRecord-padded}
-use Rattle.tinystr_packed.proofs.eight.first_not_below_each_by_number.Goals as goal
+use Rattle.tinystr_packed.proofs.eight.lower_bound_each_short.Goals as goal
 
 pub returns-clause-bound : goal.returns-clause-bound
 returns-clause-bound g c i lane = (c.places_by_numbers.ensures.places i lane).inside

@@ -1,6 +1,6 @@
 use Rattle.std.proofs.Common.{◌∙◌, arith, sym, true≢false}
 use Rattle.tinystr_packed.proofs.RisingTexts.{below_from_rising}
-use Rattle.tinystr_packed.proofs.search.first_not_below_next.Goals as goal
+use Rattle.tinystr_packed.proofs.search.lower_bound_near.Goals as goal
 
 pub loop-place-preserved : goal.loop-place-preserved
 loop-place-preserved g c =
