@@ -1,129 +1,110 @@
-#!/usr/bin/env python3
-"""The bytes of hashed tables, by the definitions in crates/tinystr_hashed/specs and not by the library: the place of a
-record, the bytes of some texts, and what tinystr_hashed_check returns of bytes. As a program it prints the tables of
-c/calls.c as C has them."""
-import textwrap
+"""hashed.py CAPACITY [--digest] < TEXTS: the hashed table of these texts, one a line, or its digest and its size. It shares no
+code with the library: it follows "The bytes" and "What `pack_hashed` writes" in crates/tinystr_hashed/CALLING.md."""
+import functools
+import struct
+import sys
 
-CAPACITIES = {
-    2: ["AT", "BE", "CH", "DE", "GB", "X"],
-    3: ["CAD", "CHF", "EUR", "GB", "JPY", "USD"],
-    4: ["Arab", "Cyrl", "Hans", "Hant", "Latn", ""],
-    8: ["a", "en", "euro", "posix", "saltino", "valencia"],
-    16: ["", "Europe", "Europe/B", "Europe/Berlin", "America/New_York", "Australia/Sydney"],
-}
-SEED, FIRST_DISPLACEMENT, GROUPS = 0xFEDCBA9876543210, 0x01020304, 2
-OK, NUL, NON_ASCII, BAD_LENGTH, BAD_HEADER, BAD_VERSION, BAD_DISPLACEMENTS, MISPLACED = 0, 2, 3, 8, 12, 13, 14, 15
-
-
-def number(piece):
-    return int.from_bytes(piece, "little")
-
-
-def folded(a, b):
-    high, low = divmod(a * b, 2**64)
-    return high ^ low
-
-
-def scaled(found, count):
-    return found * count // 2**64
+OK, NUL, NON_ASCII, BAD_LENGTH, BAD_HEADER, BAD_VERSION, BAD_INDEX, MISPLACED = 0, 2, 3, 8, 12, 13, 14, 15
+# for each attempt: how many texts there are for 16 pilots, and how many for a move
+ATTEMPTS = [*zip([36] * 3 + [32] * 3 + [24] * 2 + [16] * 2 + [8] * 2, [64] * 3 + [32] * 3 + [16] * 6)]
 
 
 def hash_of(seed, record):
-    for start in range(0, len(record), 16):
-        piece = record[start : start + 16]
-        seed = folded(seed ^ number(piece[:8]), 0x9E37_79B9_7F4A_7C15 ^ number(piece[8:]))
-    return seed
+    found = seed * 0x2545_F491_4F6C_DD1D % 2**64
+    for a, b in struct.iter_unpack("<2Q", record + bytes(-len(record) % 16)):
+        high, low = divmod((found ^ a) * (found ^ 0x9E37_79B9_7F4A_7C15 ^ b), 2**64)
+        found = high ^ low
+    return found
 
 
-def displaced(found, displacement, count):
-    return scaled(folded(found ^ displacement, 0xE703_7ED1_A0B4_28DB), count)
+def slot_of(found, pilot, slots):
+    return (found * 0xE703_7ED1_A0B4_28DB * pilot % 2**64) * slots // 2**64
 
 
-def place_of(seed, displacements, count, record):
+def place_of(seed, pilots, moves, count, record):
     found = hash_of(seed, record)
-    displacement = displacements[scaled(found, len(displacements))] if displacements else 0
-    return displaced(found, displacement, count)
+    slot = slot_of(found, pilots[found * len(pilots) // 2**64], count + len(moves))
+    return slot if slot < count else moves[slot - count]
 
 
-def packed(texts, capacity, seed=SEED, groups=GROUPS, first=FIRST_DISPLACEMENT):
-    """The bytes of some texts, which differ, with a displacement for each group of them. The largest group gets its
-    displacement first: the lowest from `first` on by which each of its texts has a free place of its own."""
-    records = [text.ljust(capacity, b"\0") for text in texts]
-    count, placed = len(records), {}
-    members, displacements = [{} for _ in range(groups)], [0] * groups
-    for record in records:
-        found = hash_of(seed, record)
-        members[scaled(found, groups)][found] = record
-    for group in sorted(range(groups), key=lambda group: -len(members[group])):
-        displacement = first
-        while True:
-            places = [displaced(found, displacement, count) for found in members[group]]
-            if len(set(places)) == len(places) and not any(place in placed for place in places):
-                break
-            displacement += 1
-        displacements[group] = displacement
-        placed.update(zip(places, members[group].values()))
-    numbers = [(1, 4), (groups, 4), (seed, 8), *((it, 4) for it in displacements)]
-    return b"".join(it.to_bytes(size, "little") for it, size in numbers) + b"".join(placed[place] for place in range(count))
+def attempt(records, seed, pilot_count, move_count):
+    """The table of some records, which differ, by this seed and so many pilots and moves; None where the search fails."""
+    count, pilots, groups, owners, held, stack, took = len(records), bytearray(pilot_count), {}, {}, {}, [], []
+    for found in (hash_of(seed, record) for record in records):
+        groups.setdefault(found * pilot_count // 2**64, []).append(found)
+
+    def choices(group, turn):
+        for tried in range(255):
+            pilot = 1 + (turn * 0x9E37_79B1 // 2**24 % 256 + tried) % 255
+            slots = {slot_of(found, pilot, count + move_count) for found in groups[group]}
+            losers = [owners[slot] for slot in slots if slot in owners]
+            if len(slots) == len(groups[group]) and not (set(losers) & set(took[-8:]) if turn else losers):
+                yield sum(len(groups[loser]) ** 2 for loser in losers), tried, pilot, slots, sorted(set(losers))
+
+    def takes(group, turn=0):
+        if choice := min(choices(group, turn), default=None) if turn else next(choices(group, turn), None):
+            _, _, pilots[group], held[group], losers = choice
+            for slot in [slot for loser in losers for slot in held[loser]]:
+                del owners[slot]
+            owners.update(dict.fromkeys(held[group], group))
+            stack.extend(losers)
+        return choice
+
+    stack += [group for group in sorted(groups, key=lambda group: (-len(groups[group]), group)) if not takes(group)][::-1]
+    if max(map(len, groups.values())) > 32 or len(stack) > count // 8 + 32:
+        return None
+    while stack:
+        group = stack.pop()
+        if not takes(group):
+            if len(took) == count // 8 + 32 or not takes(group, len(took) + 1):
+                return None
+            took.append(group)
+    free = (place for place in range(count) if place not in owners)
+    moves = [next(free) if slot in owners else 0 for slot in range(count, count + move_count)]
+    start = struct.pack(f"<4I{pilot_count}s{move_count}I", 1, pilot_count, move_count, seed, pilots, *moves)
+    return start + b"".join(sorted(records, key=functools.partial(place_of, seed, pilots, moves, count)))
 
 
-def start_of(data):
-    """Where the records start, after the header and the displacements."""
-    return 16 + 4 * number(data[4:8])
+def packed(texts, capacity, first_seed=1):
+    """The table of the set of these texts, as the builder makes it; the builder's first seed is 1."""
+    records = sorted({text.ljust(capacity, b"\0") for text in texts})
+    count, size = len(records), len(records) * capacity
+    for seed, (for_pilots, for_move) in enumerate(ATTEMPTS if 1 < count < 2**31 else [], first_seed):
+        pilots, moves = 1 + -(-16 * count // for_pilots), count // for_move
+        pilots += -(16 + pilots + 4 * moves) % (64 if size >= 4096 else 16 if size >= 256 else 1)
+        if table := attempt(records, seed, pilots, moves):
+            return table
+    return b"\1".ljust(16, b"\0") + b"".join(records)
+
+
+def digest(data):
+    return functools.reduce(lambda found, byte: (found ^ byte) * 0x100_0000_01B3 % 2**64, data, 0xCBF2_9CE4_8422_2325)
 
 
 def records_of(data, capacity):
-    return [data[start : start + capacity] for start in range(start_of(data), len(data), capacity)]
-
-
-def fault_of(record):
-    """The code of a record that is no padded text."""
-    for index, byte in enumerate(record):
-        if byte > 127:
-            return NON_ASCII
-        if byte and 0 in record[:index]:
-            return NUL
-    return None
+    _, pilots, moves = struct.unpack_from("<3I", data)
+    return [data[at:][:capacity] for at in range(16 + pilots + 4 * moves, len(data), capacity)]
 
 
 def checked(data, capacity):
-    """The code and the value that tinystr_hashed_check returns at one of the capacities."""
-    if len(data) < 16:
-        return BAD_HEADER, len(data)
-    version, groups, seed, start = number(data[:4]), number(data[4:8]), number(data[8:16]), start_of(data)
-    if version != 1:
-        return BAD_VERSION, version
-    if start > len(data):
-        return BAD_DISPLACEMENTS, groups
-    displacements = [number(data[index : index + 4]) for index in range(16, start, 4)]
-    if (len(data) - start) % capacity:
-        return BAD_LENGTH, len(data) - start
+    """The code and the value that tinystr_hashed_check returns of bytes."""
+    version, pilot_count, move_count, seed = struct.unpack("<4I", data[:16].ljust(16))
+    size, after = pilot_count + 4 * move_count, len(data) - 16
+    faults = (after < 0, BAD_HEADER, len(data)), (version != 1, BAD_VERSION, version), (after < size, BAD_INDEX, size)
+    for fault, *answer in *faults, ((after - size) % capacity, BAD_LENGTH, after - size):
+        if fault:
+            return tuple(answer)
+    pilots, *moves = struct.unpack_from(f"<{pilot_count}s{move_count}I", data, 16)
     records = records_of(data, capacity)
     for index, record in enumerate(records):
-        if fault := fault_of(record):
-            return fault, index
+        if rest := record.lstrip(bytes(range(1, 128))).lstrip(b"\0"):
+            return NON_ASCII if rest[0] > 127 else NUL, index
     for index, record in enumerate(records):
-        if place_of(seed, displacements, len(records), record) != index:
+        if place_of(seed, pilots, moves, len(records), record) != index if pilots else index and record <= records[index - 1]:
             return MISPLACED, index
     return OK, len(records)
 
 
-def c_string(data):
-    """Bytes in C: each that is no letter, digit, / or _ by its three octal digits."""
-    return '"' + "".join(chr(it) if it < 128 and chr(it).isalnum() or it in b"/_" else f"\\{it:03o}" for it in data) + '"'
-
-
-def c_table(capacity, texts):
-    """A table in C: its capacity, the number of its bytes, its texts in order, and its header, displacements and records."""
-    data = packed([text.encode() for text in texts], capacity)
-    assert checked(data, capacity) == (OK, len(texts))
-    start, records = start_of(data), records_of(data, capacity)
-    in_order = ", ".join(c_string(record.rstrip(b"\0")) for record in records)
-    strings = " ".join(map(c_string, [data[:16], data[16:start], *records]))
-    parts = textwrap.wrap(strings, 114, break_long_words=False, break_on_hyphens=False)
-    return "\n".join([f"    {{{capacity}, {len(data)}, {{{in_order}}},", *(f"     {part}" for part in parts)]) + "},"
-
-
 if __name__ == "__main__":
-    for capacity, texts in CAPACITIES.items():
-        print(c_table(capacity, texts))
+    table = packed([line.removesuffix(b"\n") for line in sys.stdin.buffer], int(sys.argv[1]))
+    sys.stdout.buffer.write(b"%#018x %d\n" % (digest(table), len(table)) if "--digest" in sys.argv else table)

@@ -10,7 +10,8 @@
  *
  * What the caller must ensure: no call checks it, and otherwise the behaviour is undefined
  *   - A pointer whose length isn't 0 points to that many bytes (`tinystr_result *`: results) of one object, at most SSIZE_MAX
- *     bytes. All can be read; those of `out`, and of the `text` of tinystr_change_case, can be written too.
+ *     bytes. All can be read. Those of `out`, of the `text` of tinystr_change_case, and of both arguments of
+ *     tinystr_sorted_pack can be written too.
  *   - What a call may write overlaps no other argument: `out` overlaps no input.
  *   - While the call runs, no other thread writes these bytes, or reads those that the call may write. Any calls that keep this
  *     rule may run concurrently, in signal handlers too.
@@ -23,11 +24,15 @@
  *        BAD_ARGUMENT.
  *     2. the bytes, but not the table of a search, in the order of the parameters, and of a hashed table in the order of its
  *        parts: first their length, then the bytes, and then the order or the places of the texts.
- *     3. the length of `out`: NO_ROOM.
+ *     3. the length of `out` or of `scratch`: NO_ROOM.
  *   Each function below lists OK first, and NOT_FOUND if it may return it, and then the codes of its checks in this order.
  *   NUL and NON_ASCII are one check, which stops at the first fault: at a byte above 127 the code is NON_ASCII, and at a byte
- *   from 1 to 127 after a NUL it is NUL. Bytes without a fault are a padded text. A function that accepts only a text returns
- *   NUL if they end with a NUL.
+ *   from 1 to 127 after a NUL it is NUL.
+ *
+ * NULs after a text
+ *   A key, a prefix, and the text of tinystr_ask and tinystr_change_case may have any number of NULs after them, which don't
+ *   count: the field `char code[4]` that holds "GB\0\0" can be passed with its length 4. tinystr_read and tinystr_langid read
+ *   strings, in which each NUL is a fault.
  *
  * Words
  *   text          bytes from 1 to 127, none or more
@@ -47,8 +52,8 @@
 extern "C" {
 #endif
 
-/* Of this header: 10,000 times the first number, 100 times the second, and the third. 200 is 0.2.0. */
-#define TINYSTR_VERSION 200
+/* Of this header: 10,000 times the first number, 100 times the second, and the third. 300 is 0.3.0. */
+#define TINYSTR_VERSION 300
 
 /* The codes. Later versions keep the numbers of codes, questions and cases. */
 enum tinystr_code {
@@ -58,7 +63,7 @@ enum tinystr_code {
     TINYSTR_NON_ASCII = 3,          /* a byte above 127 */
     TINYSTR_INVALID_LANGUAGE = 4,   /* the first subtag isn't a language */
     TINYSTR_INVALID_SUBTAG = 5,     /* the first subtag is a language, and a later one isn't accepted */
-    TINYSTR_NO_ROOM = 6,            /* `out` is too short */
+    TINYSTR_NO_ROOM = 6,            /* `out` or `scratch` is too short */
     TINYSTR_BAD_ARGUMENT = 7,       /* there is no such capacity, size, question or case */
     TINYSTR_BAD_LENGTH = 8,         /* the capacity doesn't divide the number of bytes */
     TINYSTR_NOT_RISING = 9,         /* a text isn't above the one before it */
@@ -66,8 +71,9 @@ enum tinystr_code {
     TINYSTR_NOT_FOUND = 11,         /* the text is none of the records' */
     TINYSTR_BAD_HEADER = 12,        /* fewer bytes than the header of a hashed table has */
     TINYSTR_BAD_VERSION = 13,       /* the version of a hashed table isn't 1 */
-    TINYSTR_BAD_DISPLACEMENTS = 14, /* fewer bytes than the displacements of a hashed table have */
-    TINYSTR_MISPLACED = 15          /* a text of a hashed table isn't at its place */
+    TINYSTR_BAD_INDEX = 14,         /* fewer bytes than the pilots and the moves of a hashed table have */
+    TINYSTR_MISPLACED = 15,         /* a text of a hashed table isn't at its place, or in order */
+    TINYSTR_DUPLICATE = 16          /* a text occurs twice */
 };
 
 /* The questions (predicates) of tinystr_ask. Each is true of the empty text. */
@@ -90,22 +96,34 @@ enum tinystr_case {
     TINYSTR_UPPER = 2
 };
 
-/* A code, and a value: 0, or what the function lists. If a text is rejected, it is the number of its bytes (TOO_LONG), the
- * index of the first NUL (NUL), or the index of the first byte above 127 (NON_ASCII). */
+/* With the code OK, `value` is what the function lists, and `detail` is 0. With any other code `value` is 0, and `detail` is
+ * what the function lists, or 4294967295 if that is larger. If a text is rejected, `detail` is the number of its bytes that
+ * count (TOO_LONG), the index of the first NUL (NUL), or the index of the first byte above 127 (NON_ASCII). */
 typedef struct tinystr_result {
     size_t value;
     uint32_t code;
+    uint32_t detail;
 } tinystr_result;
 
-/* `count` records from record `start` on. */
+/* `count` records from record `start` on. With any code but OK both are 0, and `detail` is as in a tinystr_result. */
 typedef struct tinystr_range {
     size_t start;
     size_t count;
     uint32_t code;
+    uint32_t detail;
 } tinystr_range;
 
 /* The version of the linked library, as TINYSTR_VERSION. */
 uint32_t tinystr_version(void);
+
+/* The length of an `out` that holds the text of any code, and a NUL after it. */
+#define TINYSTR_MESSAGE_ROOM 64
+
+/* Writes the text of a code, in English, and NULs up to the end of `out`. A number that is no code has a text too.
+ *   OK                 value: the length of the text. Where `out` is longer, it is a C string.
+ *   NO_ROOM            detail: the length of the text, which is above `out_len`.
+ * With NO_ROOM, `out` is as it was. */
+tinystr_result tinystr_message(uint32_t code, void *out, size_t out_len);
 
 /* The length of an `out` that holds any canonical text, and a NUL after it. */
 #define TINYSTR_LANGID_ROOM 18
@@ -115,52 +133,61 @@ uint32_t tinystr_version(void);
  * use are rejected. Writes its canonical text, as zh-Hant-TW, and NULs up to the end of `out`. Only case and separators
  * change, and nothing is looked up in a registry: iw stays iw.
  *   OK                 value: the length of the text, at most 17. Where `out` is longer, it is a C string.
- *   INVALID_LANGUAGE
- *   INVALID_SUBTAG
- *   NO_ROOM            value: the length of the text, which is above `out_len`.
+ *   INVALID_LANGUAGE, INVALID_SUBTAG   detail: 0.
+ *   NO_ROOM            detail: the length of the text, which is above `out_len`.
  * With any code but OK, `out` is as it was. */
 tinystr_result tinystr_langid(const void *input, size_t input_len, void *out, size_t out_len);
 
 /* Reads a text of at most `out_len` bytes, and writes it padded. `out_len` is the capacity, of at most 16.
  *   OK                 value: the length of the text.
- *   BAD_ARGUMENT       value: `out_len`, which is above 16.
+ *   BAD_ARGUMENT       detail: `out_len`, which is above 16.
  *   TOO_LONG
  *   NUL, NON_ASCII
  * With any code but OK, `out` is as it was. */
 tinystr_result tinystr_read(const void *input, size_t input_len, void *out, size_t out_len);
 
-/* Whether a question (a predicate) is true of a text of at most 16 bytes, padded or not.
+/* Whether a question (a predicate) is true of a text of at most 16 bytes.
  *   OK                 value: 1 for yes, 0 for no.
- *   BAD_ARGUMENT       value: the question, which isn't one of tinystr_question.
- *   BAD_ARGUMENT       value: `text_len`, which is above 16.
- *   NUL, NON_ASCII     The bytes aren't a padded text. */
+ *   BAD_ARGUMENT       detail: the question, which isn't one of tinystr_question.
+ *   TOO_LONG           The text has more than 16 bytes.
+ *   NUL, NON_ASCII */
 tinystr_result tinystr_ask(const void *text, size_t text_len, uint32_t question);
 
-/* Changes the case of a text of at most 16 bytes, padded or not, in place.
+/* Changes the case of a text of at most 16 bytes in place.
  *   OK                 value: the length of the text.
- *   BAD_ARGUMENT       value: the case, which isn't one of tinystr_case.
- *   BAD_ARGUMENT       value: `text_len`, which is above 16.
- *   NUL, NON_ASCII     The bytes aren't a padded text.
+ *   BAD_ARGUMENT       detail: the case, which isn't one of tinystr_case.
+ *   TOO_LONG           The text has more than 16 bytes.
+ *   NUL, NON_ASCII
  * With any code but OK, the bytes are as they were. */
 tinystr_result tinystr_change_case(void *text, size_t text_len, uint32_t letter_case);
 
 /* ---- Records. A capacity is 2, 3, 4, 8 or 16. Each function below checks this first. At any other capacity the code is
- * BAD_ARGUMENT, and the value of a tinystr_result is the capacity. */
+ * BAD_ARGUMENT, and `detail` is the capacity. */
 
-/* Whether the bytes are records. They hold neither the capacity nor their number, so a cut table can pass.
+/* Whether the bytes are records. It isn't a checksum: they hold neither the capacity nor their number, so a cut table can pass.
  *   OK                 value: how many.
- *   BAD_LENGTH         value: `bytes_len`.
- *   NUL, NON_ASCII     value: the index of the first record that isn't a padded text. */
+ *   BAD_LENGTH         detail: `bytes_len`.
+ *   NUL, NON_ASCII     detail: the index of the first record that isn't a padded text. */
 tinystr_result tinystr_table_check(const void *bytes, size_t bytes_len, size_t capacity);
 
 /* Whether the bytes are records, and strictly ascending. The codes are those of tinystr_table_check, and after them
- *   NOT_RISING         value: the index of the first record that isn't above the one before it. */
+ *   NOT_RISING         detail: the index of the first record that isn't above the one before it. */
 tinystr_result tinystr_sorted_check(const void *bytes, size_t bytes_len, size_t capacity);
 
-/* Searches a text, without NULs after it, in strictly ascending records. The records aren't checked: if they are anything
+/* Puts records in order in place, so that they are strictly ascending, by the help of `scratch`: as many bytes of the caller,
+ * whatever they are, which it leaves in any state.
+ *   OK                 value: how many records.
+ *   BAD_LENGTH         detail: `bytes_len`.
+ *   NUL, NON_ASCII     detail: the index of the first record that isn't a padded text.
+ *   NO_ROOM            detail: `bytes_len`, which is above `scratch_len`.
+ *   DUPLICATE          detail: the index of the first record that is the same as the one before it, now that all are in order.
+ * With any code but OK and DUPLICATE, the records are as they were. */
+tinystr_result tinystr_sorted_pack(void *bytes, size_t bytes_len, size_t capacity, void *scratch, size_t scratch_len);
+
+/* Searches a text in strictly ascending records. The records aren't checked: if they are anything
  * else, it returns OK with the index of some record, or NOT_FOUND with an index from 0 to the number of records.
  *   OK                 value: its index.
- *   NOT_FOUND          value: the index at which it is to be inserted.
+ *   NOT_FOUND          detail: the index at which it is to be inserted.
  *   TOO_LONG           The key has more than `capacity` bytes.
  *   NUL, NON_ASCII     The key isn't a text. */
 tinystr_result tinystr_sorted_search(const void *bytes, size_t bytes_len, size_t capacity,
@@ -173,9 +200,9 @@ tinystr_result tinystr_sorted_search(const void *bytes, size_t bytes_len, size_t
  *                      with the key's index, or NOT_FOUND with the index at which the key is to be inserted. If the
  *                      records aren't strictly ascending, the indices stay in bounds too, and may differ from those of
  *                      tinystr_sorted_search.
- *   BAD_LENGTH         value: `keys_len`.
- *   NUL, NON_ASCII     value: the index of the first key that isn't a padded text.
- *   NO_ROOM            value: how many keys, which is above `out_len`.
+ *   BAD_LENGTH         detail: `keys_len`.
+ *   NUL, NON_ASCII     detail: the index of the first key that isn't a padded text.
+ *   NO_ROOM            detail: how many keys, which is above `out_len`.
  * With any code but OK, `out` is as it was; with OK, so are the results after those of the keys. */
 tinystr_result tinystr_sorted_search_each(const void *bytes, size_t bytes_len, size_t capacity,
                                           const void *keys, size_t keys_len,
@@ -185,44 +212,62 @@ tinystr_result tinystr_sorted_search_each(const void *bytes, size_t bytes_len, s
  * anything else, the range stays in bounds, and may be wrong.
  *   OK                 start: the index of the first, or at which `beginning` is to be inserted. count: how many.
  *   TOO_LONG           The prefix has more than `capacity` bytes.
- *   NUL, NON_ASCII     The prefix isn't a text.
- * With any code but OK, start and count are 0. */
+ *   NUL, NON_ASCII     The prefix isn't a text. */
 tinystr_range tinystr_sorted_prefix(const void *bytes, size_t bytes_len, size_t capacity,
                                     const void *beginning, size_t beginning_len);
 
 /* Whether the keys are strictly ascending records, and the values are `value_size` bytes for each of them: 1, 2, 4 or
  * 8. The value of the key at an index, which tinystr_sorted_search finds, is at `values + index * value_size`.
  *   OK                 value: how many keys.
- *   BAD_ARGUMENT       value: `value_size`, which is none of these sizes.
+ *   BAD_ARGUMENT       detail: `value_size`, which is none of these sizes.
  *   BAD_LENGTH, NUL, NON_ASCII, NOT_RISING   Of the keys, as tinystr_sorted_check returns.
- *   BAD_VALUES         value: `values_len`. */
+ *   BAD_VALUES         detail: `values_len`. */
 tinystr_result tinystr_map_check(const void *keys, size_t keys_len, size_t capacity,
                                  const void *values, size_t values_len, size_t value_size);
 
-/* ---- Hashed tables: records in the order of a hash, so that a text is compared with one record. The bytes are a version
- * of 4 bytes, which is 1; the number of displacements, of 4; a seed, of 8; the displacements, of 4 each; and the records.
- * All numbers are little-endian. A text's place is its index among the records; it is computed from the text, the seed
- * and one displacement. The repository's crates/tinystr_hashed has the table of this layout (`HashedTable`), defines the
- * place (`place_of`), and makes the bytes (`pack_hashed`). */
+/* ---- Hashed tables: records in the order of a hash, so that a text is compared with one record, and before them numbers from
+ * which a text's place, its index among the records, is computed. The repository's command tinystr-table makes them, and its
+ * crates/tinystr_hashed/CALLING.md has their format. */
 
-/* Whether the bytes are a hashed table.
+/* Whether the bytes are a hashed table. It isn't a checksum: a cut table can pass.
  *   OK                 value: how many texts.
- *   BAD_HEADER         value: `bytes_len`, which is below 16.
- *   BAD_VERSION        value: the version, which isn't 1.
- *   BAD_DISPLACEMENTS  value: the number of displacements, which have more bytes than follow the header.
- *   BAD_LENGTH         value: the number of bytes after the displacements.
- *   NUL, NON_ASCII     value: the index of the first record that isn't a padded text.
- *   MISPLACED          value: the index of the first text that isn't at its place. */
+ *   BAD_HEADER         detail: `bytes_len`, which is below 16.
+ *   BAD_VERSION        detail: the version, which isn't 1.
+ *   BAD_INDEX          detail: the number of bytes of the pilots and the moves, of which fewer follow the header.
+ *   BAD_LENGTH         detail: the number of bytes after these.
+ *   NUL, NON_ASCII     detail: the index of the first record that isn't a padded text.
+ *   MISPLACED          detail: the index of the first text that isn't at its place or, without pilots, above the one before. */
 tinystr_result tinystr_hashed_check(const void *bytes, size_t bytes_len, size_t capacity);
 
-/* Searches a text, without NULs after it, in a hashed table. The bytes aren't checked: if they are anything else, it returns
+/* Searches a text in a hashed table. The bytes aren't checked: if they are anything else, it returns
  * OK with the index of some record, or NOT_FOUND.
  *   OK                 value: its index.
- *   NOT_FOUND          value: 0.
+ *   NOT_FOUND          detail: 0.
  *   TOO_LONG           The key has more than `capacity` bytes.
  *   NUL, NON_ASCII     The key isn't a text. */
 tinystr_result tinystr_hashed_search(const void *bytes, size_t bytes_len, size_t capacity,
                                      const void *key, size_t key_len);
+
+/* Searches each of some keys in a hashed table. The keys are records of the same capacity, in any order, and are checked.
+ * The table isn't checked.
+ *   OK                 value: how many keys. `out` begins with a result for each key, that of tinystr_hashed_search.
+ *   BAD_LENGTH         detail: `keys_len`.
+ *   NUL, NON_ASCII     detail: the index of the first key that isn't a padded text.
+ *   NO_ROOM            detail: how many keys, which is above `out_len`.
+ * With any code but OK, `out` is as it was; with OK, so are the results after those of the keys. */
+tinystr_result tinystr_hashed_search_each(const void *bytes, size_t bytes_len, size_t capacity,
+                                          const void *keys, size_t keys_len,
+                                          tinystr_result *out, size_t out_len);
+
+/* Whether the keys are a hashed table, and the values are `value_size` bytes for each of them: 1, 2, 4 or 8. The value of the
+ * key at an index, which tinystr_hashed_search finds, is at `values + index * value_size`.
+ *   OK                 value: how many keys.
+ *   BAD_ARGUMENT       detail: `value_size`, which is none of these sizes.
+ *   BAD_HEADER, BAD_VERSION, BAD_INDEX, BAD_LENGTH, NUL, NON_ASCII, MISPLACED
+ *                      Of the keys, as tinystr_hashed_check returns.
+ *   BAD_VALUES         detail: `values_len`. */
+tinystr_result tinystr_hashed_map_check(const void *keys, size_t keys_len, size_t capacity,
+                                        const void *values, size_t values_len, size_t value_size);
 
 #ifdef __cplusplus
 }

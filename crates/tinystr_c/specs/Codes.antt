@@ -1,12 +1,10 @@
--- What the exports answer: a code and a number.
-use Rattle.std.specs.Prelude.{ℕ, ◌==◌, nat_lt, List, length, position, Option, Some, None, unwrap_or, Result, Ok, Err}
-use Rattle.subtags.specs.declared.error.LangIdError.{LangIdError}
-use Rattle.subtags.specs.declared.error.LangIdError.TheVariants.{InvalidLanguage, InvalidSubtag}
+-- What the exports return: a value, or a code and its detail.
+use Rattle.std.specs.Prelude.{ℕ, ◌==◌, min, nat_lt, List, length, position, Option, Some, None, unwrap_or, Result, Ok, Err}
 use Rattle.tinystr.specs.Error.{fault_of}
 use Rattle.tinystr.specs.declared.ule.UleError.{UleError}
 use Rattle.tinystr.specs.declared.ule.UleError.TheVariants.{Length, Parse}
 use Rattle.tinystr_hashed.specs.declared.table.HashedError.{HashedError}
-use Rattle.tinystr_hashed.specs.declared.table.HashedError.TheVariants.{Header, Version, Displacements, Records, Place}
+use Rattle.tinystr_hashed.specs.declared.table.HashedError.TheVariants.{Header, Version, Index, Records, Place}
 use Rattle.tinystr_packed.specs.declared.map.MapError.{MapError}
 use Rattle.tinystr_packed.specs.declared.map.MapError.TheVariants.{Keys, Order, Values}
 use Rattle.tinystr_words.specs.Reading.{Fault}
@@ -15,7 +13,7 @@ use Rattle.tinystr_c.specs.declared.answer.TinystrResult.{TinystrResult}
 use Rattle.tinystr_c.specs.declared.answer.TinystrRange.{TinystrRange}
 
 abbrev pub VERSION : ℕ
-VERSION = 200
+VERSION = 300
 
 -- ---- the codes
 
@@ -61,19 +59,38 @@ BAD_HEADER = 12
 abbrev pub BAD_VERSION : ℕ
 BAD_VERSION = 13
 
-abbrev pub BAD_DISPLACEMENTS : ℕ
-BAD_DISPLACEMENTS = 14
+abbrev pub BAD_INDEX : ℕ
+BAD_INDEX = 14
 
 abbrev pub MISPLACED : ℕ
 MISPLACED = 15
 
+abbrev pub DUPLICATE : ℕ
+DUPLICATE = 16
+
 -- ---- and what is returned with them
 
-abbrev pub answer : ℕ → ℕ → TinystrResult
-answer code value = record { value = value; code = code }
+-- the result of a call that succeeds
+abbrev pub success : ℕ → TinystrResult
+success value = record { value = value; code = OK; detail = 0 }
 
-abbrev pub no_range : ℕ → TinystrRange
-no_range code = record { start = 0; count = 0; code = code }
+-- the greatest detail
+abbrev pub MAX_DETAIL : ℕ
+MAX_DETAIL = 4294967295
+
+-- the result of any other call: a code, and an index, a number of bytes or records or a bad argument, where it is at most
+-- MAX_DETAIL, else that
+-- e.g. failure TOO_LONG 4294967296 has the detail 4294967295
+abbrev pub failure : ℕ → ℕ → TinystrResult
+failure code detail = record { value = 0; code = code; detail = min detail MAX_DETAIL }
+
+-- a capacity, a size, a question or a case that there isn't
+abbrev pub bad_argument : ℕ → TinystrResult
+bad_argument argument = failure BAD_ARGUMENT argument
+
+-- no records, with the code and the detail of a failure
+abbrev pub no_range : TinystrResult → TinystrRange
+no_range failed = record { start = 0; count = 0; code = failed.code; detail = failed.detail }
 
 -- why code units aren't a text
 abbrev pub fault_code : Fault → ℕ
@@ -90,43 +107,44 @@ abbrev pub first_non_ascii : List ℕ → Option ℕ
 first_non_ascii u = position (λ b. nat_lt 127 b) u
 
 -- why bytes aren't a text: their number, or the index of the first NUL or of the first byte above 127
+-- e.g. of contains_null and 61 00 62 it is failure NUL 1
 abbrev pub fault_answer : Fault → List ℕ → TinystrResult
-fault_answer (too_long max len) u = answer TOO_LONG (length u)
-fault_answer contains_null u = answer NUL (unwrap_or (first_nul u) 0)
-fault_answer non_ascii u = answer NON_ASCII (unwrap_or (first_non_ascii u) 0)
-
--- why they aren't a language identifier
-abbrev pub refusal_code : LangIdError → ℕ
-refusal_code InvalidLanguage = INVALID_LANGUAGE
-refusal_code InvalidSubtag = INVALID_SUBTAG
+fault_answer (too_long max len) u = failure TOO_LONG (length u)
+fault_answer contains_null u = failure NUL (unwrap_or (first_nul u) 0)
+fault_answer non_ascii u = failure NON_ASCII (unwrap_or (first_non_ascii u) 0)
 
 -- why they aren't packed records: their number, or the index of the first bad record
+-- e.g. of Length 3 it is failure BAD_LENGTH 3
 abbrev pub records_answer : UleError → TinystrResult
-records_answer (Length len) = answer BAD_LENGTH len
-records_answer (Parse index fault) = answer (fault_code (fault_of fault)) index
+records_answer (Length len) = failure BAD_LENGTH len
+records_answer (Parse index fault) = failure (fault_code (fault_of fault)) index
 
 -- why they aren't a packed map: the same of the keys, or the index of the first that isn't above the one before it, or the
 -- number of the values' bytes
+-- e.g. of Values 1 2 it is failure BAD_VALUES 2
 abbrev pub map_answer : MapError → TinystrResult
 map_answer (Keys fault) = records_answer fault
-map_answer (Order fault) = answer NOT_RISING fault.index
-map_answer (Values count len) = answer BAD_VALUES len
+map_answer (Order fault) = failure NOT_RISING fault.index
+map_answer (Values count len) = failure BAD_VALUES len
 
 -- the index of a text, or where it is to be inserted
+-- e.g. of Err 1 it is failure NOT_FOUND 1
 abbrev pub search_answer : Result ℕ ℕ → TinystrResult
-search_answer (Ok index) = answer OK index
-search_answer (Err place) = answer NOT_FOUND place
+search_answer (Ok index) = success index
+search_answer (Err place) = failure NOT_FOUND place
 
--- why they aren't a hashed table: their number, or the version, or the number of displacements, or the fault of the
--- records, or the index of the first text that isn't at its place
+-- why they aren't a hashed table: their number, or the version, or the number of bytes of the pilots and the moves, or the
+-- fault of the records, or the index of the first text that is out of order
+-- e.g. of Header 3 it is failure BAD_HEADER 3
 abbrev pub hashed_answer : HashedError → TinystrResult
-hashed_answer (Header len) = answer BAD_HEADER len
-hashed_answer (Version version) = answer BAD_VERSION version
-hashed_answer (Displacements count len) = answer BAD_DISPLACEMENTS count
+hashed_answer (Header len) = failure BAD_HEADER len
+hashed_answer (Version version) = failure BAD_VERSION version
+hashed_answer (Index size len) = failure BAD_INDEX size
 hashed_answer (Records fault) = records_answer fault
-hashed_answer (Place index) = answer MISPLACED index
+hashed_answer (Place index) = failure MISPLACED index
 
 -- the index of a text, or that it isn't there
+-- e.g. of None it is failure NOT_FOUND 0
 abbrev pub position_answer : Option ℕ → TinystrResult
-position_answer (Some index) = answer OK index
-position_answer None = answer NOT_FOUND 0
+position_answer (Some index) = success index
+position_answer None = failure NOT_FOUND 0

@@ -2,52 +2,80 @@
 
 ghost use Rattle.std.specs.Prelude.{◌≡◌};
 ghost use Rattle.tinystr.specs.Error.{fault_of};
-ghost use Rattle.tinystr_c.specs.Codes.{answer, no_range, fault_code, first_nul, first_non_ascii, fault_answer, refusal_code, records_answer, map_answer, search_answer, hashed_answer, position_answer};
+ghost use Rattle.tinystr_c.specs.Hashed.{hashed_map_answer};
+ghost use Rattle.tinystr_c.specs.Codes.{success, failure, bad_argument, no_range, fault_code, first_nul, first_non_ascii, fault_answer, records_answer, map_answer, search_answer, hashed_answer, position_answer};
 
 use crate::numbers::{
-    BAD_DISPLACEMENTS, BAD_HEADER, BAD_LENGTH, BAD_VALUES, BAD_VERSION, INVALID_LANGUAGE,
-    INVALID_SUBTAG, MISPLACED, NON_ASCII, NOT_FOUND, NOT_RISING, NUL, OK, TOO_LONG,
+    BAD_ARGUMENT, BAD_HEADER, BAD_INDEX, BAD_LENGTH, BAD_VALUES, BAD_VERSION, MISPLACED, NON_ASCII,
+    NOT_FOUND, NOT_RISING, NUL, OK, TOO_LONG,
 };
-use subtags::LangIdError;
 use tinystr::ParseError;
 use tinystr::ule::UleError;
-use tinystr_hashed::HashedError;
+use tinystr_hashed::{HashedError, HashedMapError};
 use tinystr_packed::MapError;
 
-/// A code, which is 0 if the call succeeded, and a number whose meaning depends on the export.
+/// A value, which is 0 unless the code is `OK`; a code; and its detail, which is 0 if the code is `OK`.
 #[repr(C)]
 #[derive(Clone, Copy)]
 pub struct TinystrResult {
     pub value: usize,
     pub code: u32,
+    pub detail: u32,
 }
 
-/// A range of records, by its start and its length, and a code.
+/// A range of records, by its start and its length, which are 0 unless the code is `OK`; a code; and its detail, which is 0
+/// if the code is `OK`.
 #[repr(C)]
 #[derive(Clone, Copy)]
 pub struct TinystrRange {
     pub start: usize,
     pub count: usize,
     pub code: u32,
+    pub detail: u32,
 }
 
-/// A code and a number.
+/// The result of a call that succeeds.
 #[inline]
-pub fn answer(code: u32, value: usize) -> TinystrResult
-    ensures { result ≡ answer code value }
+pub fn success(value: usize) -> TinystrResult
+    ensures { result ≡ success value }
 {
-    TinystrResult { value, code }
+    TinystrResult {
+        value,
+        code: OK,
+        detail: 0,
+    }
+}
+
+/// The result of any other call: a code, and its detail, or the greatest `u32` where it is above that.
+#[inline]
+pub fn failure(code: u32, detail: usize) -> TinystrResult
+    ensures { result ≡ failure code detail }
+{
+    TinystrResult {
+        value: 0,
+        code,
+        detail: detail.min(u32::MAX as usize) as u32,
+    }
+}
+
+/// An argument that isn't one of those that there are.
+#[inline]
+pub fn bad_argument(argument: usize) -> TinystrResult
+    ensures { result ≡ bad_argument argument }
+{
+    failure(BAD_ARGUMENT, argument)
 }
 
 /// No records, and why.
 #[inline]
-pub fn no_range(code: u32) -> TinystrRange
-    ensures { result ≡ no_range code }
+pub fn no_range(failed: TinystrResult) -> TinystrRange
+    ensures { result ≡ no_range failed }
 {
     TinystrRange {
         start: 0,
         count: 0,
-        code,
+        code: failed.code,
+        detail: failed.detail,
     }
 }
 
@@ -70,9 +98,9 @@ pub fn fault_answer(fault: ParseError, bytes: &[u8]) -> TinystrResult
     ensures { result ≡ fault_answer (fault_of fault) bytes.now }
 {
     match fault {
-        ParseError::TooLong { .. } => answer(TOO_LONG, bytes.len()),
-        ParseError::ContainsNull => answer(NUL, first_nul(bytes).unwrap_or(0)),
-        ParseError::NonAscii => answer(NON_ASCII, first_non_ascii(bytes).unwrap_or(0)),
+        ParseError::TooLong { .. } => failure(TOO_LONG, bytes.len()),
+        ParseError::ContainsNull => failure(NUL, first_nul(bytes).unwrap_or(0)),
+        ParseError::NonAscii => failure(NON_ASCII, first_non_ascii(bytes).unwrap_or(0)),
     }
 }
 
@@ -90,25 +118,14 @@ fn first_non_ascii(bytes: &[u8]) -> Option<usize>
     bytes.iter().position(|byte| *byte > 127)
 }
 
-/// The code of a rejected language identifier.
-#[inline]
-pub fn refusal_code(refusal: LangIdError) -> u32
-    ensures { result ≡ refusal_code refusal }
-{
-    match refusal {
-        LangIdError::InvalidLanguage => INVALID_LANGUAGE,
-        LangIdError::InvalidSubtag => INVALID_SUBTAG,
-    }
-}
-
 /// Why bytes aren't packed records.
 #[inline]
 pub fn records_answer(fault: UleError) -> TinystrResult
     ensures { result ≡ records_answer fault }
 {
     match fault {
-        UleError::Length { len } => answer(BAD_LENGTH, len),
-        UleError::Parse { index, fault } => answer(fault_code(fault), index),
+        UleError::Length { len } => failure(BAD_LENGTH, len),
+        UleError::Parse { index, fault } => failure(fault_code(fault), index),
     }
 }
 
@@ -119,8 +136,8 @@ pub fn map_answer(fault: MapError) -> TinystrResult
 {
     match fault {
         MapError::Keys(fault) => records_answer(fault),
-        MapError::Order(fault) => answer(NOT_RISING, fault.index),
-        MapError::Values { len, .. } => answer(BAD_VALUES, len),
+        MapError::Order(fault) => failure(NOT_RISING, fault.index),
+        MapError::Values { len, .. } => failure(BAD_VALUES, len),
     }
 }
 
@@ -130,8 +147,8 @@ pub fn search_answer(found: Result<usize, usize>) -> TinystrResult
     ensures { result ≡ search_answer found }
 {
     match found {
-        Ok(index) => answer(OK, index),
-        Err(place) => answer(NOT_FOUND, place),
+        Ok(index) => success(index),
+        Err(place) => failure(NOT_FOUND, place),
     }
 }
 
@@ -141,11 +158,22 @@ pub fn hashed_answer(fault: HashedError) -> TinystrResult
     ensures { result ≡ hashed_answer fault }
 {
     match fault {
-        HashedError::Header { len } => answer(BAD_HEADER, len),
-        HashedError::Version { version } => answer(BAD_VERSION, version as usize),
-        HashedError::Displacements { count, .. } => answer(BAD_DISPLACEMENTS, count),
+        HashedError::Header { len } => failure(BAD_HEADER, len),
+        HashedError::Version { version } => failure(BAD_VERSION, version as usize),
+        HashedError::Index { size, .. } => failure(BAD_INDEX, size),
         HashedError::Records(fault) => records_answer(fault),
-        HashedError::Place { index } => answer(MISPLACED, index),
+        HashedError::Place { index } => failure(MISPLACED, index),
+    }
+}
+
+/// Why bytes aren't a hashed map.
+#[inline]
+pub fn hashed_map_answer(fault: HashedMapError) -> TinystrResult
+    ensures { result ≡ hashed_map_answer fault }
+{
+    match fault {
+        HashedMapError::Keys(fault) => hashed_answer(fault),
+        HashedMapError::Values { len, .. } => failure(BAD_VALUES, len),
     }
 }
 
@@ -155,7 +183,7 @@ pub fn position_answer(found: Option<usize>) -> TinystrResult
     ensures { result ≡ position_answer found }
 {
     match found {
-        Some(index) => answer(OK, index),
-        None => answer(NOT_FOUND, 0),
+        Some(index) => success(index),
+        None => failure(NOT_FOUND, 0),
     }
 }

@@ -5,22 +5,30 @@
 
 mod answer;
 mod hashed;
+mod key;
+mod langid;
+mod messages;
 mod numbers;
 mod packed;
+mod packing;
 mod search_each;
 mod texts;
 
 ghost use Rattle.std.specs.Prelude.{◌≡◌, length};
-ghost use Rattle.tinystr_c.specs.Codes.{answer, no_range, BAD_ARGUMENT, VERSION};
-ghost use Rattle.tinystr_c.specs.Hashed.{ChecksHashed, SearchesHashed};
+ghost use Rattle.tinystr_c.specs.Codes.{bad_argument, no_range, VERSION};
+ghost use Rattle.tinystr_c.specs.Hashed.{ChecksHashed, ChecksHashedMap, SearchesHashed, SearchesHashedEach};
+ghost use Rattle.tinystr_c.specs.Langid.{langid_answer, langid_bytes};
+ghost use Rattle.tinystr_c.specs.Messages.{message_answer, message_bytes};
+ghost use Rattle.tinystr_c.specs.Packing.{PacksSorted};
 ghost use Rattle.tinystr_c.specs.Tables.{IsCapacity, IsValueSize, ChecksTable, ChecksSorted, ChecksMap, Searches, SearchesEach, FindsPrefix};
-ghost use Rattle.tinystr_c.specs.Texts.{langid_answer, langid_bytes, read_answer, read_bytes, ask_answer, case_answer, case_bytes};
+ghost use Rattle.tinystr_c.specs.Texts.{without_nuls, read_answer, read_bytes, ask_answer, case_answer, case_bytes};
 
 pub use answer::{TinystrRange, TinystrResult};
-use answer::{answer, no_range};
-use hashed::{hashed_check, hashed_search};
-use numbers::{BAD_ARGUMENT, VERSION};
+use answer::{bad_argument, no_range};
+use hashed::{hashed_check, hashed_map_check, hashed_search, hashed_search_each};
+use key::without_nuls;
 use packed::{map_check, sorted_check, sorted_prefix, sorted_search, table_check};
+use packing::sorted_pack;
 use search_each::sorted_search_each;
 
 // Calls a function at one of the capacities of records, or returns another value.
@@ -42,7 +50,17 @@ macro_rules! at_capacity {
 pub extern "C" fn tinystr_version() -> u32
     ensures { result ≡ VERSION }
 {
-    VERSION
+    // An imported `VERSION` would be the clause's too, in place of that of specs/Codes.antt.
+    numbers::VERSION
+}
+
+/// Writes the text of a code, with NULs up to the end of `out`. An error leaves `out` as it was.
+#[unsafe(no_mangle)]
+pub extern "C" fn tinystr_message(code: u32, out: &mut [u8]) -> TinystrResult
+    ensures answer { result ≡ message_answer code (length out.old) }
+    ensures bytes { out.new ≡ message_bytes code out.old }
+{
+    messages::write_message(code, out)
 }
 
 /// Reads a language identifier, and writes its canonical text with NULs up to the end of `out`. An error leaves `out` as it
@@ -52,7 +70,7 @@ pub extern "C" fn tinystr_langid(input: &[u8], out: &mut [u8]) -> TinystrResult
     ensures answer { result ≡ langid_answer input.now (length out.old) }
     ensures bytes { out.new ≡ langid_bytes input.now out.old }
 {
-    texts::langid(input, out)
+    langid::langid(input, out)
 }
 
 /// Reads a text that isn't longer than `out`, and writes it with NULs up to the end of `out`. An error leaves `out`
@@ -65,7 +83,7 @@ pub extern "C" fn tinystr_read(input: &[u8], out: &mut [u8]) -> TinystrResult
     texts::read(input, out)
 }
 
-/// The answer to a question about a text, padded or not.
+/// The answer to a question about a text, which may have NULs after it.
 #[unsafe(no_mangle)]
 pub extern "C" fn tinystr_ask(text: &[u8], question: u32) -> TinystrResult
     ensures { result ≡ ask_answer text.now question }
@@ -73,7 +91,7 @@ pub extern "C" fn tinystr_ask(text: &[u8], question: u32) -> TinystrResult
     texts::ask(text, question)
 }
 
-/// Changes the case of a text, padded or not, in place. An error leaves it as it was.
+/// Changes the case of a text, which may have NULs after it, in place. An error leaves it as it was.
 #[unsafe(no_mangle)]
 pub extern "C" fn tinystr_change_case(text: &mut [u8], case: u32) -> TinystrResult
     ensures answer { result ≡ case_answer text.old case }
@@ -85,39 +103,54 @@ pub extern "C" fn tinystr_change_case(text: &mut [u8], case: u32) -> TinystrResu
 /// Whether bytes are packed records of `capacity` bytes.
 #[unsafe(no_mangle)]
 pub extern "C" fn tinystr_table_check(bytes: &[u8], capacity: usize) -> TinystrResult
-    ensures capacity { ¬ IsCapacity capacity → result ≡ answer BAD_ARGUMENT capacity }
+    ensures capacity { ¬ IsCapacity capacity → result ≡ bad_argument capacity }
     ensures checked { IsCapacity capacity → ChecksTable result bytes.now capacity }
 {
-    at_capacity!(capacity, table_check, answer(BAD_ARGUMENT, capacity), bytes)
+    at_capacity!(capacity, table_check, bad_argument(capacity), bytes)
 }
 
 /// Whether bytes are packed records of `capacity` bytes, and strictly ascending: each text is above the one before it.
 #[unsafe(no_mangle)]
 pub extern "C" fn tinystr_sorted_check(bytes: &[u8], capacity: usize) -> TinystrResult
-    ensures capacity { ¬ IsCapacity capacity → result ≡ answer BAD_ARGUMENT capacity }
+    ensures capacity { ¬ IsCapacity capacity → result ≡ bad_argument capacity }
     ensures checked { IsCapacity capacity → ChecksSorted result bytes.now capacity }
+{
+    at_capacity!(capacity, sorted_check, bad_argument(capacity), bytes)
+}
+
+/// Puts packed records in order in place. `scratch` must have as many bytes, and ends with any. An error but DUPLICATE leaves
+/// the records as they were.
+#[unsafe(no_mangle)]
+pub extern "C" fn tinystr_sorted_pack(
+    bytes: &mut [u8],
+    capacity: usize,
+    scratch: &mut [u8],
+) -> TinystrResult
+    ensures capacity { ¬ IsCapacity capacity → (result ≡ bad_argument capacity) × (bytes.new ≡ bytes.old) }
+    ensures packed { IsCapacity capacity → PacksSorted result bytes.old bytes.new (length scratch.old) capacity }
 {
     at_capacity!(
         capacity,
-        sorted_check,
-        answer(BAD_ARGUMENT, capacity),
-        bytes
+        sorted_pack,
+        bad_argument(capacity),
+        bytes,
+        scratch
     )
 }
 
-/// The index of a text among packed records that are strictly ascending, or the index at which it belongs. The records
-/// aren't checked again: of any other bytes it is a place inside them.
+/// The index of a text, which may have NULs after it, among packed records that are strictly ascending, or the index at
+/// which it belongs. The records aren't checked again: of any other bytes it is a place inside them.
 #[unsafe(no_mangle)]
 pub extern "C" fn tinystr_sorted_search(bytes: &[u8], capacity: usize, key: &[u8]) -> TinystrResult
-    ensures capacity { ¬ IsCapacity capacity → result ≡ answer BAD_ARGUMENT capacity }
-    ensures searched { IsCapacity capacity → Searches result bytes.now key.now capacity }
+    ensures capacity { ¬ IsCapacity capacity → result ≡ bad_argument capacity }
+    ensures searched { IsCapacity capacity → Searches result bytes.now (without_nuls key.now) capacity }
 {
     at_capacity!(
         capacity,
         sorted_search,
-        answer(BAD_ARGUMENT, capacity),
+        bad_argument(capacity),
         bytes,
-        key
+        without_nuls(key)
     )
 }
 
@@ -132,36 +165,36 @@ pub extern "C" fn tinystr_sorted_search_each(
     keys: &[u8],
     out: &mut [TinystrResult],
 ) -> TinystrResult
-    ensures capacity { ¬ IsCapacity capacity → (result ≡ answer BAD_ARGUMENT capacity) × (out.new ≡ out.old) }
+    ensures capacity { ¬ IsCapacity capacity → (result ≡ bad_argument capacity) × (out.new ≡ out.old) }
     ensures searched { IsCapacity capacity → SearchesEach result out.old out.new bytes.now keys.now capacity }
 {
     at_capacity!(
         capacity,
         sorted_search_each,
-        answer(BAD_ARGUMENT, capacity),
+        bad_argument(capacity),
         bytes,
         keys,
         out
     )
 }
 
-/// The range of the texts with a prefix, among packed records that are strictly ascending. The records aren't checked
-/// again: of any other bytes it is a range inside them.
+/// The range of the texts with a prefix, which may have NULs after it, among packed records that are strictly ascending. The
+/// records aren't checked again: of any other bytes it is a range inside them.
 #[unsafe(no_mangle)]
 pub extern "C" fn tinystr_sorted_prefix(
     bytes: &[u8],
     capacity: usize,
     beginning: &[u8],
 ) -> TinystrRange
-    ensures capacity { ¬ IsCapacity capacity → result ≡ no_range BAD_ARGUMENT }
-    ensures found { IsCapacity capacity → FindsPrefix result bytes.now beginning.now capacity }
+    ensures capacity { ¬ IsCapacity capacity → result ≡ no_range (bad_argument capacity) }
+    ensures found { IsCapacity capacity → FindsPrefix result bytes.now (without_nuls beginning.now) capacity }
 {
     at_capacity!(
         capacity,
         sorted_prefix,
-        no_range(BAD_ARGUMENT),
+        no_range(bad_argument(capacity)),
         bytes,
-        beginning
+        without_nuls(beginning)
     )
 }
 
@@ -173,15 +206,15 @@ pub extern "C" fn tinystr_map_check(
     values: &[u8],
     value_size: usize,
 ) -> TinystrResult
-    ensures capacity { ¬ IsCapacity capacity → result ≡ answer BAD_ARGUMENT capacity }
-    ensures value_size { IsCapacity capacity → ¬ IsValueSize value_size → result ≡ answer BAD_ARGUMENT value_size }
+    ensures capacity { ¬ IsCapacity capacity → result ≡ bad_argument capacity }
+    ensures value_size { IsCapacity capacity → ¬ IsValueSize value_size → result ≡ bad_argument value_size }
     ensures checked { IsCapacity capacity → IsValueSize value_size →
         ChecksMap result keys.now values.now capacity value_size }
 {
     at_capacity!(
         capacity,
         map_check,
-        answer(BAD_ARGUMENT, capacity),
+        bad_argument(capacity),
         keys,
         values,
         value_size
@@ -191,29 +224,69 @@ pub extern "C" fn tinystr_map_check(
 /// Whether bytes are a hashed table of texts of at most `capacity` bytes.
 #[unsafe(no_mangle)]
 pub extern "C" fn tinystr_hashed_check(bytes: &[u8], capacity: usize) -> TinystrResult
-    ensures capacity { ¬ IsCapacity capacity → result ≡ answer BAD_ARGUMENT capacity }
+    ensures capacity { ¬ IsCapacity capacity → result ≡ bad_argument capacity }
     ensures checked { IsCapacity capacity → ChecksHashed result bytes.now capacity }
 {
-    at_capacity!(
-        capacity,
-        hashed_check,
-        answer(BAD_ARGUMENT, capacity),
-        bytes
-    )
+    at_capacity!(capacity, hashed_check, bad_argument(capacity), bytes)
 }
 
-/// The index of a text in a hashed table, or that the table doesn't have it. The bytes aren't checked again: of any others
-/// an index is inside their records.
+/// The index of a text, which may have NULs after it, in a hashed table, or that the table doesn't have it. The bytes aren't
+/// checked again: of any others an index is inside their records.
 #[unsafe(no_mangle)]
 pub extern "C" fn tinystr_hashed_search(bytes: &[u8], capacity: usize, key: &[u8]) -> TinystrResult
-    ensures capacity { ¬ IsCapacity capacity → result ≡ answer BAD_ARGUMENT capacity }
-    ensures searched { IsCapacity capacity → SearchesHashed result bytes.now key.now capacity }
+    ensures capacity { ¬ IsCapacity capacity → result ≡ bad_argument capacity }
+    ensures searched { IsCapacity capacity → SearchesHashed result bytes.now (without_nuls key.now) capacity }
 {
     at_capacity!(
         capacity,
         hashed_search,
-        answer(BAD_ARGUMENT, capacity),
+        bad_argument(capacity),
         bytes,
-        key
+        without_nuls(key)
+    )
+}
+
+/// Puts an answer for each of some keys, which are packed records, at the start of `out`: that of `tinystr_hashed_search`.
+/// Any code but OK leaves `out` as it was, and OK leaves what is after the answers.
+#[unsafe(no_mangle)]
+pub extern "C" fn tinystr_hashed_search_each(
+    bytes: &[u8],
+    capacity: usize,
+    keys: &[u8],
+    out: &mut [TinystrResult],
+) -> TinystrResult
+    ensures capacity { ¬ IsCapacity capacity → (result ≡ bad_argument capacity) × (out.new ≡ out.old) }
+    ensures searched { IsCapacity capacity → SearchesHashedEach result out.old out.new bytes.now keys.now capacity }
+{
+    at_capacity!(
+        capacity,
+        hashed_search_each,
+        bad_argument(capacity),
+        bytes,
+        keys,
+        out
+    )
+}
+
+/// Whether bytes are the keys of a map, which are a hashed table, and its values of `value_size` bytes.
+#[unsafe(no_mangle)]
+pub extern "C" fn tinystr_hashed_map_check(
+    keys: &[u8],
+    capacity: usize,
+    values: &[u8],
+    value_size: usize,
+) -> TinystrResult
+    ensures capacity { ¬ IsCapacity capacity → result ≡ bad_argument capacity }
+    ensures value_size { IsCapacity capacity → ¬ IsValueSize value_size → result ≡ bad_argument value_size }
+    ensures checked { IsCapacity capacity → IsValueSize value_size →
+        ChecksHashedMap result keys.now values.now capacity value_size }
+{
+    at_capacity!(
+        capacity,
+        hashed_map_check,
+        bad_argument(capacity),
+        keys,
+        values,
+        value_size
     )
 }

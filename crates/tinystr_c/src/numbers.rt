@@ -1,7 +1,7 @@
 //! The numbers of `tinystr.h`. The contracts have those of specs/Codes.antt and specs/Texts.antt, so the proofs fail where
 //! they differ.
 
-pub const VERSION: u32 = 200;
+pub const VERSION: u32 = 300;
 
 // The codes.
 
@@ -33,9 +33,11 @@ pub const BAD_HEADER: u32 = 12;
 
 pub const BAD_VERSION: u32 = 13;
 
-pub const BAD_DISPLACEMENTS: u32 = 14;
+pub const BAD_INDEX: u32 = 14;
 
 pub const MISPLACED: u32 = 15;
+
+pub const DUPLICATE: u32 = 16;
 
 // The questions.
 

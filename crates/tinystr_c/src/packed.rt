@@ -1,14 +1,14 @@
 //! Packed records and maps.
 
 ghost use Rattle.std.specs.Prelude.{◌≡◌, ◌<◌, ◌≤◌};
-ghost use Rattle.tinystr_c.specs.Codes.{answer, BAD_ARGUMENT};
+ghost use Rattle.tinystr_c.specs.Codes.{bad_argument};
 ghost use Rattle.tinystr_c.specs.Tables.{IsValueSize, ChecksTable, ChecksSorted, ChecksMap, Searches, FindsPrefix};
 
 use crate::answer::{
-    TinystrRange, TinystrResult, answer, fault_answer, fault_code, map_answer, no_range,
-    records_answer, search_answer,
+    TinystrRange, TinystrResult, bad_argument, failure, fault_answer, map_answer, no_range,
+    records_answer, search_answer, success,
 };
-use crate::numbers::{BAD_ARGUMENT, NOT_RISING, OK};
+use crate::numbers::{NOT_RISING, OK};
 use tinystr::TinyAsciiStr;
 use tinystr_packed::{PackedMap, SortedError, SortedTable, in_place};
 
@@ -18,7 +18,7 @@ pub fn table_check<const N: usize>(bytes: &[u8]) -> TinystrResult
     ensures { ChecksTable result bytes.now N }
 {
     match TinyAsciiStr::<N>::validate_bytes(bytes) {
-        Ok(()) => answer(OK, bytes.len() / N),
+        Ok(()) => success(bytes.len() / N),
         Err(fault) => records_answer(fault),
     }
 }
@@ -29,9 +29,9 @@ pub fn sorted_check<const N: usize>(bytes: &[u8]) -> TinystrResult
     ensures { ChecksSorted result bytes.now N }
 {
     match SortedTable::<N>::from_bytes(bytes) {
-        Ok(_) => answer(OK, bytes.len() / N),
+        Ok(_) => success(bytes.len() / N),
         Err(SortedError::Records(fault)) => records_answer(fault),
-        Err(SortedError::Order(fault)) => answer(NOT_RISING, fault.index),
+        Err(SortedError::Order(fault)) => failure(NOT_RISING, fault.index),
     }
 }
 
@@ -62,16 +62,17 @@ pub fn sorted_prefix<const N: usize>(bytes: &[u8], beginning: &[u8]) -> TinystrR
                 start,
                 count,
                 code: OK,
+                detail: 0,
             }
         }
-        Err(fault) => no_range(fault_code(fault)),
+        Err(fault) => no_range(fault_answer(fault, beginning)),
     }
 }
 
 /// The number of entries of a packed map, or why the bytes aren't one, at one of the sizes of values.
 pub fn map_check<const N: usize>(keys: &[u8], values: &[u8], value_size: usize) -> TinystrResult
     requires { 0 < N }
-    ensures argument { ¬ IsValueSize value_size → result ≡ answer BAD_ARGUMENT value_size }
+    ensures argument { ¬ IsValueSize value_size → result ≡ bad_argument value_size }
     ensures checked { IsValueSize value_size → ChecksMap result keys.now values.now N value_size }
 {
     match value_size {
@@ -79,7 +80,7 @@ pub fn map_check<const N: usize>(keys: &[u8], values: &[u8], value_size: usize) 
         2 => map_check_of::<N, 2>(keys, values),
         4 => map_check_of::<N, 4>(keys, values),
         8 => map_check_of::<N, 8>(keys, values),
-        _ => answer(BAD_ARGUMENT, value_size),
+        _ => bad_argument(value_size),
     }
 }
 
@@ -89,7 +90,7 @@ fn map_check_of<const N: usize, const M: usize>(keys: &[u8], values: &[u8]) -> T
     ensures { ChecksMap result keys.now values.now N M }
 {
     match PackedMap::<N, M>::new(keys, values) {
-        Ok(_) => answer(OK, keys.len() / N),
+        Ok(_) => success(keys.len() / N),
         Err(fault) => map_answer(fault),
     }
 }

@@ -5,11 +5,11 @@
 ghost use Rattle.std.specs.Prelude.{◌≡◌, ◌<◌, ◌≤◌, ◌+◌, ◌^◌, ℕ, length, slice_index_or, All, Ok};
 ghost use Rattle.tinystr_words.specs.Text.{IsStrictText};
 ghost use Rattle.tinystr_packed.specs.Rising.{text_at};
-ghost use Rattle.tinystr_c.specs.Codes.{answer, search_answer};
+ghost use Rattle.tinystr_c.specs.Codes.{success, search_answer};
 ghost use Rattle.tinystr_c.specs.Tables.{Searches, SearchesEach};
 
-use crate::answer::{TinystrResult, answer, records_answer, search_answer};
-use crate::numbers::{NO_ROOM, OK};
+use crate::answer::{TinystrResult, failure, records_answer, search_answer, success};
+use crate::numbers::NO_ROOM;
 use tinystr::TinyAsciiStr;
 use tinystr_packed::{Table, in_place};
 
@@ -30,11 +30,11 @@ pub fn sorted_search_each<const N: usize>(
     };
     let count = keys.len();
     if out.len() < count {
-        return answer(NO_ROOM, count);
+        return failure(NO_ROOM, count);
     }
     let (front, _) = out.split_at_mut(count);
     search_each(bytes, &keys, front);
-    answer(OK, count)
+    success(count)
 }
 
 // Puts the answer for each key, for eight keys at a time, and for one at a time where fewer remain.
@@ -43,13 +43,14 @@ fn search_each<const N: usize>(bytes: &[u8], keys: &Table<'_, N>, out: &mut [Tin
     requires below { N ≤ 16 }
     requires room { length keys.now ≡ length out.old }
     ensures room { length out.new ≡ length out.old }
-    ensures each { (i : ℕ) → i < length keys.now → Searches (slice_index_or out.new i (answer 0 0)) bytes.now (text_at keys.now i) N }
+    ensures each { (i : ℕ) → i < length keys.now → Searches (slice_index_or out.new i (success 0)) bytes.now (text_at keys.now i) N }
 {
     let blocks = keys.len() / 8;
     let mut near = 0;
     for block in 0..blocks {
         search_eight(bytes, keys, block * 8, near, out);
-        near = out[block * 8 + 7].value;
+        let last = out[block * 8 + 7];
+        near = last.value.max(last.detail as usize);
     }
     for index in blocks * 8..keys.len() {
         out[index] = search_answer(in_place::search(bytes, &keys.text_at(index)));
@@ -70,9 +71,9 @@ fn search_eight<const N: usize>(
     requires strict { All (λ t. IsStrictText t N) keys.now }
     requires room { length keys.now ≡ length out.old }
     ensures room { length out.new ≡ length out.old }
-    ensures before { (i : ℕ) → i < start → slice_index_or out.new i (answer 0 0) ≡ slice_index_or out.old i (answer 0 0) }
+    ensures before { (i : ℕ) → i < start → slice_index_or out.new i (success 0) ≡ slice_index_or out.old i (success 0) }
     ensures each { (i : ℕ) → i < 8 →
-        Searches (slice_index_or out.new (start + i) (answer 0 0)) bytes.now (text_at keys.now (start + i)) N }
+        Searches (slice_index_or out.new (start + i) (success 0)) bytes.now (text_at keys.now (start + i)) N }
 {
     let eight = eight_from(keys, start);
     put_eight(&in_place::search_eight(bytes, &eight, near), start, out);
@@ -95,9 +96,9 @@ fn eight_from<const N: usize>(keys: &Table<'_, N>, start: usize) -> [TinyAsciiSt
 fn put_eight(found: &[Result<usize, usize>; 8], start: usize, out: &mut [TinystrResult])
     requires { start + 8 ≤ length out.old }
     ensures room { length out.new ≡ length out.old }
-    ensures before { (i : ℕ) → i < start → slice_index_or out.new i (answer 0 0) ≡ slice_index_or out.old i (answer 0 0) }
+    ensures before { (i : ℕ) → i < start → slice_index_or out.new i (success 0) ≡ slice_index_or out.old i (success 0) }
     ensures each { (i : ℕ) → i < 8 →
-        slice_index_or out.new (start + i) (answer 0 0) ≡ search_answer (slice_index_or found.now i (Ok 0)) }
+        slice_index_or out.new (start + i) (success 0) ≡ search_answer (slice_index_or found.now i (Ok 0)) }
 {
     for lane in 0..8usize {
         out[start + lane] = search_answer(found[lane]);

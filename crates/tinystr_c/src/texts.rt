@@ -1,38 +1,17 @@
-//! Language identifiers, and texts of a capacity.
+//! Texts of a capacity.
 
 ghost use Rattle.std.specs.Prelude.{◌≡◌, ◌≤◌, length, IfOk};
 ghost use Rattle.tinystr_words.specs.Text.{pad};
-ghost use Rattle.tinystr_c.specs.Texts.{langid_answer, langid_bytes, read_answer, read_bytes, ask_answer, case_answer, case_bytes, question_of, case_of, padded_read, yes_or_no};
+ghost use Rattle.tinystr_c.specs.Texts.{read_answer, read_bytes, ask_answer, case_answer, case_bytes, question_of, case_of, padded_read, yes_or_no};
 
-use crate::answer::{TinystrResult, answer, fault_answer, refusal_code};
+use crate::answer::{TinystrResult, bad_argument, failure, fault_answer, success};
+use crate::key::without_nuls;
 use crate::numbers::{
     ALPHABETIC, ALPHABETIC_LOWERCASE, ALPHABETIC_TITLECASE, ALPHABETIC_UPPERCASE, ALPHANUMERIC,
-    BAD_ARGUMENT, LOWER, LOWERCASE, NO_ROOM, NUMERIC, OK, TITLE, TITLECASE, TOO_LONG, UPPER,
-    UPPERCASE,
+    LOWER, LOWERCASE, NUMERIC, TITLE, TITLECASE, TOO_LONG, UPPER, UPPERCASE,
 };
-use subtags::LangId;
-use tinystr::{TinyAsciiStr, UnvalidatedTinyAsciiStr};
+use tinystr::TinyAsciiStr;
 use tinystr_words::{Case, Question};
-
-/// Reads a language identifier, and writes its canonical text.
-#[inline]
-pub fn langid(input: &[u8], out: &mut [u8]) -> TinystrResult
-    ensures answer { result ≡ langid_answer input.now (length out.old) }
-    ensures bytes { out.new ≡ langid_bytes input.now out.old }
-{
-    match LangId::try_from_utf8(input) {
-        Ok(id) => {
-            let text = id.to_text();
-            let len = text.len();
-            if len > out.len() {
-                return answer(NO_ROOM, len);
-            }
-            put(&text, out);
-            answer(OK, len)
-        }
-        Err(refusal) => answer(refusal_code(refusal), 0),
-    }
-}
 
 /// Reads a text, and writes it padded.
 #[inline]
@@ -42,15 +21,15 @@ pub fn read(input: &[u8], out: &mut [u8]) -> TinystrResult
 {
     let capacity = out.len();
     if capacity > 16 {
-        return answer(BAD_ARGUMENT, capacity);
+        return bad_argument(capacity);
     }
     if input.len() > capacity {
-        return answer(TOO_LONG, input.len());
+        return failure(TOO_LONG, input.len());
     }
     match TinyAsciiStr::<16>::try_from_utf8(input) {
         Ok(text) => {
             put(&text, out);
-            answer(OK, input.len())
+            success(input.len())
         }
         Err(fault) => fault_answer(fault, input),
     }
@@ -66,7 +45,7 @@ pub fn ask(text: &[u8], question: u32) -> TinystrResult
             Ok(read) => yes_or_no(read.ask(asked)),
             Err(refused) => refused,
         },
-        None => answer(BAD_ARGUMENT, question as usize),
+        None => bad_argument(question as usize),
     }
 }
 
@@ -80,18 +59,18 @@ pub fn change_case(text: &mut [u8], case: u32) -> TinystrResult
         Some(wanted) => match read_padded(text) {
             Ok(read) => {
                 put(&read.in_case(wanted), text);
-                answer(OK, read.len())
+                success(read.len())
             }
             Err(refused) => refused,
         },
-        None => answer(BAD_ARGUMENT, case as usize),
+        None => bad_argument(case as usize),
     }
 }
 
-// Writes a text, and NULs up to the end of `out`: all `N` bytes in one step where they fit.
+/// Writes a text, and NULs up to the end of `out`: all `N` bytes in one step where they fit.
 #[inline]
 #[tactic(auto, using(crate::proofs::Putting::putting))]
-fn put<const N: usize>(text: &TinyAsciiStr<N>, out: &mut [u8])
+pub fn put<const N: usize>(text: &TinyAsciiStr<N>, out: &mut [u8])
     requires { length text.now ≤ length out.old }
     ensures { out.new ≡ pad text.now (length out.old) }
 {
@@ -106,17 +85,14 @@ fn put<const N: usize>(text: &TinyAsciiStr<N>, out: &mut [u8])
     back.fill(0);
 }
 
-// The text of at most 16 bytes, with NULs after it or without.
+// The text of at most 16 bytes, which may have NULs after it.
 #[inline]
 fn read_padded(text: &[u8]) -> Result<TinyAsciiStr<16>, TinystrResult>
     ensures read { result ≡ padded_read text.now }
     ensures fits { IfOk result (λ t. length t ≤ length text.now) }
 {
-    let padded = match UnvalidatedTinyAsciiStr::<16>::try_from_utf8(text) {
-        Ok(padded) => padded,
-        Err(_) => return Err(answer(BAD_ARGUMENT, text.len())),
-    };
-    match padded.try_into_tinystr() {
+    let text = without_nuls(text);
+    match TinyAsciiStr::<16>::try_from_utf8(text) {
         Ok(read) => Ok(read),
         Err(fault) => Err(fault_answer(fault, text)),
     }
@@ -156,5 +132,5 @@ fn case_of(case: u32) -> Option<Case>
 fn yes_or_no(yes: bool) -> TinystrResult
     ensures { result ≡ yes_or_no yes }
 {
-    answer(OK, usize::from(yes))
+    success(usize::from(yes))
 }

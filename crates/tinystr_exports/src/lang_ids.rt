@@ -1,8 +1,7 @@
-//! Batches of language identifiers read.
+//! Batches of language identifiers read. The programs in Rust of diff/ read this file too.
 
 use crate::batch::{COUNT, list_at, write_numbers, write_texts};
-use subtags::{LangId, LangIdError};
-use tinystr::TinyAsciiStr;
+use crate::libraries::{LangId, LangIdError, TinyAsciiStr};
 
 /// Writes the canonical text of each identifier, and 0, or else a number for its error.
 pub fn lang_id_batch(

@@ -1,4 +1,4 @@
-//! The calls of `tinystr`, and the reader of `subtags`, for programs in other languages: each export answers one call
+//! The calls of `tinystr`, searches of tables, and the reader of `subtags`, for programs in other languages: each export answers one call
 //! for a batch of values, at a capacity and for a call that are given by number, and returns whether it knows both. Texts
 //! are passed as arrays of capacity bytes each, one after another. The exports serve to compare and to measure, so each
 //! answers its batch in a given number of rounds.
@@ -11,10 +11,13 @@ mod capacities;
 mod cuts;
 mod hashing;
 mod lang_ids;
+mod libraries;
 mod numbers;
 mod printing;
 mod readers;
 mod records;
+mod searches;
+mod tables;
 
 use batches::Batches;
 use capacities::At;
@@ -23,6 +26,7 @@ use lang_ids::lang_id_batch;
 use printing::display_batch;
 use readers::read_bytes_batch;
 use records::records_found;
+use searches::search_batch;
 
 /// A question, the length or the last byte of each text, as a number.
 #[unsafe(no_mangle)]
@@ -176,6 +180,20 @@ pub extern "C" fn tinystr_exports_records(
     found: &mut [u32],
 ) -> bool {
     crate::at_few_capacities!(capacity, records_found, bytes, found)
+}
+
+/// Call number `call` for each key, in a table, a hashed table or a map: a number for each. Where the bytes are refused, the
+/// first is a number for the error.
+#[unsafe(no_mangle)]
+pub extern "C" fn tinystr_exports_search(
+    capacity: usize,
+    call: usize,
+    bytes: &[u8],
+    values: &[u8],
+    keys: &[u8],
+    answers: &mut [u64],
+) -> bool {
+    crate::at_few_capacities!(capacity, search_batch, call, bytes, values, keys, answers)
 }
 
 /// Each list of bytes as a language identifier: its canonical text at capacity 17, or a number for its error.

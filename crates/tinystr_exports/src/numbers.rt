@@ -57,3 +57,36 @@ pub const PADDED: usize = 1;
 pub const DEBUG: usize = 2;
 
 pub const UNVALIDATED_DEBUG: usize = 3;
+
+/// What `search` answers, by the table or map that it makes of the bytes: of records,
+pub const SEARCH: usize = 0;
+
+pub const SEARCH_EACH: usize = 1;
+
+pub const FIND_TEXT: usize = 2;
+
+pub const PREFIX: usize = 3;
+
+/// of records and values,
+pub const GET: usize = 4;
+
+pub const GET_EACH: usize = 5;
+
+pub const GET_TEXT: usize = 6;
+
+/// of a hashed table,
+pub const POSITION: usize = 7;
+
+pub const HASHED_FIND_TEXT: usize = 8;
+
+/// of a hashed table and values,
+pub const HASHED_GET: usize = 9;
+
+pub const HASHED_GET_TEXT: usize = 10;
+
+/// or of bytes that aren't checked.
+pub const SEARCH_IN_PLACE: usize = 11;
+
+pub const PREFIX_IN_PLACE: usize = 12;
+
+pub const POSITION_IN_PLACE: usize = 13;

@@ -167,10 +167,10 @@ pub fn read_bytes_batch<const N: usize>(rounds: usize, bytes: &[u8], texts: &mut
 fn code_of(fault: ParseError) -> u32 {
     match fault {
         ParseError::ContainsNull => 1,
-        ParseError::NonAscii => 2,
         ParseError::TooLong { max, len } => 3
             + 4 * (max % 256) as u32
             + 1024 * (len % 65536) as u32,
+        ParseError::NonAscii => 2,
     }
 }
 

@@ -1,4 +1,4 @@
-use Rattle.std.proofs.Common.{◌≡◌, length, nat_lt, true, false, sym, refl, ◌∙◌, arith}
+use Rattle.std.proofs.Common.{◌≡◌, length, nat_lt, false, sym, refl, ◌∙◌, arith}
 use Rattle.std.proofs.lemmas.Bool.Decides.{nat_tests}
 use Rattle.tinystr_words.proofs.Reading.OnePass.{fault_in-long, fault_in-fits}
 use Rattle.tinystr_words.proofs.Reading.Decided.{is_strict_text-Decides}
@@ -13,7 +13,7 @@ returns-then-input-capacity-clause-answer c =
     let small : nat_lt 16 capacity ≡ false = grind (arith, nat_tests) in
     let strict : is_strict_text u capacity ≡ false = let decides = is_strict_text-Decides u capacity in grind (arith, nat_tests) in
     let fault = fault_in-long capacity u (omega arith) in
-    rw (c.answer-then-input-capacity.ensures, small, strict, fault) refl
+    rw (c.failure.ensures, small, strict, fault) refl
 
 pub returns-in-Err-clause-answer : goal.returns-in-Err-clause-answer
 returns-in-Err-clause-answer c =

@@ -1,0 +1,236 @@
+/* Each call of tinystr.h, with each code, and with NULL. The last line is 'passed' or 'failed'. */
+#include <stdio.h>
+#include <string.h>
+#include <tinystr.h>
+
+static int has_failed;
+#define CHECK(fact) \
+    do { \
+        if (!(fact)) { \
+            fprintf(stderr, "%s:%d: %s\n", __FILE__, __LINE__, #fact); \
+            has_failed = 1; \
+        } \
+    } while (0)
+
+/* Whether a result has a code, and a number, which is the value of OK and the detail of any other code. */
+static int is(tinystr_result r, uint32_t code, size_t number) {
+    if (code == TINYSTR_OK) return r.code == code && r.value == number && r.detail == 0;
+    return r.code == code && r.value == 0 && r.detail == (number < UINT32_MAX ? number : UINT32_MAX);
+}
+static int is_range(tinystr_range r, size_t start, size_t count) {
+    return r.code == TINYSTR_OK && r.start == start && r.count == count && r.detail == 0;
+}
+static int is_no_range(tinystr_range r, uint32_t code, size_t detail) {
+    return r.start == 0 && r.count == 0 && is((tinystr_result){0, r.code, r.detail}, code, detail);
+}
+static int is_filled(tinystr_result r) { return r.value == 77 && r.code == 77 && r.detail == 77; }
+
+static void langids(void) {
+    static const char longest[] = "abcdefgh-Latn-419";
+    uint8_t out[TINYSTR_LANGID_ROOM];
+    CHECK(is(tinystr_langid("ZH_hANT-tw", 10, out, sizeof out), TINYSTR_OK, 10) && !strcmp((char *)out, "zh-Hant-TW"));
+    CHECK(is(tinystr_langid(longest, 17, out, sizeof out), TINYSTR_OK, 17) && !strcmp((char *)out, longest));
+    CHECK(sizeof longest == TINYSTR_LANGID_ROOM);
+    memset(out, 7, sizeof out);
+    CHECK(is(tinystr_langid(longest, 17, out, 16), TINYSTR_NO_ROOM, 17) && out[0] == 7);
+    CHECK(is(tinystr_langid("e", 1, out, sizeof out), TINYSTR_INVALID_LANGUAGE, 0) && out[0] == 7);
+    CHECK(is(tinystr_langid("en-US-posix", 11, out, sizeof out), TINYSTR_INVALID_SUBTAG, 0) && out[0] == 7);
+    CHECK(is(tinystr_langid("en-US", 5, out, 5), TINYSTR_OK, 5) && !memcmp(out, "en-US\7", 6));
+}
+
+/* Each code has a text of its own, which ends inside TINYSTR_MESSAGE_ROOM. */
+static void messages(void) {
+    enum { CODES = TINYSTR_DUPLICATE + 2 };
+    static char out[CODES][TINYSTR_MESSAGE_ROOM];
+    uint32_t code, other;
+    for (code = 0; code < CODES; code++) {
+        tinystr_result r = tinystr_message(code, out[code], TINYSTR_MESSAGE_ROOM);
+        CHECK(r.code == TINYSTR_OK && r.value > 0 && r.value < TINYSTR_MESSAGE_ROOM && is(r, TINYSTR_OK, strlen(out[code])));
+        for (other = 0; other < code; other++) CHECK(strcmp(out[code], out[other]));
+    }
+    memset(out, 7, sizeof out);
+    CHECK(is(tinystr_message(TINYSTR_OK, out, 17), TINYSTR_NO_ROOM, 18) && out[0][0] == 7);
+    CHECK(is(tinystr_message(TINYSTR_OK, NULL, 0), TINYSTR_NO_ROOM, 18));
+    CHECK(is(tinystr_message(TINYSTR_OK, out, 18), TINYSTR_OK, 18) && !memcmp(out, "the call succeeded\7", 19));
+    CHECK(is(tinystr_message(TINYSTR_OK, out, 20), TINYSTR_OK, 18) && !memcmp(out, "the call succeeded\0\0\7", 21));
+    CHECK(is(tinystr_message(UINT32_MAX, out, sizeof out), TINYSTR_OK, 21) && !strcmp(*out, "there is no such code"));
+}
+
+static void texts(void) {
+    size_t n;
+    uint8_t out[18];
+    for (n = 3; n <= 16; n++) {
+        memset(out, 7, sizeof out);
+        CHECK(is(tinystr_read("eur", 3, out, n), TINYSTR_OK, 3) && !memcmp(out, "eur", 3));
+        CHECK((n == 3 || out[3] == 0) && out[n - 1] != 7 && out[n] == 7);
+        CHECK(is(tinystr_change_case(out, n, TINYSTR_UPPER), TINYSTR_OK, 3) && !memcmp(out, "EUR", 3) && out[n] == 7);
+        CHECK(is(tinystr_change_case(out, n, TINYSTR_LOWER), TINYSTR_OK, 3) && !memcmp(out, "eur", 3));
+        CHECK(is(tinystr_change_case(out, n, TINYSTR_TITLE), TINYSTR_OK, 3) && !memcmp(out, "Eur", 3));
+        CHECK(is(tinystr_ask(out, n, TINYSTR_ALPHABETIC_TITLECASE), TINYSTR_OK, 1));
+        CHECK(is(tinystr_read("abcdefghijklmnopq", n + 1, out, n), TINYSTR_TOO_LONG, n + 1) && out[0] == 'E');
+    }
+    CHECK(is(tinystr_read("eur", 3, out, 17), TINYSTR_BAD_ARGUMENT, 17) && out[0] == 'E');
+    CHECK(is(tinystr_read("a\0b", 3, out, 3), TINYSTR_NUL, 1) && out[0] == 'E');
+    CHECK(is(tinystr_read("ab\xc3", 3, out, 3), TINYSTR_NON_ASCII, 2) && out[0] == 'E');
+    CHECK(is(tinystr_change_case(out, 3, 3), TINYSTR_BAD_ARGUMENT, 3) && out[0] == 'E');
+    CHECK(is(tinystr_change_case(memcpy(out, "Abcdefghijklmnopq", 17), 17, TINYSTR_UPPER), TINYSTR_TOO_LONG, 17) && out[0] == 'A');
+    memcpy(out, "a\0b\xff", 4);
+    CHECK(is(tinystr_change_case(out, 3, TINYSTR_UPPER), TINYSTR_NUL, 1) && out[0] == 'a');
+    CHECK(is(tinystr_change_case(out + 3, 1, TINYSTR_UPPER), TINYSTR_NON_ASCII, 0));
+    CHECK(is(tinystr_ask(out, 3, TINYSTR_NUMERIC), TINYSTR_NUL, 1));
+    CHECK(is(tinystr_ask(out + 3, 1, TINYSTR_NUMERIC), TINYSTR_NON_ASCII, 0));
+    CHECK(is(tinystr_ask("abcdefghijklmnopq", 17, TINYSTR_NUMERIC), TINYSTR_TOO_LONG, 17));
+}
+
+static void questions(void) {
+    /* of each question a text that has it, and one that hasn't */
+    static const char *const yes[] = {"aZ", "a9", "09", "a9", "Ab9", "A9", "az", "Az", "AZ"};
+    static const char *const no[] = {"a9", "a-", "a9", "aZ", "aB", "aZ", "aZ", "aZ", "Az"};
+    uint32_t question;
+    for (question = TINYSTR_ALPHABETIC; question <= TINYSTR_ALPHABETIC_UPPERCASE; question++) {
+        CHECK(is(tinystr_ask(yes[question], strlen(yes[question]), question), TINYSTR_OK, 1));
+        CHECK(is(tinystr_ask(no[question], 2, question), TINYSTR_OK, 0));
+    }
+    CHECK(is(tinystr_ask("419", 3, question), TINYSTR_BAD_ARGUMENT, question));
+}
+
+static void tables(void) {
+    static const size_t none[] = {0, 1, 5, 6, 7, 9, 15, 17, SIZE_MAX};
+    tinystr_result out = {77, 77, 77};
+    size_t k;
+    CHECK(is(tinystr_table_check("EURGB\0JPY", 9, 3), TINYSTR_OK, 3));
+    CHECK(is(tinystr_table_check("EURJP", 5, 3), TINYSTR_BAD_LENGTH, 5));
+    CHECK(is(tinystr_table_check("EURG\0B", 6, 3), TINYSTR_NUL, 1));
+    CHECK(is(tinystr_table_check("EURJPYG\xff" "B", 9, 3), TINYSTR_NON_ASCII, 2));
+    CHECK(is(tinystr_sorted_check("CHFEURJPY", 9, 3), TINYSTR_OK, 3));
+    CHECK(is(tinystr_sorted_check("CHFEUREUR", 9, 3), TINYSTR_NOT_RISING, 2));
+    CHECK(is(tinystr_sorted_check("EURCHFJP", 8, 3), TINYSTR_BAD_LENGTH, 8));
+    CHECK(is(tinystr_sorted_check("EURC\0F", 6, 3), TINYSTR_NUL, 1));
+    CHECK(is(tinystr_sorted_search("CHFEURJPY", 9, 3, "EUR", 3), TINYSTR_OK, 1));
+    CHECK(is(tinystr_sorted_search("CHFEURJPY", 9, 3, "GBP", 3), TINYSTR_NOT_FOUND, 2));
+    CHECK(is(tinystr_sorted_search("CHFEURJPY", 9, 3, "EURO", 4), TINYSTR_TOO_LONG, 4));
+    CHECK(is(tinystr_sorted_search("CHFEURGB\0", 9, 3, "GB\0\0", 4), TINYSTR_OK, 2));
+    CHECK(is(tinystr_sorted_search("CHFEURJPY", 9, 3, "E\0U", 3), TINYSTR_NUL, 1));
+    CHECK(is(tinystr_sorted_search("CHFEURJPY", 9, 3, "E\xff", 2), TINYSTR_NON_ASCII, 1));
+    CHECK(is_range(tinystr_sorted_prefix("CADCHFCZKEUR", 12, 3, "C", 1), 0, 3));
+    CHECK(is_range(tinystr_sorted_prefix("CADCHFCZKEUR", 12, 3, "D", 1), 3, 0));
+    CHECK(is_no_range(tinystr_sorted_prefix("CADCHFCZKEUR", 12, 3, "CADE", 4), TINYSTR_TOO_LONG, 4));
+    CHECK(is(tinystr_map_check("EURJPY", 6, 3, "\2\0", 2, 1), TINYSTR_OK, 2));
+    CHECK(is(tinystr_map_check("EURJPY", 6, 3, "\2\0", 2, 2), TINYSTR_BAD_VALUES, 2));
+    CHECK(is(tinystr_map_check("JPYEUR", 6, 3, "\2\0", 2, 1), TINYSTR_NOT_RISING, 1));
+    CHECK(is(tinystr_map_check("EURJPY", 6, 3, "\2\0", 2, 3), TINYSTR_BAD_ARGUMENT, 3));
+    CHECK(is(tinystr_hashed_check("", 0, 3), TINYSTR_BAD_HEADER, 0));
+    CHECK(is(tinystr_hashed_search("", 0, 3, "EUR", 3), TINYSTR_NOT_FOUND, 0));
+    CHECK(is(tinystr_hashed_search("", 0, 3, "EURO", 4), TINYSTR_TOO_LONG, 4));
+    CHECK(is(tinystr_hashed_search("", 0, 3, "G\0B", 3), TINYSTR_NUL, 1));
+    CHECK(is(tinystr_hashed_search("", 0, 3, "E\xff", 2), TINYSTR_NON_ASCII, 1));
+    for (k = 0; k < sizeof none / sizeof *none; k++) {
+        size_t n = none[k];
+        CHECK(is(tinystr_table_check("EURJPY", 6, n), TINYSTR_BAD_ARGUMENT, n));
+        CHECK(is(tinystr_sorted_check("EURJPY", 6, n), TINYSTR_BAD_ARGUMENT, n));
+        CHECK(is(tinystr_sorted_search("EURJPY", 6, n, "EUR", 3), TINYSTR_BAD_ARGUMENT, n));
+        CHECK(is(tinystr_sorted_search_each("EURJPY", 6, n, "EUR", 3, &out, 1), TINYSTR_BAD_ARGUMENT, n));
+        CHECK(is_filled(out));
+        CHECK(is_no_range(tinystr_sorted_prefix("EURJPY", 6, n, "E", 1), TINYSTR_BAD_ARGUMENT, n));
+        CHECK(is(tinystr_map_check("EURJPY", 6, n, "\2\0", 2, 1), TINYSTR_BAD_ARGUMENT, n));
+        CHECK(is(tinystr_hashed_check("EURJPY", 6, n), TINYSTR_BAD_ARGUMENT, n));
+        CHECK(is(tinystr_hashed_search("EURJPY", 6, n, "EUR", 3), TINYSTR_BAD_ARGUMENT, n));
+    }
+}
+
+/* Hashed tables without pilots, whose records are in order; calls.py has others. */
+#define HEADER "\1\0\0\0" "\0\0\0\0" "\0\0\0\0" "\0\0\0\0"
+static void hashed(void) {
+    static const char table[] = HEADER "CHFEURGB\0";
+    tinystr_result out[3] = {{77, 77, 77}, {77, 77, 77}, {77, 77, 77}};
+    CHECK(is(tinystr_hashed_check(table, 25, 3), TINYSTR_OK, 3));
+    CHECK(is(tinystr_hashed_check(table, 15, 3), TINYSTR_BAD_HEADER, 15));
+    CHECK(is(tinystr_hashed_check("\2\0\0\0" "\0\0\0\0" "\0\0\0\0" "\0\0\0\0", 16, 3), TINYSTR_BAD_VERSION, 2));
+    CHECK(is(tinystr_hashed_check("\1\0\0\0" "\3\0\0\0" "\1\0\0\0" "\0\0\0\0" "EUREUR", 22, 3), TINYSTR_BAD_INDEX, 7));
+    CHECK(is(tinystr_hashed_check(table, 24, 3), TINYSTR_BAD_LENGTH, 8));
+    CHECK(is(tinystr_hashed_check(HEADER "EURG\0B", 22, 3), TINYSTR_NUL, 1));
+    CHECK(is(tinystr_hashed_check(HEADER "EURG\xff" "B", 22, 3), TINYSTR_NON_ASCII, 1));
+    CHECK(is(tinystr_hashed_check(HEADER "EURCHF", 22, 3), TINYSTR_MISPLACED, 1));
+    CHECK(is(tinystr_hashed_search(table, 25, 3, "GB\0\0", 4), TINYSTR_OK, 2));
+    CHECK(is(tinystr_hashed_search(table, 25, 3, "USD", 3), TINYSTR_NOT_FOUND, 0));
+    CHECK(is(tinystr_hashed_search_each(table, 25, 3, "USDCHF", 6, out, 1), TINYSTR_NO_ROOM, 2) && is_filled(out[0]));
+    CHECK(is(tinystr_hashed_search_each(table, 25, 3, "USDCH", 5, out, 3), TINYSTR_BAD_LENGTH, 5) && is_filled(out[0]));
+    CHECK(is(tinystr_hashed_search_each(table, 25, 3, "USDC\0F", 6, out, 3), TINYSTR_NUL, 1) && is_filled(out[0]));
+    CHECK(is(tinystr_hashed_search_each(table, 25, 3, "USD\xff" "HF", 6, out, 3), TINYSTR_NON_ASCII, 1) && is_filled(out[0]));
+    CHECK(is(tinystr_hashed_search_each(table, 25, 3, "USDCHF", 6, out, 3), TINYSTR_OK, 2) && is_filled(out[2]));
+    CHECK(is(out[0], TINYSTR_NOT_FOUND, 0) && is(out[1], TINYSTR_OK, 0));
+    CHECK(is(tinystr_hashed_map_check(table, 25, 3, "\2\2\2", 3, 1), TINYSTR_OK, 3));
+    CHECK(is(tinystr_hashed_map_check(table, 25, 3, "\2\2", 2, 1), TINYSTR_BAD_VALUES, 2));
+    CHECK(is(tinystr_hashed_map_check(table, 25, 3, "\2\2\2", 3, 3), TINYSTR_BAD_ARGUMENT, 3));
+    CHECK(is(tinystr_hashed_map_check(table, 15, 3, "", 0, 1), TINYSTR_BAD_HEADER, 15));
+}
+
+/* The codes of tinystr_sorted_pack, in their order. Each leaves the records as they were. */
+static void rejected_packs(void) {
+    char bytes[] = "JPYE\0RE\xff" "RAB", good[] = "JPYEURCHF";
+    uint8_t scratch[9];
+    CHECK(is(tinystr_sorted_pack(bytes, 11, 5, NULL, 0), TINYSTR_BAD_ARGUMENT, 5));
+    CHECK(is(tinystr_sorted_pack(bytes, 11, 3, NULL, 0), TINYSTR_BAD_LENGTH, 11));
+    CHECK(is(tinystr_sorted_pack(bytes, 9, 3, NULL, 0), TINYSTR_NUL, 1));
+    CHECK(is(tinystr_sorted_pack(bytes + 6, 3, 3, NULL, 0), TINYSTR_NON_ASCII, 0));
+    CHECK(!memcmp(bytes, "JPYE\0RE\xff" "RAB", sizeof bytes));
+    CHECK(is(tinystr_sorted_pack(good, 9, 3, NULL, 0), TINYSTR_NO_ROOM, 9));
+    CHECK(is(tinystr_sorted_pack(good, 9, 3, scratch, 8), TINYSTR_NO_ROOM, 9) && !strcmp(good, "JPYEURCHF"));
+    CHECK(is(tinystr_sorted_pack(good, 9, 3, scratch, 9), TINYSTR_OK, 3) && !strcmp(good, "CHFEURJPY"));
+    CHECK(is(tinystr_sorted_pack(NULL, 0, 3, NULL, 0), TINYSTR_OK, 0));
+}
+
+static tinystr_result each(const void *keys, size_t keys_len, tinystr_result *out, size_t out_len) {
+    return tinystr_sorted_search_each("CADCHFEURGB\0JPY", 15, 3, keys, keys_len, out, out_len);
+}
+
+/* Keys by eights, and more; an `out` that is longer, and one that is too short; and keys that aren't records. */
+static void many_keys(void) {
+    static const char keys[] = "JPYEURUSDCADGB\0GBP\0\0\0EUREURCHFZ\0\0";
+    static const size_t found[] = {4, 2, 5, 0, 3, 4, 0, 2, 2, 1, 5};
+    enum { KEYS = sizeof found / sizeof *found };
+    tinystr_result out[KEYS + 1];
+    size_t k;
+    for (k = 0; k < KEYS + 1; k++) out[k].value = 77, out[k].code = 77, out[k].detail = 77;
+    CHECK(is(each(keys, 3 * KEYS, out, KEYS - 1), TINYSTR_NO_ROOM, KEYS));
+    CHECK(is(each(keys, 3 * KEYS - 1, out, KEYS), TINYSTR_BAD_LENGTH, 3 * KEYS - 1));
+    CHECK(is(each("EURE\0RZ\0\0", 9, out, KEYS), TINYSTR_NUL, 1));
+    CHECK(is(each("EURJPYE\xff" "R", 9, out, KEYS), TINYSTR_NON_ASCII, 2));
+    for (k = 0; k < KEYS + 1; k++) CHECK(is_filled(out[k]));
+    CHECK(is(each(keys, 3 * KEYS, out, KEYS + 1), TINYSTR_OK, KEYS) && is_filled(out[KEYS]));
+    for (k = 0; k < KEYS; k++) {
+        int is_none = k == 2 || k == 5 || k == 6 || k == 10;
+        CHECK(is(out[k], is_none ? TINYSTR_NOT_FOUND : TINYSTR_OK, found[k]));
+    }
+}
+
+/* NULL with no bytes, as each pointer. */
+static void null_pointers(void) {
+    CHECK(is(tinystr_langid(NULL, 0, NULL, 0), TINYSTR_INVALID_LANGUAGE, 0));
+    CHECK(is(tinystr_read(NULL, 0, NULL, 0), TINYSTR_OK, 0));
+    CHECK(is(tinystr_ask(NULL, 0, TINYSTR_NUMERIC), TINYSTR_OK, 1));
+    CHECK(is(tinystr_change_case(NULL, 0, TINYSTR_UPPER), TINYSTR_OK, 0));
+    CHECK(is(tinystr_table_check(NULL, 0, 3), TINYSTR_OK, 0));
+    CHECK(is(tinystr_sorted_check(NULL, 0, 3), TINYSTR_OK, 0));
+    CHECK(is(tinystr_sorted_search(NULL, 0, 3, NULL, 0), TINYSTR_NOT_FOUND, 0));
+    CHECK(is(tinystr_sorted_search_each(NULL, 0, 3, NULL, 0, NULL, 0), TINYSTR_OK, 0));
+    CHECK(is_range(tinystr_sorted_prefix(NULL, 0, 3, NULL, 0), 0, 0));
+    CHECK(is(tinystr_map_check(NULL, 0, 3, NULL, 0, 8), TINYSTR_OK, 0));
+    CHECK(is(tinystr_hashed_check(NULL, 0, 3), TINYSTR_BAD_HEADER, 0));
+    CHECK(is(tinystr_hashed_search(NULL, 0, 3, NULL, 0), TINYSTR_NOT_FOUND, 0));
+}
+
+int main(void) {
+    CHECK(tinystr_version() == TINYSTR_VERSION);
+    langids();
+    messages();
+    texts();
+    questions();
+    tables();
+    hashed();
+    rejected_packs();
+    many_keys();
+    null_pointers();
+    puts(has_failed ? "failed" : "passed");
+    return has_failed;
+}

@@ -1,3 +1,0 @@
-module lists
-
-go 1.19
