@@ -3,11 +3,12 @@
 use std::collections::BTreeMap;
 use std::test::Fail;
 use tinystr::TinyAsciiStr;
-use tinystr_hashed::{PackHashedError, pack_hashed, pack_hashed_map, pack_hashed_text_map};
+use tinystr_hashed::PackHashedError::Memory;
+use tinystr_hashed::{pack_hashed, pack_hashed_map, pack_hashed_text_map};
 
 // The table of the texts below. Another program computes it from the definition, with the first seed that is tried.
-const FILE: &[u8] = b"\x01\0\0\0\x03\0\0\0\x1d\xdd\x6c\x4f\x91\xf4\x45\x25\
-    \0\0\0\0\x26\0\0\0\x02\0\0\0CADTNDAUDGBPCLFKWDEURCHFBHD";
+const FILE: &[u8] =
+    b"\x01\0\0\0\x05\0\0\0\0\0\0\0\x01\0\0\0\0\x05\0\x0a\x0cCLFCADCHFBHDKWDEURAUDTNDGBP";
 
 // A vector that isn't allocated for all of them grows several times.
 fn texts() -> [TinyAsciiStr<3>; 9] {
@@ -27,17 +28,13 @@ fn texts() -> [TinyAsciiStr<3>; 9] {
 
 #[test]
 fn want_of_memory_for_hashing(rt: HostRuntime) -> Result<(), Fail> {
-    let made = match pack_hashed(rt.alloc(), &texts()) {
-        Ok(made) => {
-            println!(rt; "pack_hashed given")?;
-            made
-        }
-        Err(fault) => {
-            assert!(rt; fault == PackHashedError::Memory);
-            println!(rt; "pack_hashed refused")?;
-            pack_hashed(rt.alloc(), &texts())?
-        }
-    };
+    let made = made!(
+        rt,
+        "pack_hashed given",
+        "pack_hashed refused",
+        Memory,
+        pack_hashed(rt.alloc(), &texts())
+    );
     assert!(rt; made.as_slice() == FILE);
     Ok(())
 }
@@ -47,25 +44,15 @@ fn want_of_memory_for_hashing(rt: HostRuntime) -> Result<(), Fail> {
 fn want_of_memory_for_a_hashed_map(rt: HostRuntime) -> Result<(), Fail> {
     let mut map = BTreeMap::new(rt.alloc());
     for key in texts() {
-        match map.insert(key, [1; 64]) {
-            Ok(_) => println!(rt; "map given")?,
-            Err(_) => {
-                println!(rt; "map refused")?;
-                map.insert(key, [1; 64])?;
-            }
-        }
+        made!(rt, "map given", "map refused", _, map.insert(key, [1; 64]));
     }
-    let (keys, values) = match pack_hashed_map(rt.alloc(), &map) {
-        Ok(made) => {
-            println!(rt; "pack_hashed_map given")?;
-            made
-        }
-        Err(fault) => {
-            assert!(rt; fault == PackHashedError::Memory);
-            println!(rt; "pack_hashed_map refused")?;
-            pack_hashed_map(rt.alloc(), &map)?
-        }
-    };
+    let (keys, values) = made!(
+        rt,
+        "pack_hashed_map given",
+        "pack_hashed_map refused",
+        Memory,
+        pack_hashed_map(rt.alloc(), &map)
+    );
     assert!(rt; keys.as_slice() == FILE && values.as_slice() == [1; 576].as_slice());
     Ok(())
 }
@@ -75,25 +62,15 @@ fn want_of_memory_for_a_hashed_map_of_texts(rt: HostRuntime) -> Result<(), Fail>
     let mut map = BTreeMap::new(rt.alloc());
     let value = TinyAsciiStr::<64>::from_utf8_unchecked([b'a'; 64]);
     for key in texts() {
-        match map.insert(key, value) {
-            Ok(_) => println!(rt; "map given")?,
-            Err(_) => {
-                println!(rt; "map refused")?;
-                map.insert(key, value)?;
-            }
-        }
+        made!(rt, "map given", "map refused", _, map.insert(key, value));
     }
-    let (keys, values) = match pack_hashed_text_map(rt.alloc(), &map) {
-        Ok(made) => {
-            println!(rt; "pack_hashed_text_map given")?;
-            made
-        }
-        Err(fault) => {
-            assert!(rt; fault == PackHashedError::Memory);
-            println!(rt; "pack_hashed_text_map refused")?;
-            pack_hashed_text_map(rt.alloc(), &map)?
-        }
-    };
+    let (keys, values) = made!(
+        rt,
+        "pack_hashed_text_map given",
+        "pack_hashed_text_map refused",
+        Memory,
+        pack_hashed_text_map(rt.alloc(), &map)
+    );
     assert!(rt; keys.as_slice() == FILE && values.as_slice() == [b'a'; 576].as_slice());
     Ok(())
 }

@@ -3,12 +3,6 @@
 #![tactic(auto)]
 
 #[cfg(test)]
-mod kinds;
-#[cfg(test)]
-mod order;
-#[cfg(test)]
-mod printing;
-#[cfg(test)]
 mod reading;
 #[cfg(test)]
-mod views;
+mod values;

@@ -1,15 +1,14 @@
-//! Identifiers, read and rejected.
+//! Identifiers and subtags, read, rejected and shown; subtags of an identifier, and an identifier of subtags.
 
-use subtags::{LangId, LangIdError};
+use std::convert::{AsSlice, AsStr};
+use std::str::FromStr;
+use subtags::LangIdError::{InvalidLanguage, InvalidSubtag};
+use subtags::{LangId, LangIdError, Language, Region, Script};
 
 #[test]
 fn accepted_inputs_give_their_canonical_text(rt: HostRuntime) {
     let rows = "en=en EN_latn-us=en-Latn-US es-419=es-419 ZH-hANT_TW=zh-Hant-TW abcde=abcde \
-                en_us=en-US abcdef=abcdef abcdefg=abcdefg abcdefgh=abcdefgh \
-                abcdefgh-Latn-419=abcdefgh-Latn-419 abcde-Latn=abcde-Latn \
-                abcdefgh-US=abcdefgh-US abcdefgh-Latn=abcdefgh-Latn \
-                abcdef-419=abcdef-419 abcdefg-419=abcdefg-419 abcdefgh-419=abcdefgh-419 \
-                abcdef-Latn-419=abcdef-Latn-419 abcdefg-Latn-419=abcdefg-Latn-419";
+                abcdefgh-Latn-419=abcdefgh-Latn-419";
     for row in rows.split_whitespace() {
         assert!(rt; is_read_as_its_text(row), "{row}");
     }
@@ -29,48 +28,115 @@ fn is_read_as_its_text(row: &str) -> bool {
 
 #[test]
 fn a_first_subtag_that_is_no_language_is_named(rt: HostRuntime) {
-    for input in "|a|abcd|abcdefghi|e1|-en|en.US|en/US|en US|abcd-!!|e@|e[|`n|{n| en|en | en-US".split(
-        '|',
-    ) {
-        assert!(rt; is_rejected(input, LangIdError::InvalidLanguage), "{input}");
+    for input in "|a|abcd|abcdefghi|e1|-en|en.US|abcd-!!".split('|') {
+        assert!(rt; is_rejected(input, InvalidLanguage), "{input}");
     }
 }
 
 #[test]
 fn a_language_is_followed_by_a_script_a_region_or_both(rt: HostRuntime) {
-    let inputs =
-        "en-|en--US|en-US-Latn|en-US-x|en-1234|en-u1|en-u|en-4a9|en-Lat1|en-LatnxUS|en-Latn-Latn|en-Latn-US-|\
-         en-4/9|en-41:|en-US |en- US";
-    for input in inputs.split('|') {
-        assert!(rt; is_rejected(input, LangIdError::InvalidSubtag), "{input}");
+    let inputs = "en- en--US en-US-Latn en-1234 en-u1 en-Lat1 en-Latn-Latn en-Latn-US-";
+    for input in inputs.split_whitespace() {
+        assert!(rt; is_rejected(input, InvalidSubtag), "{input}");
     }
-}
-
-#[test]
-fn a_dash_and_an_underscore_separate_and_no_other_byte(rt: HostRuntime) {
-    for byte in 0..=u8::MAX {
-        assert!(rt; is_cut_rightly(byte), "{byte}");
-    }
-}
-
-/// Whether the byte between a language and a region, and between a script and a region, separates as it should. A letter
-/// after the language makes a language of five.
-fn is_cut_rightly(byte: u8) -> bool {
-    let separates = byte == b'-' || byte == b'_';
-    let after_language = LangId::try_from_utf8(&[b'e', b'n', byte, b'U', b'S']);
-    let after_script = [b'e', b'n', b'-', b'L', b'a', b't', b'n', byte, b'U', b'S'];
-    let is_cut = match LangId::try_from_utf8(&after_script) {
-        Ok(id) => separates && id.as_str() == "en-Latn-US",
-        Err(error) => !separates && error == LangIdError::InvalidSubtag,
-    };
-    is_cut
-        && match after_language {
-            Ok(id) if separates => id.as_str() == "en-US",
-            Ok(id) => byte.is_ascii_alphabetic() && id.as_str().len() == 5,
-            Err(error) => !byte.is_ascii_alphabetic() && error == LangIdError::InvalidLanguage,
-        }
 }
 
 fn is_rejected(input: &str, error: LangIdError) -> bool {
     LangId::try_from_utf8(input.as_bytes()) == Err(error)
+}
+
+#[test]
+fn each_kind_reads_its_own(rt: HostRuntime) {
+    for row in "EN=en abcd= a=".split_whitespace() {
+        assert!(rt; is_language_or_none(row), "{row}");
+    }
+    for row in "hANT=Hant Han1=".split_whitespace() {
+        assert!(rt; is_script_or_none(row), "{row}");
+    }
+    for row in "us=US 419=419 41= u1= u12=".split_whitespace() {
+        assert!(rt; is_region_or_none(row), "{row}");
+    }
+}
+
+/// Whether the input before the `=` is read as the language after it, or as none if nothing follows.
+fn is_language_or_none(row: &str) -> bool {
+    let (input, text) = row.split_once('=').unwrap_or(("", row));
+    match Language::try_from_utf8(input.as_bytes()) {
+        Some(language) => language.to_text().as_str() == text,
+        None => text.is_empty(),
+    }
+}
+
+fn is_script_or_none(row: &str) -> bool {
+    let (input, text) = row.split_once('=').unwrap_or(("", row));
+    match Script::try_from_utf8(input.as_bytes()) {
+        Some(script) => script.to_text().as_str() == text,
+        None => text.is_empty(),
+    }
+}
+
+fn is_region_or_none(row: &str) -> bool {
+    let (input, text) = row.split_once('=').unwrap_or(("", row));
+    match Region::try_from_utf8(input.as_bytes()) {
+        Some(region) => region.to_text().as_str() == text,
+        None => text.is_empty(),
+    }
+}
+
+#[test]
+fn values_are_parsed_and_tried_from_texts(rt: HostRuntime) {
+    assert!(rt; is_tried::<LangId>("EN_latn", Ok("en-Latn")));
+    assert!(rt; is_tried::<Language>("ZH", Ok("zh")));
+    assert!(rt; is_tried::<Script>("hANT", Ok("Hant")));
+    assert!(rt; is_tried::<Region>("tw", Ok("TW")));
+    assert!(rt; is_tried::<LangId>("en-Latn-", Err(InvalidSubtag)));
+    assert!(rt; is_tried::<Language>("abcd", Err(InvalidLanguage)));
+    assert!(rt; is_tried::<Script>("abc", Err(InvalidSubtag)));
+    assert!(rt; is_tried::<Region>("abc", Err(InvalidSubtag)));
+}
+
+/// Whether std's traits answer the input by the value of this text, or by this error.
+fn is_tried<
+    'a,
+    T: FromStr<Err = LangIdError>
+        + TryFrom<&'a str, Error = LangIdError>
+        + AsStr
+        + AsSlice<u8>
+        + Drop,
+>(input: &'a str, expected: Result<&str, LangIdError>) -> bool {
+    match (T::from_str(input), T::try_from(input), expected) {
+        (Ok(parsed), Ok(tried), Ok(text)) => shows(&parsed, text) && shows(&tried, text),
+        (Err(parsed), Err(tried), Err(error)) => parsed == error && tried == error,
+        _ => false,
+    }
+}
+
+fn shows<T: AsStr + AsSlice<u8>>(value: &T, text: &str) -> bool {
+    value.as_str() == text && value.as_slice() == text.as_bytes()
+}
+
+#[test]
+fn an_identifier_gives_its_subtags_and_is_made_of_them(rt: HostRuntime) {
+    let rows = "en/en// es-419/es//419 en-Latn/en/Latn/ abcdefgh-Hant-TW/abcdefgh/Hant/TW";
+    for row in rows.split_whitespace() {
+        assert!(rt; has_its_subtags(row), "{row}");
+    }
+}
+
+/// Whether the first word, an identifier, has the next ones as language, script and region, and is made of them. An empty
+/// word represents none.
+fn has_its_subtags(row: &str) -> bool {
+    let mut words = row.split('/');
+    let Ok(id) = words.next().unwrap_or("").parse::<LangId>() else {
+        return false;
+    };
+    let Ok(language) = words.next().unwrap_or("").parse::<Language>() else {
+        return false;
+    };
+    let script = words.next().unwrap_or("").parse::<Script>().ok();
+    let region = words.next().unwrap_or("").parse::<Region>().ok();
+    id.language() == language
+        && id.script() == script
+        && id.region() == region
+        && LangId::from_parts(language, script, region) == id
 }

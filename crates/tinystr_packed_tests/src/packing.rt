@@ -1,121 +1,100 @@
-//! Texts packed as they are, and in order.
+//! The bytes of packed texts and maps, and texts counted.
 
-use std::alloc::Global;
-use std::collections::BTreeSet;
-use tinystr::TinyAsciiStr;
-use tinystr_packed::{SortedTable, Table, pack, pack_sorted, unpack};
+use std::alloc::{AllocError, Global};
+use std::collections::BTreeMap;
+use std::test::Fail;
+use tinystr::{TinyAsciiStr, TinyStr4};
+use tinystr_packed::{Table, count_texts, pack, pack_map, pack_sorted, pack_text_map, unpack};
 
-fn texts(alloc: Global, words: &str) -> Option<Vec<TinyAsciiStr<4>>> {
+// The words of a text.
+fn texts(alloc: Global, words: &str) -> Result<Vec<TinyStr4>, AllocError> {
     let mut made = Vec::new(alloc);
     for word in words.split('|') {
-        made.push(TinyAsciiStr::try_from_str(word).ok()?).ok()?;
+        made.push(TinyAsciiStr::from_utf8_lossy(word.as_bytes(), b'?'))?;
     }
-    Some(made)
+    Ok(made)
 }
 
-#[test]
-fn texts_are_padded_and_joined(rt: HostRuntime) {
-    for (words, file) in [
-        ("", &b"\0\0\0\0"[..]),
-        ("Latn", &b"Latn"[..]),
-        ("b|a|b", &b"b\0\0\0a\0\0\0b\0\0\0"[..]),
-        ("ab||Cyrl", &b"ab\0\0\0\0\0\0Cyrl"[..]),
-        ("ab|ab", &b"ab\0\0ab\0\0"[..]),
-    ] {
-        assert!(rt; is_packed(rt.alloc(), words, file), "{words}");
-    }
-    assert!(rt; matches!(pack::<4>(rt.alloc(), &[]), Ok(made) if made.is_empty()));
-}
-
-/// Whether the texts are packed to the file, and come back from it.
-fn is_packed(alloc: Global, words: &str, file: &[u8]) -> bool {
-    let Some(texts) = texts(alloc, words) else {
-        return false;
-    };
-    let made = match pack(alloc, texts.as_slice()) {
-        Ok(made) => made.as_slice() == file,
-        Err(_) => false,
-    };
-    let Ok(table) = Table::<4>::new(file) else {
-        return false;
-    };
-    match unpack(alloc, &table) {
-        Ok(back) => made && back.as_slice() == texts.as_slice(),
-        Err(_) => false,
-    }
-}
-
-// Words, each with the file of them in order.
-const SORTED: &[(&str, &[u8])] = &[
-    ("", b"\0\0\0\0"),
-    ("b", b"b\0\0\0"),
-    ("b|a", b"a\0\0\0b\0\0\0"),
-    ("a|a", b"a\0\0\0"),
-    ("a|a|a", b"a\0\0\0"),
-    ("b|a|b|", b"\0\0\0\0a\0\0\0b\0\0\0"),
-    ("abc|ab|abcd|b|Z", b"Z\0\0\0ab\0\0abc\0abcdb\0\0\0"),
-    ("a|A", b"A\0\0\0a\0\0\0"),
-];
-
-#[test]
-fn texts_in_any_order_are_packed_in_order_and_each_once(rt: HostRuntime) {
-    for (words, file) in SORTED {
-        assert!(rt; is_sorted_to(rt.alloc(), words, file), "{words}");
-    }
-    assert!(rt; matches!(pack_sorted::<4>(rt.alloc(), &[]), Ok(made) if made.is_empty()));
-}
-
-fn is_sorted_to(alloc: Global, words: &str, file: &[u8]) -> bool {
-    let Some(texts) = texts(alloc, words) else {
-        return false;
-    };
-    match pack_sorted(alloc, texts.as_slice()) {
-        Ok(made) => made.as_slice() == file,
-        Err(_) => false,
+fn are_unpacked(alloc: Global, file: &[u8], texts: &[TinyStr4]) -> Result<bool, AllocError> {
+    match Table::<4>::new(file) {
+        Ok(table) => Ok(unpack(alloc, &table)?.as_slice() == texts),
+        Err(_) => Ok(false),
     }
 }
 
 #[test]
-fn sorted_texts_are_those_of_a_set_of_std(rt: HostRuntime) {
-    for words in [
-        "in|the|town|where|I|was|born",
-        "a|b|a|c|b|a",
-        "z|y|x|w|v|u|t|s|r|q|p|o|n|m|l|k|j|i|h|g|f|e|d|c|b|a",
-    ] {
-        assert!(rt; is_as_the_set(rt.alloc(), words), "{words}");
-    }
+fn texts_are_padded_and_joined_as_they_are(rt: HostRuntime) -> Result<(), Fail> {
+    let texts = texts(rt.alloc(), "b||a|Cyrl|b")?;
+    let file = pack(rt.alloc(), &texts)?;
+    assert!(rt; file.as_slice() == b"b\0\0\0\0\0\0\0a\0\0\0Cyrlb\0\0\0".as_slice());
+    assert!(rt; are_unpacked(rt.alloc(), &file, &texts)?);
+    Ok(())
 }
 
-fn is_as_the_set(alloc: Global, words: &str) -> bool {
-    let mut set = BTreeSet::new(alloc);
-    let mut given = Vec::new(alloc);
-    for word in words.split('|') {
-        let Ok(text) = TinyAsciiStr::<8>::try_from_str(word) else {
-            return false;
-        };
-        if set.insert(text).is_err() || given.push(text).is_err() {
-            return false;
+#[test]
+fn texts_are_packed_in_order_and_each_once(rt: HostRuntime) -> Result<(), Fail> {
+    let texts = texts(rt.alloc(), "abc|ab|abcd||Z|ab")?;
+    let file = pack_sorted(rt.alloc(), &texts)?;
+    assert!(rt; file.as_slice() == b"\0\0\0\0Z\0\0\0ab\0\0abc\0abcd".as_slice());
+    Ok(())
+}
+
+#[test]
+fn keys_and_values_of_a_map_are_packed(rt: HostRuntime) -> Result<(), Fail> {
+    let mut map = BTreeMap::new(rt.alloc());
+    let mut text_map = BTreeMap::new(rt.alloc());
+    for (key, value) in texts(rt.alloc(), "USD|CHF|EUR")?
+        .iter()
+        .zip([b"78", b"12", b"3\0"])
+    {
+        map.insert(*key, *value)?;
+        text_map.insert(*key, TinyAsciiStr::from_utf8_unchecked(*value))?;
+    }
+    let (keys, values) = pack_map(rt.alloc(), &map)?;
+    assert!(rt; keys.as_slice() == b"CHF\0EUR\0USD\0".as_slice());
+    assert!(rt; values.as_slice() == b"123\078".as_slice());
+    let (same, texts) = pack_text_map(rt.alloc(), &text_map)?;
+    assert!(rt; same == keys && texts == values);
+    Ok(())
+}
+
+#[test]
+fn each_text_is_counted(rt: HostRuntime) -> Result<(), Fail> {
+    let texts = texts(rt.alloc(), "b|a|ab|b")?;
+    let counts = count_texts(rt.alloc(), &texts)?;
+    let a = TinyAsciiStr::from_utf8_unchecked(*b"a\0\0\0");
+    let b = TinyAsciiStr::from_utf8_unchecked(*b"b\0\0\0");
+    assert!(rt; counts.len() == 3 && counts.get(&b) == Some(&2) && counts.get(&a) == Some(&1));
+    Ok(())
+}
+
+// 320 texts, more than a byte counts.
+fn many(alloc: Global) -> Result<Vec<TinyStr4>, AllocError> {
+    let mut texts = Vec::new(alloc);
+    for first in b'a'..=b'p' {
+        for second in b'a'..=b't' {
+            texts.push(TinyAsciiStr::from_utf8_lossy(&[first, second], b'?'))?;
         }
     }
-    let Ok(made) = pack_sorted(alloc, given.as_slice()) else {
-        return false;
-    };
-    let Ok(table) = Table::<8>::new(made.as_slice()) else {
-        return false;
-    };
-    match SortedTable::new(table) {
-        Ok(sorted) => sorted.table().len() == set.len() && are_members(sorted.table(), &set),
-        Err(_) => false,
-    }
+    Ok(texts)
 }
 
-/// Whether the table has the texts of the set in their order, and no more.
-fn are_members(table: &Table<'_, 8>, set: &BTreeSet<TinyAsciiStr<8>>) -> bool {
-    let mut texts = table.iter();
-    for member in set {
-        if texts.next() != Some(*member) {
-            return false;
-        }
+#[test]
+fn many_texts_are_packed_sorted_and_counted(rt: HostRuntime) -> Result<(), Fail> {
+    let texts = many(rt.alloc())?;
+    let file = pack(rt.alloc(), &texts)?;
+    assert!(rt; file.len() == 1280 && are_unpacked(rt.alloc(), &file, &texts)?);
+    assert!(rt; pack_sorted(rt.alloc(), &texts)? == file);
+    assert!(rt; count_texts(rt.alloc(), &texts)?.len() == 320);
+    let mut map = BTreeMap::new(rt.alloc());
+    let mut text_map = BTreeMap::new(rt.alloc());
+    for text in texts.iter() {
+        map.insert(*text, text.to_bytes())?;
+        text_map.insert(*text, *text)?;
     }
-    texts.next().is_none()
+    let (keys, values) = pack_map(rt.alloc(), &map)?;
+    assert!(rt; keys == file && values == file);
+    let (keys, values) = pack_text_map(rt.alloc(), &text_map)?;
+    assert!(rt; keys == file && values == file);
+    Ok(())
 }

@@ -1,168 +1,162 @@
-//! Packed records.
+//! Tables and sorted tables.
 
-use std::alloc::Global;
-use tinystr::ule::UleError;
-use tinystr::{ParseError, TinyAsciiStr};
-use tinystr_packed::{NotRising, SortedTable, Table, pack, unpack};
+use tinystr::ParseError::{ContainsNull, NonAscii};
+use tinystr::TinyAsciiStr;
+use tinystr::ule::UleError::{self, Length, Parse};
+use tinystr_packed::SortedError::{self, Order, Records};
+use tinystr_packed::{NotRising, SortedTable, Table, in_place};
 
-#[test]
-fn records_are_read_in_place(rt: HostRuntime) {
-    let file = b"Latnab\0\0Cyrl";
-    for (index, text) in "Latn ab Cyrl".split_whitespace().enumerate() {
-        assert!(rt; has_record(file, index, text), "{text}");
-    }
-    for index in [3, 4, 1 << 62] {
-        assert!(rt; is_past_the_end(file, index), "{index}");
-    }
-    assert!(rt; is_past_the_end(b"", 0));
-}
+type Text = TinyAsciiStr<3>;
 
-fn has_record(file: &[u8], index: usize, text: &str) -> bool {
-    match Table::<4>::new(file) {
-        Ok(table) => matches!(table.get(index), Some(found) if found.as_str() == text),
-        Err(_) => false,
-    }
-}
+// Records, and their texts, a line each. They aren't ascending.
+const FILE: &[u8] = b"d\0\0abc\0\0\0b\0\0";
 
-fn is_past_the_end(file: &[u8], index: usize) -> bool {
-    match Table::<4>::new(file) {
-        Ok(table) => table.get(index).is_none(),
-        Err(_) => false,
-    }
-}
+const TEXTS: &str = "d\nabc\n\nb\n";
 
-#[test]
-fn a_table_has_a_text_for_each_record(rt: HostRuntime) {
-    for (len, file) in ["", "Latn", "Latnab\0\0", "Latnab\0\0Cyrl"]
-        .into_iter()
-        .enumerate()
-    {
-        assert!(rt; has_len(file.as_bytes(), len), "{file}");
-    }
-}
-
-fn has_len(file: &[u8], len: usize) -> bool {
-    match Table::<4>::new(file) {
-        Ok(table) => table.len() == len && table.is_empty() == (len == 0),
-        Err(_) => false,
-    }
-}
-
-#[test]
-fn texts_are_read_in_order(rt: HostRuntime) {
-    for (file, lines) in [
-        ("", ""),
-        ("Latn", "Latn\n"),
-        ("Latnab\0\0Cyrl", "Latn\nab\nCyrl\n"),
-        ("ab\0\0\0\0\0\0ab\0\0", "ab\n\nab\n"),
-        ("ab\0\0ab\0\0", "ab\nab\n"),
-    ] {
-        assert!(rt;
-            is_unpacked_and_packed(rt.alloc(), file.as_bytes(), lines),
-            "{file}"
-        );
-    }
-}
-
-/// Whether the texts of a file are those of the lines, and these texts, packed again, are the file.
-fn is_unpacked_and_packed(alloc: Global, file: &[u8], lines: &str) -> bool {
-    let Ok(table) = Table::<4>::new(file) else {
-        return false;
-    };
-    let Ok(texts) = unpack(alloc, &table) else {
-        return false;
-    };
-    let mut found = texts.iter();
-    for line in lines.lines() {
-        match found.next() {
-            Some(text) if text.as_str() == line => {}
-            _ => return false,
-        }
-    }
-    match pack(alloc, texts.as_slice()) {
-        Ok(made) => found.next().is_none() && made.as_slice() == file,
-        Err(_) => false,
-    }
-}
-
-// Texts, each with its answer in the sorted table.
-const ANSWERS: &[(&str, Result<usize, usize>)] = &[
-    ("", Ok(0)),
-    ("Cyrl", Ok(1)),
-    ("ab", Ok(2)),
-    ("abc", Ok(3)),
-    ("b", Ok(4)),
-    ("A", Err(1)),
-    ("D", Err(2)),
-    ("a", Err(2)),
-    ("abb", Err(3)),
-    ("abca", Err(4)),
-    ("bb", Err(5)),
-];
-
-#[test]
-fn sorted_tables_are_searched(rt: HostRuntime) {
-    let file = b"\0\0\0\0Cyrlab\0\0abc\0b\0\0\0";
-    for (text, answer) in ANSWERS {
-        let is_right = is_searched(file, text, *answer);
-        let is_right_of_empty = is_searched(b"", text, Err(0));
-        assert!(rt;
-            is_right && is_right_of_empty,
-            "{text}: {is_right} {is_right_of_empty}"
-        );
-    }
-}
-
-fn is_searched(file: &[u8], text: &str, answer: Result<usize, usize>) -> bool {
-    match (sorted_table(file), TinyAsciiStr::<4>::try_from_str(text)) {
-        (Ok(sorted), Ok(key)) => sorted.binary_search(&key) == answer
-            && sorted.contains(&key) == answer.is_ok()
-            && sorted.table().len() == file.len() / 4,
+fn is_text(found: Option<Text>, text: Option<&str>) -> bool {
+    match (found, text) {
+        (Some(found), Some(text)) => found.as_str() == text,
+        (None, None) => true,
         _ => false,
     }
 }
 
-fn sorted_table(file: &[u8]) -> Result<SortedTable<'_, 4>, Option<NotRising>> {
-    match Table::<4>::new(file) {
-        Ok(table) => SortedTable::new(table).map_err(Some),
-        Err(_) => Err(None),
+// Whether the table has exactly the texts of the lines, and its iterator reports each time the number of those that follow.
+fn has_texts(table: &Table<'_, 3>, lines: &str) -> bool {
+    let mut left = table.len();
+    let mut found = table.iter();
+    for text in lines.lines() {
+        if found.size_hint() != (left, Some(left)) || !is_text(found.next(), Some(text)) {
+            return false;
+        }
+        left = left.saturating_sub(1);
+    }
+    found.size_hint() == (0, Some(0)) && found.next().is_none()
+}
+
+// Whether the table is that of the file.
+fn is_of_file(table: &Table<'_, 3>) -> bool {
+    table.len() == 4
+        && !table.is_empty()
+        && is_text(table.first(), Some("d"))
+        && is_text(table.last(), Some("b"))
+        && is_text(Some(table.text_at(1)), Some("abc"))
+        && is_text(table.get(1), Some("abc"))
+        && is_text(table.get(4), None)
+        && has_texts(&table.slice(1..3), "abc\n\n")
+        && has_texts(table, TEXTS)
+}
+
+#[test]
+fn a_table_has_its_texts_in_their_order(rt: HostRuntime) {
+    let is_table = Table::<3>::new(FILE).is_ok_and(|table| is_of_file(&table));
+    let is_empty = Table::<3>::new(b"").is_ok_and(|table| table.is_empty());
+    assert!(rt; is_table && is_empty);
+}
+
+// Bytes, each with the fault for which they are rejected.
+const REJECTED: &[(&[u8], UleError)] = &[
+    (b"\0aaL", Length { len: 4 }),
+    (
+        b"USDa\0bUS\x80",
+        Parse {
+            index: 1,
+            fault: ContainsNull,
+        },
+    ),
+    (
+        b"US\x80a\0b",
+        Parse {
+            index: 0,
+            fault: NonAscii,
+        },
+    ),
+];
+
+#[test]
+fn bytes_are_rejected_for_their_length_or_their_first_bad_record(rt: HostRuntime) {
+    for (bytes, fault) in REJECTED {
+        assert!(rt; Table::<3>::new(bytes).err() == Some(*fault), "{fault:?}");
+    }
+}
+
+// Bytes, each with the fault for which they aren't a sorted table.
+const UNSORTED: &[(&[u8], SortedError)] = &[
+    (b"EURCHFE", Records(Length { len: 7 })),
+    (
+        b"EURCHF\0US",
+        Records(Parse {
+            index: 2,
+            fault: ContainsNull,
+        }),
+    ),
+    (b"EUREUR", Order(NotRising { index: 1 })),
+    (b"CHFEURUSDJPYAAA", Order(NotRising { index: 3 })),
+];
+
+#[test]
+fn records_are_rejected_first_and_then_their_order(rt: HostRuntime) {
+    for (bytes, fault) in UNSORTED {
+        assert!(rt;
+            SortedTable::<3>::from_bytes(bytes).err() == Some(*fault),
+            "{fault:?}"
+        );
+    }
+}
+
+// A sorted table, and texts with their answers in it.
+const SORTED: &[u8] = b"\0\0\0Cy\0ab\0abcb\0\0";
+
+const ANSWERS: &[(&str, Result<usize, usize>)] = &[
+    ("", Ok(0)),
+    ("Cy", Ok(1)),
+    ("b", Ok(4)),
+    ("A", Err(1)),
+    ("abb", Err(3)),
+    ("bb", Err(5)),
+];
+
+// Whether the text has the answer, also in place, and is found from another capacity.
+fn is_searched(text: &str, answer: Result<usize, usize>) -> bool {
+    let key = Text::from_utf8_lossy(text.as_bytes(), b'?');
+    match SortedTable::<3>::from_bytes(SORTED) {
+        Ok(sorted) => sorted.binary_search(&key) == answer
+            && in_place::search(SORTED, &key) == answer
+            && sorted.contains(&key) == answer.is_ok()
+            && sorted.find_text(&key.resize::<8>()) == answer.ok(),
+        Err(_) => false,
     }
 }
 
 #[test]
-fn the_first_text_out_of_order_is_named(rt: HostRuntime) {
-    for (file, index) in [
-        ("LatnCyrl", 1),
-        ("ab\0\0ab\0\0", 1),
-        ("ab\0\0abc\0abb\0", 2),
-        ("a\0\0\0b\0\0\0b\0\0\0a\0\0\0", 2),
-        ("a\0\0\0\0\0\0\0", 1),
-    ] {
-        assert!(rt; is_rejected_at(file.as_bytes(), index), "{file}");
+fn sorted_tables_are_searched(rt: HostRuntime) {
+    for (text, answer) in ANSWERS {
+        assert!(rt; is_searched(text, *answer), "{text}");
     }
 }
 
-fn is_rejected_at(file: &[u8], index: usize) -> bool {
-    matches!(sorted_table(file), Err(Some(fault)) if fault == NotRising { index })
+// Prefixes, each with the index and the number of the texts that begin with it, and these texts, a line each.
+const BEGUN: &[(&str, (usize, usize), &str)] = &[
+    ("", (0, 5), "\nCy\nab\nabc\nb\n"),
+    ("ab", (2, 2), "ab\nabc\n"),
+    ("abc", (3, 1), "abc\n"),
+    ("c", (5, 0), ""),
+];
+
+fn has_begun(prefix: &str, range: (usize, usize), lines: &str) -> bool {
+    let beginning = Text::from_utf8_lossy(prefix.as_bytes(), b'?');
+    match SortedTable::<3>::from_bytes(SORTED) {
+        Ok(sorted) => {
+            has_texts(sorted.with_prefix(&beginning).table(), lines)
+                && in_place::with_prefix(SORTED, &beginning) == range
+        }
+        Err(_) => false,
+    }
 }
 
 #[test]
-fn a_file_is_rejected_for_its_length_or_its_first_bad_record(rt: HostRuntime) {
-    assert!(rt; is_rejected(b"Latna", UleError::Length { len: 5 }));
-    assert!(rt; is_rejected(b"\0a\x80", UleError::Length { len: 3 }));
-    assert!(rt; is_rejected(b"\0aaaL", UleError::Length { len: 5 }));
-    let bad = |index, fault| UleError::Parse { index, fault };
-    let null = ParseError::ContainsNull;
-    let high = ParseError::NonAscii;
-    assert!(rt; is_rejected(b"Latna\0b\0", bad(1, null)));
-    assert!(rt; is_rejected(b"a\0b\0Lat\x80", bad(0, null)));
-    assert!(rt; is_rejected(b"Lat\x80a\0b\0", bad(0, high)));
-    assert!(rt; is_rejected(b"LatnCyrl\xff\0\0\0", bad(2, high)));
-}
-
-fn is_rejected(file: &[u8], error: UleError) -> bool {
-    match Table::<4>::new(file) {
-        Ok(_) => false,
-        Err(fault) => fault == error,
+fn texts_with_a_prefix_are_a_range(rt: HostRuntime) {
+    for (prefix, range, lines) in BEGUN {
+        assert!(rt; has_begun(prefix, *range, lines), "{prefix}");
     }
 }

@@ -1,30 +1,142 @@
-//! Bytes split at the first such byte.
+//! The byte form of both types, written, read and rejected.
 
-use tinystr_words::split_at_byte;
+ghost use Rattle.std.specs.Prelude.{◌<◌, ◌≤◌, ◌^◌, length};
 
-// Whether the bytes are split into these two parts.
-fn is_split(bytes: &[u8], byte: u8, before: &[u8], after: &[u8]) -> bool {
-    match split_at_byte(bytes, byte) {
-        Some((front, back)) => front == before && back == after,
-        None => false,
+use tinystr::forms::{BytesReadError, FormWriteError};
+use tinystr::{TinyAsciiStr, UnvalidatedTinyAsciiStr};
+
+// Whether the text is read from the start of the input, and this is the remainder.
+fn is_read_at_start<const N: usize>(input: &[u8], text: TinyAsciiStr<N>, left: &[u8]) -> bool {
+    match TinyAsciiStr::<N>::read_bytes(input) {
+        Ok((read, rest)) => read == text && rest == left,
+        Err(_) => false,
+    }
+}
+
+// The same of a text at N.
+fn is_text_at_start<const N: usize>(input: &[u8], text: &str, left: &[u8]) -> bool
+    requires { N < 2 ^ 63 }
+{
+    match TinyAsciiStr::<N>::try_from_str(text) {
+        Ok(text) => is_read_at_start(input, text, left),
+        Err(_) => false,
     }
 }
 
 #[test]
-fn bytes_are_split_at_the_first_byte(rt: HostRuntime) {
-    assert!(rt; is_split(b"EUR=1", b'=', b"EUR", b"1"));
-    assert!(rt; is_split(b"EUR=1=2", b'=', b"EUR", b"1=2"));
-    assert!(rt; is_split(b"=1", b'=', b"", b"1"));
-    assert!(rt; is_split(b"EUR=", b'=', b"EUR", b""));
-    assert!(rt; is_split(b"=", b'=', b"", b""));
-    assert!(rt; is_split(b"==", b'=', b"", b"="));
-    assert!(rt; is_split(b"a\x00b\xffc", 0, b"a", b"b\xffc"));
-    assert!(rt; is_split(b"a\x00b\xffc", 0xff, b"a\x00b", b"c"));
+fn bytes_at_the_start_are_read_and_the_remainder_is_returned(rt: HostRuntime) {
+    assert!(rt; is_text_at_start::<4>(b"abcd", "abcd", b""));
+    assert!(rt; is_text_at_start::<4>(b"a\0\0\0", "a", b""));
+    assert!(rt; is_text_at_start::<4>(b"\0\0\0\0", "", b""));
+    assert!(rt; is_text_at_start::<4>(b"abcde", "abcd", b"e"));
+    assert!(rt; is_text_at_start::<2>(b"enXY", "en", b"XY"));
+    assert!(rt; is_text_at_start::<0>(b"ab", "", b"ab"));
+}
+
+fn is_rejected(input: &[u8], expected: BytesReadError) -> bool {
+    match TinyAsciiStr::<4>::read_bytes(input) {
+        Ok(_) => false,
+        Err(fault) => fault == expected,
+    }
 }
 
 #[test]
-fn bytes_without_the_byte_are_not_split(rt: HostRuntime) {
-    assert!(rt; split_at_byte(b"", b'=').is_none());
-    assert!(rt; split_at_byte(b"EUR-1", b'=').is_none());
-    assert!(rt; split_at_byte(b"\xbd", b'=').is_none());
+fn bytes_are_rejected_for_their_first_fault(rt: HostRuntime) {
+    for (input, expected) in [
+        (b"\0\x80\0\0".as_slice(), BytesReadError::Null),
+        (b"\0a\x80\0", BytesReadError::Null),
+        (b"a\x80\0b", BytesReadError::NonAscii),
+        (b"a\0b\x80", BytesReadError::Null),
+        (b"\x80\0a\0", BytesReadError::NonAscii),
+        (b"abc\xFF", BytesReadError::NonAscii),
+        (b"ab\0\x80", BytesReadError::Null),
+        (b"", BytesReadError::Length { expected: 4 }),
+        (b"a", BytesReadError::Length { expected: 4 }),
+        (b"a\0", BytesReadError::Length { expected: 4 }),
+        (b"\0\0", BytesReadError::Length { expected: 4 }),
+        (b"\x80", BytesReadError::NonAscii),
+        (b"\0a", BytesReadError::Null),
+    ] {
+        assert!(rt; is_rejected(input, expected), "{input:?}");
+    }
+}
+
+// Whether the text's byte form is this one, and is read back.
+fn is_byte_form<const N: usize>(text: TinyAsciiStr<N>, form: [u8; N]) -> bool {
+    text.to_bytes() == form && is_read_at_start(&form, text, b"")
+}
+
+// The same of a text at N.
+fn has_byte_form<const N: usize>(text: &str, form: [u8; N]) -> bool {
+    match TinyAsciiStr::try_from_str(text) {
+        Ok(text) => is_byte_form(text, form),
+        Err(_) => false,
+    }
+}
+
+#[test]
+fn byte_forms_are_padded_texts(rt: HostRuntime) {
+    assert!(rt; has_byte_form("verylongstring", *b"verylongstring\0\0"));
+    assert!(rt; has_byte_form("shortstring", *b"shortstring"));
+    assert!(rt; has_byte_form("veryveryverylongstring", *b"veryveryverylongstring\0\0"));
+}
+
+// Whether the text, written over bytes `#`, gives these bytes, and is read back from them with the others as the remainder.
+fn is_written<const N: usize, const M: usize>(text: TinyAsciiStr<N>, written: &[u8; M]) -> bool
+    requires { N ≤ M }
+{
+    let mut buffer = [b'#'; M];
+    text.write_bytes(&mut buffer);
+    let bytes = written.as_slice();
+    buffer == *written && is_read_at_start(bytes, text, &bytes[N..])
+}
+
+// The same of a text at N.
+fn is_text_written<const N: usize, const M: usize>(text: &str, written: &[u8; M]) -> bool
+    requires { N ≤ M }
+{
+    match TinyAsciiStr::<N>::try_from_str(text) {
+        Ok(text) => is_written(text, written),
+        Err(_) => false,
+    }
+}
+
+#[test]
+fn bytes_are_written_at_the_start_and_the_others_stay(rt: HostRuntime) {
+    assert!(rt; is_text_written::<3, 4>("GB", b"GB\0#"));
+    assert!(rt; is_text_written::<16, 17>("MacintoshOSX2019", b"MacintoshOSX2019#"));
+}
+
+// Whether any bytes are read from the start of the input, and this is the remainder.
+fn are_read_unless_too_few<const N: usize>(input: &[u8], bytes: [u8; N], left: &[u8]) -> bool {
+    match UnvalidatedTinyAsciiStr::<N>::read_bytes(input) {
+        Ok((read, rest)) => {
+            read == UnvalidatedTinyAsciiStr::from_utf8_unchecked(bytes) && rest == left
+        }
+        Err(_) => false,
+    }
+}
+
+#[test]
+fn bytes_that_are_no_text_are_read_and_not_written(rt: HostRuntime) {
+    let bytes = UnvalidatedTinyAsciiStr::from_utf8_unchecked([0, 0x41, 0]);
+    assert!(rt; matches!(bytes.to_bytes(), Err(FormWriteError::NotAscii)));
+    assert!(rt; matches!(bytes.to_json(rt.alloc()), Err(FormWriteError::NotAscii)));
+    assert!(rt; are_read_unless_too_few(&[0, 0x41, 0], [0, 0x41, 0], b""));
+}
+
+fn are_too_few(input: &[u8]) -> bool {
+    match UnvalidatedTinyAsciiStr::<4>::read_bytes(input) {
+        Ok(_) => false,
+        Err(fault) => fault == BytesReadError::Length { expected: 4 },
+    }
+}
+
+#[test]
+fn any_bytes_are_read_unless_too_few(rt: HostRuntime) {
+    assert!(rt; are_read_unless_too_few(b"\0\x80\0\0", *b"\0\x80\0\0", b""));
+    assert!(rt; are_read_unless_too_few(b"\0\x80\0\0X", *b"\0\x80\0\0", b"X"));
+    assert!(rt; are_too_few(b"abc") && are_too_few(b"\0\x80a") && are_too_few(b"\0\0\0"));
+    let text = UnvalidatedTinyAsciiStr::from_utf8_unchecked(*b"ab\0");
+    assert!(rt; matches!(text.to_bytes(), Ok(bytes) if bytes == *b"ab\0"));
 }

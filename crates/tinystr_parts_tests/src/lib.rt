@@ -5,6 +5,8 @@
 #[cfg(test)]
 mod bytes;
 #[cfg(test)]
-mod forms;
+mod decimals;
+#[cfg(test)]
+mod json;
 #[cfg(test)]
 mod parts;

@@ -5,18 +5,16 @@
 #[cfg(test)]
 mod errors;
 #[cfg(test)]
-mod in_rust;
+mod four_bytes;
 #[cfg(test)]
-mod laws;
+mod in_rust;
 #[cfg(test)]
 mod original;
 #[cfg(test)]
-mod printed;
-#[cfg(test)]
-mod reading;
+mod readers;
 #[cfg(test)]
 mod records;
 #[cfg(test)]
-mod unvalidated;
+mod traits;
 #[cfg(test)]
-mod views;
+mod unvalidated;

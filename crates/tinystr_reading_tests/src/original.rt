@@ -1,4 +1,4 @@
-//! A few answers of the original Rust crate, tinystr 0.8.5, printed as these rows by `diff/run FOLDER --sample`.
+//! A few answers of the original Rust crate, tinystr 0.8.5.
 
 use std::cmp::Ordering;
 use tinystr::{ParseError, TinyAsciiStr};

@@ -2,7 +2,6 @@
 
 ghost use Rattle.std.specs.Prelude.{◌≡◌, IfOk, map};
 ghost use Rattle.std.specs.List.{position};
-ghost use Rattle.std.specs.Option.{is_none};
 ghost use Rattle.std.specs.Str.{bytes_eq};
 
 use std::alloc::{AllocError, Global};
@@ -21,17 +20,4 @@ pub fn indices_of(
         .binary_search_each(codes)
         .map(|answer| answer.ok())
         .collect(alloc)
-}
-
-/// The row of the first code that a table doesn't have, or `None`. It fails only if an allocation fails.
-pub fn first_missing(
-    alloc: Global,
-    table: &SortedTable<'_, 3>,
-    codes: &[TinyAsciiStr<3>],
-) -> Result<Option<usize>, AllocError>
-    ensures { IfOk result
-        (λ row. row ≡ position is_none (map (λ code. position (bytes_eq code) table.now) codes.now)) }
-{
-    let indices = indices_of(alloc, table, codes)?;
-    Ok(indices.iter().position(|index| index.is_none()))
 }

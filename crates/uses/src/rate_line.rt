@@ -1,12 +1,11 @@
 //! The rate of a currency, read from a line as `eur=11042`.
 
-ghost use Rattle.std.specs.Prelude.{◌≡◌, ◌<◌, ◌≤◌, ◌^◌, ◌++◌, ◌∷◌, ℕ, List, Contains, IfOk, IsTrue, None, Some, SomeIff, length};
+ghost use Rattle.std.specs.Prelude.{◌≡◌, ◌<◌, ◌≤◌, ◌^◌, ◌++◌, ◌∷◌, ℕ, List, Contains, IsTrue, None, Some, SomeIff, length};
 ghost use Rattle.std.specs.Fmt.{decimal};
 ghost use Rattle.std.specs.List.{list_all};
 ghost use Rattle.tinystr.specs.Case.{uppercase};
-ghost use Rattle.tinystr.specs.Classes.{ask, is_alphabetic};
+ghost use Rattle.tinystr.specs.Classes.{is_alphabetic};
 
-use std::alloc::{AllocError, Global};
 use tinystr::TinyAsciiStr;
 use tinystr_words::split_at_byte;
 
@@ -55,19 +54,4 @@ pub fn read_rate(line: &[u8]) -> Option<(TinyAsciiStr<3>, u32)>
         Some((code, number)) => read_parts(code, number),
         None => None,
     }
-}
-
-/// The code and the rate back from the line that is written of them, as `eur=11042`. It fails only if an allocation fails.
-pub fn through_line(
-    alloc: Global,
-    code: &TinyAsciiStr<3>,
-    rate: u32,
-) -> Result<Option<(TinyAsciiStr<3>, u32)>, AllocError>
-    requires { IsTrue (ask is_alphabetic is_alphabetic code.now) }
-    ensures { IfOk result (λ read. read ≡ Some (uppercase code.now, rate)) }
-{
-    tinystr_words::laws::same_as_std();
-    tinystr::laws::fits(code);
-    let line = format!(in alloc; "{code}={rate}")?;
-    Ok(read_rate(line.as_bytes()))
 }

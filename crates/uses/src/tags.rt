@@ -1,4 +1,4 @@
-//! Sorted sets of what can be read of a list of texts.
+//! The sorted set of the identifiers in a list of tags.
 
 ghost use Rattle.std.specs.Prelude.{IfOk};
 ghost use Rattle.std.specs.BTreeSet.{IsFromIterResult};
@@ -6,12 +6,10 @@ ghost use Rattle.std.specs.Cmp.Lexicographic.{slice_cmp};
 ghost use Rattle.std.specs.List.{filter_map};
 ghost use Rattle.std.specs.Ordering.{nat_cmp};
 ghost use Rattle.subtags.specs.Grammar.{canonical_of};
-ghost use Rattle.tinystr_words.specs.Reading.{strict_of};
 
 use std::alloc::{AllocError, Global};
 use std::collections::BTreeSet;
 use subtags::LangId;
-use tinystr::TinyStr8;
 
 /// The identifiers of tags in any spelling, in order and each once. What isn't a tag is left out. It fails only if an
 /// allocation fails.
@@ -21,17 +19,5 @@ pub fn ids_of(alloc: Global, tags: &[&str]) -> Result<BTreeSet<LangId>, AllocErr
 {
     tags.iter()
         .filter_map(|tag| tag.parse().ok())
-        .collect(alloc)
-}
-
-/// The keys of at most eight characters, in order and each once. What isn't a key is left out. It fails only if an
-/// allocation fails.
-pub fn keys_of(alloc: Global, texts: &[&str]) -> Result<BTreeSet<TinyStr8>, AllocError>
-    ensures { IfOk result (IsFromIterResult (slice_cmp nat_cmp)
-        (filter_map (λ text. strict_of 8 text.now) texts.now)) }
-{
-    texts
-        .iter()
-        .filter_map(|text| text.parse().ok())
         .collect(alloc)
 }

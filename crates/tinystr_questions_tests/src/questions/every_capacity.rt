@@ -3,10 +3,10 @@
 ghost use Rattle.std.specs.Prelude.{◌<◌, ◌^◌};
 
 use super::{answers_of, are_spelled};
-use crate::words::texts::are_right;
+use crate::table::{Row, edge_rows, table_rows};
+use crate::words::are_right;
 use std::process::Abort;
 use std::test::Fail;
-use texts_of_tests::table::{Row, edge_rows, table_rows};
 use tinystr::{ParseError, TinyAsciiStr};
 
 fn has_forms<const N: usize>(text: TinyAsciiStr<N>, row: &Row) -> bool {
@@ -20,17 +20,9 @@ fn has_forms<const N: usize>(text: TinyAsciiStr<N>, row: &Row) -> bool {
 
 // The text, read again from code units of 16 bits.
 fn read_wide<const N: usize>(text: TinyAsciiStr<N>) -> Result<TinyAsciiStr<N>, ParseError> {
-    let front = text.resize::<100>();
+    let front = text.resize::<40>();
     let units = front.to_bytes().map(u16::from);
     TinyAsciiStr::try_from_utf16(&units[..front.len()])
-}
-
-// Whether the text has the forms of its row at its own capacity, at 40 and at 100, and read from code units of 16 bits.
-fn is_right_as_value<const N: usize>(text: TinyAsciiStr<N>, row: &Row) -> bool {
-    has_forms(text, row)
-        && (text.len() > 40 || has_forms(text.resize::<40>(), row))
-        && has_forms(text.resize::<100>(), row)
-        && read_wide(text).is_ok_and(|wide| has_forms(wide, row))
 }
 
 // What answers.
@@ -40,12 +32,14 @@ enum Holder {
     Words,
 }
 
-// Whether the row's text, read at the capacity, has its forms there.
+// Whether the row's text, read at the capacity, has its forms there, and read from code units of 16 bits.
 fn is_right<const N: usize>(row: &Row, holder: Holder) -> bool
     requires { N < 2 ^ 62 }
 {
     match (TinyAsciiStr::<N>::try_from_str(row.text), holder) {
-        (Ok(text), Holder::Value) => is_right_as_value(text, row),
+        (Ok(text), Holder::Value) => {
+            has_forms(text, row) && read_wide(text).is_ok_and(|wide| has_forms(wide, row))
+        }
         (Ok(text), Holder::Words) => are_right(text, row),
         (Err(_), _) => false,
     }
@@ -61,26 +55,19 @@ fn check_rows<const N: usize>(rt: &impl Abort, rows: &[Row], holder: Holder)
     }
 }
 
+/// Checks the rows at each of the capacities.
+macro_rules! check_each {
+    ($rt:ident, $rows:ident, $holder:expr, $($capacity:literal)*) => {
+        $(check_rows::<$capacity>(&$rt, $rows, $holder);)*
+    };
+}
+
 #[test]
 fn texts_answer_alike_at_every_capacity(rt: HostRuntime) -> Result<(), Fail> {
     let rows = table_rows(rt.alloc())?;
     let rows = rows.as_slice();
     assert!(rt; rows.len() == 33);
-    check_rows::<0>(&rt, rows, Holder::Value);
-    check_rows::<2>(&rt, rows, Holder::Value);
-    check_rows::<3>(&rt, rows, Holder::Value);
-    check_rows::<4>(&rt, rows, Holder::Value);
-    check_rows::<5>(&rt, rows, Holder::Value);
-    check_rows::<7>(&rt, rows, Holder::Value);
-    check_rows::<8>(&rt, rows, Holder::Value);
-    check_rows::<9>(&rt, rows, Holder::Value);
-    check_rows::<12>(&rt, rows, Holder::Value);
-    check_rows::<15>(&rt, rows, Holder::Value);
-    check_rows::<16>(&rt, rows, Holder::Value);
-    check_rows::<17>(&rt, rows, Holder::Value);
-    check_rows::<24>(&rt, rows, Holder::Value);
-    check_rows::<32>(&rt, rows, Holder::Value);
-    check_rows::<33>(&rt, rows, Holder::Value);
+    check_each!(rt, rows, Holder::Value, 0 2 3 4 5 8 9 16 17 24 32 33);
     Ok(())
 }
 
@@ -88,14 +75,8 @@ fn texts_answer_alike_at_every_capacity(rt: HostRuntime) -> Result<(), Fail> {
 fn texts_at_the_edges_of_words_answer_alike(rt: HostRuntime) -> Result<(), Fail> {
     let rows = edge_rows(rt.alloc())?;
     let rows = rows.as_slice();
-    assert!(rt; rows.len() == 10);
-    check_rows::<4>(&rt, rows, Holder::Value);
-    check_rows::<16>(&rt, rows, Holder::Value);
-    check_rows::<17>(&rt, rows, Holder::Value);
-    check_rows::<32>(&rt, rows, Holder::Value);
-    check_rows::<33>(&rt, rows, Holder::Value);
-    check_rows::<40>(&rt, rows, Holder::Value);
-    check_rows::<100>(&rt, rows, Holder::Value);
+    assert!(rt; rows.len() == 6);
+    check_each!(rt, rows, Holder::Value, 4 17 32 33 40);
     Ok(())
 }
 
@@ -105,15 +86,6 @@ fn texts_answer_alike_in_each_word_that_holds_them(rt: HostRuntime) -> Result<()
     let rows = table_rows(rt.alloc())?;
     let rows = rows.as_slice();
     assert!(rt; rows.len() == 33);
-    check_rows::<0>(&rt, rows, Holder::Words);
-    check_rows::<2>(&rt, rows, Holder::Words);
-    check_rows::<3>(&rt, rows, Holder::Words);
-    check_rows::<4>(&rt, rows, Holder::Words);
-    check_rows::<5>(&rt, rows, Holder::Words);
-    check_rows::<7>(&rt, rows, Holder::Words);
-    check_rows::<8>(&rt, rows, Holder::Words);
-    check_rows::<10>(&rt, rows, Holder::Words);
-    check_rows::<12>(&rt, rows, Holder::Words);
-    check_rows::<16>(&rt, rows, Holder::Words);
+    check_each!(rt, rows, Holder::Words, 0 2 3 4 5 7 8 10 12 16);
     Ok(())
 }

@@ -1,3 +1,0 @@
-pub mod Airports
-pub mod Countries
-pub mod Keys
