@@ -1,8 +1,8 @@
-"""Makes plain Rust of the proved sources, and the package for Cargo of that.
+"""Generates plain Rust from the proved sources.
 
 A source goes through the modules here in the order of `package.py`: what is ghost goes, contracts become comments, and
-what Rattle writes otherwise is changed by tables, in which each entry has its reason. `Stopped` ends it where a source or a
-table isn't as the eraser knows it: nothing is dropped or kept in silence.
+what Rattle writes otherwise is changed by tables, in which each entry has its reason. `Stopped` ends it where a table has no
+entry for a condition, or an entry that fits nothing. A form of Rattle that no entry fits is left, and rustc rejects it.
 """
 
 

@@ -1,4 +1,4 @@
-"""The package of the C library: what its sources go through, and how its exports take slices as C passes them."""
+"""Generates `src/proved/` of tinystr-c: what its sources go through, and how its exports take slices as C passes them."""
 
 import re
 from pathlib import Path
@@ -6,21 +6,15 @@ from pathlib import Path
 from eraser import Stopped
 from eraser.contracts import Contracts
 from eraser.ghosts import without_ghosts
-from eraser.package import add_by_hand, read, sources, tidy
-from eraser.rules import Rule, Rules, stop_at_what_is_left
+from eraser.modules import MODULES, PRIVATE, path_of
+from eraser.package import finished, sources
+from eraser.rules import Rule, Rules
 from lib.rattle import unmatched_bracket
 
 CRATE = "tinystr_c"
 # The file of the exports, whose functions are public.
 EXPORTS = f"{CRATE}/lib.rt"
 OF_CRATES = "the crates are modules of the package that this one depends on, which has the words' names at its root"
-MODULES = {
-    "tinystr_words": "proved",
-    "tinystr": "proved",
-    "subtags": "proved::subtags",
-    "tinystr_packed": "proved::packed",
-    "tinystr_hashed": "proved::hashed",
-}
 OPEN = "another package has to expect more faults of `ParseError`, so `_` matches its last one"
 IN_FILE = {f"{CRATE}/answer.rt": [Rule("ParseError::NonAscii =>", "_ =>", OPEN, 2)]}
 EXPORT = re.compile(r'pub extern "C" fn (\w+)\(([^()]*)\) -> (\w+)([^{]*)\{\n')
@@ -38,25 +32,18 @@ SAFETY = """///
 
 
 class CLibrary:
-    """The files of the package, by their paths in it."""
+    """The generated files, by their paths in `src/proved/`."""
 
-    def __init__(self, top: Path, by_hand: Path) -> None:
+    def __init__(self, top: Path) -> None:
         self.top = top
-        self.by_hand = by_hand
-        self.rules = Rules(
-            IN_FILE, [Rule(rf"(?<![\w:]){crate}::", f"{module}::", OF_CRATES) for crate, module in MODULES.items()]
-        )
+        paths = {crate: "proved::" if crate in PRIVATE else path_of(crate).replace("crate", "proved") for crate in MODULES}
+        self.rules = Rules(IN_FILE, [Rule(rf"(?<![\w:]){crate}::", path, OF_CRATES) for crate, path in paths.items()])
 
     def files(self) -> dict[str, str]:
-        """All files: those that are made, those by hand, and the copies of what is elsewhere in the repository."""
         made = {}
-        for file, path in sources(self.top / "crates" / CRATE):
-            inner = file.removeprefix(f"{CRATE}/").removesuffix(".rt")
-            made[f"src/{inner}.rs"] = self.rust_of(read(path), file)
+        for file, text in sources(self.top / "crates" / CRATE):
+            made[file.removeprefix(f"{CRATE}/").replace(".rt", ".rs")] = self.rust_of(text, file)
         self.rules.finish()
-        add_by_hand(made, self.by_hand)
-        made["LICENSE"] = read(self.top / "LICENSE")
-        made["include/tinystr.h"] = read(self.top / "c/include/tinystr.h")
         return made
 
     def rust_of(self, text: str, file: str) -> str:
@@ -67,8 +54,7 @@ class CLibrary:
         text = self.rules.apply(text, file)
         if file == EXPORTS:
             text = with_exports(text)
-        stop_at_what_is_left(text, file)
-        return tidy(text)
+        return finished(text, file)
 
 
 def with_exports(text: str) -> str:

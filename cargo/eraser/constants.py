@@ -1,4 +1,4 @@
-"""Functions that constants call: proved ones once more, in a frame by hand that names them.
+"""Functions that constants call: proved ones once more, in a hand-written frame that names them.
 
 A line '//= FILE: `NAMES`' of the frame is replaced by the functions of these names in a made file, and '//= FILE, ITEM: `NAMES`'
 by those of one item. Each becomes a `pub const fn` without its comment; rules change what a `const fn` can't do.
@@ -8,8 +8,8 @@ import re
 
 from eraser import Stopped
 
-# The frame, in the package, and what its rules are listed by.
-FRAME = "src/words/in_constants.rs"
+# The frame, and the name by which its rules are listed.
+FRAME = "cargo/eraser/in_constants.rs"
 NAME = "tinystr_words/in_constants.rt"
 MARK = re.compile(r"^( *)//= (?P<file>\S+\.rs)(?:, (?P<item>.*))?: `(?P<names>[\w ]+)`\n", re.M)
 HEAD = r"( *)(?:pub(?:\(crate\))? )?(?:const )?fn "
@@ -22,7 +22,7 @@ def with_functions(frame: str, made: dict[str, str]) -> str:
     """The frame with the functions of the made files that its lines name."""
 
     def functions(mark: re.Match) -> str:
-        file = f"src/{mark['file']}"
+        file = mark["file"]
         text = only(ITEM, mark["item"], made[file], file) if mark["item"] else made[file]
         return "\n".join(placed(only(FUNCTION, name, text, file), mark[1]) for name in mark["names"].split())
 

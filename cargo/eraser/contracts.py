@@ -1,4 +1,4 @@
-"""Contracts as comments: the clauses of a function go into its comment, and what it requires is checked or documented."""
+"""Contracts as comments: a function's clauses end its comment, and what it requires is checked or documented."""
 
 import re
 
@@ -11,6 +11,13 @@ CLAUSES = re.compile(f"(?:{EDGE}[^{EDGE}]*{EDGE})+")
 HEAD = re.compile(r"^( *)(pub(?:\(crate\))? )?(?:const )?(?:extern \"C\" )?fn \w+", re.M)
 CLOSURE = re.compile(r"\|[^|\n]*\|(?: -> [\w&\[\]<>]+)?\Z")
 ABOVE = re.compile(r"(?:^ *(?://|#\[)[^\n]*\n)*\Z", re.M)
+# The clauses in a comment of documentation that rustdoc shows.
+SHOWN = re.compile(
+    r"^( *///) # Contract\n\1\n(\1 ```text\n(?:\1 (?!```).*\n)+\1 ```\n)(?!(?: *#\[.*\n)* *pub\(crate\))", re.M
+)
+# The sentence on how contracts see a type, and the rest of the type's comment.
+VIEW = re.compile(r" A contract(?: |\n/// )(sees it as.*?)(?:\n///)?( .*\.)\n((?:///.*\n)*)")
+HEADING = "# [Contract](crate::definitions)"
 
 
 class Contracts:
@@ -45,7 +52,7 @@ class Contracts:
         is_doc = is_public or any(comment.strip().startswith("///") for comment in comments)
         comments += [f"{indent}{line}".rstrip() for line in as_comment(clauses, replacements, is_doc, bool(comments))]
         panics = [replacement for replacement in replacements if isinstance(replacement, Panics)]
-        checks = [f"\n{indent}    {replacement.check}" for replacement in panics if replacement.check]
+        checks = [f'\n{indent}    assert!({it.check}, "{it.message or it.when}");' for it in panics]
         signature = text[head.start() : found.start()]
         if len(panics) < len(replacements):
             signature = re.sub(r"\bfn ", "unsafe fn ", signature, count=1)
@@ -54,14 +61,14 @@ class Contracts:
 
     def replacement(self, file: str, condition: str) -> Panics | Unsafe:
         """What replaces a condition of a public function."""
-        if (file, condition) not in REPLACEMENTS:
+        if condition not in REPLACEMENTS:
             raise Stopped(f"{file}: nothing replaces what a public function requires: {condition}")
-        self.used.add((file, condition))
-        return REPLACEMENTS[file, condition]
+        self.used.add(condition)
+        return REPLACEMENTS[condition]
 
     def finish(self) -> None:
-        for file, condition in REPLACEMENTS.keys() - self.used:
-            raise Stopped(f"{file}: no public function requires {condition}")
+        for condition in REPLACEMENTS.keys() - self.used:
+            raise Stopped(f"no public function requires {condition}")
 
 
 def is_open(between: str) -> bool:
@@ -69,16 +76,22 @@ def is_open(between: str) -> bool:
     return not re.search(r"[;{}]", re.sub(r"\[[^\]]*\]|\{\w+\}", "", between))
 
 
+def with_folds(text: str) -> str:
+    """The text where rustdoc folds the clauses of each comment, and a type's comment ends with how contracts see it."""
+    text = SHOWN.sub(rf"\1 {HEADING}\n\1 <details>\n\1\n\2\1 </details>\n", text)
+    return VIEW.sub(rf"\n\3///\n/// {HEADING}\n///\n/// A contract \1\2\n", text)
+
+
 def as_comment(clauses: list[list[str]], replacements: list[Panics | Unsafe], is_doc: bool, is_after_text: bool) -> list[str]:
-    """The lines of a comment with a contract, and when a public function panics or is safe to call."""
+    """The lines of a comment on when a public function panics or is safe to call, and of its contract."""
     lines = [f"{kind} {label + ' ' if label else ''}{{ {condition} }}" for kind, label, condition in clauses]
     if not is_doc:
         return ["// Proved:", *(f"//     {line}" for line in lines)]
-    doc = ["# Contract", "", "```text", *lines, "```"]
+    doc = [""] if is_after_text else []
     for replacement in replacements:
         if isinstance(replacement, Unsafe):
-            doc += ["", "# Safety", "", replacement.condition]
+            doc += ["# Safety", "", replacement.condition, ""]
     panics = [replacement.when for replacement in replacements if isinstance(replacement, Panics)]
     if panics:
-        doc += ["", "# Panics", "", f"Where {' or '.join(panics)}."]
-    return [f"/// {line}" for line in ([""] if is_after_text else []) + doc]
+        doc += ["# Panics", "", f"Where {' or '.join(panics)}.", ""]
+    return [f"/// {line}" for line in [*doc, "# Contract", "", "```text", *lines, "```"]]

@@ -1,4 +1,4 @@
-"""The examples of doc comments as doc tests, and those of private modules as tests of a module."""
+"""The examples of doc comments as doc tests, and those of private modules as text."""
 
 import re
 
@@ -21,8 +21,6 @@ NAMES = {
     "tinystr::hashed": "HashedError HashedMap HashedMapError HashedTable HashedTextMap HashedTextMapError PackHashedError"
     " in_place pack_hashed pack_hashed_map pack_hashed_text_map",
     "std::collections": "BTreeMap",
-    "crate::words": "CodeUnit decimal_fits split_at_byte",
-    "crate::words::int_ops": "Aligned4 Aligned8 Aligned16",
 }
 
 # What shows that an example needs a name, where that isn't the name alone: a call that needs a trait's name besides, and
@@ -52,16 +50,15 @@ def in_rust(body: str, file: str) -> str:
     return body
 
 
-def uses(body: str, own: str) -> list[str]:
-    """The lines that an example needs for its names. The crate calls itself `own`."""
+def uses(body: str) -> list[str]:
+    """The lines that an example needs for its names."""
     code = re.sub(r'"(?:\\.|[^"\\])*"', "", body)
     lines = []
     for module, names in NAMES.items():
         wanted = ((name, SHOWN_BY.get((module, name), rf"(?<![\w:.]){name}\b")) for name in names.split())
         found = sorted(name for name, pattern in wanted if re.search(pattern, code))
-        path = module.replace("tinystr", own, 1)
         if found:
-            lines.append(f"use {path}::{found[0]};" if len(found) == 1 else f"use {path}::{{{', '.join(found)}}};")
+            lines.append(f"use {module}::{found[0]};" if len(found) == 1 else f"use {module}::{{{', '.join(found)}}};")
     return lines
 
 
@@ -70,33 +67,17 @@ def with_doc_tests(text: str, file: str) -> str:
 
     def doc_test(found: re.Match) -> str:
         indent, body = found[1], in_rust(found[2], file)
-        front = "".join(f"{indent}/// {line}\n" for line in uses(body, "tinystr"))
+        front = "".join(f"{indent}/// {line}\n" for line in uses(body))
         end = f"{indent}/// # Ok::<(), Box<dyn std::error::Error>>(())\n" if "?" in re.sub(r'"[^"]*"|b\'\?\'', "", body) else ""
         return f"{indent}/// ```\n{front}{indent}///\n{body}{end}{indent}/// ```\n"
 
     return EXAMPLE.sub(doc_test, text)
 
 
-def without_examples(text: str, file: str, tests: list[tuple[str, str]]) -> str:
-    """The text of a private module with its examples as words, each of which goes to a list of tests."""
+def with_shown_examples(text: str, file: str) -> str:
+    """The text of a private module, whose functions no doc test can call."""
 
-    def kept(found: re.Match) -> str:
-        body = in_rust("".join(f"{line.strip()[4:]}\n" for line in found[2].splitlines()), file)
-        tests.append((re.sub(r"\W", "_", file.removesuffix(".rt").partition("/")[2]), body))
-        shown = "".join(f"{found[1]}/// {line}".rstrip() + "\n" for line in body.splitlines())
-        return f"{found[1]}/// ```text\n{shown}{found[1]}/// ```\n"
+    def shown(found: re.Match) -> str:
+        return f"{found[1]}/// ```text\n{in_rust(found[2], file)}{found[1]}/// ```\n"
 
-    return EXAMPLE.sub(kept, text)
-
-
-def module_of_tests(tests: list[tuple[str, str]]) -> str:
-    """The examples of a private module, each as a test."""
-    functions = []
-    for number, (name, body) in enumerate(tests, 1):
-        imports = uses(body, "crate")
-        lines = [*imports, *([""] if imports else []), *body.splitlines()]
-        is_tried = "?" in re.sub(r'"[^"]*"', "", body)
-        head = f"fn {name}_{number}()" + (" -> Result<(), Box<dyn std::error::Error>>" if is_tried else "")
-        inside = "".join(f"    {line}".rstrip() + "\n" for line in [*lines, *(["Ok(())"] if is_tried else [])])
-        functions.append(f"#[test]\n{head} {{\n{inside}}}\n")
-    return "//! The examples of this module's comments.\n\n" + "\n".join(functions)
+    return EXAMPLE.sub(shown, text)

@@ -1,4 +1,4 @@
-"""Items that Rust has no use for, and the derives of `thiserror` and `derive_where` written out."""
+"""Items that Rust has no use for, and the derives of `thiserror` written out."""
 
 import re
 
@@ -14,17 +14,6 @@ LEFT_OUT = {
         "impl<const N: usize> From<AllocError> for PackHashedError": "want of memory ends a program in Rust, and is no error"
     },
     "tinystr/forms.rt": {"pub enum JsonReadError": "JSON is left out, with `forms/json.rt`: feature `serde` has its place"},
-}
-
-# Derives that the made types have in addition: a table or a map is a slice or two.
-DERIVED_TOO = {
-    "tinystr_packed/map.rt": {"PackedMap": ["Copy"]},
-    "tinystr_packed/sorted.rt": {"SortedTable": ["Copy"]},
-    "tinystr_packed/table.rt": {"Table": ["Copy"]},
-    "tinystr_packed/text_map.rt": {"TextMap": ["Copy"]},
-    "tinystr_hashed/map.rt": {"HashedMap": ["Copy"]},
-    "tinystr_hashed/table.rt": {"HashedTable": ["Copy"]},
-    "tinystr_hashed/text_map.rt": {"HashedTextMap": ["Copy"]},
 }
 
 ABOVE = r"((?:^ *(?://|#\[)[^\n]*\n)*)"
@@ -53,14 +42,8 @@ def without_item(text: str, head: str) -> tuple[str, int]:
 
 
 def with_derives(text: str, file: str) -> str:
-    """Takes off the derives that Rust doesn't have, and writes out what they make."""
-    text = re.sub(r"#\[derive\(([^)]*)\)\]\n", rust_derives, text)
-    for name, traits in DERIVED_TOO.get(file, {}).items():
-        head = rf"(#\[derive\([^)]*)(\)\]\npub (?:struct|enum) {name}\b)"
-        text, count = re.subn(head, lambda match: match[1] + "".join(f", {trait}" for trait in traits) + match[2], text)
-        if count != 1:
-            raise Stopped(f"{file}: `{name}` with derives is there {count} times, and not once")
-    return with_ordered_subtag(with_error_texts(text, file), file)
+    """Takes off the derives that Rust doesn't have, and writes out what `thiserror`'s make."""
+    return with_error_texts(re.sub(r"#\[derive\(([^)]*)\)\]\n", rust_derives, text), file)
 
 
 def rust_derives(found: re.Match) -> str:
@@ -96,35 +79,3 @@ impl core::fmt::Display for {enums[0]} {{
 
 impl core::error::Error for {enums[0]} {{}}
 """
-
-
-WHERE = re.compile(r"#\[derive_where\((.*)\)\]\n(pub struct (\w+)<(.*)> \{\n    (\w+): .*,\n    \w+: PhantomData<\w+>,\n\})")
-# What `derive_where` makes of a struct whose one field beside a `PhantomData` is FIELD.
-DERIVED = {
-    "Clone": "fn clone(&self) -> Self {\n        *self\n    }",
-    "Copy": "",
-    "PartialEq": "fn eq(&self, other: &Self) -> bool {\n        self.FIELD == other.FIELD\n    }",
-    "Eq": "",
-    "PartialOrd": "fn partial_cmp(&self, other: &Self) -> Option<core::cmp::Ordering> {\n        Some(self.cmp(other))\n    }",
-    "Ord": "fn cmp(&self, other: &Self) -> core::cmp::Ordering {\n        self.FIELD.cmp(&other.FIELD)\n    }",
-    "Hash": "fn hash<H: core::hash::Hasher>(&self, state: &mut H) {\n        self.FIELD.hash(state)\n    }",
-}
-
-
-def with_ordered_subtag(text: str, file: str) -> str:
-    """`derive_where` of a struct with one field and a `PhantomData`: Rust's own derives would require them of the kind."""
-    found = WHERE.search(text)
-    if not found:
-        if "derive_where" in text:
-            raise Stopped(f"{file}: `derive_where` of another struct than one field and a `PhantomData`")
-        return text
-    traits, struct, name, bounds, field = found.groups()
-    parameters = ", ".join(re.findall(r"(?:const )?(\w+):", bounds))
-    made = [text.replace(found[0], struct)]
-    for trait in traits.split(", "):
-        if trait not in DERIVED:
-            raise Stopped(f"{file}: `derive_where` of {trait}")
-        body = DERIVED[trait].replace("FIELD", field)
-        path = "core::hash::Hash" if trait == "Hash" else trait
-        made.append(f"impl<{bounds}> {path} for {name}<{parameters}> {{" + (f"\n    {body}\n" if body else "") + "}\n")
-    return "\n".join(made)

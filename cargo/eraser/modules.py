@@ -17,18 +17,22 @@ MODULES = {
 
 # Crates whose module is private: only the proved functions call theirs, and meet what these require.
 PRIVATE = {"tinystr_words"}
+# A file of such a crate whose types callers have, and so the functions of these.
+EXPORTED = "tinystr_words/question.rt"
+# A private file of another crate, for the same reason: exported, its calls that make texts would have to be `unsafe`.
+PRIVATE_FILE = "tinystr/short_input.rt"
 
 # Functions whose bodies Rust can run at compile time, by file: each as often as it is there.
 CONST = {
-    "tinystr/ascii.rt": ["default() -> Self"],
+    "tinystr/ascii.rt": ["default() -> Self", "from_padded("],
     "tinystr/ascii/views.rt": ["is_empty(", "get_byte(", "all_bytes("],
-    "tinystr/ascii/readers.rt": ["from_utf8_unchecked(", "from_padded("],
+    "tinystr/ascii/readers.rt": ["from_utf8_unchecked("],
     "tinystr/ascii/resize.rt": ["resize<"],
     "tinystr/forms.rt": ["to_bytes(&self) -> [u8; N]"],
     "tinystr/ule.rt": ["niche_bit_pattern("],
     "tinystr/unvalidated.rt": ["default() -> Self", "from_utf8_unchecked(", "to_unvalidated("],
     "subtags/lang_id.rt": ["to_text("],
-    "subtags/subtag.rt": ["to_text("],
+    "subtags/subtag.rt": ["from_canonical(", "to_text("],
     "tinystr_packed/map.rt": ["len(", "is_empty(", "iter(", "keys(", "values("],
     "tinystr_packed/sorted.rt": ["table("],
     "tinystr_packed/table.rt": ["len(", "is_empty(", "iter(", "records("],

@@ -8,7 +8,6 @@ import re
 from dataclasses import dataclass
 
 from eraser import Stopped
-from lib.rattle import code_of
 
 
 @dataclass(frozen=True)
@@ -21,11 +20,6 @@ class Rule:
 
 OF_ALLOCATOR = "Rust's vectors and maps name no allocator"
 WANT_OF_MEMORY = "want of memory ends a program in Rust, and is no error"
-# Calls that fail only if an allocation fails: of the kit's vectors and maps, and of private functions.
-ALLOCATING = (
-    "with_capacity|extend_from_slice|push|resize|insert|collect|vec!"
-    "|repeated|pack_with_seed|displacements|table_bytes|sorted_hashes|largest_first"
-)
 
 EVERYWHERE = [
     Rule(
@@ -38,7 +32,7 @@ EVERYWHERE = [
     Rule(r"use std::marker::Model;\n", "", "`Model` is for the prover"),
     Rule(r"use std::convert::\{AsSlice, AsStr\};\n", "", "the kit's traits of views: `strings.rs` has Rust's"),
     Rule(r"use thiserror::Error;\n", "", "its texts are written out"),
-    Rule(r"use std::simd::prelude::\*;", "use crate::simd::*;", "vectors of stable Rust"),
+    Rule(r"\bstd::simd::(?:prelude::)?", "crate::simd::", "vectors of stable Rust"),
     Rule(r"Copy \+ Drop\b", "Copy", "what is `Copy` has no `Drop`"),
     Rule(
         r"^(?:use crate::(?:\w+::)?laws;| *(?:\w+::)*laws::\w+\([\w., &]*\);)\n",
@@ -50,14 +44,14 @@ EVERYWHERE = [
     Rule(r"^use std::collections::", "use alloc::collections::", OF_ALLOCATOR),
     Rule(r"^    alloc: Global,\n", "", OF_ALLOCATOR),
     Rule(r"\(alloc(?:: Global)?(?:, |(?=\)))", "(", OF_ALLOCATOR),
+    Rule(r", alloc: Global\b", "", OF_ALLOCATOR),
     Rule(r"vec!\[in alloc; ", "vec![", OF_ALLOCATOR),
-    Rule(rf"(\b(?:{ALLOCATING})[\[(].*[\])])\?", r"\1", WANT_OF_MEMORY),
-    Rule(r"Result<(.*), AllocError>", r"\1", WANT_OF_MEMORY),
-    Rule(r" It fails only if an allocation fails\.", "", WANT_OF_MEMORY),
+    Rule(r" It fails only if an allocation fails\.| or an allocation fails(?=\.)", "", WANT_OF_MEMORY),
     Rule(r'(tinystr!\(\d+, "[^"]*"\))(?:\?|\.unwrap\(\))', r"\1", "`tinystr!` returns the text, or fails at compile time"),
     Rule(r"\bstd::", "core::", "the crate is `no_std`"),
 ]
 
+WITH_MACRO = Rule("use std::alloc::{AllocError, Global};\n", "use alloc::vec;\nuse alloc::vec::Vec;\n", OF_ALLOCATOR)
 OF_FEATURE = "what allocates is feature `alloc`"
 NOT_PROVED_HERE = "in Rust nothing proves a condition at a call"
 AT_ROOT = "so that the documentation has it at its root"
@@ -67,7 +61,10 @@ OF_CONST_CALLS = "the same function as constants can call it"
 OF_WIDTHS = "in `in_constants.rs` each width has its own functions"
 # The words of the widths.
 WORDS = ("u32", "u64", "u128")
-TWIN_MAKES = "`constants.rs` makes one at compile time"
+TWIN_MAKES = "`constants.rs` or `identifiers.rs` makes one at compile time"
+# A constant is a pattern only if its type derives `PartialEq`.
+DERIVES = "#[derive(Clone, Copy, PartialEq, Eq, PartialOrd, Ord, Hash)]\n"
+OF_KINDS = "Rust's derives for a subtag require these traits of its kind"
 HINTED = "the compiler is given a hint that the text is no error and not `None`, which share its bytes"
 BELOW_128 = "a type whose bytes are each below 128 has another value for `None`"
 OF_BYTES = "the derived equality of a text is that of its bytes, and the proved one is theirs"
@@ -85,7 +82,18 @@ def of_feature(*modules: str) -> list[Rule]:
 
 
 IN_FILE = {
-    "tinystr/lib.rt": at_root("ascii", "error", "unvalidated"),
+    "tinystr/lib.rt": [
+        *at_root("ascii", "error", "unvalidated"),
+        Rule("pub mod short_input;", "// private, and `is_empty` is called by no function here\n#[allow(dead_code)]\nmod short_input;", "its texts have conditions"),
+        Rule("pub use short_input::", "pub(crate) use short_input::", "its texts have conditions"),
+        Rule(
+            "pub mod unvalidated;\n",
+            "pub mod unvalidated;\n\npub mod hashed;\npub mod packed;\npub mod subtags;\n"
+            "// private, and some of it is called by no function here\n#[allow(dead_code, unused_imports)]\nmod words;\n",
+            "the other crates are modules",
+        ),
+    ],
+    "tinystr_words/lib.rt": [Rule("pub mod int_ops;\n", "pub mod in_constants;\npub mod int_ops;\n", OF_CONST_CALLS)],
     "tinystr/error.rt": [Rule("pub enum ParseError", "#[non_exhaustive]\npub enum ParseError", "as in the original")],
     "tinystr/ascii.rt": [
         Rule(
@@ -109,9 +117,6 @@ IN_FILE = {
         Rule("padded::equals(&self.bytes, &other.bytes)", "padded::equals(self.as_array(), other.as_array())", OF_BYTES),
     ],
     "tinystr/ascii/readers.rt": [
-        Rule(
-            "use crate::error::ParseError;\n", "use crate::ascii_bytes::AsciiBytes;\nuse crate::error::ParseError;\n", BELOW_128
-        ),
         Rule("it runs: the condition is\n    /// proved at the call.", "it\n    /// runs.", NOT_PROVED_HERE),
     ],
     "tinystr/forms.rt": [
@@ -163,11 +168,6 @@ IN_FILE = {
             2,
         ),
     ],
-    "subtags/lanes.rt": [
-        Rule(
-            "from_utf8_unchecked(bytes)", "from_padded(bytes)", "the function of the same contract that this crate has for itself"
-        ),
-    ],
     "tinystr/ascii/splitting.rt": [
         Rule("Some((before.resize(), after.resize()))", "Some((before.resize().hinted(), after.resize().hinted()))", HINTED),
         Rule(
@@ -188,7 +188,13 @@ IN_FILE = {
         Rule(".find(b'-')", ".find_byte(b'-')", NAMED_AS_STR),
         Rule("text.get(place)", "text.get_byte(place)", NAMED_AS_STR),
     ],
+    "subtags/lang_id.rt": [Rule("LangId {\n    text:", "LangId {\n    pub(crate) text:", TWIN_MAKES)],
+    **{
+        f"subtags/{kind.lower()}.rt": [Rule(f"pub struct {kind}Kind;", f"{DERIVES}pub struct {kind}Kind;", OF_KINDS)]
+        for kind in ("Language", "Script", "Region")
+    },
     "subtags/subtag.rt": [
+        Rule(DERIVES.replace("derive", "derive_where"), DERIVES, OF_KINDS),
         Rule(
             "pub trait SubtagKind<const N: usize> {",
             "pub trait SubtagKind<const N: usize>: crate::sealed::Sealed {",
@@ -198,32 +204,16 @@ IN_FILE = {
     "tinystr_packed/lib.rt": of_feature("counting", "packing", "sorting"),
     "tinystr_packed/counting.rt": [
         Rule("use std::alloc::{AllocError, Global};\n", "", OF_ALLOCATOR),
-        Rule("    Ok(counts)\n", "    counts\n", WANT_OF_MEMORY),
-    ],
-    "tinystr_packed/packing.rt": [
-        Rule("    Ok(bytes)\n", "    bytes\n", WANT_OF_MEMORY),
-        Rule("    Ok(texts)\n", "    texts\n", WANT_OF_MEMORY),
-        Rule("    Ok((keys, values))\n", "    (keys, values)\n", WANT_OF_MEMORY, 2),
     ],
     "tinystr_hashed/lib.rt": [
         *of_feature("packing", "packing_maps"),
         Rule("mod placing;", '#[cfg(feature = "alloc")]\nmod placing;', OF_FEATURE),
     ],
     "tinystr_hashed/packing.rt": [
+        WITH_MACRO,
         Rule("    /// An allocation failed.\n    Memory,\n", "", WANT_OF_MEMORY),
-        Rule("    Ok(first_repeated(sorted.as_slice()))\n", "    first_repeated(sorted.as_slice())\n", WANT_OF_MEMORY),
-        Rule("return Ok(None);", "return None;", WANT_OF_MEMORY),
-        Rule("        Ok(Some(bytes))\n", "        Some(bytes)\n", WANT_OF_MEMORY),
-        Rule("        Ok(None)\n", "        None\n", WANT_OF_MEMORY),
-        Rule("    Ok(bytes)\n}", "    bytes\n}", WANT_OF_MEMORY),
     ],
-    "tinystr_hashed/placing.rt": [
-        Rule("use std::alloc::{AllocError, Global};\n", "use alloc::vec;\nuse alloc::vec::Vec;\n", OF_ALLOCATOR),
-        Rule("return Ok(None);", "return None;", WANT_OF_MEMORY),
-        Rule("    Ok(Some(displacements))\n", "    Some(displacements)\n", WANT_OF_MEMORY),
-        Rule("    Ok(hashes)\n", "    hashes\n", WANT_OF_MEMORY),
-        Rule("    Ok(parts)\n", "    parts\n", WANT_OF_MEMORY),
-    ],
+    "tinystr_hashed/placing.rt": [WITH_MACRO],
     "tinystr_words/decimal.rt": [
         Rule("for i in 0..4u32", "for _ in 0..4u32", "the proof alone names the counter"),
     ],
@@ -353,19 +343,13 @@ IN_FILE = {
     ],
 }
 
-# What code that is made may not have: words of Rattle.
-LEFT = re.compile(
-    r"\b(?:ghost|requires|ensures|tactic|invariant|Model|AsStr|AsSlice|AllocError|Global|derive_where|thiserror|serde_json"
-    r"|std|rt|tinystr_words|tinystr_packed|tinystr_hashed)\b|[^\x00-\x7f]"
-)
-
 
 class Rules:
     """Applies the rules, and keeps which fitted."""
 
-    def __init__(self, in_file: dict[str, list[Rule]] | None = None, everywhere: list[Rule] | None = None) -> None:
-        self.in_file = IN_FILE if in_file is None else in_file
-        self.everywhere = EVERYWHERE if everywhere is None else everywhere
+    def __init__(self, in_file: dict[str, list[Rule]], everywhere: list[Rule]) -> None:
+        self.in_file = in_file
+        self.everywhere = everywhere
         self.used = set()
 
     def apply(self, text: str, file: str) -> str:
@@ -386,11 +370,3 @@ class Rules:
         for name in [*self.in_file, *(rule.old for rule in self.everywhere)]:
             if name not in self.used:
                 raise Stopped(f"a rule fits nothing: {name}")
-
-
-def stop_at_what_is_left(text: str, file: str) -> None:
-    """Stops where a file that is made has a word of Rattle or of the kit in its code."""
-    code = code_of(text)
-    for number, line in enumerate(code.splitlines(), 1):
-        if found := LEFT.search(line):
-            raise Stopped(f"{file}: no rule fits `{found[0]}`, line {number} of what is made: {text.splitlines()[number - 1]}")

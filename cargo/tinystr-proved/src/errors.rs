@@ -93,11 +93,11 @@ impl Display for HashedError {
         match self {
             HashedError::Header { len } => write!(f, "{len} bytes are fewer than the sixteen of a header"),
             HashedError::Version { version } => write!(f, "the version is {version}, and not 1"),
-            HashedError::Displacements { count, len } => {
-                write!(f, "{len} bytes after the header are fewer than those of {count} displacements")
+            HashedError::Index { size, len } => {
+                write!(f, "{len} bytes after the header are fewer than the {size} of pilots and moves")
             }
             HashedError::Records(fault) => write!(f, "{fault}"),
-            HashedError::Place { index } => write!(f, "record {index} isn't at the place of its hash"),
+            HashedError::Place { index } => write!(f, "record {index} is out of order"),
         }
     }
 }
@@ -132,7 +132,6 @@ impl<const N: usize> Display for PackHashedError<N> {
     fn fmt(&self, f: &mut Formatter<'_>) -> Result {
         match self {
             PackHashedError::Duplicate { text } => write!(f, "a text occurs twice: {text}"),
-            PackHashedError::NoSeed => f.write_str("no seed gives each text a place of its own"),
         }
     }
 }

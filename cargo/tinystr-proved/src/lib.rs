@@ -1,4 +1,47 @@
-#![doc = include_str!("../README.md")]
+//! Short ASCII strings, stored inline. A [`TinyAsciiStr<N>`] is a text of at most `N` bytes, each from 1 to 127, in `N` bytes: a
+//! `Copy` value that is compared, ordered and hashed without a pointer.
+//!
+//! The crate is an independent reimplementation of ICU4X's `tinystr` 0.8.5, generated from sources in which each function is proved
+//! to meet its contract. It is `no_std`, and tested on 64-bit Linux: 32-bit targets and wasm are untested.
+//!
+//! ```
+//! use tinystr::{TinyAsciiStr, tinystr};
+//!
+//! const EURO: TinyAsciiStr<3> = tinystr!(3, "EUR");
+//! let read: TinyAsciiStr<3> = "eur".parse()?;
+//! assert!(read.is_ascii_alphabetic());
+//! assert_eq!(read.to_ascii_uppercase(), EURO);
+//! assert_eq!(EURO, "EUR");
+//! assert_eq!(EURO.find('R'), Some(2)); // a call of `str`
+//! # Ok::<(), tinystr::ParseError>(())
+//! ```
+//!
+//! Three modules are new. [`subtags`] has language identifiers in canonical form, also as constants, by [`lang_id!`]. [`packed`]
+//! has sorted tables and maps of texts, and [`hashed`] those that look a key up in one record. Tables and maps are read in place,
+//! after one check of their bytes.
+//!
+//! # Differences from `tinystr` 0.8
+//!
+//! Names, arguments and results are the same, but for these, which the README has in full:
+//!
+//! - Ten `const fn` of the original aren't `const`, such as `try_from_utf8`, `as_str` and `len`. Constants call their twins, such
+//!   as [`len_const`](TinyAsciiStr::len_const).
+//! - At capacity 0 `is_empty` returns true, where the original panics, and `new_unsigned_decimal(0)` returns an error.
+//! - Class predicates on letters in a case return true for the empty text at every capacity.
+//! - `Hash` writes the `N` bytes in one call.
+//! - There is no feature `zerovec` or `databake`.
+//!
+//! # Features
+//!
+//! | feature | what it adds |
+//! |---|---|
+//! | `alloc`, on by default | packing tables and maps, `count_texts`, and equality with `String` |
+//! | `serde` | `Serialize` and `Deserialize` |
+//!
+//! # Contracts
+//!
+//! The documentation of a proved function ends with its contract: what the source returns for each input. [`definitions`] explains
+//! the notation. That this crate does what its sources do is tested, and so is what is written by hand, such as macros and serde.
 #![cfg_attr(not(test), no_std)]
 #![deny(unsafe_op_in_unsafe_fn)]
 
@@ -10,31 +53,18 @@ mod constants;
 #[doc = include_str!("../DEFINITIONS.md")]
 #[cfg(doc)]
 pub mod definitions {}
+#[doc = include_str!("../README.md")]
+#[cfg(doctest)]
+mod examples_of_readme {}
 mod errors;
-pub mod hashed;
-pub mod packed;
+mod identifiers;
 mod ranges;
 mod sealed;
 #[cfg(feature = "serde")]
 mod serde;
 mod simd;
 mod strings;
-pub mod subtags;
 mod traits;
-// private, and some of it is called by no function here
-#[allow(dead_code, unused_imports)]
-mod words;
 
-pub mod ascii;
-pub mod error;
-pub mod forms;
-pub mod ule;
-pub mod unvalidated;
-
-#[doc(inline)]
-pub use ascii::{Parts, TinyAsciiStr, TinyStr4, TinyStr8, TinyStr16};
-#[doc(inline)]
-pub use error::ParseError;
-pub use crate::words::{Case, Question};
-#[doc(inline)]
-pub use unvalidated::UnvalidatedTinyAsciiStr;
+// `src/proved/` has the modules that `cargo/erase` generates from proved sources. They are included, so `proved` is in no path.
+include!("proved/lib.rs");

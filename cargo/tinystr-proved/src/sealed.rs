@@ -1,8 +1,13 @@
-//! What keeps callers from adding kinds of subtags.
+//! What keeps callers from adding kinds of subtags. Nor can they call the functions on words, whose preconditions aren't checked:
+//!
+//! ```compile_fail,E0603
+//! use tinystr::words::CodeUnit;
+//! ```
 
 use crate::subtags::language::LanguageKind;
 use crate::subtags::region::RegionKind;
 use crate::subtags::script::ScriptKind;
+use core::hash::Hash;
 
 /// A kind of a caller's own doesn't compile:
 ///
@@ -11,6 +16,7 @@ use crate::subtags::script::ScriptKind;
 /// use tinystr::subtags::LangIdError;
 /// use tinystr::subtags::subtag::SubtagKind;
 ///
+/// #[derive(Clone, Copy, PartialEq, Eq, PartialOrd, Ord, Hash)]
 /// struct Own;
 ///
 /// impl SubtagKind<2> for Own {
@@ -23,7 +29,7 @@ use crate::subtags::script::ScriptKind;
 ///     }
 /// }
 /// ```
-pub trait Sealed {}
+pub trait Sealed: Copy + Ord + Hash {}
 
 impl Sealed for LanguageKind {}
 impl Sealed for RegionKind {}

@@ -1,17 +1,19 @@
 //! What Rust's users expect of tables, maps and their iterators, each by a proved call: they are printed as lists and maps of
-//! what they hold, run through by a value or a reference, and say how much is left.
+//! what they hold, run through by a value or a reference, and say how much is left. And of subtags: they are copied, compared and
+//! hashed as their texts.
 
-use crate::ascii::Parts;
-use crate::hashed::{self, HashedMap, HashedTable, HashedTextMap};
-use crate::packed::{BinarySearchEach, Entries, GetEach, PackedMap, SortedTable, Table, TextEntries, TextMap, Texts};
-use core::fmt::{Debug, Formatter, Result};
+use crate::ascii::{Parts, TinyAsciiStr};
+use crate::hashed::{self, HashedError, HashedMap, HashedTable, HashedTextMap};
+use crate::packed::{BinarySearchEach, Entries, GetEach, PackedMap, SortedError, SortedTable, Table, TextEntries, TextMap, Texts};
+use crate::ule::UleError;
+use core::fmt::{self, Debug, Formatter};
 use core::iter::FusedIterator;
 
 // Lists of the values that an expression gives of each of these types, and maps of the entries.
 macro_rules! printed {
     ($call:ident: $([$($generics:tt)*] $type:ty, |$it:ident| $values:expr;)*) => {$(
         impl<$($generics)*> Debug for $type {
-            fn fmt(&self, f: &mut Formatter<'_>) -> Result {
+            fn fmt(&self, f: &mut Formatter<'_>) -> fmt::Result {
                 let $it = self;
                 f.$call().entries($values).finish()
             }
@@ -22,8 +24,8 @@ macro_rules! printed {
 printed! {
     debug_list:
     [const N: usize] Table<'_, N>, |it| it.iter();
-    [const N: usize] SortedTable<'_, N>, |it| it.table().iter();
-    [const N: usize] HashedTable<'_, N>, |it| it.table().iter();
+    [const N: usize] SortedTable<'_, N>, |it| it.iter();
+    [const N: usize] HashedTable<'_, N>, |it| it.iter();
     [const N: usize] Texts<'_, N>, |it| it.clone();
     [const N: usize] Parts<'_, N>, |it| it.clone();
 }
@@ -41,13 +43,13 @@ printed! {
 
 // These can't be cloned: their names, and how many results are left.
 impl<const N: usize> Debug for BinarySearchEach<'_, '_, N> {
-    fn fmt(&self, f: &mut Formatter<'_>) -> Result {
+    fn fmt(&self, f: &mut Formatter<'_>) -> fmt::Result {
         f.debug_struct("BinarySearchEach").field("len", &self.len()).finish_non_exhaustive()
     }
 }
 
 impl<const N: usize, const M: usize> Debug for GetEach<'_, '_, N, M> {
-    fn fmt(&self, f: &mut Formatter<'_>) -> Result {
+    fn fmt(&self, f: &mut Formatter<'_>) -> fmt::Result {
         f.debug_struct("GetEach").field("len", &self.len()).finish_non_exhaustive()
     }
 }
@@ -80,8 +82,8 @@ macro_rules! run_through {
 
 run_through! {
     [const N: usize] Table<'a, N>, Texts<'a, N>, |it| it.iter();
-    [const N: usize] SortedTable<'a, N>, Texts<'a, N>, |it| it.table().iter();
-    [const N: usize] HashedTable<'a, N>, Texts<'a, N>, |it| it.table().iter();
+    [const N: usize] SortedTable<'a, N>, Texts<'a, N>, |it| it.iter();
+    [const N: usize] HashedTable<'a, N>, Texts<'a, N>, |it| it.iter();
     [const N: usize, const M: usize] PackedMap<'a, N, M>, Entries<'a, N, M>, |it| it.iter();
     [const N: usize, const M: usize] TextMap<'a, N, M>, TextEntries<'a, N, M>, |it| it.iter();
     [const N: usize, const M: usize] HashedMap<'a, N, M>, hashed::Entries<'a, N, M>, |it| it.iter();
@@ -102,3 +104,128 @@ impl<const N: usize, const M: usize> FusedIterator for hashed::Entries<'_, N, M>
 impl<const N: usize, const M: usize> FusedIterator for TextEntries<'_, N, M> {}
 impl<const N: usize> FusedIterator for BinarySearchEach<'_, '_, N> {}
 impl<const N: usize, const M: usize> FusedIterator for GetEach<'_, '_, N, M> {}
+
+// A table or a map is a slice or two.
+impl<const N: usize> Copy for Table<'_, N> {}
+impl<const N: usize> Copy for SortedTable<'_, N> {}
+impl<const N: usize> Copy for HashedTable<'_, N> {}
+impl<const N: usize, const M: usize> Copy for PackedMap<'_, N, M> {}
+impl<const N: usize, const M: usize> Copy for TextMap<'_, N, M> {}
+impl<const N: usize, const M: usize> Copy for HashedMap<'_, N, M> {}
+impl<const N: usize, const M: usize> Copy for HashedTextMap<'_, N, M> {}
+
+// Tables and maps whose records are equal, which an expression gives.
+macro_rules! compared {
+    ($([$($generics:tt)*] $type:ty, |$it:ident| $records:expr;)*) => {$(
+        /// The same texts or entries, in the same order.
+        impl<$($generics)*> PartialEq for $type {
+            fn eq(&self, other: &Self) -> bool {
+                let records = |$it: &Self| $records;
+                records(self) == records(other)
+            }
+        }
+
+        impl<$($generics)*> Eq for $type {}
+    )*};
+}
+
+compared! {
+    [const N: usize] Table<'_, N>, |it| it.records();
+    [const N: usize] SortedTable<'_, N>, |it| it.table().records();
+    [const N: usize] HashedTable<'_, N>, |it| it.table().records();
+    [const N: usize, const M: usize] PackedMap<'_, N, M>, |it| (it.keys().table().records(), it.values());
+    [const N: usize, const M: usize] TextMap<'_, N, M>, |it| (it.keys().table().records(), it.values().records());
+    [const N: usize, const M: usize] HashedMap<'_, N, M>, |it| (it.keys().table().records(), it.values());
+    [const N: usize, const M: usize] HashedTextMap<'_, N, M>, |it| (it.keys().table().records(), it.values().records());
+}
+
+// What a reader gives of no bytes.
+macro_rules! empty {
+    ($([$($generics:tt)*] $type:ty, $read:expr;)*) => {$(
+        /// The empty one. A capacity of 0 is a panic.
+        impl<$($generics)*> Default for $type {
+            fn default() -> Self {
+                $read.unwrap()
+            }
+        }
+    )*};
+}
+
+empty! {
+    [const N: usize] Table<'_, N>, Table::new(&[]);
+    [const N: usize] SortedTable<'_, N>, SortedTable::from_bytes(&[]);
+    [const N: usize, const M: usize] PackedMap<'_, N, M>, PackedMap::new(&[], &[]);
+    [const N: usize, const M: usize] TextMap<'_, N, M>, TextMap::new(&[], &[]);
+}
+
+// The reader of each of these tables, and its error.
+macro_rules! read_of_bytes {
+    ($($type:ident, $read:ident, $error:ident;)*) => {$(
+        /// A capacity of 0 is a panic.
+        impl<'a, const N: usize> TryFrom<&'a [u8]> for $type<'a, N> {
+            type Error = $error;
+
+            fn try_from(bytes: &'a [u8]) -> Result<Self, $error> {
+                $type::$read(bytes)
+            }
+        }
+    )*};
+}
+
+read_of_bytes! {
+    Table, new, UleError;
+    SortedTable, from_bytes, SortedError;
+    HashedTable, from_bytes, HashedError;
+}
+
+impl<'a, const N: usize> SortedTable<'a, N> {
+    /// The number of texts.
+    #[must_use]
+    pub const fn len(&self) -> usize {
+        self.table().len()
+    }
+
+    /// Whether there are no texts.
+    #[must_use]
+    pub const fn is_empty(&self) -> bool {
+        self.table().is_empty()
+    }
+
+    /// The texts in order.
+    #[must_use]
+    pub const fn iter(&self) -> Texts<'a, N> {
+        self.table().iter()
+    }
+
+    /// The text at an index, counted from 0, or `None` past the end.
+    #[must_use]
+    pub fn get(&self, index: usize) -> Option<TinyAsciiStr<N>> {
+        self.table().get(index)
+    }
+
+    /// The first text, which is the least, if there is one.
+    #[must_use]
+    pub fn first(&self) -> Option<TinyAsciiStr<N>> {
+        self.table().first()
+    }
+
+    /// The last text, which is the greatest, if there is one.
+    #[must_use]
+    pub fn last(&self) -> Option<TinyAsciiStr<N>> {
+        self.table().last()
+    }
+}
+
+impl<'a, const N: usize> HashedTable<'a, N> {
+    /// The texts, in the order of the hash.
+    #[must_use]
+    pub const fn iter(&self) -> Texts<'a, N> {
+        self.table().iter()
+    }
+
+    /// The text at an index, counted from 0, or `None` past the end.
+    #[must_use]
+    pub fn get(&self, index: usize) -> Option<TinyAsciiStr<N>> {
+        self.table().get(index)
+    }
+}

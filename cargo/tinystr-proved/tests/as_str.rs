@@ -58,6 +58,19 @@ fn strings_of_a_text() {
     assert_eq!(takes_str(&TAG), 10);
 }
 
+/// The other names of `str`, which a new call of the type's own would hide.
+#[test]
+fn other_names() {
+    assert_eq!([TAG.matches('-').count(), TAG.rmatches('-').count(), TAG.rmatch_indices('-').count()], [2; 3]);
+    assert_eq!((TAG.replacen('-', "", 1), TAG.rsplitn(2, '-').count()), ("zhHant-TW".into(), 2));
+    assert_eq!((TAG.rsplit_terminator('W').next(), TAG.split_ascii_whitespace().next()), (Some("zh-Hant-T"), Some("zh-Hant-TW")));
+    assert_eq!((TAG.split_at_checked(11), TAG.encode_utf16().next()), (None, Some(0x7a)));
+    assert_eq!((TAG.trim_matches(char::is_alphabetic), TAG.trim_start_matches("zh")), ("-Hant-", "-Hant-TW"));
+    assert_eq!([TAG.trim_start(), TAG.trim_end(), TAG.trim_ascii(), TAG.trim_ascii_start(), TAG.trim_ascii_end()], ["zh-Hant-TW"; 5]);
+    assert_eq!((TAG.escape_default().next(), TAG.escape_unicode().next()), (Some('z'), Some('\\')));
+    assert_eq!(TAG.as_ptr(), TAG.as_str().as_ptr());
+}
+
 fn takes_str(s: &str) -> usize {
     s.len()
 }

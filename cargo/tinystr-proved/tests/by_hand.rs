@@ -4,7 +4,7 @@
 use std::borrow::Borrow;
 use std::collections::HashMap;
 use std::error::Error;
-use tinystr::hashed::{HashedMap, HashedTable, HashedTextMap, PackHashedError, pack_hashed};
+use tinystr::hashed::{HashedMap, HashedTable, HashedTextMap, pack_hashed};
 use tinystr::packed::{PackedMap, SortedTable, Table, TextMap};
 use tinystr::subtags::{LangId, Language};
 use tinystr::{ParseError, TinyAsciiStr, TinyStr8, UnvalidatedTinyAsciiStr, tinystr};
@@ -21,7 +21,7 @@ fn read_alike<const N: usize>(units: &[u8]) {
     }
 }
 
-/// All lists of at most two bytes, and of longer ones each that has one of three kinds of bytes at each place.
+/// All lists of at most two bytes, and of longer ones each that has one of three kinds of bytes at each place, or at one place.
 #[test]
 fn the_constant_readers_are_the_readers() {
     read_alike::<0>(&[]);
@@ -42,6 +42,12 @@ fn the_constant_readers_are_the_readers() {
             read_alike::<9>(&units);
             read_alike::<17>(&units);
         }
+    }
+    for (at, byte) in (0..50).flat_map(|at| [0, b'a', 0x80].map(|byte| (at, byte))) {
+        let units: [u8; 50] = core::array::from_fn(|place| if place == at { byte } else { b'b' });
+        read_alike::<16>(&units[..16]);
+        read_alike::<33>(&units[..33]);
+        read_alike::<50>(&units);
     }
 }
 
@@ -113,9 +119,9 @@ fn each_error_says_what_is_wrong() {
     let fault = "record 1: attempted to construct TinyAsciiStr from a non-ASCII string";
     assert_eq!(table(b"EURJP\xff"), Err(fault.into()));
     assert_eq!(table(b"EU\0E\0U"), Err("record 1: a byte other than NUL follows a NUL".into()));
-    let sorted = SortedTable::new(Table::<3>::new(b"CHFJPYEUR").unwrap()).map_err(message).map(|table| table.table().len());
+    let sorted = SortedTable::new(Table::<3>::new(b"CHFJPYEUR").unwrap()).map_err(message).map(|table| table.len());
     assert_eq!(sorted, Err("record 2 isn't above the one before it".into()));
-    let opened = |bytes| SortedTable::<3>::from_bytes(bytes).map_err(message).map(|table| table.table().len());
+    let opened = |bytes| SortedTable::<3>::from_bytes(bytes).map_err(message).map(|table| table.len());
     assert_eq!(opened(b"EURJP"), Err("5 bytes can't be divided into records".into()));
     assert_eq!(opened(b"JPYEUR"), Err("record 1 isn't above the one before it".into()));
     let map = |keys, values| PackedMap::<3, 1>::new(keys, values).map_err(message).map(|map| map.len());
@@ -134,12 +140,12 @@ fn each_error_of_a_hashed_table_says_what_is_wrong() {
     let table = |bytes: &[u8]| HashedTable::<3>::from_bytes(bytes).map_err(message).map(|table| table.len());
     assert_eq!(table(b"EUR"), Err("3 bytes are fewer than the sixteen of a header".into()));
     assert_eq!(table(&[[2, 0, 0, 0]; 4].concat()), Err("the version is 2, and not 1".into()));
-    let two = [&[1, 0, 0, 0, 2, 0, 0, 0], [0; 8].as_slice(), b"EUR"].concat();
-    assert_eq!(table(&two), Err("3 bytes after the header are fewer than those of 2 displacements".into()));
-    let [hashed, sorted, one] = ["JPYEUR", "EURJPY", "EUR"].map(|records| [&[1], [0; 15].as_slice(), records.as_bytes()].concat());
-    assert_eq!(table(&hashed), Ok(2));
-    assert_eq!(table(&hashed[..21]), Err("5 bytes can't be divided into records".into()));
-    assert_eq!(table(&sorted), Err("record 0 isn't at the place of its hash".into()));
+    let two = [&[1, 0, 0, 0, 2, 0, 0, 0], [0; 8].as_slice(), b"E"].concat();
+    assert_eq!(table(&two), Err("1 bytes after the header are fewer than the 2 of pilots and moves".into()));
+    let [sorted, unsorted, one] = ["EURJPY", "JPYEUR", "EUR"].map(|records| [&[1], [0; 15].as_slice(), records.as_bytes()].concat());
+    assert_eq!(table(&sorted), Ok(2));
+    assert_eq!(table(&sorted[..21]), Err("5 bytes can't be divided into records".into()));
+    assert_eq!(table(&unsorted), Err("record 1 is out of order".into()));
     let map = |keys: &[u8], values: &[u8]| HashedMap::<3, 1>::new(keys, values).map_err(message).map(|map| map.len());
     assert_eq!(map(b"EUR", &[2]), Err("keys: 3 bytes are fewer than the sixteen of a header".into()));
     assert_eq!(map(&one, &[2, 0]), Err("2 bytes aren't a value for each of 1 keys".into()));
@@ -148,5 +154,4 @@ fn each_error_of_a_hashed_table_says_what_is_wrong() {
     assert_eq!(texts(&one, b"E"), Err("values: 1 bytes can't be divided into records".into()));
     assert_eq!(texts(&one, b"EUUS"), Err("there are 2 values for 1 keys".into()));
     assert_eq!(pack_hashed(&[EURO, EURO]).map_err(message), Err("a text occurs twice: EUR".into()));
-    assert_eq!(message(PackHashedError::<3>::NoSeed), "no seed gives each text a place of its own");
 }

@@ -93,6 +93,25 @@ fn a_call_whose_condition_does_not_hold_panics() {
     assert!(taken.is_empty(), "no panic: {taken:?}");
 }
 
+/// In the original's words.
+#[test]
+#[should_panic(expected = "replacement must be a non-null ASCII byte")]
+fn a_replacement_that_is_no_character_panics() {
+    ignore(TinyAsciiStr::<8>::from_utf8_lossy(&[0xfe], 0x80));
+}
+
+#[test]
+#[should_panic(expected = "replacement must be a non-null ASCII byte")]
+fn nul_as_a_replacement_panics() {
+    ignore(TinyAsciiStr::<8>::from_utf8_lossy(&[0xfe], 0));
+}
+
+#[test]
+#[should_panic(expected = "replacement must be a non-null ASCII byte")]
+fn a_replacement_of_numbers_that_is_no_character_panics() {
+    ignore(TinyAsciiStr::<8>::from_utf16_lossy(&[0xfffe], 0xfe));
+}
+
 #[test]
 fn a_call_at_the_edge_of_its_condition_answers() {
     assert_eq!(TinyAsciiStr::<2>::from_utf8_lossy(b"\0a", 127).as_str(), "\x7fa");

@@ -1,9 +1,11 @@
 //! What constants call: the twins give the same as the proved calls, of all short texts and of random ones, and questions and
 //! changes of case are what the definitions say of each byte.
 
-use tinystr::packed::{NotRising, SortedError, SortedTable, Table};
+use tinystr::hashed::{HashedMap, HashedTable, HashedTextMap};
+use tinystr::packed::{NotRising, PackedMap, SortedError, SortedTable, Table, TextEntries, TextMap};
+use tinystr::subtags::{LangId, Language};
 use tinystr::ule::UleError;
-use tinystr::{Case, Question, TinyAsciiStr, tinystr};
+use tinystr::{Case, Question, TinyAsciiStr, UnvalidatedTinyAsciiStr, tinystr};
 
 // A program's own constants, and a function of its own that makes one.
 const L: TinyAsciiStr<8> = tinystr!(4, "latn").resize();
@@ -29,6 +31,27 @@ fn a_program_makes_constants() {
     const CITY: &str = tinystr!(16, "New York").as_str_const();
     const LOSSY: TinyAsciiStr<4> = TinyAsciiStr::from_utf16_lossy_const(&[0x61, 0x20ac, 0, 0x62, 0x63], b'?');
     assert_eq!((CITY, LOSSY.as_str()), ("New York", "a??b"));
+}
+
+type Maps<'a> = (PackedMap<'a, 3, 1>, TextMap<'a, 3, 1>, HashedMap<'a, 3, 1>, HashedTextMap<'a, 3, 1>);
+type Tables<'a> = (Table<'a, 3>, SortedTable<'a, 3>, HashedTable<'a, 3>);
+
+macro_rules! parts_of_map {
+    ($map:expr) => {
+        ($map.len(), $map.is_empty(), $map.iter(), $map.keys(), $map.values())
+    };
+}
+
+/// What else a `const fn` can call: it compiles.
+#[allow(dead_code)]
+const fn what_constants_call(text: TinyAsciiStr<3>, ids: &(LangId, Language), tables: &Tables, maps: &Maps) -> UnvalidatedTinyAsciiStr<3> {
+    let _ = (text.is_empty(), text.get_byte(0), text.all_bytes(), text.to_bytes(), text.ask(QUESTIONS[0]), text.in_case(CASES[0]));
+    let _ = (TinyAsciiStr::<3>::niche_bit_pattern(), TinyAsciiStr::<3>::default(), UnvalidatedTinyAsciiStr::<3>::default());
+    let _ = (ids.0.to_text(), ids.1.to_text(), UnvalidatedTinyAsciiStr::from_utf8_unchecked(*b"GBP"));
+    let _ = (tables.0.len(), tables.0.is_empty(), tables.0.iter(), tables.0.records(), tables.1.table());
+    let _ = (tables.2.len(), tables.2.is_empty(), tables.2.table(), TextEntries::new(&tables.0, &tables.0));
+    let _ = (parts_of_map!(maps.0), parts_of_map!(maps.1), parts_of_map!(maps.2), parts_of_map!(maps.3));
+    text.to_unvalidated()
 }
 
 const QUESTIONS: [Question; 9] = [
@@ -244,14 +267,14 @@ fn twins_agree_of_random_texts() {
     random_texts_agree::<12>(200_000 / part);
     random_texts_agree::<16>(75_000 / part);
     random_texts_agree::<17>(50_000 / part);
+    random_texts_agree::<24>(25_000 / part);
+    random_texts_agree::<32>(25_000 / part);
     random_texts_agree::<33>(25_000 / part);
 }
 
 fn tables_agree<const N: usize>(bytes: &[u8]) {
-    let records = |table: Result<Table<'_, N>, UleError>| table.map(|it| it.records().to_vec());
-    assert_eq!(records(Table::new_const(bytes)), records(Table::new(bytes)), "{bytes:?}");
-    let sorted = |table: Result<SortedTable<'_, N>, SortedError>| table.map(|it| it.table().records().to_vec());
-    assert_eq!(sorted(SortedTable::from_bytes_const(bytes)), sorted(SortedTable::from_bytes(bytes)), "{bytes:?}");
+    assert_eq!(Table::<N>::new_const(bytes), Table::new(bytes), "{bytes:?}");
+    assert_eq!(SortedTable::<N>::from_bytes_const(bytes), SortedTable::from_bytes(bytes), "{bytes:?}");
 }
 
 /// All lists of at most two bytes, and of longer ones each that has one of four bytes at each place.
@@ -284,7 +307,7 @@ const DESCENDING: Result<SortedTable<'static, 3>, SortedError> = SortedTable::fr
 
 #[test]
 fn tables_are_constants() {
-    assert_eq!((CODES.binary_search(&tinystr!(3, "EUR")), CODES.table().len()), (Ok(1), 3));
+    assert_eq!((CODES.binary_search(&tinystr!(3, "EUR")), CODES.len()), (Ok(1), 3));
     assert_eq!(NAMES.unwrap().get(1), Some(tinystr!(4, "Yen")));
     assert_eq!(DESCENDING.err(), Some(SortedError::Order(NotRising { index: 1 })));
 }

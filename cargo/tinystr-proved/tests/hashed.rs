@@ -4,7 +4,11 @@
 use std::collections::{BTreeMap, HashMap, HashSet};
 use tinystr::hashed::{HashedError, HashedMap, HashedTable, HashedTextMap, PackHashedError};
 use tinystr::hashed::{in_place, pack_hashed, pack_hashed_map, pack_hashed_text_map};
+use tinystr::packed::pack_sorted;
 use tinystr::{TinyAsciiStr, tinystr};
+
+/// The header of a table without pilots.
+const HEADER: &[u8] = b"\x01\0\0\0\0\0\0\0\0\0\0\0\0\0\0\0";
 
 /// The codes of ISO 3166-1.
 const COUNTRIES: &str = "AD AE AF AG AI AL AM AO AQ AR AS AT AU AW AX AZ BA BB BD BE BF BG BH BI BJ BL BM BN BO BQ BR BS
@@ -175,7 +179,7 @@ fn random_texts_of_any_capacity_are_found() {
 
 /// A million texts, or fewer where nothing is optimized.
 #[test]
-fn many_random_texts_are_packed_by_some_seed() {
+fn many_random_texts_take_half_a_byte_more_each() {
     let count = if cfg!(debug_assertions) { 100_000 } else { 1_000_000 };
     let mut seed = 1;
     let mut texts = HashSet::new();
@@ -185,7 +189,8 @@ fn many_random_texts_are_packed_by_some_seed() {
     let texts: Vec<_> = texts.into_iter().collect();
     let bytes = pack_hashed(&texts).unwrap();
     let table = HashedTable::<12>::from_bytes(&bytes).unwrap();
-    assert_eq!((table.len(), bytes.len()), (count, 16 + 4 * count.div_ceil(4) + 12 * count));
+    assert_eq!(table.len(), count);
+    assert!(bytes.len() - 12 * count < 51 * count / 100);
     assert!(texts.iter().all(|text| table.contains(text)));
 }
 
@@ -194,39 +199,80 @@ fn digest_of(bytes: &[u8]) -> u64 {
     bytes.iter().fold(0xcbf2_9ce4_8422_2325, |digest, byte| (digest ^ u64::from(*byte)).wrapping_mul(0x100_0000_01b3))
 }
 
-/// The digests are those of the tests of the proved crate, where another program makes the bytes from the definition.
-#[test]
-fn the_bytes_are_those_of_the_proved_crate_in_any_order() {
-    for (count, digest) in [(170, 0xc3aa_5efa_4017_1df2), (300, 0x02fa_3549_4b0c_5718), (1000, 0xb69d_1040_e8bd_622b)] {
-        let mut texts: Vec<TinyAsciiStr<8>> = (0..count).map(|number| format!("key{number}").parse().unwrap()).collect();
-        assert_eq!(digest_of(&pack_hashed(&texts).unwrap()), digest);
+/// In any order the texts are packed as the table with this digest, by c/consumers/hashed.py, and this number of bytes.
+fn packs_as<const N: usize>(texts: impl IntoIterator<Item = String>, digest: u64, len: usize) {
+    let mut texts: Vec<TinyAsciiStr<N>> = texts.into_iter().map(|text| text.parse().unwrap()).collect();
+    for _ in 0..2 {
+        let bytes = pack_hashed(&texts).unwrap();
+        assert_eq!((digest_of(&bytes), bytes.len()), (digest, len));
+        agrees(&bytes, &texts.iter().copied().collect(), texts.iter().copied());
         texts.reverse();
-        assert_eq!(digest_of(&pack_hashed(&texts).unwrap()), digest);
     }
 }
 
-/// All texts of one byte but two, and the empty text: their hashes are spread so evenly that the first four seeds fail.
-#[test]
-fn texts_of_evenly_spread_hashes_are_packed() {
-    let texts: HashSet<TinyAsciiStr<8>> = (1..128)
-        .filter(|byte| ![29, 121].contains(byte))
-        .map(|byte| TinyAsciiStr::try_from_utf8(&[byte]).unwrap())
-        .chain([TinyAsciiStr::EMPTY])
-        .collect();
-    packs_alike(&texts, 0xb4d3_e25f_5893_3231);
+fn numbered(front: &str, count: usize) -> impl Iterator<Item = String> {
+    (0..count).map(move |number| format!("{front}{number}"))
 }
 
-/// Texts that differ in one letter: their hashes are so close to each other that only many displacements separate them.
 #[test]
-fn texts_of_close_hashes_are_packed() {
-    let letters = |front: &str, back: &str| ('a'..='z').map(|letter| format!("{front}{letter}{back}").parse().unwrap()).collect();
-    packs_alike::<16>(&letters("h", "52911d0iv25y74"), 0xf233_55e8_a712_f2a0);
-    packs_alike::<16>(&letters("e", "5byhhggt9u3y7i"), 0x31ad_a9ef_3f26_5286);
+fn the_bytes_are_those_of_another_program_in_any_order() {
+    packs_as::<8>(numbered("key", 1), 0x3976_bd91_d169_2939, 24);
+    packs_as::<8>(numbered("key", 2), 0x494d_c651_c00b_715b, 34);
+    packs_as::<8>(numbered("key", 3), 0x981e_24d0_b130_9808, 43);
+    packs_as::<8>(numbered("key", 170), 0xa65b_dc7b_853a_1e48, 1472);
+    packs_as::<8>(numbered("key", 1000), 0xc267_57d5_5984_0534, 8576);
+    packs_as::<8>(numbered("key", 5000), 0x3260_11c6_8c80_23a5, 42_560);
 }
 
-/// The texts are packed as the table with this digest.
-fn packs_alike<const N: usize>(texts: &HashSet<TinyAsciiStr<N>>, digest: u64) {
-    let bytes = pack_hashed(&texts.iter().copied().collect::<Vec<_>>()).unwrap();
-    assert_eq!(digest_of(&bytes), digest);
-    agrees(&bytes, texts, texts.iter().copied());
+/// Some take the slots of others, and the last needs a second attempt.
+#[test]
+fn texts_that_wait_for_slots_are_packed() {
+    packs_as::<8>(numbered("a", 88), 0x0ce1_0d10_faea_8482, 768);
+    packs_as::<8>(numbered("mo", 29), 0x5a81_5206_6bd0_68c3, 262);
+    packs_as::<8>(numbered("ht", 38), 0x09e7_e792_a021_73a0, 352);
+    packs_as::<8>(numbered("sb", 47), 0x98d8_7f3d_23d7_c427, 424);
+}
+
+/// Texts of one byte, and texts that differ in one letter.
+#[test]
+fn texts_of_similar_bytes_are_packed() {
+    let letters = |front: &'static str, back: &'static str| ('a'..='z').map(move |letter| format!("{front}{letter}{back}"));
+    let bytes = (1..128u8).filter(|byte| ![29, 121].contains(byte)).map(|byte| char::from(byte).to_string());
+    packs_as::<8>(bytes.chain([String::new()]), 0x2829_b2e9_2f46_a25d, 1088);
+    packs_as::<16>(letters("h", "52911d0iv25y74"), 0x2b71_5ddc_620e_b315, 448);
+    packs_as::<16>(letters("e", "5byhhggt9u3y7i"), 0x7314_bc99_d8f5_25ff, 448);
+    packs_as::<16>(('A'..='Z').map(|letter| format!("2026-{letter}-05|J")), 0x21af_cadc_b3df_0e04, 448);
+}
+
+/// Texts that are chosen so that no attempt finds pilots: the records are in order.
+#[test]
+fn texts_without_pilots_are_packed_in_order() {
+    let chosen: Vec<_> = include_str!("chosen.txt").split_whitespace().map(String::from).collect();
+    packs_as::<8>(chosen.iter().cloned(), 0x6aea_f6ee_0bd5_105a, 16 + 8 * 396);
+    let twice: Vec<TinyAsciiStr<8>> = chosen.iter().chain([&chosen[0]]).map(|text| text.parse().unwrap()).collect();
+    assert_eq!(pack_hashed(&twice), Err(PackHashedError::Duplicate { text: twice[0] }));
+}
+
+fn flipped_bits_are_read<const N: usize>() {
+    let mut seed = 0x9e37_79b9 + N as u64;
+    let texts: HashSet<TinyAsciiStr<N>> = (0..30).map(|_| random_text(&mut seed)).collect();
+    let texts: Vec<_> = texts.into_iter().collect();
+    let sorted = [HEADER, pack_sorted(&texts).as_slice()].concat();
+    for mut bytes in [pack_hashed(&texts).unwrap(), sorted] {
+        for bit in 0..8 * bytes.len() {
+            bytes[bit / 8] ^= 1 << (bit % 8);
+            let _ = changed_bytes_are_read(&bytes, &texts);
+            bytes[bit / 8] ^= 1 << (bit % 8);
+        }
+        assert!(changed_bytes_are_read(&bytes, &texts).is_ok());
+    }
+}
+
+#[test]
+fn a_flipped_bit_of_either_kind_is_rejected_or_makes_another_table() {
+    flipped_bits_are_read::<1>();
+    flipped_bits_are_read::<3>();
+    flipped_bits_are_read::<8>();
+    flipped_bits_are_read::<16>();
+    flipped_bits_are_read::<17>();
 }

@@ -1,6 +1,7 @@
-//! Language identifiers, read as a reader of one subtag after another reads them.
+//! Language identifiers and subtags: the proved readers return what those of constants do.
 
-use tinystr::subtags::{LangId, LangIdError};
+use tinystr::subtags::{LangId, LangIdError, Language, Region, Script};
+use tinystr::{lang_id, language, region, script};
 
 /// Numbers that look random, by xorshift.
 struct Random(u64);
@@ -18,43 +19,9 @@ impl Random {
     }
 }
 
-fn letters(subtag: &[u8], count: usize) -> bool {
-    subtag.len() == count && subtag.iter().all(u8::is_ascii_alphabetic)
-}
-
-fn is_language(subtag: &[u8]) -> bool {
-    [2, 3, 5, 6, 7, 8].iter().any(|count| letters(subtag, *count))
-}
-
-fn is_region(subtag: &[u8]) -> bool {
-    letters(subtag, 2) || subtag.len() == 3 && subtag.iter().all(u8::is_ascii_digit)
-}
-
-/// The canonical text, by the grammar.
-fn canonical(input: &[u8]) -> Result<Vec<u8>, LangIdError> {
-    let mut subtags = input.split(|byte| matches!(byte, b'-' | b'_')).peekable();
-    let Some(language) = subtags.next().filter(|first| is_language(first)) else {
-        return Err(LangIdError::InvalidLanguage);
-    };
-    let mut text = language.to_ascii_lowercase();
-    if let Some(script) = subtags.next_if(|subtag| letters(subtag, 4)) {
-        text.push(b'-');
-        text.extend(script[..1].to_ascii_uppercase());
-        text.extend(script[1..].to_ascii_lowercase());
-    }
-    if let Some(region) = subtags.next_if(|subtag| is_region(subtag)) {
-        text.push(b'-');
-        text.extend(region.to_ascii_uppercase());
-    }
-    match subtags.next() {
-        None => Ok(text),
-        Some(_) => Err(LangIdError::InvalidSubtag),
-    }
-}
-
+/// The proved reader returns what that of constants does, which takes one subtag after another.
 fn assert_read(input: &[u8]) {
-    let read = LangId::try_from_utf8(input).map(|id| id.as_str().as_bytes().to_vec());
-    assert_eq!(read, canonical(input), "{:?}", String::from_utf8_lossy(input));
+    assert_eq!(LangId::try_from_utf8(input), LangId::try_from_utf8_const(input), "{:?}", String::from_utf8_lossy(input));
 }
 
 /// A language, perhaps a script, perhaps a region, and sometimes another byte somewhere.
@@ -87,7 +54,7 @@ fn inputs_near_the_grammar_are_read_subtag_by_subtag() {
     for _ in 0..400_000 {
         let input = near_the_grammar(&mut random);
         assert_read(&input);
-        accepted += usize::from(canonical(&input).is_ok());
+        accepted += usize::from(LangId::try_from_utf8(&input).is_ok());
     }
     assert!(accepted > 50_000, "{accepted}");
 }
@@ -120,4 +87,39 @@ fn bytes_more_or_fewer_are_rejected_as_the_grammar_says() {
     }
     assert_read(b"");
     assert_read(&[b'a'; 300]);
+}
+
+fn assert_each_read(input: &[u8]) {
+    assert_read(input);
+    assert_eq!(Language::try_from_utf8(input), Language::try_from_utf8_const(input), "{input:?}");
+    assert_eq!(Script::try_from_utf8(input), Script::try_from_utf8_const(input), "{input:?}");
+    assert_eq!(Region::try_from_utf8(input), Region::try_from_utf8_const(input), "{input:?}");
+}
+
+/// All lists of at most two bytes, and of longer ones each that has one of six kinds of bytes at each place.
+#[test]
+fn short_inputs_are_read_as_for_constants() {
+    for a in 0..=255 {
+        assert_each_read(&[a]);
+        (0..=255).for_each(|b| assert_each_read(&[a, b]));
+    }
+    for len in 0..=7u32 {
+        for kinds in 0..6usize.pow(len) {
+            let input: Vec<u8> = (0..len).map(|at| b"aZ5-_\x80"[kinds / 6usize.pow(at) % 6]).collect();
+            assert_each_read(&input);
+        }
+    }
+}
+
+const TAIWAN: LangId = lang_id!("ZH_hant-tw");
+const PARTS: (Language, Script, Region) = (language!("ZH"), script!("hANT"), region!("tw"));
+
+#[test]
+fn constants_are_patterns() {
+    assert_eq!(LangId::from_parts(PARTS.0, Some(PARTS.1), Some(PARTS.2)), TAIWAN);
+    assert!(matches!(LangId::try_from_str("zh-hant-tw"), Ok(TAIWAN)) && !matches!(LangId::try_from_str("zh-tw"), Ok(TAIWAN)));
+    assert!(matches!(("zh".parse().unwrap(), "Hant".parse().unwrap(), "TW".parse().unwrap()), PARTS));
+    assert_eq!((LangId::default(), Language::default()), (LangId::UND, Language::UND));
+    assert_eq!((LangId::from(Language::UND), LangId::UND.as_str()), (LangId::UND, "und"));
+    assert_eq!((Script::try_from_str("hant"), Region::try_from_str("tw1")), (Ok(PARTS.1), Err(LangIdError::InvalidSubtag)));
 }

@@ -4,7 +4,7 @@ use std::fmt::Debug;
 use std::iter::FusedIterator;
 use tinystr::forms::FormWriteError;
 use tinystr::hashed::{self, HashedMap, HashedTable, HashedTextMap};
-use tinystr::packed::{Entries, PackedMap, SortedTable, Table, TextEntries, TextMap, Texts};
+use tinystr::packed::{Entries, PackedMap, SortedError, SortedTable, Table, TextEntries, TextMap, Texts};
 use tinystr::subtags::{LangId, LangIdError, Language, Region, Script};
 use tinystr::ule::UleError;
 use tinystr::{ParseError, Parts, TinyAsciiStr, UnvalidatedTinyAsciiStr, tinystr};
@@ -25,7 +25,7 @@ fn texts() -> TextMap<'static, 2, 3> {
     TextMap::new(b"CHJP", b"CHFJPY").unwrap()
 }
 
-/// A header of no displacements, and one text.
+/// A header of no pilots, and one text.
 const ONE: &[u8] = b"\x01\0\0\0\0\0\0\0\0\0\0\0\0\0\0\0EUR";
 
 fn hashed_table() -> HashedTable<'static, 3> {
@@ -69,6 +69,34 @@ fn maps_are_printed_as_maps() {
     assert_eq!(shown(sorted().binary_search_each(&keys[1..])), "BinarySearchEach { len: 1, .. }");
 }
 
+#[test]
+fn sorted_and_hashed_tables_have_the_calls_of_a_table() {
+    assert_eq!((sorted().len(), sorted().is_empty(), sorted().iter().nth(1)), (3, false, Some(tinystr!(3, "GB"))));
+    assert_eq!((sorted().first(), sorted().get(1), sorted().last()), (table().first(), table().get(1), table().last()));
+    assert_eq!((SortedTable::<3>::default().first(), sorted().get(3)), (None, None));
+    assert_eq!((hashed_table().iter().count(), hashed_table().get(0), hashed_table().get(1)), (1, Some(tinystr!(3, "EUR")), None));
+}
+
+#[test]
+fn tables_and_maps_are_compared() {
+    assert_eq!((table(), sorted(), map(), texts()), (table(), sorted(), map(), texts()));
+    assert_eq!((hashed_table(), hashed_map(), hashed_texts()), (hashed_table(), hashed_map(), hashed_texts()));
+    assert!(table() != table().slice(0..2) && sorted() != sorted().with_prefix(&tinystr!(3, "E")));
+    assert!(table() != Table::new(b"EURGBPUSD").unwrap() && table() != Table::new(b"GB\0EURUSD").unwrap());
+    assert!(map() != PackedMap::new(b"EURJPY", &[2, 1]).unwrap() && map() != PackedMap::new(b"CHFJPY", &[2, 0]).unwrap());
+    assert!(texts() != TextMap::new(b"CHJP", b"CHFUSD").unwrap() && texts() != TextMap::new(b"CHUS", b"CHFJPY").unwrap());
+    assert!(hashed_map() != HashedMap::new(ONE, &[3]).unwrap() && hashed_texts() != HashedTextMap::new(ONE, b"FR").unwrap());
+}
+
+#[test]
+fn tables_are_read_of_nothing_and_of_bytes() {
+    assert_eq!((Table::<3>::default().len(), SortedTable::<3>::default().len()), (0, 0));
+    assert!(PackedMap::<3, 1>::default().is_empty() && TextMap::<2, 3>::default().is_empty());
+    assert_eq!(Table::try_from(b"EURGB\0USD".as_slice()), Ok(table()));
+    assert_eq!(SortedTable::<3>::try_from(b"EURGB".as_slice()), Err(SortedError::Records(UleError::Length { len: 5 })));
+    assert_eq!((SortedTable::try_from(sorted().table().records().as_flattened()), HashedTable::try_from(ONE)), (Ok(sorted()), Ok(hashed_table())));
+}
+
 fn is_copied<T: Copy + Debug>(value: T) -> T {
     value
 }
@@ -76,8 +104,8 @@ fn is_copied<T: Copy + Debug>(value: T) -> T {
 #[test]
 fn tables_and_maps_are_copied() {
     let (one, other) = (table(), is_copied(table()));
-    assert_eq!((shown(one), shown(is_copied(one))), (shown(other), shown(one)));
-    assert_eq!(shown(is_copied(sorted())), shown(table()));
+    assert_eq!((one, is_copied(one)), (other, one));
+    assert_eq!((is_copied(sorted()), is_copied(hashed_table())), (sorted(), hashed_table()));
     assert_eq!(is_copied(map()).get(&tinystr!(3, "JPY")), Some(&[0]));
     assert_eq!(is_copied(texts()).get(&tinystr!(2, "JP")), Some(tinystr!(3, "JPY")));
     assert_eq!(is_copied(hashed_map()).get(&tinystr!(3, "EUR")), Some(&[2]));

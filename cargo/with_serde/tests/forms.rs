@@ -1,10 +1,12 @@
-//! Texts by serde: a string where the format is human-readable, and else `N` bytes. Expected are the original's rules.
+//! Texts by serde: a string where the format is human-readable, and else `N` bytes. Expected are the original's rules, and of
+//! identifiers those of icu_locale_core.
 
 use serde::Deserialize;
 use serde::de::value::{Error, SeqDeserializer};
 use serde::de::{Deserializer, Visitor};
 use serde::forward_to_deserialize_any;
 use std::collections::BTreeMap;
+use tinystr::subtags::{LangId, Language, Region, Script};
 use tinystr::{TinyAsciiStr, UnvalidatedTinyAsciiStr, tinystr};
 
 type Unvalidated<const N: usize> = UnvalidatedTinyAsciiStr<N>;
@@ -117,4 +119,46 @@ fn bytes_that_are_no_text_are_read_unvalidated_and_not_written() {
     let text = tinystr!(3, "GB").to_unvalidated();
     assert_eq!(serde_json::to_string(&text).unwrap(), r#""GB""#);
     assert_eq!(of_json(r#""GB""#), Ok(text));
+}
+
+type Subtags = (Language, Script, Region);
+
+fn subtags() -> Subtags {
+    ("zh".parse().unwrap(), "Hant".parse().unwrap(), "TW".parse().unwrap())
+}
+
+#[test]
+fn identifiers_are_strings_in_each_format() {
+    let id: LangId = "zh-Hant-TW".parse().unwrap();
+    assert_eq!(serde_json::to_string(&id).unwrap(), r#""zh-Hant-TW""#);
+    assert_eq!(of_json(r#""ZH_hant-tw""#), Ok(id));
+    assert_eq!(bincode::serialize(&id).unwrap(), bincode::serialize("zh-Hant-TW").unwrap());
+    assert_eq!(bincode::deserialize::<LangId>(&bincode::serialize("ZH_hant-tw").unwrap()).unwrap(), id);
+    assert_eq!(of_json::<LangId>(r#""e""#), Err("invalid language".into()));
+    assert_eq!(of_json::<LangId>(r#""en-Latin""#), Err("invalid subtag".into()));
+    assert_eq!(of_json::<LangId>("5"), Err("invalid type: integer `5`, expected a language identifier".into()));
+    assert!(bincode::deserialize::<LangId>(&bincode::serialize("e").unwrap()).is_err());
+}
+
+#[test]
+fn subtags_are_strings_or_bytes() {
+    assert_eq!(serde_json::to_string(&subtags()).unwrap(), r#"["zh","Hant","TW"]"#);
+    assert_eq!(of_json(r#"["ZH","hant","tw"]"#), Ok(subtags()));
+    assert_eq!(bincode::serialize(&subtags()).unwrap(), b"zh\0\0\0\0\0\0HantTW\0");
+    assert_eq!(bincode::deserialize::<Subtags>(b"zh\0\0\0\0\0\0HantTW\0").unwrap(), subtags());
+    assert_eq!(of_json::<Language>(r#""e""#), Err("invalid language".into()));
+    assert_eq!(of_json::<Region>(r#""Latn""#), Err("invalid subtag".into()));
+    assert_eq!(of_json::<Script>("[76]"), Err("invalid type: sequence, expected a subtag".into()));
+}
+
+/// Without a string, what isn't canonical is rejected, and what is too long for the bytes of a text.
+#[test]
+fn bytes_of_no_canonical_subtag_are_rejected() {
+    let region = |bytes: &[u8]| Region::deserialize(Bytes(bytes)).map_err(|fault| fault.to_string());
+    assert_eq!(region(b"TW\0"), Ok(subtags().2));
+    for bytes in [b"tw\0", b"T\0\0", b"1W\0", b"TWN"] {
+        assert_eq!(region(bytes), Err("invalid subtag".into()));
+    }
+    assert_eq!(region(b"T\0W"), Err(NULL.into()));
+    assert_eq!(region(b"TW"), Err("invalid length 3, expected a TinyAsciiStr<3>".into()));
 }

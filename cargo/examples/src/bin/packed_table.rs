@@ -25,14 +25,14 @@ fn main() -> Result<(), Box<dyn Error>> {
     let bytes = fs::read(&path)?;
     fs::remove_file(&path)?;
     let cities = opened(&bytes)?;
-    println!("{} cities in {} bytes", cities.table().len(), bytes.len());
+    println!("{} cities in {} bytes", cities.len(), bytes.len());
     for city in env::args().skip(1).chain(["zurich".into(), "geneva".into()]) {
         match cities.binary_search(&city.parse()?) {
             Ok(index) => println!("{city} is number {index}"),
             Err(index) => println!("{city} isn't there, and would be number {index}"),
         }
     }
-    let in_b: Vec<String> = cities.with_prefix(&"b".parse()?).table().iter().map(|city| city.to_string()).collect();
+    let in_b: Vec<String> = cities.with_prefix(&"b".parse()?).iter().map(|city| city.to_string()).collect();
     println!("with b: {}", in_b.join(", "));
     Ok(())
 }
@@ -40,7 +40,7 @@ fn main() -> Result<(), Box<dyn Error>> {
 #[test]
 fn bytes_are_opened_or_rejected() -> Result<(), Box<dyn Error>> {
     let bytes = written()?;
-    assert_eq!(opened(&bytes)?.table().len(), 5);
+    assert_eq!(opened(&bytes)?.len(), 5);
     let fault_of = |bytes: &[u8]| opened(bytes).err().map(|fault| fault.to_string());
     assert_eq!(fault_of(&bytes[1..]), Some("59 bytes can't be divided into records".into()));
     let swapped = [&bytes[12..24], &bytes[..12]].concat();
