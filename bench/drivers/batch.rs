@@ -3,6 +3,7 @@
 use crate::random::Random;
 use std::ops::RangeInclusive;
 use theirs::original::COUNT;
+use theirs::original::questions::Question;
 
 /// Texts of lowercase letters at a capacity.
 pub struct Batch {
@@ -56,9 +57,31 @@ impl Batch {
 }
 
 /// A random length of a range. If it has only one length, no random number is used.
-pub fn any_of(random: &mut Random, lengths: &RangeInclusive<usize>) -> usize {
+fn any_of(random: &mut Random, lengths: &RangeInclusive<usize>) -> usize {
     match lengths.end() - lengths.start() {
         0 => *lengths.start(),
         more => lengths.start() + random.below(more + 1),
     }
+}
+
+/// A batch of padded texts that pass a question.
+pub fn passing(question: &Question, random: &mut Random, capacity: usize, lengths: RangeInclusive<usize>) -> Vec<u8> {
+    let mut texts = vec![0; COUNT * capacity];
+    for padded in texts.chunks_exact_mut(capacity) {
+        let len = any_of(random, &lengths);
+        for (i, byte) in padded[..len].iter_mut().enumerate() {
+            let class = if i == 0 { question.first } else { question.later };
+            *byte = class[random.below(class.len())];
+        }
+    }
+    texts
+}
+
+/// The same, but each fails at its first byte.
+pub fn failing(question: &Question, random: &mut Random, capacity: usize, lengths: RangeInclusive<usize>) -> Vec<u8> {
+    let mut texts = passing(question, random, capacity, lengths);
+    for padded in texts.chunks_exact_mut(capacity) {
+        padded[0] = question.failing;
+    }
+    texts
 }

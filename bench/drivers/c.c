@@ -68,16 +68,13 @@ static int compare(const void *a, const void *b) { return memcmp(a, b, CAPACITY)
  * of `calls` calls. */
 #define TIME_CALLS(name, whose, count, calls, call) \
     do { \
-        double least = 1e18; \
-        int round; \
+        double least = 1e18, start; \
+        size_t round, i; \
         for (round = 0; round < 400; round++) { \
-            size_t i; \
-            double start = now(), each; \
-            for (i = 0; i < (calls); i++) sink += (size_t)(call); \
-            each = (now() - start) / (double)(count); \
-            if (each < least) least = each; \
+            for (start = now(), i = 0; i < (calls); i++) sink += (size_t)(call); \
+            if ((start = now() - start) < least) least = start; \
         } \
-        printf("From C|%s||%s|%.2f\n", name, whose, least); \
+        printf("From C|%s||%s|%.2f\n", name, whose, least / (double)(count)); \
     } while (0)
 #define TIME(name, whose, count, call) TIME_CALLS(name, whose, count, count, call)
 
@@ -151,9 +148,5 @@ int main(int argc, char **argv) {
     TIME_CALLS("tinystr_sorted_search_each, of 1,000 random keys", "here", KEYS, 1, tinystr_sorted_search_each(table, len, CAPACITY, keys, sizeof keys, found, KEYS).value);
     TIME("tinystr_sorted_search_each, of 1,000 random keys", "one by one", KEYS, tinystr_sorted_search(table, len, CAPACITY, KEY, KEY[2] ? 3 : 2).value);
     TIME("tinystr_sorted_search_each, of 1,000 random keys", "bsearch with memcmp", KEYS, (uint8_t *)bsearch(KEY, table, record_count, CAPACITY, compare) - table);
-    TIME("tinystr_sorted_prefix, of one byte", "here", record_count, tinystr_sorted_prefix(table, len, CAPACITY, RECORD, 1).count);
-    TIME("tinystr_read and tinystr_change_case at 8", "here", name_count,
-         (tinystr_read((uint8_t *)names[i], lens[i] < 8 ? lens[i] : 8, text, 8), tinystr_change_case(text, 8, TINYSTR_UPPER).value));
-    TIME("tinystr_ask at 8", "here", name_count, tinystr_ask(text, 8, (uint32_t)(i & 7)).value);
     return 0;
 }

@@ -1,58 +1,69 @@
-//! What is measured of each row: times, or the instructions that callgrind counts.
+//! A row of a table: calls of several crates, whose results are compared and which are timed alternately.
 
-use crate::callgrind;
-use crate::row::{Answers, Contender, Row};
-use crate::times::Timer;
+use std::time::Instant;
+use theirs::original::COUNT;
 
-/// The rounds of a call in one count. More rounds take longer, and give the same count of each.
-const COUNTED_ROUNDS: usize = 10;
+const TURNS: usize = 25;
 
-pub enum Measure {
-    Times(Timer),
-    Instructions,
+/// The results of a call for a batch.
+#[derive(PartialEq)]
+pub struct Answers {
+    pub texts: Vec<u8>,
+    pub codes: Vec<u32>,
+    pub marks: Vec<u8>,
 }
 
-impl Measure {
-    /// Instructions are counted where an argument says so.
-    pub fn of_arguments() -> Measure {
-        match std::env::args().any(|a| a == "--instructions") {
-            true => Measure::Instructions,
-            false => Measure::Times(Timer::default()),
-        }
-    }
-
-    /// Measures each crate's call, and prints a line for each time. The name of a count, with no round or with some, is the
-    /// beginning of such a line, the values of a round, and the rounds.
-    pub fn take(&mut self, row: &Row, contenders: &[Contender]) {
-        let contenders = row.answered_alike(contenders);
-        match self {
-            Measure::Times(timer) => {
-                let times = timer.time(row, &contenders);
-                for (contender, nanos) in contenders.iter().zip(times) {
-                    println!("{row}|{}|{nanos:.4}", contender.0);
-                }
-            }
-            Measure::Instructions => {
-                for contender in contenders {
-                    for rounds in [0, row.rounds.min(COUNTED_ROUNDS)] {
-                        count(contender, rounds, &format!("{row}|{}|{}|{rounds}", contender.0, row.values));
-                    }
-                }
-            }
-        }
-    }
-
-    /// How steady the times were.
-    pub fn print(self) {
-        if let Measure::Times(timer) = self {
-            timer.print();
-        }
+impl Answers {
+    fn new() -> Answers {
+        Answers { texts: vec![0; COUNT * 128], codes: vec![0; COUNT], marks: vec![0; COUNT] }
     }
 }
 
-fn count(contender: Contender, rounds: usize, name: &str) {
-    let mut answers = Answers::new();
-    callgrind::zero();
-    contender.1(rounds, &mut answers);
-    callgrind::dump(name);
+pub const HERE: &str = "here";
+pub const THERE: &str = "there";
+
+/// Whose call it is, and the call with a batch, in a number of rounds; it returns false where there is no such call.
+pub type Contender<'a> = (&'static str, &'a dyn Fn(usize, &mut Answers) -> bool);
+
+/// The place of the measurements, the number of values in a round, and the number of rounds that are timed together.
+pub struct Row<'a> {
+    pub table: &'a str,
+    pub call: &'a str,
+    pub column: String,
+    pub values: usize,
+    pub rounds: usize,
+}
+
+impl Row<'_> {
+    /// Ends the program where the contenders' results differ.
+    pub fn compare(&self, contenders: &[Contender]) {
+        let answers = contenders.iter().map(|(_, call)| {
+            let mut answers = Answers::new();
+            (call(1, &mut answers), answers)
+        });
+        let answers: Vec<(bool, Answers)> = answers.collect();
+        let are_alike = answers.iter().all(|other| other.0 && other.1 == answers[0].1);
+        assert!(are_alike, "{}, {} at {}: the answers differ", self.table, self.call, self.column);
+    }
+
+    /// Prints a line for each contender: the nanoseconds for a value in the least of many turns, less the time of a call with no
+    /// round.
+    pub fn take(&self, contenders: &[Contender]) {
+        self.compare(contenders);
+        let mut answers = Answers::new();
+        let mut least = vec![[f64::MAX; 2]; contenders.len()];
+        for _ in 0..TURNS {
+            for (i, rounds) in [0, self.rounds].into_iter().enumerate() {
+                for ((_, call), least) in contenders.iter().zip(&mut least) {
+                    let start = Instant::now();
+                    call(rounds, &mut answers);
+                    least[i] = least[i].min(start.elapsed().as_nanos() as f64);
+                }
+            }
+        }
+        for ((whose, _), [idle, busy]) in contenders.iter().zip(least) {
+            let nanos = (busy - idle).max(1.0) / (self.rounds * self.values) as f64;
+            println!("{}|{}|{}|{whose}|{nanos:.4}", self.table, self.call, self.column);
+        }
+    }
 }

@@ -35,15 +35,13 @@ fn batch<const N: usize>(call: usize, rounds: usize, texts: &[u8], answers: &mut
 
 /// The sum of a call's results for all texts.
 pub fn single(capacity: usize, call: usize, rounds: usize, texts: &[u8], answers: &mut [u8]) -> bool {
-    match capacity {
-        3 => batch::<3>(call, rounds, texts, answers),
-        4 => batch::<4>(call, rounds, texts, answers),
-        8 => batch::<8>(call, rounds, texts, answers),
-        12 => batch::<12>(call, rounds, texts, answers),
-        16 => batch::<16>(call, rounds, texts, answers),
-        24 => batch::<24>(call, rounds, texts, answers),
-        32 => batch::<32>(call, rounds, texts, answers),
-        64 => batch::<64>(call, rounds, texts, answers),
-        _ => false,
+    macro_rules! at {
+        ($($n:literal)*) => {
+            match capacity {
+                $($n => batch::<$n>(call, rounds, texts, answers),)*
+                _ => false,
+            }
+        };
     }
+    at!(3 4 8 12 16 24 32 64)
 }

@@ -1,98 +1,82 @@
-//! The tables of bench/types: both crates' values compared with what one would use instead.
+//! Times a value and a key of two to eight letters: this crate's type, and what one would use instead. The argument of a timed call
+//! is made before; all types have to give the same sum of the results.
 
-// only mixed texts are used here
-#[allow(dead_code)]
-mod batch;
-mod callgrind;
-mod machine;
-mod measure;
-#[allow(dead_code)]
-#[path = "../../diff/drivers/ours.rs"]
-mod ours;
-#[path = "../../diff/drivers/random.rs"]
-mod random;
-mod row;
-mod times;
+use std::collections::{BTreeMap, HashMap};
+use std::hash::Hash;
+use std::hint::black_box;
+use std::time::Instant;
+use tinystr::TinyAsciiStr;
 
-use batch::Batch;
-use measure::Measure;
-use random::Random;
-use row::{Answers, Contender, HERE, Row, THERE, Whose};
-use theirs::original::numbers::*;
-use theirs::original::{self, COUNT};
-use theirs::values::{self, TYPES};
+const TABLE: &str = "Values of 2 to 8 letters, also as keys";
+const COUNT: usize = 100_000;
+const ROUNDS: usize = 9;
 
-const CAPACITIES: [usize; 4] = [4, 8, 16, 24];
-const ROUNDS: usize = 100;
-
-/// The texts of a batch, one after another, and where each begins.
-struct Lists {
-    units: Vec<u8>,
-    starts: Vec<u32>,
+/// Random words of lowercase letters, of which the last may be a capital.
+fn words(last: u8) -> Vec<String> {
+    let mut state = 1u64;
+    let mut below = |bound: u64| {
+        state = state.wrapping_mul(6_364_136_223_846_793_005).wrapping_add(1_442_695_040_888_963_407);
+        (state >> 33) % bound
+    };
+    let mut word = || {
+        let others: String = (0..1 + below(7)).map(|_| (b'a' + below(26) as u8) as char).collect();
+        format!("{others}{}", (last + below(26) as u8) as char)
+    };
+    (0..COUNT).map(|_| word()).collect()
 }
 
-impl Lists {
-    fn of(padded: &[u8], capacity: usize) -> Lists {
-        let mut made = Lists { units: vec![], starts: vec![0] };
-        for text in padded.chunks_exact(capacity) {
-            made.units.extend(text.iter().take_while(|&&byte| byte != 0));
-            made.starts.push(made.units.len() as u32);
-        }
-        made
-    }
+/// A call, the nanoseconds for a value in the least of some rounds (or its bytes), and a sum of the results.
+type Timed = (&'static str, f64, u64);
 
-    fn parts(&self) -> (&[u8], &[u32]) {
-        (&self.units, &self.starts)
+fn least<T>(call: &'static str, given: impl Fn() -> T, timed: impl Fn(T) -> u64) -> Timed {
+    let mut best = (call, f64::MAX, 0);
+    for _ in 0..ROUNDS {
+        let given = black_box(given());
+        let start = Instant::now();
+        let sum = black_box(timed(given));
+        best = (call, best.1.min(start.elapsed().as_nanos() as f64 / COUNT as f64), sum);
     }
+    best
 }
 
-/// A call on each type: here, in the original, and on the others by their names.
-type CallOnType<'a> = Box<dyn Fn(usize, &mut Answers) -> bool + 'a>;
-
-fn take(measure: &mut Measure, table: &str, call: &str, values: usize, here: CallOnType, there: CallOnType, others: &dyn Fn(Whose, usize, &mut Answers) -> bool) {
-    let named: Vec<CallOnType> = TYPES.into_iter().map(|name| -> CallOnType { Box::new(move |rounds, answers| others(name, rounds, answers)) }).collect();
-    let mut contenders: Vec<Contender> = vec![(HERE, &*here), (THERE, &*there)];
-    contenders.extend(TYPES.into_iter().zip(&named).map(|(name, call)| (name, &**call as _)));
-    let row = Row { table, call, column: String::new(), values, rounds: ROUNDS };
-    measure.take(&row, &contenders);
-}
-
-fn take_batch(measure: &mut Measure, table: &str, given: &Batch) {
-    let n = given.capacity;
-    let left = Lists::of(&given.texts, n);
-    let right = Lists::of(&given.others, n);
-    macro_rules! take {
-        ($call:literal, $values:expr, $name:ident ($($before:expr),*) ($($after:expr),*) ($($made:ident),*), $other:ident ($($first:expr),*) ($($last:expr),*) ($result:ident)) => {
-            take(
-                measure, table, $call, $values,
-                Box::new(|rounds: usize, answers: &mut Answers| ours::$name($($before,)* rounds, $($after,)* $(&mut answers.$made),*)),
-                Box::new(|rounds: usize, answers: &mut Answers| original::$name($($before,)* rounds, $($after,)* $(&mut answers.$made),*)),
-                &|name, rounds, answers| values::$other(name, n, $($first,)* rounds, $($last,)* &mut answers.$result),
-            )
-        };
-    }
-    take!("read from bytes", COUNT, read8(n, READ) (&left.units, &left.starts) (texts, codes), read () (&left.units, &left.starts) (texts));
-    take!("cmp", COUNT, compare(n, ORDER) (&given.texts, &given.others) (marks), compare (ORDER) (left.parts(), right.parts()) (marks));
-    take!("==", COUNT, compare(n, EQUALITY) (&given.texts, &given.others) (marks), compare (EQUALITY) (left.parts(), right.parts()) (marks));
-    take!("hash", 2 * COUNT, compare(n, EQUALITY_OF_HASHES) (&given.texts, &given.others) (marks), compare (EQUALITY_OF_HASHES) (left.parts(), right.parts()) (marks));
-    take!("clone", COUNT, change(n, COPY) (&given.texts) (texts), clone () (&left.units, &left.starts) (texts));
-}
-
-/// A value of this crate is its bytes, as in the original.
-fn print_sizes(table: &str, n: usize) {
-    let all = TYPES.map(|name| (name, values::size(name, n)));
-    for (whose, size) in [(HERE, n), (THERE, n)].into_iter().chain(all).filter(|(_, size)| *size > 0) {
-        println!("{table}|bytes a value||{whose}|{size}");
-    }
+/// The calls on values that `read` makes of words: of those that are keys, and of those that aren't.
+fn timed<'a, T: Clone + Ord + Hash>(present: &'a [String], absent: &'a [String], read: impl Fn(&'a str) -> T) -> Vec<Timed> {
+    let values: Vec<T> = present.iter().map(|word| read(word)).collect();
+    let others: Vec<T> = absent.iter().map(|word| read(word)).collect();
+    let numbered = || values.iter().cloned().zip(0u64..).collect::<Vec<(T, u64)>>();
+    let tree: BTreeMap<T, u64> = numbered().into_iter().collect();
+    let hashed: HashMap<T, u64> = numbered().into_iter().collect();
+    let pairs = || values.iter().zip(values.iter().skip(1));
+    vec![
+        ("bytes a value", size_of::<T>() as f64, 0),
+        least("read", || present, |words| words.iter().map(|word| black_box(read(word))).count() as u64),
+        least("==", pairs, |pairs| pairs.map(|(a, b)| u64::from(a == b)).sum()),
+        least("cmp", pairs, |pairs| pairs.map(|(a, b)| u64::from(a < b)).sum()),
+        least("sort", || values.clone(), |mut values| {
+            values.sort_unstable();
+            black_box(values).len() as u64
+        }),
+        least("BTreeMap, insert", numbered, |pairs| pairs.into_iter().collect::<BTreeMap<T, u64>>().len() as u64),
+        least("BTreeMap, get a present key", || &values, |keys| keys.iter().filter_map(|key| tree.get(key)).sum()),
+        least("BTreeMap, get an absent key", || &others, |keys| keys.iter().filter_map(|key| tree.get(key)).sum()),
+        least("HashMap, insert", numbered, |pairs| pairs.into_iter().collect::<HashMap<T, u64>>().len() as u64),
+        least("HashMap, get a present key", || &values, |keys| keys.iter().filter_map(|key| hashed.get(key)).sum()),
+        least("HashMap, get an absent key", || &others, |keys| keys.iter().filter_map(|key| hashed.get(key)).sum()),
+    ]
 }
 
 fn main() {
-    let mut measure = Measure::of_arguments();
-    let mut random = Random(88172645463325252);
-    for n in CAPACITIES {
-        let table = format!("Mixed texts of at most {n} bytes");
-        print_sizes(&table, n);
-        take_batch(&mut measure, &table, &Batch::mixed(&mut random, n, 1));
+    let (present, absent) = (words(b'a'), words(b'A'));
+    let mut all = vec![("here", timed(&present, &absent, |word| word.parse::<TinyAsciiStr<8>>().unwrap()))];
+    #[cfg(has_arrayvec)]
+    all.push(("ArrayString", timed(&present, &absent, |word| arrayvec::ArrayString::<8>::from(word).unwrap())));
+    all.push(("String", timed(&present, &absent, str::to_string)));
+    all.push(("&str", timed(&present, &absent, |word| word)));
+    for call in 0..all[0].1.len() {
+        for (whose, times) in &all {
+            let (name, number, sum) = times[call];
+            assert_eq!(sum, all[0].1[call].2, "{name}: {whose}");
+            println!("{TABLE}|{name}||{whose}|{number:.4}");
+        }
     }
-    measure.print();
 }

@@ -1,111 +1,101 @@
 """The blocks of a page that are made from results: after `<!-- bench/report NAME -->`, up to `<!-- end -->`."""
 
+import os
 import re
-from collections.abc import Callable
 from functools import partial
+from pathlib import Path
 from textwrap import fill
 
-from measurements.call_tables import calls_plot, in_a_row, lists_and_failing, slower, table
-from measurements.capacities import capacities_plot
-from measurements.hashed_tables import hashed_tables
-from measurements.inlined import cargo_headline, cargo_plot, inlined_table, look_ups
-from measurements.jobs import jobs_plot, jobs_table
-from measurements.keys import keys_plot
-from measurements.machine import machine
-from measurements.many_keys import many_keys_plot, many_keys_tables
-from measurements.other_tables import all_cells, c_headline, lines, loops, types
-from measurements.plot import Plot
-from measurements.ratios import FAILING, mean_of, named_slowest, slowest_of
+from measurements.look_ups import orders, searches, sizes
+from measurements.printing import all_tables, crate_table, grid, range_text
+from measurements.ratios import SLOWEST_FAILING, SUFFIXES, means, means_table, once_table, rows_of, slower_table, worst
 from measurements.results import THERE, Results
-from measurements.tables import range_text, runs_text
 
-# Makes a block from all results and the folder of the pictures.
-Block = Callable[[dict[str, Results], str], str]
+SPEED = Path("docs/speed")
 BLOCK = re.compile(r"(<!-- bench/report (.+?) -->\n).*?(<!-- end -->\n)", re.DOTALL)
 
 
-def headline(calls: Results, jobs: Results) -> str:
-    """The means over all rows, whole jobs, and the slowest row, in three items."""
-    ratio, call, capacity, kind = slowest_of(calls)
-    slowest = named_slowest(call) + f" of {kind} texts" * (call != FAILING)
-    return (
-        f"- A call takes {mean_of(calls, 'full'):.2f} of the Rust crate's time on texts that fill their capacity, and"
-        f" {mean_of(calls, 'mixed'):.2f} on texts of all lengths. (These are geometric means, without questions that fail.)\n"
-        f"- A whole job takes {range_text(jobs, jobs.times, THERE)} of the time of a Rust program that does the same (medians;"
-        f" single runs, {runs_text(jobs, jobs.times, THERE)}).\n"
-        f"- The worst case, {slowest}, takes {ratio:.1f} times as long at capacity {capacity}.\n"
-    )
+def headline(cargo: Results, cargo_v2: Results, jobs: Results, c: Results) -> str:
+    """The table of README."""
+    (full, mixed), (full_alone, mixed_alone) = (means(rows_of(cargo, suffix)) for suffix in SUFFIXES)
+    (ratio, call, capacity), processor = max((worst(cargo), "x86-64"), (worst(cargo_v2), "x86-64-v2"))
+    call = "a predicate that fails at its first byte" if call == SLOWEST_FAILING else f"`{call}`"
+    of_c = {(cell[1], whose): c.ratio(cell, whose) for cell in c.times for whose in c.times[cell]}
+    by_hand, icu = (of_c["tinystr_langid", whose] for whose in ("by hand", "ICU's uloc_canonicalize"))
+    bsearch = of_c["tinystr_sorted_search", "bsearch with memcmp"]
+    rows = [
+        ("what", "time", "compared with"),
+        ("---", "---", "---"),
+        ("Cargo: a call over a list", f"{full:.2f} (full texts), {mixed:.2f} (mixed lengths)", "`tinystr` 0.8.5"),
+        ("Cargo: a call of one value", f"{full_alone:.2f}, {mixed_alone:.2f}", "the same"),
+        (f"Cargo: the worst case, {call}, at capacity {capacity}, built for {processor}", f"{ratio:.1f}", "the same"),
+        ("C: a search in a sorted table", f"{bsearch:.2f}", "`bsearch` with `memcmp`"),
+        ("C: a language identifier", f"{by_hand:.2f}; {icu:.2f}", "a parser by hand; ICU, which does more"),
+        ("Rattle: a whole job", range_text(jobs, jobs.times, THERE), "the job in Rust"),
+    ]
+    return "".join(f"| {' | '.join(row)} |\n" for row in rows)
 
 
-def plots(all_results: dict[str, Results]) -> dict[str, Plot]:
-    """By the names of their files."""
-    return {name: make(all_results[file]) for name, (file, make) in PLOTS.items()}
+def calls_with(part: str, results: Results) -> str:
+    """The calls whose names contain a part."""
+    return crate_table(results, [cell for cell in results.times if part in cell[1]])
 
 
-def picture(name: str) -> Block:
-    file, make = PLOTS[name]
-    return lambda all_results, folder: f"![{make(all_results[file]).alt()}]({folder}/{name})\n"
+def machine(all_results: dict[str, Results]) -> str:
+    """The machine and the tools, by the first file; the date, the commit and the load of each file."""
+    heads = {f"{name}.csv": dict(line.partition(": ")[::2] for line in results.head) for name, results in all_results.items()}
+    lengths = {"date": None, "commit": 12, "other programs": 4}
+    common = [": ".join(entry) for entry in next(iter(heads.values())).items() if entry[0] not in lengths]
+    files = grid("file", {file: {name: head[name][:most] for name, most in lengths.items()} for file, head in heads.items()})
+    return fill("; ".join(common), 120) + "\n" + files
 
 
-def items(make: Callable, *files: str) -> Block:
-    """The items that are made from the results of some files, in lines of at most 120 characters."""
-
-    def block(all_results: dict[str, Results], _folder: str) -> str:
-        made = make(*(all_results[file] for file in files)).splitlines()
-        return "".join(fill(item, 120, subsequent_indent="  ") + "\n" for item in made)
-
-    return block
+def types(results: Results) -> str:
+    """A section that the page has only once its measurements are taken."""
+    head = "## Beside `String`, `&str` and `ArrayString`\n\nValues of `tinystr-proved`, also as keys of Rust's maps:"
+    return f"{head}\n\n{fenced(all_tables(results))}\n"
 
 
-def fenced(make: Callable, *files: str) -> Block:
-    """The table that is made from the results of some files, or nothing where the table is empty."""
-
-    def block(all_results: dict[str, Results], _folder: str) -> str:
-        made = make(*(all_results[file] for file in files))
-        return f"```text\n{made}\n```\n" if made else ""
-
-    return block
+def fenced(text: str) -> str:
+    return f"```text\n{text}\n```\n"
 
 
-# The pictures, each with its file of results and what it shows of them.
-PLOTS = {
-    "calls.svg": ("calls", calls_plot),
-    "capacities.svg": ("calls", capacities_plot),
-    "cargo.svg": ("cargo", cargo_plot),
-    "jobs.svg": ("jobs", jobs_plot),
-    "keys.svg": ("keys", keys_plot),
-    "tables.svg": ("tables", many_keys_plot),
-}
-BLOCKS = {
-    **{name: picture(name) for name in PLOTS},
-    "headline": items(headline, "calls", "jobs"),
-    "headline of Cargo": items(cargo_headline, "cargo", "cargo-v2"),
-    "headline of C": items(c_headline, "c"),
-    "jobs": fenced(jobs_table, "jobs"),
-    "slower": fenced(slower, "calls"),
-    "lists": fenced(lists_and_failing, "calls"),
-    "packed": fenced(partial(table, name="Bytes before others, and packed records"), "calls"),
-    "identifiers": fenced(partial(in_a_row, name="Language identifiers"), "calls"),
-    "types": fenced(types, "types"),
-    "keys": fenced(all_cells, "keys"),
-    "loops": fenced(loops, "loops"),
-    "lines": fenced(lines, "lines"),
-    "c": fenced(all_cells, "c"),
-    "machine": lambda all_results, _folder: f"```text\n{machine(all_results)}\n```\n",
-    "inlined": fenced(inlined_table, "cargo", "cargo-v2"),
-    "look-ups": fenced(look_ups, "cargo"),
-    "many keys": fenced(many_keys_tables, "tables"),
-    "hashed tables": fenced(hashed_tables, "tables"),
+# How each block is made, and from which files of results. Those of the first kind are Markdown, and the others text.
+SECTIONS = {"headline": (headline, "cargo", "cargo-v2", "jobs", "c"), "types": (types, "types")}
+TABLES = {
+    "means": (means_table, "cargo", "cargo-v2"),
+    "slower from Cargo": (slower_table, "cargo", "cargo-v2"),
+    "slower from Rattle": (slower_table, "calls"),
+    "once": (once_table, "calls"),
+    "packed": (partial(all_tables, beginning="Bytes before others"), "calls"),
+    "look-ups": (partial(all_tables, beginning="Look-ups"), "cargo"),
+    "searches": (searches, "tables"),
+    "orders": (orders, "tables"),
+    "sizes": (sizes, "tables"),
+    "identifiers": (partial(calls_with, "langid"), "c"),
+    "C": (partial(calls_with, "sorted"), "c"),
+    "jobs": (all_tables, "jobs"),
 }
 
 
-def filled(page: str, all_results: dict[str, Results], folder: str) -> tuple[str, list[str]]:
-    """The page with its blocks made anew, and their names. A block with another name doesn't change."""
-    found = []
+def block(name: str, all_results: dict[str, Results]) -> str:
+    """What a block has between its marks; nothing where its measurements aren't taken yet."""
+    if name == "machine":
+        return fenced(machine(all_results))
+    make, *files = SECTIONS.get(name) or TABLES[name]
+    if not all(file in all_results for file in files):
+        return ""
+    made = make(*(all_results[file] for file in files))
+    return made if name in SECTIONS else fenced(made)
 
-    def block(match: re.Match) -> str:
-        name = match[2]
-        found.append(name)
-        return match[1] + BLOCKS[name](all_results, folder) + match[3] if name in BLOCKS else match[0]
 
-    return BLOCK.sub(block, page), found
+def filled(page: Path, all_results: dict[str, Results], titles: dict[str, str]) -> str:
+    """A page with its blocks made anew, and its pictures only if these have titles."""
+
+    def made(match: re.Match) -> str:
+        start, name, end = match.groups()
+        if name in titles:
+            return f"{start}![{titles[name]}]({os.path.relpath(SPEED / name, page.parent)})\n{end}"
+        return match[0] if name.endswith(".svg") else start + block(name, all_results) + end
+
+    return BLOCK.sub(made, page.read_text())

@@ -1,51 +1,99 @@
-"""The ratios of bench/calls by call and capacity, collected from its tables."""
+"""The ratios of bench/calls and bench/cargo to the Rust crate, and their tables."""
 
-from measurements.results import Cell, Results
-from measurements.tables import geometric
+from itertools import chain, product
+
+from measurements.printing import geometric, grid
+from measurements.results import Results
+
+FULL, MIXED, ONCE, FAILING = "full", "mixed", "mixed, each read once", "failing"
 
 # The tables with all capacities, each with the kind of its texts.
 KINDS = {
-    "Full texts": "full",
-    "Mixed texts": "mixed",
-    "Other calls, full texts": "full",
-    "Other calls, mixed texts and empty ones": "mixed",
-    "Questions, full texts that pass": "full",
-    "Questions, mixed texts that pass": "mixed",
-    "Questions, full texts that fail at their first byte": "failing",
-    "Mixed lists, each read once in a round": "mixed, each read once",
+    "Full texts": FULL,
+    "Mixed texts": MIXED,
+    "Other calls, full texts": FULL,
+    "Other calls, mixed texts and empty ones": MIXED,
+    "Questions, full texts that pass": FULL,
+    "Questions, mixed texts that pass": MIXED,
+    "Questions, full texts that fail at their first byte": FAILING,
+    "Mixed lists, each read once in a round": ONCE,
 }
-CAPACITIES = ["4", "8", "12", "16", "24", "32", "64"]
-FAILING = "question failing at byte 1, slowest"
+SLOWEST_FAILING = "question failing at byte 1, slowest"
+
+# The ends of the titles of tables, and of calls: of lists, and of one value at a time.
+ALONE = ", one at a time"
+SUFFIXES = {"": "calls over a list", ALONE: "one value at a time"}
 
 # The least ratio at which a call counts as slower than the Rust crate's.
 SLOWER = 1.05
 
-
-def cells_of_kind(results: Results, kind: str) -> list[Cell]:
-    return [cell for table in KINDS if KINDS[table] == kind for cell in results.cells(table)]
-
-
-def ratios_of_kind(results: Results, kind: str) -> dict[str, dict[str, float]]:
-    """By call and capacity. The questions that fail are one row, with the slowest of them."""
-    rows = results.ratios_by_call(cells_of_kind(results, kind))
-    if kind != "failing":
-        return rows
-    capacities = dict.fromkeys(capacity for row in rows.values() for capacity in row)
-    return {FAILING: {capacity: max(row[capacity] for row in rows.values()) for capacity in capacities}} if rows else {}
+# Ratios by capacity; and those by call and kind of texts.
+Row = dict[str, float]
+Rows = dict[str, dict[str, Row]]
 
 
-def named_slowest(call: str) -> str:
-    """How a sentence names the call that is the slowest."""
-    return "a question that fails at its first byte" if call == FAILING else f"`{call.partition(',')[0]}`"
+def all_rows(results: Results, suffix: str = "") -> Rows:
+    rows = {}
+    for table, kind in KINDS.items():
+        for cell in results.cells(table + suffix):
+            rows.setdefault(cell[1], {}).setdefault(kind, {}).setdefault(cell[2], results.ratio(cell))
+    return rows
 
 
-def mean_of(results: Results, kind: str) -> float:
-    """The mean over all calls and capacities of a kind."""
-    return geometric([ratio for row in ratios_of_kind(results, kind).values() for ratio in row.values()])
+def rows_of(results: Results, suffix: str = "") -> Rows:
+    """The calls on full and on mixed texts. The questions that fail are a row of full texts, with the slowest of them."""
+    rows = all_rows(results, suffix)
+    found = {call: {kind: row[kind] for kind in (FULL, MIXED)} for call, row in rows.items() if FULL in row and MIXED in row}
+    failing = [row[FAILING] for row in rows.values() if FAILING in row]
+    if failing:
+        found[SLOWEST_FAILING] = {FULL: {capacity: max(row[capacity] for row in failing) for capacity in failing[0]}}
+    return found
 
 
-def slowest_of(results: Results) -> tuple[float, str, str, str]:
-    """The largest ratio of all rows, with its call, its capacity, and its kind of texts."""
-    kinds = dict.fromkeys(KINDS.values())
-    rows = [(call, kind, row) for kind in kinds for call, row in ratios_of_kind(results, kind).items()]
-    return max((ratio, call, capacity, kind) for call, kind, row in rows for capacity, ratio in row.items())
+def means(rows: Rows) -> list[float]:
+    """Those of full and of mixed texts, without the questions that fail."""
+    both = [row for row in rows.values() if MIXED in row]
+    return [geometric([ratio for row in both for ratio in row[kind].values()]) for kind in (FULL, MIXED)]
+
+
+def slowest_rows(*builds: Results) -> dict[str, Row]:
+    """The largest ratio of some builds, and of full and mixed texts, by call and capacity."""
+    found = {}
+    for results, suffix in product(builds, SUFFIXES):
+        for call, row in rows_of(results, suffix).items():
+            slowest = found.setdefault(call + suffix, {})
+            for capacity, ratio in chain(*(of_kind.items() for of_kind in row.values())):
+                slowest[capacity] = max(ratio, slowest.get(capacity, 0))
+    return found
+
+
+def worst(results: Results) -> tuple[float, str, str]:
+    """The largest ratio, its call and its capacity."""
+    return max((ratio, call, capacity) for call, row in slowest_rows(results).items() for capacity, ratio in row.items())
+
+
+def by_capacity(rows: dict[str, Row], least: float = 0) -> str:
+    """The calls that have a ratio from `least` on, and those ratios, with a column for each capacity."""
+    texts = {call: {n: f"{ratio:.2f}" if ratio >= least else "" for n, ratio in row.items()} for call, row in rows.items()}
+    return grid("ratio at capacity", {call: row for call, row in texts.items() if any(row.values())})
+
+
+def slower_table(*builds: Results) -> str:
+    """The calls that are slower than the Rust crate's, the slowest first."""
+    rows = slowest_rows(*builds)
+    return by_capacity({call: rows[call] for call in sorted(rows, key=lambda call: -max(rows[call].values()))}, SLOWER)
+
+
+def once_table(results: Results) -> str:
+    """Readers of lists that no branch predictor learns."""
+    return by_capacity({f"{call}, each text once": row[ONCE] for call, row in all_rows(results).items() if ONCE in row})
+
+
+def means_table(x86_64: Results, v2: Results) -> str:
+    """The means of calls over lists and of one value, on both kinds of texts."""
+    rows = {}
+    for suffix, what in SUFFIXES.items():
+        both = zip(means(rows_of(x86_64, suffix)), means(rows_of(v2, suffix)))
+        for kind, (of_x86_64, of_v2) in zip((FULL, MIXED), both):
+            rows[f"{what}, {kind} texts"] = {"x86-64": f"{of_x86_64:.2f}", "x86-64-v2": f"{of_v2:.2f}"}
+    return grid("geometric mean", rows)

@@ -1,7 +1,13 @@
-//! Compares each answer with the original crate's. A difference that isn't listed as a departure fails, and with `--alike`
-//! a departure too. Under `--cfg made` the answers are those of the crate that is made for Cargo.
+//! Compares what two sides write for each call: the static library (or, under `--cfg made`, the crate that is made for Cargo)
+//! and the crate with the name `tinystr`. That is the original, from which three answers depart as `departures` says; or,
+//! under `--cfg added`, the crate for Cargo, whose tables and identifiers are compared too, and where nothing may depart. Under
+//! `--cfg few` it makes a few million calls at few capacities.
 
-// some calls are only timed
+#[cfg(added)]
+mod added;
+// some inputs are those of tables, and some calls are only timed
+#[allow(dead_code)]
+mod inputs;
 #[allow(dead_code)]
 mod original;
 #[allow(dead_code)]
@@ -9,31 +15,29 @@ mod original;
 mod ours;
 mod random;
 
+#[cfg(added)]
+use added::libraries;
+#[cfg(added)]
+use original::{batch, numbers};
 #[cfg(made)]
 use made as ours;
 
+use inputs::{escaped, hostile, padded, text, texts};
 use original::COUNT;
 use original::numbers::*;
 use original::questions::QUESTIONS;
 use random::Random;
+use std::collections::BTreeMap;
 use std::fmt::Debug;
 
-/// The departures, by name.
-const DEPARTURES: [&str; 3] = [
-    "`is_empty` at capacity 0, where the original panics",
-    "`new_unsigned_decimal(0)` at capacity 0, where the original is Ok of the empty text",
-    "the questions on letters in a case, of the empty text, where the original is false at some capacities",
-];
-
-/// What docs/SPEED.md says.
+/// What docs/SPEED.md says, and the fewest under `--cfg few`.
 const LEAST_CALLS: u64 = 33_000_000;
+const LEAST_OF_FEW: u64 = 1_000_000;
 
 const FEW: [usize; 13] = [0, 1, 3, 4, 5, 8, 9, 12, 16, 17, 24, 32, 64];
 const TARGETS: [usize; 14] = [0, 1, 3, 4, 7, 8, 12, 16, 17, 24, 32, 48, 64, 128];
 /// What `ask` answers beside the questions.
 const OTHERS: [(usize, &str); 3] = [(LEN, "len"), (IS_EMPTY, "is_empty"), (LAST_OF_STR, "the last byte of as_str")];
-/// Those on letters in a case alone.
-const OF_CASED_LETTERS: [usize; 3] = [ALPHABETIC_LOWERCASE, ALPHABETIC_TITLECASE, ALPHABETIC_UPPERCASE];
 const CASES: [&str; 4] = ["to_ascii_lowercase", "to_ascii_titlecase", "to_ascii_uppercase", "clone"];
 const READERS: [&str; 3] = ["try_from_utf8", "from_utf8_lossy", "try_from_raw"];
 const READERS16: [&str; 2] = ["try_from_utf16", "from_utf16_lossy"];
@@ -42,106 +46,93 @@ const FORMS: [&str; 4] = ["`{}`", "`{:-^9.5}`", "`{:?}`", "`{:?}` of the unvalid
 const OF_TEXTS: [usize; 3] = [DISPLAY, PADDED, DEBUG];
 const OF_ANY_BYTES: [usize; 1] = [UNVALIDATED_DEBUG];
 
-fn capacities() -> impl Iterator<Item = usize> {
-    (0..=40).chain([64])
+fn capacities() -> Vec<usize> {
+    if cfg!(few) { FEW.to_vec() } else { (0..=40).chain([64]).collect() }
 }
 
-/// What was compared, and what differed.
+/// Those of some capacities that are compared.
+fn of(some: &[usize]) -> Vec<usize> {
+    capacities().into_iter().filter(|n| some.contains(n)).collect()
+}
+
+/// The number of calls, and of those that differ by name.
 #[derive(Default)]
 struct Count {
     calls: u64,
-    departed: [u64; DEPARTURES.len()],
-    differed: u64,
+    differed: BTreeMap<String, u64>,
 }
 
 impl Count {
-    fn compare<T: PartialEq + Debug>(&mut self, call: &str, n: usize, given: impl Debug, ours: T, theirs: T, departure: Option<usize>) {
-        self.calls += 1;
+    /// What both sides wrote for some values, a part of the same length for each.
+    fn compare<T: PartialEq + Debug>(&mut self, call: &str, given: &dyn Fn(usize) -> String, values: usize, ours: &[T], theirs: &[T]) {
         if ours == theirs {
             return;
         }
-        match departure {
-            Some(which) => self.departed[which] += 1,
-            None => {
-                self.differed += 1;
-                if self.differed < 20 {
-                    eprintln!("{call} at {n} of {given:?}: {ours:?} here, {theirs:?} in the original");
+        let width = ours.len() / values;
+        for (i, (ours, theirs)) in ours.chunks(width).zip(theirs.chunks(width)).enumerate() {
+            if ours != theirs {
+                let differed = self.differed.entry(call.to_string()).or_default();
+                *differed += 1;
+                if *differed <= 3 {
+                    eprintln!("{call} of {}: {ours:?} here, {theirs:?} there", given(i));
                 }
             }
         }
     }
+}
 
-    /// The `i`-th of each: `width` bytes of an array of texts.
-    fn compare_texts(&mut self, call: &str, n: usize, width: usize, count: usize, given: impl Fn(usize) -> String, ours: &[u8], theirs: &[u8]) {
-        for i in 0..count {
-            let part = i * width..(i + 1) * width;
-            if ours[part.clone()] == theirs[part.clone()] {
-                self.calls += 1;
-            } else {
-                self.compare(call, n, given(i), &ours[part.clone()], &theirs[part], None);
+/// Makes a call for a number of values here and there, and compares each slice that it writes.
+macro_rules! alike {
+    ($count:ident, $values:expr, $call:expr, $given:expr, $there:ident::$name:ident($($argument:expr),*), $($made:ident: $filled:expr),*) => {{
+        $(let mut $made = [$filled, $filled];)*
+        assert!(ours::$name($($argument,)* $(&mut $made[0]),*));
+        assert!($there::$name($($argument,)* $(&mut $made[1]),*));
+        $count.calls += $values as u64;
+        $($count.compare($call, $given, $values, &$made[0], &$made[1]);)*
+    }};
+}
+
+/// All lists, one after another, and where each starts, and the last ends.
+fn joined<U: Copy>(lists: &[Vec<U>]) -> (Vec<U>, Vec<u32>) {
+    let mut starts = vec![0u32];
+    for list in lists {
+        starts.push(starts[starts.len() - 1] + list.len() as u32);
+    }
+    (lists.concat(), starts)
+}
+
+macro_rules! reads {
+    ($name:ident, $unit:ty, $readers:ident) => {
+        /// Reads each list by each reader, at one capacity.
+        fn $name(count: &mut Count, n: usize, lists: &[Vec<$unit>]) {
+            for lists in lists.chunks(COUNT) {
+                let (units, starts) = joined(lists);
+                for (reader, call) in $readers.iter().enumerate() {
+                    alike!(count, lists.len(), call, &|i| format!("{:?} at {n}", lists[i]), original::$name(n, reader, 1, &units, &starts),
+                        texts: vec![0u8; lists.len() * n], faults: vec![0u32; lists.len()]);
+                }
             }
         }
-    }
+    };
 }
 
-/// A reader's call for a batch, by capacity, reader and rounds.
-type Read<U> = fn(usize, usize, usize, &[U], &[u32], &mut [u8], &mut [u32]) -> bool;
-
-/// Reads each list by each reader, here and in the original, at one capacity.
-fn read<U: Copy + Debug>(count: &mut Count, n: usize, readers: &[&str], here: Read<U>, there: Read<U>, lists: &[Vec<U>]) {
-    for lists in lists.chunks(COUNT) {
-        let units = lists.concat();
-        let mut starts = vec![0u32];
-        for list in lists {
-            starts.push(starts[starts.len() - 1] + list.len() as u32);
-        }
-        for (reader, call) in readers.iter().enumerate() {
-            let mut out = [vec![0u8; COUNT * n], vec![0u8; COUNT * n]];
-            let mut faults = [vec![0u32; COUNT], vec![0u32; COUNT]];
-            assert!(here(n, reader, 1, &units, &starts, &mut out[0], &mut faults[0]));
-            assert!(there(n, reader, 1, &units, &starts, &mut out[1], &mut faults[1]));
-            for (i, list) in lists.iter().enumerate() {
-                let part = i * n..(i + 1) * n;
-                count.compare(call, n, list, (faults[0][i], &out[0][part.clone()]), (faults[1][i], &out[1][part]), None);
-            }
-        }
-    }
-}
-
-fn read8(count: &mut Count, n: usize, lists: &[Vec<u8>]) {
-    read(count, n, &READERS, ours::read8, original::read8, lists);
-}
-
-fn read16(count: &mut Count, n: usize, lists: &[Vec<u16>]) {
-    read(count, n, &READERS16, ours::read16, original::read16, lists);
-}
-
-fn padded(texts: &[Vec<u8>], n: usize) -> Vec<u8> {
-    let mut bytes = vec![0; texts.len() * n];
-    for (i, text) in texts.iter().enumerate() {
-        bytes[i * n..i * n + text.len()].copy_from_slice(text);
-    }
-    bytes
-}
+reads!(read8, u8, READERS);
+reads!(read16, u16, READERS16);
 
 /// Compares the answer to each question about each text, and the text in each case.
 fn ask(count: &mut Count, n: usize, texts: &[Vec<u8>]) {
     for texts in texts.chunks(COUNT) {
-        let bytes = padded(texts, n);
         for (question, call) in QUESTIONS.iter().map(|question| (question.number, question.call)).chain(OTHERS) {
-            let mut answers = [vec![0u8; COUNT], vec![0u8; COUNT]];
-            assert!(ours::ask(n, question, 1, &bytes, &mut answers[0]));
-            assert!(original::ask(n, question, 1, &bytes, &mut answers[1]));
-            for (i, text) in texts.iter().enumerate() {
-                let departure = (text.is_empty() && OF_CASED_LETTERS.contains(&question) && answers[0][i] == 1).then_some(2);
-                count.compare(call, n, text, answers[0][i], answers[1][i], departure);
-            }
+            let departs = |text: &&Vec<u8>| DEPARTS && text.is_empty() && OF_CASED_LETTERS.contains(&question);
+            let texts: Vec<Vec<u8>> = texts.iter().filter(|text| !departs(text)).cloned().collect();
+            let bytes = padded(&texts, n);
+            alike!(count, texts.len(), call, &|i| format!("{:?} at {n}", texts[i]), original::ask(n, question, 1, &bytes),
+                answers: vec![0u8; texts.len()]);
         }
+        let bytes = padded(texts, n);
         for (case, call) in CASES.iter().enumerate() {
-            let mut out = [vec![0u8; COUNT * n], vec![0u8; COUNT * n]];
-            assert!(ours::change(n, case, 1, &bytes, &mut out[0]));
-            assert!(original::change(n, case, 1, &bytes, &mut out[1]));
-            count.compare_texts(call, n, n, texts.len(), |i| format!("{:?}", texts[i]), &out[0], &out[1]);
+            alike!(count, texts.len(), call, &|i| format!("{:?} at {n}", texts[i]), original::change(n, case, 1, &bytes),
+                changed: vec![0u8; texts.len() * n]);
         }
     }
 }
@@ -150,31 +141,18 @@ fn ask(count: &mut Count, n: usize, texts: &[Vec<u8>]) {
 fn print(count: &mut Count, n: usize, forms: &[usize], lists: &[Vec<u8>]) {
     for lists in lists.chunks(COUNT) {
         let values = padded(lists, n);
-        let most = lists.len() * (9 + 6 * n);
         for &form in forms {
-            let mut printed = [vec![0u8; most], vec![0u8; most]];
-            let mut ends = [vec![u64::MAX; lists.len()], vec![u64::MAX; lists.len()]];
-            assert!(ours::print(n, form, 1, &values, &mut printed[0], &mut ends[0]));
-            assert!(original::print(n, form, 1, &values, &mut printed[1], &mut ends[1]));
-            let part = |k: usize, i: usize| &printed[k][if i == 0 { 0 } else { ends[k][i - 1] as usize }..ends[k][i] as usize];
-            for (i, list) in lists.iter().enumerate() {
-                count.compare(FORMS[form], n, list, part(0, i), part(1, i), None);
-            }
+            alike!(count, lists.len(), FORMS[form], &|i| format!("{:?} or near it at {n}", lists[i]), original::print(n, form, 1, &values),
+                printed: vec![0u8; lists.len() * (9 + 6 * n)], ends: vec![u64::MAX; lists.len()]);
         }
     }
 }
 
 fn decimals(count: &mut Count, n: usize, numbers: &[u32]) {
+    let numbers: Vec<u32> = numbers.iter().copied().filter(|number| !(DEPARTS && n == 0 && *number == 0)).collect();
     for numbers in numbers.chunks(COUNT) {
-        let mut out = [vec![0u8; COUNT * n], vec![0u8; COUNT * n]];
-        let mut cuts = [vec![0u8; COUNT], vec![0u8; COUNT]];
-        assert!(ours::decimal(n, 1, numbers, &mut out[0], &mut cuts[0]));
-        assert!(original::decimal(n, 1, numbers, &mut out[1], &mut cuts[1]));
-        for (i, number) in numbers.iter().enumerate() {
-            let part = i * n..(i + 1) * n;
-            let departure = (n == 0 && *number == 0 && cuts[0][i] == 1).then_some(1);
-            count.compare("new_unsigned_decimal", n, number, (cuts[0][i], &out[0][part.clone()]), (cuts[1][i], &out[1][part]), departure);
-        }
+        alike!(count, numbers.len(), "new_unsigned_decimal", &|i| format!("{} at {n}", numbers[i]), original::decimal(n, 1, numbers),
+            texts: vec![0u8; numbers.len() * n], cuts: vec![0u8; numbers.len()]);
     }
 }
 
@@ -183,14 +161,10 @@ fn compare(count: &mut Count, n: usize, texts: &[Vec<u8>]) {
     for right in texts.chunks(COUNT) {
         let right_bytes = padded(right, n);
         for left in texts {
-            let left_bytes = padded(&vec![left.clone(); COUNT], n);
+            let left_bytes = padded(&vec![left.clone(); right.len()], n);
             for (relation, call) in RELATIONS.iter().enumerate() {
-                let mut answers = [vec![0u8; COUNT], vec![0u8; COUNT]];
-                assert!(ours::compare(n, relation, 1, &left_bytes, &right_bytes, &mut answers[0]));
-                assert!(original::compare(n, relation, 1, &left_bytes, &right_bytes, &mut answers[1]));
-                for (i, text) in right.iter().enumerate() {
-                    count.compare(call, n, (left, text), answers[0][i], answers[1][i], None);
-                }
+                alike!(count, right.len(), call, &|i| format!("{left:?} and {:?} at {n}", right[i]),
+                    original::compare(n, relation, 1, &left_bytes, &right_bytes), answers: vec![0u8; right.len()]);
             }
         }
     }
@@ -199,206 +173,228 @@ fn compare(count: &mut Count, n: usize, texts: &[Vec<u8>]) {
 fn cut(count: &mut Count, n: usize, texts: &[Vec<u8>], others: &[Vec<u8>]) {
     let (first, second) = (padded(texts, n), padded(others, n));
     for to in TARGETS {
-        let mut out = [vec![0u8; COUNT * to], vec![0u8; COUNT * to]];
-        assert!(ours::resize(n, to, 1, &first, &mut out[0]));
-        assert!(original::resize(n, to, 1, &first, &mut out[1]));
-        count.compare_texts("resize", n, to, texts.len(), |i| format!("{:?} to {to}", texts[i]), &out[0], &out[1]);
-        assert!(ours::concat(n, to, 1, &first, &second, &mut out[0]));
-        assert!(original::concat(n, to, 1, &first, &second, &mut out[1]));
-        count.compare_texts("concat", n, to, texts.len(), |i| format!("{:?} and {:?} to {to}", texts[i], others[i]), &out[0], &out[1]);
+        let given = |i: usize| format!("{:?} and {:?} at {n} to {to}", texts[i], others[i]);
+        alike!(count, texts.len(), "resize", &given, original::resize(n, to, 1, &first), out: vec![0u8; texts.len() * to]);
+        alike!(count, texts.len(), "concat", &given, original::concat(n, to, 1, &first, &second), out: vec![0u8; texts.len() * to]);
     }
 }
 
-/// Bytes that a reader may meet: mostly letters, with NULs and bytes above 127.
-fn hostile(random: &mut Random, len: usize) -> Vec<u8> {
-    (0..len)
-        .map(|_| match random.below(12) {
-            0 => 0,
-            1 => [0x7f, 0x80, 0xff][random.below(3)],
-            2 => random.below(256) as u8,
-            _ => b"aZ09 z"[random.below(6)],
-        })
-        .collect()
-}
+const DEPARTS: bool = !cfg!(added);
+const OF_CASED_LETTERS: [usize; 3] = [ALPHABETIC_LOWERCASE, ALPHABETIC_TITLECASE, ALPHABETIC_UPPERCASE];
 
-fn text(random: &mut Random, len: usize) -> Vec<u8> {
-    let kind = random.below(4);
-    (0..len)
-        .map(|i| match kind {
-            0 => b'a' + random.below(26) as u8,
-            1 => if i == 0 { b'A' + random.below(26) as u8 } else { b'a' + random.below(26) as u8 },
-            2 => b'0' + random.below(10) as u8,
-            _ => 1 + random.below(127) as u8,
-        })
-        .collect()
-}
-
-/// A text of characters of which most are escaped.
-fn escaped(random: &mut Random, len: usize) -> Vec<u8> {
-    let all = b"\"\\'\t\r\n\x01\x0b\x1b\x1f\x7f~ aZ0{}";
-    (0..len).map(|_| all[random.below(all.len())]).collect()
-}
-
-fn texts(random: &mut Random, n: usize, how_many: usize) -> Vec<Vec<u8>> {
-    (0..how_many)
-        .map(|_| {
-            let len = random.below(n + 1);
-            text(random, len)
-        })
-        .collect()
-}
-
-/// Prints a few answers of the original as the rows of the three tables in `crates/tinystr_reading_tests/src/original.rt`.
-fn print_sample() {
-    use tinystr::{ParseError, TinyAsciiStr};
-    let mut random = Random(1);
-    for _ in 0..16 {
-        let len = random.below(11);
-        let list = hostile(&mut random, len);
-        let strict = match TinyAsciiStr::<8>::try_from_utf8(&list) {
-            Ok(text) => text.as_utf8().escape_ascii().to_string(),
-            Err(ParseError::TooLong { .. }) => "!TooLong".to_string(),
-            Err(fault) => format!("!{fault:?}"),
-        };
-        let lossy = TinyAsciiStr::<8>::from_utf8_lossy(&list, b'?');
-        println!("{}|{strict}|{}", list.escape_ascii(), lossy.as_utf8().escape_ascii());
+/// The three departures, which aren't compared otherwise.
+fn departures() {
+    // `is_empty` at capacity 0, where the original panics; original.rs answers in its place
+    std::panic::set_hook(Box::new(|_| ()));
+    assert!(std::panic::catch_unwind(|| tinystr::TinyAsciiStr::<0>::default().is_empty()).is_err());
+    let _ = std::panic::take_hook();
+    // `new_unsigned_decimal(0)` at capacity 0, where the original is Ok of the empty text
+    let mut cuts = [[9], [9]];
+    assert!(ours::decimal(0, 1, &[0], &mut [], &mut cuts[0]) && original::decimal(0, 1, &[0], &mut [], &mut cuts[1]));
+    assert_eq!(cuts, [[1], [0]], "the cut of 0 at capacity 0");
+    // the questions on letters in a case, of the empty text, where the original is false at some capacities
+    let mut is_false = false;
+    for (n, question) in capacities().into_iter().flat_map(|n| OF_CASED_LETTERS.map(|question| (n, question))) {
+        let mut answers = [[9], [9]];
+        assert!(ours::ask(n, question, 1, &vec![0; n], &mut answers[0]) && original::ask(n, question, 1, &vec![0; n], &mut answers[1]));
+        assert_eq!(answers[0], [1], "question {question} of the empty text at {n}");
+        is_false |= answers[1] == [0];
     }
-    for _ in 0..8 {
-        let number = (random.next() as u32) >> random.below(32);
-        let text = TinyAsciiStr::<6>::new_unsigned_decimal(number);
-        println!("    ({number}, {}),", match text { Ok(t) => format!("Ok({:?})", t.as_str()), Err(t) => format!("Err({:?})", t.as_str()) });
+    assert!(is_false, "no answer of the original departs");
+}
+
+/// Language identifiers, and calls on tables and maps: the names of these by their numbers.
+#[cfg(added)]
+mod of_tables {
+    use super::*;
+    use crate::inputs::{identifier, key, records, spoiled};
+    use libraries::{LangId, TinyAsciiStr};
+
+    const KEYS: usize = 64;
+    const CALLS: [&str; 14] = [
+        "SortedTable::binary_search", "SortedTable::binary_search_each", "SortedTable::find_text", "SortedTable::with_prefix",
+        "PackedMap::get", "PackedMap::get_each", "TextMap::get", "HashedTable::position", "HashedTable::find_text",
+        "HashedMap::get", "HashedTextMap::get", "in_place::search", "in_place::with_prefix", "in_place::position",
+    ];
+    const OF_HASHED: [usize; 5] = [POSITION, HASHED_FIND_TEXT, HASHED_GET, HASHED_GET_TEXT, POSITION_IN_PLACE];
+
+    fn identifiers(count: &mut Count, random: &mut Random) {
+        let mut read = 0;
+        for _ in 0..if cfg!(few) { 100 } else { 3000 } {
+            let lists: Vec<Vec<u8>> = (0..COUNT).map(|_| identifier(random)).collect();
+            let (units, starts) = joined(&lists);
+            alike!(count, COUNT, "LangId::try_from_utf8", &|i| format!("{:?}", lists[i]), added::lang_ids(1, &units, &starts),
+                texts: vec![0u8; 17 * COUNT], faults: vec![9u8; COUNT]);
+            for id in lists.iter().filter_map(|list| LangId::try_from_utf8(list).ok()) {
+                assert_eq!(LangId::from_parts(id.language(), id.script(), id.region()), id);
+                read += 1;
+            }
+        }
+        assert!(read > 1000, "{read} lists are identifiers");
     }
-    for _ in 0..8 {
-        let [first, second] = [0; 2].map(|_| { let len = random.below(7); text(&mut random, len).into_iter().map(|b| b"abZ"[b as usize % 3]).collect::<Vec<u8>>() });
-        let [a, b] = [&first, &second].map(|t| TinyAsciiStr::<6>::try_from_utf8(t).unwrap());
-        println!("{}|{}|{}|{:?}", a.as_str(), b.as_str(), a.concat::<6, 8>(b).as_str(), a.cmp(&b));
+
+    /// A hashed table of some texts: that of the crate for Cargo.
+    fn hashed<const N: usize>(records: &[Vec<u8>]) -> Vec<u8> {
+        let texts: Vec<TinyAsciiStr<N>> = records.iter().map(|text| TinyAsciiStr::try_from_utf8(text).unwrap()).collect();
+        tinystr::hashed::pack_hashed(&texts).unwrap_or_default()
+    }
+
+    fn tables<const N: usize>(count: &mut Count, random: &mut Random) {
+        for _ in 0..if cfg!(few) { 50 } else { 1000 } {
+            let records = records(random, N);
+            let keys: Vec<Vec<u8>> = (0..KEYS).map(|_| key(random, &records, N)).collect();
+            let key_bytes = padded(&keys, N);
+            let values: Vec<Vec<u8>> = records.iter().map(|_| text(random, 8)).collect();
+            for (call, name) in CALLS.into_iter().enumerate() {
+                let table = if OF_HASHED.contains(&call) { hashed::<N>(&records) } else { padded(&records, N) };
+                let table = spoiled(random, table);
+                let values = match call {
+                    GET_TEXT | HASHED_GET_TEXT => spoiled(random, padded(&values, 8)),
+                    GET | GET_EACH | HASHED_GET => spoiled(random, padded(&values, 8)[..4 * values.len()].to_vec()),
+                    _ => vec![],
+                };
+                alike!(count, KEYS, name, &|i| format!("{:?} at {N} in {table:?} with {values:?}", keys[i]),
+                    added::search(N, call, &table, &values, &key_bytes), answers: vec![u64::MAX - 1; KEYS]);
+            }
+        }
+    }
+
+    pub fn compare(count: &mut Count, random: &mut Random) {
+        identifiers(count, random);
+        for tables in [tables::<1>, tables::<3>, tables::<4>, tables::<5>, tables::<8>, tables::<9>, tables::<12>, tables::<16>,
+            tables::<17>, tables::<24>, tables::<32>] {
+            tables(count, random);
+        }
+    }
+}
+
+/// All lists of at most two bytes, and all texts of at most two characters; of pairs only some, if there are to be few.
+fn compare_short(count: &mut Count) {
+    let mut short: Vec<Vec<u8>> = vec![vec![]];
+    short.extend((0..=255).map(|a| vec![a]));
+    short.extend((0..=65535u16).step_by(if cfg!(few) { 41 } else { 1 }).map(|ab| ab.to_be_bytes().to_vec()));
+    for n in of(&[0, 1, 2, 3, 4, 8, 9]) {
+        read8(count, n, &short);
+    }
+    for n in of(&[2, 9]) {
+        print(count, n, &OF_ANY_BYTES, &short);
+    }
+    short.retain(|list| list.iter().all(|b| (1..128).contains(b)));
+    for n in of(&[2, 3, 4, 7, 8, 9, 16, 17, 24]) {
+        ask(count, n, &short);
+        print(count, n, &OF_TEXTS, &short);
+    }
+    for (n, how_many) in [(1, 128), (0, 1)] {
+        ask(count, n, &short[..how_many]);
+        print(count, n, &OF_TEXTS, &short[..how_many]);
+    }
+}
+
+/// Every byte at every position of texts of these letters.
+fn compare_positions(count: &mut Count, n: usize, letters: &[u8]) {
+    for letter in letters {
+        let mut lists = vec![];
+        for (place, byte) in (0..n).flat_map(|place| (0..=255).map(move |byte| (place, byte))) {
+            let mut list = vec![*letter; n];
+            list[place] = byte;
+            lists.push(list);
+        }
+        read8(count, n, &lists);
+        print(count, n, &OF_ANY_BYTES, &lists);
+        lists.retain(|list| list.iter().all(|b| (1..128).contains(b)));
+        ask(count, n, &lists);
+        print(count, n, &OF_TEXTS, &lists);
+    }
+}
+
+/// Lists around a capacity.
+fn compare_lists(count: &mut Count, random: &mut Random, n: usize) {
+    let odd = [0u16, 1, 0x7f, 0x80, 0xff, 0x100, 0x141, 0x161, 0xd800, 0xff61, 0xffff];
+    let (mut lists, mut wide) = (vec![], vec![]);
+    for len in n.saturating_sub(2)..=n + 3 {
+        for _ in 0..400 {
+            lists.push(hostile(random, len));
+            let mut list: Vec<u16> = hostile(random, len).into_iter().map(u16::from).collect();
+            if len > 0 && random.one_in(2) {
+                list[random.below(len)] = random.of(&odd);
+            }
+            wide.push(list);
+        }
+    }
+    for (place, unit) in (0..n).flat_map(|place| odd.map(|unit| (place, unit))) {
+        let mut list = vec![u16::from(b'q'); n];
+        list[place] = unit;
+        wide.push(list);
+    }
+    read8(count, n, &lists);
+    read16(count, n, &wide);
+    lists.retain(|list| list.len() <= n);
+    print(count, n, &OF_ANY_BYTES, &lists);
+    let some = texts(random, n, COUNT);
+    ask(count, n, &some);
+    print(count, n, &OF_TEXTS, &some);
+    let some: Vec<Vec<u8>> = (0..COUNT).map(|i| escaped(random, n.saturating_sub(i % 3))).collect();
+    print(count, n, &OF_TEXTS, &some);
+}
+
+/// Powers of ten and their neighbours, and random numbers.
+fn compare_decimals(count: &mut Count, random: &mut Random) {
+    let mut numbers: Vec<u32> = (0..10).map(|k| 10u32.pow(k)).flat_map(|p| [p - 1, p, p + 1]).collect();
+    numbers.extend([u32::MAX - 1, u32::MAX, 4_000_000_000]);
+    for n in capacities() {
+        decimals(count, n, &numbers);
+    }
+    for n in of(&[1, 3, 4, 8, 9, 10, 11, 12, 16, 64]) {
+        let many = if cfg!(few) { 4_000 } else { 100_000 };
+        let many: Vec<u32> = (0..many).map(|_| (random.next() as u32) >> random.below(32)).collect();
+        decimals(count, n, &many);
+    }
+}
+
+/// Pairs, of which many share a beginning.
+fn compare_pairs(count: &mut Count, random: &mut Random) {
+    let most = [(0, 1), (1, 128), (3, 300), (4, 600), (8, 2000), (12, 600), (16, 600), (17, 300), (24, 300), (40, 300), (64, 300)];
+    for (n, how_many) in most.into_iter().filter(|(n, _)| capacities().contains(n)) {
+        let mut list = texts(random, n, if cfg!(few) { how_many.min(120) } else { how_many });
+        for i in 1..list.len() {
+            if random.one_in(2) {
+                let kept = random.below(list[i - 1].len() + 1);
+                let mut like = list[i - 1][..kept].to_vec();
+                let rest = random.below(n - kept + 1);
+                like.extend(text(random, rest));
+                list[i] = like;
+            }
+        }
+        compare(count, n, &list);
     }
 }
 
 fn main() {
-    if std::env::args().any(|a| a == "--sample") {
-        return print_sample();
-    }
     let mut count = Count::default();
     let mut random = Random(88172645463325252);
-
-    // all lists of at most two bytes, and all texts of at most two characters
-    let mut short: Vec<Vec<u8>> = vec![vec![]];
-    short.extend((0..=255).map(|a| vec![a]));
-    short.extend((0..=65535u16).map(|ab| ab.to_be_bytes().to_vec()));
-    for n in [0, 1, 2, 3, 4, 8, 9] {
-        read8(&mut count, n, &short);
+    #[cfg(added)]
+    of_tables::compare(&mut count, &mut random);
+    if DEPARTS {
+        departures();
     }
-    for n in [2, 9] {
-        print(&mut count, n, &OF_ANY_BYTES, &short);
-    }
-    short.retain(|list| list.iter().all(|b| (1..128).contains(b)));
-    for n in [2, 3, 4, 7, 8, 9, 16, 17, 24] {
-        ask(&mut count, n, &short);
-        print(&mut count, n, &OF_TEXTS, &short);
-    }
-    for (n, how_many) in [(1, 128), (0, 1)] {
-        ask(&mut count, n, &short[..how_many]);
-        print(&mut count, n, &OF_TEXTS, &short[..how_many]);
-    }
-    // true here; original.rs answers in the original's place, which has no answer
-    std::panic::set_hook(Box::new(|_| ()));
-    let has_answer = std::panic::catch_unwind(|| tinystr::TinyAsciiStr::<0>::default().is_empty()).is_ok();
-    let _ = std::panic::take_hook();
-    count.compare("is_empty", 0, "", true, has_answer, Some(0));
-
-    // every byte at every position, and lists around each capacity
-    let odd = [0u16, 1, 0x7f, 0x80, 0xff, 0x100, 0x141, 0x161, 0xd800, 0xff61, 0xffff];
+    compare_short(&mut count);
     for n in capacities() {
-        for letter in [b'q', b'Q', b'7'] {
-            let mut lists = vec![];
-            for place in 0..n {
-                for byte in 0..=255 {
-                    let mut list = vec![letter; n];
-                    list[place] = byte;
-                    lists.push(list);
-                }
-            }
-            read8(&mut count, n, &lists);
-            print(&mut count, n, &OF_ANY_BYTES, &lists);
-            lists.retain(|list| list.iter().all(|b| (1..128).contains(b)));
-            ask(&mut count, n, &lists);
-            print(&mut count, n, &OF_TEXTS, &lists);
+        compare_positions(&mut count, n, if cfg!(few) { b"Q" } else { b"qQ7" });
+        compare_lists(&mut count, &mut random, n);
+    }
+    if !cfg!(few) {
+        for n in [1, 4] {
+            read16(&mut count, n, &(0..=65535).map(|unit| vec![unit]).collect::<Vec<_>>());
         }
-        let mut lists = vec![];
-        let mut wide = vec![];
-        for len in n.saturating_sub(2)..=n + 3 {
-            for _ in 0..400 {
-                lists.push(hostile(&mut random, len));
-                let mut list: Vec<u16> = hostile(&mut random, len).into_iter().map(u16::from).collect();
-                if len > 0 && random.below(2) == 0 {
-                    list[random.below(len)] = odd[random.below(odd.len())];
-                }
-                wide.push(list);
-            }
-        }
-        for place in 0..n {
-            for unit in odd {
-                let mut list = vec![u16::from(b'q'); n];
-                list[place] = unit;
-                wide.push(list);
-            }
-        }
-        read8(&mut count, n, &lists);
-        read16(&mut count, n, &wide);
-        lists.retain(|list| list.len() <= n);
-        print(&mut count, n, &OF_ANY_BYTES, &lists);
-        let some = texts(&mut random, n, COUNT);
-        ask(&mut count, n, &some);
-        print(&mut count, n, &OF_TEXTS, &some);
-        let some: Vec<Vec<u8>> = (0..COUNT).map(|i| escaped(&mut random, n.saturating_sub(i % 3))).collect();
-        print(&mut count, n, &OF_TEXTS, &some);
     }
-    for n in [1, 4] {
-        read16(&mut count, n, &(0..=65535).map(|unit| vec![unit]).collect::<Vec<_>>());
-    }
-
-    // powers of ten and their neighbours, and random numbers
-    let mut numbers: Vec<u32> = (0..10).map(|k| 10u32.pow(k)).flat_map(|p| [p - 1, p, p + 1]).collect();
-    numbers.extend([u32::MAX - 1, u32::MAX, 4_000_000_000]);
-    for n in capacities() {
-        decimals(&mut count, n, &numbers);
-    }
-    for n in [1, 3, 4, 8, 9, 10, 11, 12, 16, 64] {
-        let many: Vec<u32> = (0..100_000).map(|_| (random.next() as u32) >> random.below(32)).collect();
-        decimals(&mut count, n, &many);
-    }
-
+    compare_decimals(&mut count, &mut random);
     for n in FEW {
-        let first = texts(&mut random, n, COUNT);
-        let second = texts(&mut random, n, COUNT);
+        let (first, second) = (texts(&mut random, n, COUNT), texts(&mut random, n, COUNT));
         cut(&mut count, n, &first, &second);
     }
+    compare_pairs(&mut count, &mut random);
 
-    // pairs, of which many share a beginning
-    for (n, how_many) in [(0, 1), (1, 128), (3, 300), (4, 600), (8, 2000), (12, 600), (16, 600), (17, 300), (24, 300), (40, 300), (64, 300)] {
-        let mut list = texts(&mut random, n, how_many);
-        for i in 1..list.len() {
-            if random.below(2) == 0 {
-                let kept = random.below(list[i - 1].len() + 1);
-                let mut like = list[i - 1][..kept].to_vec();
-                let rest = random.below(n - kept + 1);
-                like.extend(text(&mut random, rest));
-                list[i] = like;
-            }
-        }
-        compare(&mut count, n, &list);
-    }
-
-    println!("{} calls compared", count.calls);
-    for (name, times) in DEPARTURES.iter().zip(count.departed) {
-        println!("departs {times} times: {name}");
-    }
-    let may_depart = !std::env::args().any(|argument| argument == "--alike");
-    if count.differed > 0 || !may_depart && count.departed.iter().any(|times| *times > 0) {
-        println!("{} calls differ", count.differed);
-        std::process::exit(1);
-    }
-    assert!(count.calls >= LEAST_CALLS, "fewer calls were compared than docs/SPEED.md says");
-    println!("no call differs otherwise");
+    println!("{} calls compared, which differ: {:?}", count.calls, count.differed);
+    assert!(count.calls >= if cfg!(few) { LEAST_OF_FEW } else { LEAST_CALLS }, "fewer calls were compared than there should be");
+    std::process::exit(i32::from(!count.differed.is_empty()));
 }

@@ -24,4 +24,5 @@ over_slices!(concat is tinystr_exports_concat(capacity, to, rounds; first: u8, s
 over_slices!(print is tinystr_exports_print(capacity, form, rounds; values: u8; printed: u8, ends: u64));
 over_slices!(display is tinystr_exports_display(capacity, rounds; texts: u8; printed: u8));
 over_slices!(records is tinystr_exports_records(capacity; bytes: u8; found: u32));
+over_slices!(search is tinystr_exports_search(capacity, call; bytes: u8, values: u8, keys: u8; answers: u64));
 over_slices!(lang_ids is tinystr_exports_lang_ids(rounds; units: u8, starts: u32; texts: u8, faults: u8));

@@ -1,1 +1,0 @@
-"""Takes measurements, keeps them, and makes tables, pages and pictures of them."""
