@@ -5,7 +5,7 @@ import re
 import shutil
 from pathlib import Path
 
-from lib.sources import TOP, below
+from lib.sources import TOP
 
 READ_BY_RT = ("src", "specs", "proofs")
 
@@ -28,14 +28,6 @@ def copy_lists(folder: Path, names: set[str]) -> None:
     lines = (TOP / "crates.txt").read_text(encoding="utf-8").splitlines()
     kept = [f"{line}\n" for line in lines if re.match(r"\w*", line)[0] in names]
     (folder / "crates.txt").write_text("".join(kept), encoding="utf-8")
-
-
-def copy_with_proofs(folder: Path, crates: list[str]) -> None:
-    """Copies the whole folders of some crates and of their dependencies, with the results of proofs and their times."""
-    names = {lower for crate in crates for lower in below(crate)} | set(crates)
-    copy_lists(folder, names)
-    for name in sorted(names):
-        shutil.copytree(TOP / "crates" / name, folder / "crates" / name, symlinks=True, dirs_exist_ok=True)
 
 
 def add_crate(folder: Path, name: str, uses: list[str], file: str, text: str) -> Path:

@@ -27,14 +27,14 @@ def anchor_of(heading: str) -> str:
 
 
 class Page:
-    """A page: all its lines, its fences in their order, and its prose, the lines outside fences, with the numbers of these."""
+    """A page: all its lines, its fences in their order, and its prose, the lines outside fences."""
 
     def __init__(self, path: Path) -> None:
         self.path = path
         self.lines = path.read_text(encoding="utf-8").splitlines()
-        self.fences, self.prose, self.numbers, self.anchors = [], [], [], set()
+        self.fences, self.prose, self.anchors = [], [], set()
         heading, kind, inside = "", None, []
-        for number, line in enumerate(self.lines, 1):
+        for line in self.lines:
             if kind is None and line.startswith("```"):
                 kind, inside = line[3:], []
             elif line.startswith("```"):
@@ -44,7 +44,6 @@ class Page:
                 inside.append(line)
             else:
                 self.prose.append(line)
-                self.numbers.append(number)
                 if line.startswith("## "):
                     heading = line[3:]
                 if match := re.match(r"#+ +(.*)", line):

@@ -1,7 +1,6 @@
 """Reads a source of Rattle: its tokens, and the tree of its items. It prints nothing.
 
-An item has its doc comment and attributes, its head, its clauses, its body, and the items in it. (cargo/second_reader reads
-sources with code of its own, since it checks what is made by this code.)
+An item has its doc comment and attributes, its head, its body, and the items in it.
 """
 
 import re
@@ -79,13 +78,12 @@ class Clause:
 @dataclass
 class Item:
     """An item of a source: its kind, as `fn`; where the lines of its doc comment and attributes begin, its head, its braces
-    where it has some, and its end; its clauses, and the items in it."""
+    where it has some, and its end; and the items in it."""
 
     source: str = field(repr=False)
     kind: str
     above: int
     start: int
-    clauses: list[Clause]
     body: tuple[int, int] | None
     end: int
     inner: list["Item"]
@@ -134,13 +132,6 @@ def items_of(text: str) -> list[Item]:
     return list(items_between(text, tokens, 0, len(tokens)))
 
 
-def every_item(items: list[Item]) -> Iterator[Item]:
-    """Some items and those in them, each before what is in it."""
-    for item in items:
-        yield item
-        yield from every_item(item.inner)
-
-
 def items_between(text: str, tokens: Tokens, at: int, end: int) -> Iterator[Item]:
     """The items between two tokens, with the items in them."""
     above = None
@@ -163,15 +154,14 @@ def items_between(text: str, tokens: Tokens, at: int, end: int) -> Iterator[Item
 def item_at(text: str, tokens: Tokens, at: int, above: int | None) -> tuple[Item, int]:
     """The item that begins at a token, and the token after it."""
     start, word = tokens.starts[at], kind_at(tokens, at)
-    kind, clauses, body, inner = tokens.texts[word], [], None, []
+    kind, body, inner = tokens.texts[word], None, []
     if kind in STATEMENTS:
         end = tokens.next_mark(word, ";") + 1
     else:
         end = word
         while tokens.texts[end] not in ("{", ";"):
             if tokens.kinds[end] == "word" and tokens.texts[end] in CLAUSES:
-                clause, end = clause_at(tokens, end)
-                clauses.append(clause)
+                _, end = clause_at(tokens, end)
             else:
                 end = tokens.after_bracket(end) if tokens.texts[end] in ("(", "[") else end + 1
         if tokens.texts[end] == "{":
@@ -180,7 +170,7 @@ def item_at(text: str, tokens: Tokens, at: int, above: int | None) -> tuple[Item
             inner = list(items_between(text, tokens, opened + 1, end - 1)) if kind in GROUPS else []
         else:
             end += 1
-    return Item(text, kind, start if above is None else above, start, clauses, body, tokens.starts[end], inner), end
+    return Item(text, kind, start if above is None else above, start, body, tokens.starts[end], inner), end
 
 
 def clause_at(tokens: Tokens, at: int) -> tuple[Clause, int]:
@@ -211,23 +201,6 @@ def end_of_tactic(tokens: Tokens, at: int) -> int | None:
         return None
     bracket = at + 2 if tokens.texts[at + 1] == "!" else at + 1
     return tokens.after_bracket(bracket) if tokens.is_word(bracket + 1, "tactic") else None
-
-
-def lines_for_the_prover(text: str) -> set[int]:
-    """The numbers of the lines of a source with what is ghost, with a clause or with a tactic."""
-    tokens, found, at = Tokens(text), set(), 0
-    while at < len(tokens):
-        if tokens.is_word(at, "ghost"):
-            # what is ghost in a type or a value ends with a comma
-            end = tokens.next_mark(at, ";,") + 1
-        elif tokens.kinds[at] == "word" and tokens.texts[at] in CLAUSES:
-            end = tokens.after_bracket(tokens.next_mark(at, "{"))
-        else:
-            end = end_of_tactic(tokens, at)
-        if end:
-            found.update(range(line_of(text, tokens.starts[at]), line_of(text, tokens.starts[end] - 1) + 1))
-        at = end or at + 1
-    return found
 
 
 def unmatched_bracket(text: str) -> int | None:

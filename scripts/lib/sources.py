@@ -27,9 +27,6 @@ class Item:
     end: int
     code: int
 
-    def key(self) -> tuple[str, str, str]:
-        return self.file, self.block, self.name
-
     def is_named_by(self, path: str) -> bool:
         """Whether the prover's path, as `padded::words::ask` or `code_unit::U8CodeUnit::code`, is that of this function."""
         *before, name = path.split("::")
@@ -75,6 +72,12 @@ def texts_of(crate: str) -> dict[str, str]:
     folder = TOP / "crates" / crate
     files = [path for part in ("src", "specs", "proofs") for path in sorted((folder / part).rglob("*")) if path.is_file()]
     return {str(path.relative_to(folder)): path.read_text(encoding="utf-8") for path in files}
+
+
+def function_named(path: str, texts: dict[str, str]) -> Item | None:
+    """The function of a crate that the prover names so."""
+    found = [items(file, text) for file, text in texts.items() if file.startswith("src/")]
+    return next((item for inside in found for item in inside if item.is_named_by(path)), None)
 
 
 def libraries() -> dict[str, list[str]]:

@@ -1,1 +1,1 @@
-"""The wrong bodies of the crates (docs/inside/WRONG_BODIES.md): reads, tries and judges them."""
+"""The wrong bodies of the crates (CONTRIBUTING.md): reads, groups, tries and judges them."""

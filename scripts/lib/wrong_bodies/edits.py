@@ -1,43 +1,42 @@
-"""A wrong body, or a control beside it: what it changes in a source, and which goal has to be open then. It prints
-nothing, and is Unreadable where it can't be applied."""
+"""Wrong bodies, and the controls beside them: reads their blocks, and applies them to the texts of a crate."""
 
+import itertools
+import re
+from collections import Counter
 from collections.abc import Iterable
-from dataclasses import dataclass, field
-from pathlib import Path
+from dataclasses import dataclass
 
-from lib.sources import Item, items
+from lib.sources import TOP, Item, items
 
-# What the check of an edit has to show of its goal: the body breaks it; none is open; it is open for another reason.
-KINDS = ("refused", "neutral", "disturbed")
+# A control is neutral, and no goal of its function is open, or disturbed, and its goal is open for another reason.
+BLOCK = re.compile(
+    r"(?P<name>\w+__\w+)\n"
+    r"(?:(?P<kind>refused|neutral|disturbed): (?P<function>\S+)(?: (?P<goal>\S+))?\n)?"
+    r"(?:elsewhere: (?P<elsewhere>.+)\n)?(?P<pairs>(?:old: .+\nnew:.*\n)+)"
+)
+PAIR = re.compile(r"old: (.+)\nnew: ?(.*)\n")
 
 
 class Unreadable(Exception):
     """What is wrong with an edit, in words for whoever wrote it."""
 
 
-def is_clause(goal: str) -> bool:
-    """Whether a goal is a clause of the function's own contract: what it ensures where it returns."""
-    return goal.startswith("returns")
-
-
-@dataclass
+@dataclass(frozen=True)
 class Edit:
-    """A wrong body, or a control: where it is written, the source that it changes, all that is written of it, the
-    function and the goal that must reject it, why that is no clause, and pairs of an old and a new text."""
+    """A block: its name, the source that it changes, its text and kind, the function and the goal that must reject it, why that
+    goal is no clause, and pairs of an old and a new text."""
 
     name: str
-    path: Path
     file: str
     text: str
-    kind: str = "refused"
-    function: str = ""
-    goal: str = ""
-    elsewhere: str = ""
-    pairs: list = field(default_factory=list)
+    kind: str
+    function: str
+    goal: str
+    elsewhere: str
+    pairs: tuple[tuple[str, str], ...]
 
     @property
     def is_control(self) -> bool:
-        """Whether it is no wrong body, but shows whether the check that tries it can be trusted."""
         return self.kind != "refused"
 
     def target(self, texts: dict[str, str]) -> Item | None:
@@ -45,55 +44,51 @@ class Edit:
         text, old = texts[self.file], self.pairs[0][0]
         inside = [item for item in items(self.file, text) if old in text[item.start : item.end]]
         named = [item for item in inside if item.is_named_by(self.function)]
-        return named[0] if named else inside[0] if len(inside) == 1 else None
+        item = named[0] if named else inside[0] if len(inside) == 1 else None
+        if item and not item.is_constant and self.function and not named:
+            raise Unreadable(f"{self.name} names {self.function}, and changes {item.name} of {item.file}")
+        return item
 
-    def changes_contract(self, item: Item, texts: dict[str, str]) -> bool:
-        """Whether it changes what a law with a body says, which its callers see."""
-        head = texts[self.file][item.start : item.code]
-        return item.code < item.end and any(old in head for old, _ in self.pairs)
-
-    def place(self, texts: dict[str, str]) -> tuple[int, str]:
-        """Its place in the order of its source's edits: by what it changes, and then by its name."""
-        target = self.target(texts)
-        return target.start if target else texts[self.file].find(self.pairs[0][0]), self.name
-
-    def names_what_it_changes(self, target: Item | None, texts: dict[str, str]) -> bool:
-        """Whether the function that it names is its target or, where that is a constant, is there: a function of the
-        crate, or a file of its lemmas."""
-        if not self.function or not target:
-            return True
-        if not target.is_constant:
-            return target.is_named_by(self.function)
-        if f"proofs/{self.function.replace('::', '/')}.antt" in texts:
-            return True
-        sources = [(file, text) for file, text in texts.items() if file.startswith("src/")]
-        return any(item.is_named_by(self.function) for file, text in sources for item in items(file, text))
-
-    def changes(self, texts: dict[str, str], target: Item | None) -> list[tuple[int, int, str]]:
-        """What it changes in its source: where each old text begins and ends, and the new one. Each old text is there once,
-        in its target's body or, where it has none, in the file."""
-        text, found = texts[self.file], []
+    def changes(self, texts: dict[str, str]) -> list[tuple[int, int, str]]:
+        """Where each old text begins and ends, once in its target or, where it has none, in the file; and the new one."""
+        text, found, target = texts[self.file], [], self.target(texts)
         start, end = (target.start, target.end) if target else (0, len(text))
         for old, new in self.pairs:
             if (count := text.count(old, start, end)) != 1:
-                where = target.name if target else self.file
-                raise Unreadable(f"{self.name}: an old text is {count} times in {where}: {old}")
+                raise Unreadable(f"{self.name}: an old text is {count} times in {target.name if target else self.file}: {old}")
             at = text.index(old, start, end)
             found.append((at, at + len(old), new))
         return found
 
 
+def has_edits(crate: str) -> bool:
+    return (TOP / "crates" / crate / "wrong-bodies").is_dir()
+
+
+def edits_of(crate: str) -> list[Edit]:
+    """The edits of a crate, by the order of their files and of the blocks in each: those of src/PATH.rt are in PATH.edits."""
+    folder, found = TOP / "crates" / crate / "wrong-bodies", []
+    for path in sorted(folder.rglob("*.edits")):
+        for block in path.read_text(encoding="utf-8").removesuffix("\n").split("\n\n"):
+            if not (read := BLOCK.fullmatch(f"{block}\n")):
+                raise Unreadable(f"{path.relative_to(TOP)}: no block of an edit: {block.partition(chr(10))[0]}")
+            file = f"src/{path.relative_to(folder).with_suffix('.rt')}"
+            said = [read[field] or "" for field in ("function", "goal", "elsewhere")]
+            pairs = tuple(PAIR.findall(read["pairs"]))
+            found.append(Edit(read["name"], file, f"{block}\n", read["kind"] or "refused", *said, pairs))
+    if twice := [name for name, count in Counter(edit.name for edit in found).items() if count > 1]:
+        raise Unreadable(f"the names of two: {', '.join(twice)}")
+    return found
+
+
 def applied(edits: Iterable[Edit], texts: dict[str, str]) -> dict[str, str]:
-    """The texts of the crate, by file, with some edits, of which no two change the same place."""
-    changed, changes = dict(texts), {}
-    for edit in edits:
-        changes.setdefault(edit.file, []).extend(edit.changes(texts, edit.target(texts)))
-    for file, found in changes.items():
+    """The texts of a crate, by file, with some edits, of which no two change the same place."""
+    changed = dict(texts)
+    for file, of_file in itertools.groupby(sorted(edits, key=lambda edit: edit.file), lambda edit: edit.file):
         pieces, at = [], 0
-        for start, end, new in sorted(found):
+        for start, end, new in sorted(change for edit in of_file for change in edit.changes(texts)):
             if start < at:
                 raise Unreadable(f"{file}: two edits change one place: {new}")
-            pieces += [texts[file][at:start], new]
-            at = end
+            pieces, at = [*pieces, texts[file][at:start], new], end
         changed[file] = "".join([*pieces, texts[file][at:]])
     return changed

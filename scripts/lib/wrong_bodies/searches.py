@@ -1,13 +1,13 @@
-"""Short searches for the goals that wrong bodies break. Where no file of proofs answers a goal, the prover tries four ways
-to prove it, each longer than the one before, and then prints how an answer would begin. In the copies of a crate such a
-goal gets an answer that tries the first two ways. It prints nothing."""
+"""Short searches for the goals that wrong bodies break. Where no file of proofs answers a goal, the prover tries four ways to
+prove it, each longer than the one before. In the copies of a crate such a goal gets an answer that tries the first two."""
 
 import re
 from collections.abc import Iterable
 from dataclasses import dataclass
 
-from lib.sources import Item, items
+from lib.sources import Item, function_named
 from lib.wrong_bodies.edits import Edit
+from lib.wrong_bodies.groups import Group
 
 # Imports for each search, and those by which the prover prints a goal with its operators.
 WORDS = ["use Rattle.std.proofs.Common as common", "use Rattle.std.proofs.lemmas.Grind as grinding"]
@@ -21,13 +21,13 @@ GENERIC = re.compile(r"(?:pub )?trait\b|(?:impl|fn \w+)<(?:'\w+, )*[^'>]")
 
 @dataclass(frozen=True)
 class Search:
-    """A goal of a function; whether that, or its impl or trait, has parameters of types or constants; and the lemmas that
-    it names for its goals."""
+    """A goal of a function, whether that, or its impl or trait, has parameters of types or constants, and the lemmas that it
+    names for its goals."""
 
     function: str
     goal: str
     is_generic: bool
-    lemmas: tuple
+    lemmas: tuple[str, ...]
 
     @property
     def file(self) -> str:
@@ -36,13 +36,13 @@ class Search:
 
     def added(self, crate: str, answers: str) -> str:
         """What is in its file, if that is there, with the search as one more answer."""
-        modules = dict.fromkeys(module_of(lemma, crate) for lemma in self.lemmas)
-        names = {module: f"lemmas_{at}" for at, module in enumerate(modules)}
-        uses = [*WORDS, *(f"use {module} as {name}" for module, name in names.items())]
+        modules = list(dict.fromkeys(module_of(lemma, crate) for lemma in self.lemmas))
+        uses = [*WORDS, *(f"use {module} as lemmas_{at}" for at, module in enumerate(modules))]
         uses += [f"use Rattle.{crate}.proofs.{self.function.replace('::', '.')}.Goals as goal"]
         uses += [] if answers else [OPERATORS]
         head = "".join(f"{line}\n" for line in uses if f"{line}\n" not in answers)
-        lemmas = "".join(f", {names[module_of(lemma, crate)]}.{lemma.rpartition('::')[2]}" for lemma in self.lemmas)
+        places = [(modules.index(module_of(lemma, crate)), lemma.rpartition("::")[2]) for lemma in self.lemmas]
+        lemmas = "".join(f", lemmas_{at}.{name}" for at, name in places)
         tried = f"search (common.rules{lemmas}), grind (common.arith, grinding.common_steps{lemmas}) steps 2000000"
         given = "g c" if self.is_generic else "c"
         return f"{head}{answers}\npub {self.goal} : goal.{self.goal}\n{self.goal} {given} = first_of ({tried})\n"
@@ -54,16 +54,20 @@ def module_of(lemma: str, crate: str) -> str:
     return ".".join(["Rattle", crate if library == "crate" else library, *inside])
 
 
+def is_for(search: Search, group: Group) -> bool:
+    """Whether a search is of a goal that a wrong body of a group names, or of a function with a neutral body in it."""
+    of_function = [edit for edit in group if edit.function == search.function]
+    return any(edit.kind == "neutral" or edit.goal == search.goal and not edit.is_control for edit in of_function)
+
+
 def searches_of(edits: list[Edit], texts: dict[str, str]) -> set[Search]:
     """A search for each goal that wrong bodies name and no file of proofs answers; none for those of files of lemmas."""
-    sources = [(items(file, text), text) for file, text in texts.items() if file.startswith("src/")]
     found = set()
-    for edit in edits:
-        named = [(item, text) for inside, text in sources for item in inside if item.is_named_by(edit.function)]
-        if named and not edit.is_control:
-            search = search_of(edit, *named[0])
-            if not re.search(rf"^pub {re.escape(edit.goal)} :", texts.get(search.file, ""), re.M):
-                found.add(search)
+    for edit in (edit for edit in edits if not edit.is_control):
+        function = function_named(edit.function, texts)
+        search = search_of(edit, function, texts[function.file]) if function else None
+        if search and not re.search(rf"^pub {re.escape(edit.goal)} :", texts.get(search.file, ""), re.M):
+            found.add(search)
     return found
 
 

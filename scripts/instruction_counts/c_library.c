@@ -1,5 +1,5 @@
-/* The calls of the C library on small fixed inputs, for scripts/checks/work, as crates/work has those of the other
- * libraries: a line after each call of a function whose name begins with `counted_`. */
+/* The calls of the C library on small fixed inputs, for scripts/checks/instruction-counts, as crates/instruction_counts
+ * has those of the other libraries: a line after each call of a function whose name begins with `counted_`. */
 #include <stdio.h>
 #include <string.h>
 #include <tinystr.h>
@@ -24,13 +24,7 @@ static uint32_t random_of(uint32_t number) {
     return bits ^ (bits >> 16);
 }
 
-/* A step of 0 means random keys. */
-static void put_keys(size_t capacity, uint32_t step) {
-    for (uint32_t key = 0; key < KEYS; key++)
-        put_text(keys + key * capacity, capacity, 2 * ((step ? key * step : random_of(key)) % RECORDS));
-}
-
-static size_t number_of(tinystr_result result) { return 2 * result.value + (result.code == TINYSTR_OK); }
+static size_t number_of(tinystr_result result) { return 2 * (result.value + result.detail) + (result.code == TINYSTR_OK); }
 
 NOINLINE static size_t counted_search(size_t capacity) {
     size_t sum = 0;
@@ -77,23 +71,21 @@ static void print_sum(const char *call, size_t capacity, int count, const char *
     printf("%s %zu %d %s: %zu\n", call, capacity, count, inputs, sum);
 }
 
-static void count_searches(size_t capacity, const char *order, uint32_t step) {
-    put_keys(capacity, step);
-    print_sum("tinystr_sorted_search", capacity, RECORDS, order, counted_search(capacity));
-    print_sum("tinystr_sorted_search_each", capacity, RECORDS, order, counted_search_each(capacity));
+/* A step of 0 means random keys. */
+static void put_all(size_t capacity, uint32_t step) {
+    for (uint32_t index = 0; index < RECORDS; index++) put_text(records + index * capacity, capacity, 2 * index);
+    for (uint32_t key = 0; key < KEYS; key++)
+        put_text(keys + key * capacity, capacity, 2 * ((step ? key * step : random_of(key)) % RECORDS));
 }
 
 int main(void) {
-    for (size_t capacity = 8; capacity <= MOST; capacity += 8) {
-        for (uint32_t index = 0; index < RECORDS; index++) put_text(records + index * capacity, capacity, 2 * index);
-        count_searches(capacity, "each record", 1);
-        count_searches(capacity, "every fifth record", 5);
-        count_searches(capacity, "random", 0);
-        print_sum("tinystr_sorted_prefix", capacity, RECORDS, "prefixes", counted_prefix(capacity, 7));
-    }
+    put_all(8, 0);
+    print_sum("tinystr_sorted_search", 8, RECORDS, "random", counted_search(8));
+    print_sum("tinystr_sorted_prefix", 8, RECORDS, "prefixes", counted_prefix(8, 7));
+    put_all(MOST, 5);
+    print_sum("tinystr_sorted_search_each", MOST, RECORDS, "every fifth record", counted_search_each(MOST));
     for (size_t at = 0; at < sizeof bytes; at++) bytes[at] = at % 61 == 60 ? 0x80 : 'a' + at % 26;
-    for (size_t capacity = 4; capacity <= 16; capacity *= 2)
-        print_sum("tinystr_read", capacity, LISTS, "lists", counted_read(capacity));
+    print_sum("tinystr_read", MOST, LISTS, "lists", counted_read(MOST));
     print_sum("tinystr_langid", TINYSTR_LANGID_ROOM, LISTS, "lists", counted_langid());
     return 0;
 }
