@@ -138,7 +138,8 @@ def check_packed(texts, data, capacity):
     if texts:
         twice = sorted([*texts, shuffled[0].rstrip(b"\0")])
         wanted = error(DUPLICATE, twice.index(shuffled[0].rstrip(b"\0")) + 1)
-        records, scratch = (ctypes.create_string_buffer(b"".join([*shuffled, shuffled[0]]), len(data) + capacity) for _ in range(2))
+        given = b"".join([*shuffled, shuffled[0]])
+        records, scratch = (ctypes.create_string_buffer(given, len(data) + capacity) for _ in range(2))
         packed = b"".join(text.ljust(capacity, b"\0") for text in twice)
         same((call("sorted_pack", records, capacity, scratch), records.raw), (wanted, packed), "sorted_pack", twice)
 

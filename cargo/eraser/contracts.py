@@ -12,9 +12,7 @@ HEAD = re.compile(r"^( *)(pub(?:\(crate\))? )?(?:const )?(?:extern \"C\" )?fn \w
 CLOSURE = re.compile(r"\|[^|\n]*\|(?: -> [\w&\[\]<>]+)?\Z")
 ABOVE = re.compile(r"(?:^ *(?://|#\[)[^\n]*\n)*\Z", re.M)
 # The clauses in a comment of documentation that rustdoc shows.
-SHOWN = re.compile(
-    r"^( *///) # Contract\n\1\n(\1 ```text\n(?:\1 (?!```).*\n)+\1 ```\n)(?!(?: *#\[.*\n)* *pub\(crate\))", re.M
-)
+SHOWN = re.compile(r"^( *///) # Contract\n\1\n(\1 ```text\n(?:\1 (?!```).*\n)+\1 ```\n)(?!(?: *#\[.*\n)* *pub\(crate\))", re.M)
 # The sentence on how contracts see a type, and the rest of the type's comment.
 VIEW = re.compile(r" A contract(?: |\n/// )(sees it as.*?)(?:\n///)?( .*\.)\n((?:///.*\n)*)")
 HEADING = "# [Contract](crate::definitions)"

@@ -84,7 +84,11 @@ def of_feature(*modules: str) -> list[Rule]:
 IN_FILE = {
     "tinystr/lib.rt": [
         *at_root("ascii", "error", "unvalidated"),
-        Rule("pub mod short_input;", "// private, and `is_empty` is called by no function here\n#[allow(dead_code)]\nmod short_input;", "its texts have conditions"),
+        Rule(
+            "pub mod short_input;",
+            "// private, and `is_empty` is called by no function here\n#[allow(dead_code)]\nmod short_input;",
+            "its texts have conditions",
+        ),
         Rule("pub use short_input::", "pub(crate) use short_input::", "its texts have conditions"),
         Rule(
             "pub mod unvalidated;\n",

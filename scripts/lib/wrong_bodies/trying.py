@@ -1,6 +1,6 @@
 """Tries groups of edits: copies of a crate are checked, each with the edits of a group, on top of what a check of the unchanged
-crate proved. A group in which one edit isn't as it has to be, and another may have disturbed it, is tried again in parts, down to a
-single wrong body. What passed is kept outside the checkout, so that a later run tries only what changed."""
+crate proved. A group in which an edit isn't as it has to be is tried again in parts, down to a single wrong body. What passed is
+kept outside the checkout, so that a later run tries only what changed."""
 
 import hashlib
 import itertools
