@@ -18,17 +18,17 @@ BLOCK = re.compile(r"(<!-- bench/report (.+?) -->\n).*?(<!-- end -->\n)", re.DOT
 def headline(cargo: Results, cargo_v2: Results, jobs: Results, c: Results) -> str:
     """The table of README."""
     (full, mixed), (full_alone, mixed_alone) = (means(rows_of(cargo, suffix)) for suffix in SUFFIXES)
-    (ratio, call, capacity), processor = max((worst(cargo), "x86-64"), (worst(cargo_v2), "x86-64-v2"))
+    ratio, call, capacity = max(worst(cargo), worst(cargo_v2))
     call = "a predicate that fails at its first byte" if call == SLOWEST_FAILING else f"`{call}`"
     of_c = {(cell[1], whose): c.ratio(cell, whose) for cell in c.times for whose in c.times[cell]}
     by_hand, icu = (of_c["tinystr_langid", whose] for whose in ("by hand", "ICU's uloc_canonicalize"))
-    bsearch = of_c["tinystr_sorted_search", "bsearch with memcmp"]
+    bsearch = of_c["tinystr_sorted_search, languages", "bsearch with memcmp"]
     rows = [
         ("what", "time", "compared with"),
         ("---", "---", "---"),
         ("Cargo: a call over a list", f"{full:.2f} (full texts), {mixed:.2f} (mixed lengths)", "`tinystr` 0.8.5"),
         ("Cargo: a call of one value", f"{full_alone:.2f}, {mixed_alone:.2f}", "the same"),
-        (f"Cargo: the worst case, {call}, at capacity {capacity}, built for {processor}", f"{ratio:.1f}", "the same"),
+        (f"Cargo: the worst case, {call}, at capacity {capacity}", f"{ratio:.1f}", "the same"),
         ("C: a search in a sorted table", f"{bsearch:.2f}", "`bsearch` with `memcmp`"),
         ("C: a language identifier", f"{by_hand:.2f}; {icu:.2f}", "a parser by hand; ICU, which does more"),
         ("Rattle: a whole job", range_text(jobs, jobs.times, THERE), "the job in Rust"),
@@ -73,7 +73,7 @@ TABLES = {
     "orders": (orders, "tables"),
     "sizes": (sizes, "tables"),
     "identifiers": (partial(calls_with, "langid"), "c"),
-    "C": (partial(calls_with, "sorted"), "c"),
+    "C": (partial(calls_with, "search"), "c"),
     "jobs": (all_tables, "jobs"),
 }
 
