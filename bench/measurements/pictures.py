@@ -119,7 +119,7 @@ def capacities(figure: Figure, results: Results) -> tuple[str, str]:
     axes.annotate("slower than the Rust crate", (0.02, 0.97), xycoords="axes fraction", va="top", color=ORANGE)
     axes.annotate("faster than the Rust crate", (0.02, 0.03), xycoords="axes fraction", color=BLUE)
     return (
-        f"A call takes {of_all[0]:.2f} of the Rust crate's time at capacity {x[0]}, and {of_all[-1]:.2f} at {x[-1]}",
+        f"From Cargo, a call takes {of_all[0]:.2f} of the Rust crate's time at capacity {x[0]}, and {of_all[-1]:.2f} at {x[-1]}",
         f"Geometric mean of {len(rows)} calls on texts that fill their capacity; each grey line is one call. A question that"
         f" fails at its first byte takes up to {max(failing):.2f} times as long, at capacity {x[failing.index(max(failing))]}.",
     )
@@ -252,7 +252,7 @@ def drawn(draw: Callable[[Figure, Results], tuple[str, str]], results: Results) 
 # The pictures by the names of their files, each with what draws it and the file of its results.
 PICTURES = {
     "calls.svg": (calls, "calls"),
-    "capacities.svg": (capacities, "calls"),
+    "capacities.svg": (capacities, "cargo"),
     "cargo.svg": (cargo, "cargo"),
     "jobs.svg": (jobs, "jobs"),
     "tables.svg": (tables, "tables"),
