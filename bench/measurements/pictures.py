@@ -110,7 +110,7 @@ def capacities(figure: Figure, results: Results) -> tuple[str, str]:
     rows = {call: list(row[FULL].values()) for call, row in rows_of(results).items()}
     x, failing = list(rows_of(results)[SLOWEST_FAILING][FULL]), rows.pop(SLOWEST_FAILING)
     of_all = [geometric(ratios) for ratios in zip(*rows.values())]
-    named = ["Hash", "try_from_utf8", "to_ascii_lowercase"]
+    named = ["==", "try_from_utf8", "to_ascii_lowercase"]
     lines = [Line("", GREY, row) for call, row in rows.items() if call not in named]
     lines += [Line(call, GREY, rows[call]) for call in named]
     lines += [Line("a question that fails\nat its first byte", ORANGE, failing), Line("mean", BLUE, of_all, is_bold=True)]
