@@ -201,10 +201,10 @@ static void time_searches(const char *name) {
     snprintf(hash, sizeof hash, "tinystr_hashed_search, %s", name);
 #define NEXT RECORD(i * 7919 % count)
     TIME(search, "here", count, BY_SEARCH(NEXT));
-    TIME(search, "bsearch with memcmp", count, by_bsearch(NEXT));
+    TIME(search, "bsearch", count, by_bsearch(NEXT));
     TIME(search, "numbers, halved", count, by_halving(NEXT));
     TIME(hash, "here", count, BY_HASH(NEXT));
-    TIME(hash, "bsearch with memcmp", count, by_bsearch(NEXT));
+    TIME(hash, "bsearch", count, by_bsearch(NEXT));
     TIME(hash, "open addressing", count, by_probing(NEXT));
 }
 
@@ -232,13 +232,13 @@ int main(int argc, char **argv) {
 #ifdef GPERF
     for (k = 0; k < record_count; k++)
         if (code_by_gperf(texts[k], CAPACITY)->index != (int)k) return 3;
-    TIME("tinystr_hashed_search, currencies", "gperf's function", record_count, code_by_gperf(texts[i * 7919 % record_count], CAPACITY)->index);
+    TIME("tinystr_hashed_search, currencies", "gperf", record_count, code_by_gperf(texts[i * 7919 % record_count], CAPACITY)->index);
 #endif
     read_set("languages");
     time_searches("languages");
 #define KEY(i) (keys + CAPACITY * (i))
     TIME_CALLS("tinystr_sorted_search_each, 1,000 languages", "here", KEYS, 1, tinystr_sorted_search_each(sorted, sorted_len, CAPACITY, keys, sizeof keys, found, KEYS).value);
     TIME("tinystr_sorted_search_each, 1,000 languages", "one by one", KEYS, BY_SEARCH(KEY(i)));
-    TIME("tinystr_sorted_search_each, 1,000 languages", "bsearch with memcmp", KEYS, by_bsearch(KEY(i)));
+    TIME("tinystr_sorted_search_each, 1,000 languages", "bsearch", KEYS, by_bsearch(KEY(i)));
     return 0;
 }

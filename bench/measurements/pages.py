@@ -22,7 +22,7 @@ def headline(cargo: Results, cargo_v2: Results, jobs: Results, c: Results) -> st
     call = "a predicate that fails at its first byte" if call == SLOWEST_FAILING else f"`{call}`"
     of_c = {(cell[1], whose): c.ratio(cell, whose) for cell in c.times for whose in c.times[cell]}
     by_hand, icu = (of_c["tinystr_langid", whose] for whose in ("by hand", "ICU's uloc_canonicalize"))
-    bsearch = of_c["tinystr_sorted_search, languages", "bsearch with memcmp"]
+    bsearch = of_c["tinystr_sorted_search, languages", "bsearch"]
     rows = [
         ("what", "time", "compared with"),
         ("---", "---", "---"),
