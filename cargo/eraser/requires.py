@@ -30,6 +30,7 @@ REPLACEMENTS = {
     # no array is longer, so that nothing of these is left when it is built
     "N < 2 ^ 63": Panics("N <= isize::MAX as usize", "`N` is above `isize::MAX`", "no array is so long"),
     "M < 2 ^ 63": Panics("M <= isize::MAX as usize", "`M` is above `isize::MAX`", "no array is so long"),
+    "K < 2 ^ 63": Panics("K <= isize::MAX as usize", "`K` is above `isize::MAX`", "no array is so long"),
     **{
         f"IsTextByte {name}": Panics(CHARACTER.format(name), f"the {name} isn't from 1 to 127", NO_CHARACTER.format(name))
         for name in ("replacement", "separator")

@@ -90,12 +90,6 @@ run_through! {
     [const N: usize, const M: usize] HashedTextMap<'a, N, M>, TextEntries<'a, N, M>, |it| it.iter();
 }
 
-// The numbers that `size_hint` gives are exact, and the same at both ends.
-impl<const N: usize> ExactSizeIterator for Texts<'_, N> {}
-impl<const N: usize, const M: usize> ExactSizeIterator for Entries<'_, N, M> {}
-impl<const N: usize, const M: usize> ExactSizeIterator for hashed::Entries<'_, N, M> {}
-impl<const N: usize, const M: usize> ExactSizeIterator for TextEntries<'_, N, M> {}
-
 // After the last one each gives `None` again.
 impl<const N: usize> FusedIterator for Texts<'_, N> {}
 impl<const N: usize> FusedIterator for Parts<'_, N> {}
@@ -137,25 +131,6 @@ compared! {
     [const N: usize, const M: usize] TextMap<'_, N, M>, |it| (it.keys().table().records(), it.values().records());
     [const N: usize, const M: usize] HashedMap<'_, N, M>, |it| (it.keys().table().records(), it.values());
     [const N: usize, const M: usize] HashedTextMap<'_, N, M>, |it| (it.keys().table().records(), it.values().records());
-}
-
-// What a reader gives of no bytes.
-macro_rules! empty {
-    ($([$($generics:tt)*] $type:ty, $read:expr;)*) => {$(
-        /// The empty one. A capacity of 0 is a panic.
-        impl<$($generics)*> Default for $type {
-            fn default() -> Self {
-                $read.unwrap()
-            }
-        }
-    )*};
-}
-
-empty! {
-    [const N: usize] Table<'_, N>, Table::new(&[]);
-    [const N: usize] SortedTable<'_, N>, SortedTable::from_bytes(&[]);
-    [const N: usize, const M: usize] PackedMap<'_, N, M>, PackedMap::new(&[], &[]);
-    [const N: usize, const M: usize] TextMap<'_, N, M>, TextMap::new(&[], &[]);
 }
 
 // The reader of each of these tables, and its error.

@@ -92,6 +92,8 @@ fn tables_and_maps_are_compared() {
 fn tables_are_read_of_nothing_and_of_bytes() {
     assert_eq!((Table::<3>::default().len(), SortedTable::<3>::default().len()), (0, 0));
     assert!(PackedMap::<3, 1>::default().is_empty() && TextMap::<2, 3>::default().is_empty());
+    assert!(HashedMap::<3, 1>::default().is_empty() && HashedTextMap::<2, 3>::default().is_empty());
+    assert_eq!([HashedTable::<0>::default(), HashedTable::default()].map(|table| table.position(&tinystr!(0, ""))), [None; 2]);
     assert_eq!(Table::try_from(b"EURGB\0USD".as_slice()), Ok(table()));
     assert_eq!(SortedTable::<3>::try_from(b"EURGB".as_slice()), Err(SortedError::Records(UleError::Length { len: 5 })));
     assert_eq!((SortedTable::try_from(sorted().table().records().as_flattened()), HashedTable::try_from(ONE)), (Ok(sorted()), Ok(hashed_table())));

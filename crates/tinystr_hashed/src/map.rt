@@ -1,7 +1,8 @@
 //! Maps whose keys are a hashed table, read in place.
 
-ghost use Rattle.std.specs.Prelude.{◌≡◌, ◌<◌, ◌^◌, ◌↔◌, [], List, ℕ, is_some, length, IsOk, IsTrue, IfOk, IfErr};
-ghost use Rattle.std.specs.Iterator.{YieldsFirstBy, item_count};
+ghost use Rattle.std.specs.Prelude.{◌≡◌, ◌<◌, ◌^◌, ◌↔◌, [], List, ℕ, is_some, length, IsOk, IsTrue, IfOk, IfErr, IfSome, Some};
+ghost use Rattle.std.specs.Iterator.{YieldsFirstBy, item_count, UpTo, at_most};
+ghost use Rattle.std.specs.Iterator.SizeHint.{IsWithinCount};
 ghost use Rattle.std.specs.Map.{keys_of, values_of};
 ghost use Rattle.std.specs.Option.{option_copied};
 ghost use Rattle.std.specs.Result.{result_ok};
@@ -114,6 +115,18 @@ impl<'a, const N: usize, const M: usize> HashedMap<'a, N, M> {
         }
     }
 
+    /// The value of a key of any capacity, or `None` if the map doesn't have the key. Both capacities must be below 2^63.
+    pub fn find_text<const K: usize>(&self, key: &TinyAsciiStr<K>) -> Option<&'a [u8; M]>
+        requires texts { N < 2 ^ 63 }
+        requires key { K < 2 ^ 63 }
+        ensures { option_copied result ≡ Spec.get self.now key.now }
+    {
+        // Its contract says that no key is longer than `N` bytes.
+        let _ = self.keys.table().len();
+        let key = key.try_resize()?;
+        self.get(&key)
+    }
+
     /// Whether the map has a key.
     pub fn contains_key(&self, key: &TinyAsciiStr<N>) -> bool
         ensures { result ≡ is_some (Spec.get self.now key.now) }
@@ -146,6 +159,19 @@ impl<'a, const N: usize, const M: usize> HashedMap<'a, N, M> {
         Entries {
             keys: self.keys.table().iter(),
             values: self.values,
+        }
+    }
+}
+
+impl<'a, const N: usize, const M: usize> Default for HashedMap<'a, N, M> {
+    ghost is_default = { λ map. map ≡ [] };
+
+    fn default() -> Self
+        ensures { result ≡ [] }
+    {
+        HashedMap {
+            keys: HashedTable::default(),
+            values: &[],
         }
     }
 }
@@ -189,8 +215,19 @@ impl<'a, const N: usize, const M: usize> Iterator for Entries<'a, N, M> {
     }
 
     #[tactic(auto, using(tinystr_packed::proofs::PackedMaps::map_steps))]
-    fn size_hint(&self) -> (usize, Option<usize>) {
+    fn size_hint(&self) -> (usize, Option<usize>)
+        ensures lower { IsWithinCount result.0 (at_most (length self.now)) }
+        ensures upper { IfSome result.1 (UpTo (at_most (length self.now))) }
+        ensures exact { result ≡ (length self.now, Some (length self.now)) }
+    {
         let len = self.values.len();
         (len, Some(len))
+    }
+}
+
+impl<'a, const N: usize, const M: usize> ExactSizeIterator for Entries<'a, N, M> {
+    #[tactic(auto, using(tinystr_packed::proofs::PackedMaps::map_steps))]
+    fn len(&self) -> usize {
+        self.values.len()
     }
 }

@@ -60,7 +60,7 @@ impl<'a, const N: usize> Model for HashedTable<'a, N> {
 
     ghost view = { λ s. s.table };
 
-    ghost invariant = { λ s. (0 < N) × AreOrdered s.places.pilots.now
+    ghost invariant = { λ s. (0 < length s.table → 0 < N) × AreOrdered s.places.pilots.now
         (place_in s.places.start s.places.pilots.now (map word s.places.moves.now) N (length s.table)) s.table };
 }
 
@@ -156,11 +156,15 @@ impl<'a, const N: usize> HashedTable<'a, N> {
     #[cold]
     #[inline(never)]
     fn position_by_halves(&self, key: &TinyAsciiStr<N>) -> Option<usize>
-        requires positive { 0 < N }
-        requires rising { IsRising self.now }
+        requires { IsRising self.now }
         ensures { result ≡ list.position (bytes_eq key.now) self.now }
     {
-        search(self.table.records().as_flattened(), key).ok()
+        let records = self.table.records();
+        // where there is no record, an array of `N` bytes may have no size
+        if records.is_empty() {
+            return None;
+        }
+        search(records.as_flattened(), key).ok()
     }
 
     // Whether a text is at an index. It is compared in place, since a copy would be stored before it is loaded.
@@ -199,6 +203,23 @@ impl<'a, const N: usize> HashedTable<'a, N> {
         ensures { result.now ≡ self.now }
     {
         &self.table
+    }
+}
+
+impl<'a, const N: usize> Default for HashedTable<'a, N> {
+    ghost is_default = { λ table. table ≡ [] };
+
+    fn default() -> Self
+        ensures { result ≡ [] }
+    {
+        HashedTable {
+            table: Table::default(),
+            places: Places {
+                start: 0,
+                pilots: &[],
+                moves: &[],
+            },
+        }
     }
 }
 

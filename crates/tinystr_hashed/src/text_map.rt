@@ -116,6 +116,18 @@ impl<'a, const N: usize, const M: usize> HashedTextMap<'a, N, M> {
         }
     }
 
+    /// The value of a key of any capacity, or `None` if the map doesn't have the key. Both capacities must be below 2^63.
+    pub fn find_text<const K: usize>(&self, key: &TinyAsciiStr<K>) -> Option<TinyAsciiStr<M>>
+        requires texts { N < 2 ^ 63 }
+        requires key { K < 2 ^ 63 }
+        ensures { result ≡ Spec.get self.now key.now }
+    {
+        // Its contract says that no key is longer than `N` bytes.
+        let _ = self.keys.table().len();
+        let key = key.try_resize()?;
+        self.get(&key)
+    }
+
     /// Whether the map has a key.
     pub fn contains_key(&self, key: &TinyAsciiStr<N>) -> bool
         ensures { result ≡ is_some (Spec.get self.now key.now) }
@@ -146,5 +158,18 @@ impl<'a, const N: usize, const M: usize> HashedTextMap<'a, N, M> {
         ensures bound { length result < 2 ^ 64 }
     {
         TextEntries::new(self.keys.table(), &self.values)
+    }
+}
+
+impl<'a, const N: usize, const M: usize> Default for HashedTextMap<'a, N, M> {
+    ghost is_default = { λ map. map ≡ [] };
+
+    fn default() -> Self
+        ensures { result ≡ [] }
+    {
+        HashedTextMap {
+            keys: HashedTable::default(),
+            values: Table::default(),
+        }
     }
 }

@@ -1,7 +1,8 @@
 //! Searches for many keys.
 
-ghost use Rattle.std.specs.Prelude.{◌≡◌, ◌+◌, ◌<◌, ◌≤◌, ◌-◌, All, IfNone, IfSome, List, ℕ, drop, length, map};
-ghost use Rattle.std.specs.Iterator.{YieldsFirst, item_count};
+ghost use Rattle.std.specs.Prelude.{◌≡◌, ◌+◌, ◌<◌, ◌≤◌, ◌-◌, All, IfNone, IfSome, List, ℕ, drop, length, map, Some};
+ghost use Rattle.std.specs.Iterator.{YieldsFirst, item_count, UpTo, at_most};
+ghost use Rattle.std.specs.Iterator.SizeHint.{IsWithinCount};
 ghost use Rattle.tinystr_words.specs.Text.{IsPaddedText, text_of};
 ghost use Rattle.tinystr_packed.specs.Rising.{text_at, IsRising};
 ghost use Rattle.tinystr_packed.specs.Search.{search_result};
@@ -165,7 +166,11 @@ impl<'a, 'k, const N: usize> Iterator for BinarySearchEach<'a, 'k, N> {
         Some(self.answers[0])
     }
 
-    fn size_hint(&self) -> (usize, Option<usize>) {
+    fn size_hint(&self) -> (usize, Option<usize>)
+        ensures lower { IsWithinCount result.0 (at_most (length self.now)) }
+        ensures upper { IfSome result.1 (UpTo (at_most (length self.now))) }
+        ensures exact { result ≡ (length self.now, Some (length self.now)) }
+    {
         let len = self.len();
         (len, Some(len))
     }

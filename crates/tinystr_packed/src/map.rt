@@ -1,7 +1,8 @@
 //! Maps whose keys and values are packed, read in place.
 
-ghost use Rattle.std.specs.Prelude.{◌≡◌, ◌<◌, ◌^◌, ◌↔◌, [], List, ℕ, filter, is_some, length, map, nat_eq, IsOk, IsTrue, IfOk, IfErr};
-ghost use Rattle.std.specs.Iterator.{YieldsFirstBy, item_count};
+ghost use Rattle.std.specs.Prelude.{◌≡◌, ◌<◌, ◌^◌, ◌↔◌, [], List, ℕ, filter, is_some, length, map, nat_eq, IsOk, IsTrue, IfOk, IfErr, IfSome, Some};
+ghost use Rattle.std.specs.Iterator.{YieldsFirstBy, item_count, UpTo, at_most};
+ghost use Rattle.std.specs.Iterator.SizeHint.{IsWithinCount};
 ghost use Rattle.std.specs.List.{starts_with};
 ghost use Rattle.std.specs.Map.{keys_of, values_of};
 ghost use Rattle.std.specs.Option.{option_copied};
@@ -11,6 +12,7 @@ ghost use Rattle.tinystr_packed.specs.Reading.{map_of};
 ghost use Rattle.tinystr_packed.specs.Rising.{IsRising};
 
 use crate::each::BinarySearchEach;
+use crate::laws;
 use crate::sorted::{NotRising, SortedTable};
 use crate::table::{Table, Texts};
 use std::marker::Model;
@@ -151,6 +153,23 @@ impl<'a, const N: usize, const M: usize> PackedMap<'a, N, M> {
         }
     }
 
+    /// The value of a key of any capacity, or `None` if the map doesn't have the key. Both capacities must be below 2^63.
+    ///
+    /// ```rust
+    /// let places = PackedMap::<3, 1>::new(b"EURJPY", &[2, 0]).unwrap();
+    /// assert_eq!(rt; places.find_text(&tinystr!(8, "JPY")?), Some(&[0]));
+    /// assert_eq!(rt; places.find_text(&tinystr!(8, "JPYEN")?), None);
+    /// ```
+    pub fn find_text<const K: usize>(&self, key: &TinyAsciiStr<K>) -> Option<&'a [u8; M]>
+        requires texts { N < 2 ^ 63 }
+        requires key { K < 2 ^ 63 }
+        ensures { option_copied result ≡ Spec.get self.now key.now }
+    {
+        laws::map_keys(self);
+        let key = key.try_resize()?;
+        self.get(&key)
+    }
+
     /// Whether the map has a key.
     pub fn contains_key(&self, key: &TinyAsciiStr<N>) -> bool
         ensures { result ≡ is_some (Spec.get self.now key.now) }
@@ -207,6 +226,19 @@ impl<'a, const N: usize, const M: usize> PackedMap<'a, N, M> {
     }
 }
 
+impl<'a, const N: usize, const M: usize> Default for PackedMap<'a, N, M> {
+    ghost is_default = { λ map. map ≡ [] };
+
+    fn default() -> Self
+        ensures { result ≡ [] }
+    {
+        PackedMap {
+            keys: SortedTable::default(),
+            values: &[],
+        }
+    }
+}
+
 /// An iterator over the entries of a map, in the order of their keys. A contract sees it as the list of the
 /// remaining ones.
 ///
@@ -246,9 +278,20 @@ impl<'a, const N: usize, const M: usize> Iterator for Entries<'a, N, M> {
     }
 
     #[tactic(auto, using(crate::proofs::PackedMaps::map_steps))]
-    fn size_hint(&self) -> (usize, Option<usize>) {
+    fn size_hint(&self) -> (usize, Option<usize>)
+        ensures lower { IsWithinCount result.0 (at_most (length self.now)) }
+        ensures upper { IfSome result.1 (UpTo (at_most (length self.now))) }
+        ensures exact { result ≡ (length self.now, Some (length self.now)) }
+    {
         let len = self.values.len();
         (len, Some(len))
+    }
+}
+
+impl<'a, const N: usize, const M: usize> ExactSizeIterator for Entries<'a, N, M> {
+    #[tactic(auto, using(crate::proofs::PackedMaps::map_steps))]
+    fn len(&self) -> usize {
+        self.values.len()
     }
 }
 
@@ -292,7 +335,11 @@ impl<'a, 'k, const N: usize, const M: usize> Iterator for GetEach<'a, 'k, N, M> 
         }
     }
 
-    fn size_hint(&self) -> (usize, Option<usize>) {
+    fn size_hint(&self) -> (usize, Option<usize>)
+        ensures lower { IsWithinCount result.0 (at_most (length self.now)) }
+        ensures upper { IfSome result.1 (UpTo (at_most (length self.now))) }
+        ensures exact { result ≡ (length self.now, Some (length self.now)) }
+    {
         self.answers.size_hint()
     }
 }

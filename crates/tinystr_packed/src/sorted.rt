@@ -1,6 +1,6 @@
 //! Tables whose texts are strictly ascending, and the search in them.
 
-ghost use Rattle.std.specs.Prelude.{◌≡◌, ◌<◌, ◌≤◌, ◌-◌, ◌^◌, ◌↔◌, ℕ, List, IsOk, IsSome, IsTrue, IfOk, IfErr, IfSome, Some, Contains, drop, filter, length, map, nat_eq, slice_get, take};
+ghost use Rattle.std.specs.Prelude.{[], ◌≡◌, ◌<◌, ◌≤◌, ◌-◌, ◌^◌, ◌↔◌, ℕ, List, IsOk, IsSome, IsTrue, IfOk, IfErr, IfSome, Some, Contains, drop, filter, length, map, nat_eq, slice_get, take};
 ghost use Rattle.std.specs.List.{starts_with};
 ghost use Rattle.std.specs.Result.{result_ok};
 ghost use Rattle.tinystr_packed.specs.Reading.{sorted_of, sorted_table_of};
@@ -214,5 +214,17 @@ impl<'a, const N: usize> SortedTable<'a, N> {
         let (_, rest) = records.split_at(start);
         let len = count_with_prefix(rest, beginning);
         start..start + len
+    }
+}
+
+impl<'a, const N: usize> Default for SortedTable<'a, N> {
+    ghost is_default = { λ table. table ≡ [] };
+
+    fn default() -> Self
+        ensures { result ≡ [] }
+    {
+        SortedTable {
+            table: Table::default(),
+        }
     }
 }

@@ -1,7 +1,8 @@
 //! Tables of packed records, and the iterator over their texts.
 
 ghost use Rattle.std.specs.Prelude.{◌≡◌, ◌<◌, ◌≤◌, ◌↔◌, ◌^◌, ◌-◌, [], length, map, take, drop, All, IsOk, IsNone, IfSome, IsTrue, IfOk, IfErr, Some, slice_get, slice_index_or};
-ghost use Rattle.std.specs.Iterator.{YieldsFirst, item_count};
+ghost use Rattle.std.specs.Iterator.{YieldsFirst, item_count, UpTo, at_most};
+ghost use Rattle.std.specs.Iterator.SizeHint.{IsWithinCount};
 ghost use Rattle.std.specs.List.{flat_map};
 ghost use Rattle.std.specs.Result.{result_ok};
 ghost use Rattle.tinystr_words.specs.Packed.{IsPacked};
@@ -181,6 +182,16 @@ impl<'a, const N: usize> Table<'a, N> {
     }
 }
 
+impl<'a, const N: usize> Default for Table<'a, N> {
+    ghost is_default = { λ table. table ≡ [] };
+
+    fn default() -> Self
+        ensures { result ≡ [] }
+    {
+        Table { records: &[] }
+    }
+}
+
 /// An iterator over the texts of a table, in order. A contract sees it as the list of the remaining ones.
 ///
 /// ```rust
@@ -217,8 +228,18 @@ impl<'a, const N: usize> Iterator for Texts<'a, N> {
         Some(TinyAsciiStr::from_utf8_unchecked(*raw))
     }
 
-    fn size_hint(&self) -> (usize, Option<usize>) {
+    fn size_hint(&self) -> (usize, Option<usize>)
+        ensures lower { IsWithinCount result.0 (at_most (length self.now)) }
+        ensures upper { IfSome result.1 (UpTo (at_most (length self.now))) }
+        ensures exact { result ≡ (length self.now, Some (length self.now)) }
+    {
         let len = self.records.len();
         (len, Some(len))
+    }
+}
+
+impl<'a, const N: usize> ExactSizeIterator for Texts<'a, N> {
+    fn len(&self) -> usize {
+        self.records.len()
     }
 }

@@ -1,7 +1,8 @@
 //! Maps whose keys and values are packed texts, read in place.
 
-ghost use Rattle.std.specs.Prelude.{◌≡◌, ◌<◌, ◌^◌, ◌↔◌, [], List, ℕ, filter, is_some, length, nat_eq, zip, IsOk, IsTrue, IfOk, IfErr};
-ghost use Rattle.std.specs.Iterator.{YieldsFirst, item_count};
+ghost use Rattle.std.specs.Prelude.{◌≡◌, ◌<◌, ◌^◌, ◌↔◌, [], List, ℕ, filter, is_some, length, nat_eq, zip, IsOk, IsTrue, IfOk, IfErr, IfSome, Some};
+ghost use Rattle.std.specs.Iterator.{YieldsFirst, item_count, UpTo, at_most};
+ghost use Rattle.std.specs.Iterator.SizeHint.{IsWithinCount};
 ghost use Rattle.std.specs.List.{starts_with};
 ghost use Rattle.std.specs.Map.{keys_of, values_of};
 ghost use Rattle.std.specs.Result.{result_ok};
@@ -10,6 +11,7 @@ ghost use Rattle.tinystr_packed.specs.Reading.{text_map_of};
 ghost use Rattle.tinystr_packed.specs.Rising.{IsRising};
 ghost use Rattle.tinystr_packed.specs.TextMap.{ArePackedTexts, RefusesTextMap};
 
+use crate::laws;
 use crate::sorted::{SortedError, SortedTable};
 use crate::table::{Table, Texts};
 use std::marker::Model;
@@ -124,6 +126,23 @@ impl<'a, const N: usize, const M: usize> TextMap<'a, N, M> {
         }
     }
 
+    /// The value of a key of any capacity, or `None` if the map doesn't have the key. Both capacities must be below 2^63.
+    ///
+    /// ```rust
+    /// let currencies = TextMap::<2, 3>::new(b"CHJP", b"CHFJPY").unwrap();
+    /// assert_eq!(rt; currencies.find_text(&tinystr!(8, "JP")?), Some(tinystr!(3, "JPY")?));
+    /// assert_eq!(rt; currencies.find_text(&tinystr!(8, "JPN")?), None);
+    /// ```
+    pub fn find_text<const K: usize>(&self, key: &TinyAsciiStr<K>) -> Option<TinyAsciiStr<M>>
+        requires texts { N < 2 ^ 63 }
+        requires key { K < 2 ^ 63 }
+        ensures { result ≡ Spec.get self.now key.now }
+    {
+        laws::text_map_texts(self);
+        let key = key.try_resize()?;
+        self.get(&key)
+    }
+
     /// Whether the map has a key.
     pub fn contains_key(&self, key: &TinyAsciiStr<N>) -> bool
         ensures { result ≡ is_some (Spec.get self.now key.now) }
@@ -173,6 +192,19 @@ impl<'a, const N: usize, const M: usize> TextMap<'a, N, M> {
         ensures bound { length result < 2 ^ 64 }
     {
         TextEntries::new(self.keys.table(), &self.values)
+    }
+}
+
+impl<'a, const N: usize, const M: usize> Default for TextMap<'a, N, M> {
+    ghost is_default = { λ map. map ≡ [] };
+
+    fn default() -> Self
+        ensures { result ≡ [] }
+    {
+        TextMap {
+            keys: SortedTable::default(),
+            values: Table::default(),
+        }
     }
 }
 
@@ -235,7 +267,18 @@ impl<'a, const N: usize, const M: usize> Iterator for TextEntries<'a, N, M> {
     }
 
     #[tactic(auto, using(crate::proofs::PackedMaps::map_steps))]
-    fn size_hint(&self) -> (usize, Option<usize>) {
+    fn size_hint(&self) -> (usize, Option<usize>)
+        ensures lower { IsWithinCount result.0 (at_most (length self.now)) }
+        ensures upper { IfSome result.1 (UpTo (at_most (length self.now))) }
+        ensures exact { result ≡ (length self.now, Some (length self.now)) }
+    {
         self.keys.size_hint()
+    }
+}
+
+impl<'a, const N: usize, const M: usize> ExactSizeIterator for TextEntries<'a, N, M> {
+    #[tactic(auto, using(crate::proofs::PackedMaps::map_steps))]
+    fn len(&self) -> usize {
+        self.keys.len()
     }
 }

@@ -133,6 +133,31 @@ impl<'a, const N: usize, const M: usize> HashedMap<'a, N, M> {
         }
     }
 
+    /// The value of a key of any capacity, or `None` if the map doesn't have the key. Both capacities must be below 2^63.
+    ///
+    /// # Panics
+    ///
+    /// Where `N` is above `isize::MAX` or `K` is above `isize::MAX`.
+    ///
+    /// # [Contract](crate::definitions)
+    /// <details>
+    ///
+    /// ```text
+    /// requires texts { N < 2 ^ 63 }
+    /// requires key { K < 2 ^ 63 }
+    /// ensures { option_copied result ≡ get self.now key.now }
+    /// ```
+    /// </details>
+    #[must_use]
+    pub fn find_text<const K: usize>(&self, key: &TinyAsciiStr<K>) -> Option<&'a [u8; M]> {
+        assert!(N <= isize::MAX as usize, "no array is so long");
+        assert!(K <= isize::MAX as usize, "no array is so long");
+        // Its contract says that no key is longer than `N` bytes.
+        let _ = self.keys.table().len();
+        let key = key.try_resize()?;
+        self.get(&key)
+    }
+
     /// Whether the map has a key.
     ///
     /// # [Contract](crate::definitions)
@@ -194,6 +219,17 @@ impl<'a, const N: usize, const M: usize> HashedMap<'a, N, M> {
     }
 }
 
+impl<'a, const N: usize, const M: usize> Default for HashedMap<'a, N, M> {
+    // Proved:
+    //     ensures { result ≡ [] }
+    fn default() -> Self {
+        HashedMap {
+            keys: HashedTable::default(),
+            values: &[],
+        }
+    }
+}
+
 /// An iterator over the entries of a map, in the order of its keys.
 ///
 /// ```
@@ -225,8 +261,18 @@ impl<'a, const N: usize, const M: usize> Iterator for Entries<'a, N, M> {
         Some((key, value))
     }
 
+    // Proved:
+    //     ensures lower { IsWithinCount result.0 (at_most (length self.now)) }
+    //     ensures upper { IfSome result.1 (UpTo (at_most (length self.now))) }
+    //     ensures exact { result ≡ (length self.now, Some (length self.now)) }
     fn size_hint(&self) -> (usize, Option<usize>) {
         let len = self.values.len();
         (len, Some(len))
+    }
+}
+
+impl<'a, const N: usize, const M: usize> ExactSizeIterator for Entries<'a, N, M> {
+    fn len(&self) -> usize {
+        self.values.len()
     }
 }

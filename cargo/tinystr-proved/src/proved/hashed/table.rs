@@ -175,13 +175,17 @@ impl<'a, const N: usize> HashedTable<'a, N> {
 
     // The index of a text in a table without pilots. It isn't inlined, since few tables are.
     // Proved:
-    //     requires positive { 0 < N }
-    //     requires rising { IsRising self.now }
+    //     requires { IsRising self.now }
     //     ensures { result ≡ position (bytes_eq key.now) self.now }
     #[cold]
     #[inline(never)]
     fn position_by_halves(&self, key: &TinyAsciiStr<N>) -> Option<usize> {
-        search(self.table.records().as_flattened(), key).ok()
+        let records = self.table.records();
+        // where there is no record, an array of `N` bytes may have no size
+        if records.is_empty() {
+            return None;
+        }
+        search(records.as_flattened(), key).ok()
     }
 
     // Whether a text is at an index. It is compared in place, since a copy would be stored before it is loaded.
@@ -247,6 +251,21 @@ impl<'a, const N: usize> HashedTable<'a, N> {
     #[must_use]
     pub const fn table(&self) -> &Table<'a, N> {
         &self.table
+    }
+}
+
+impl<'a, const N: usize> Default for HashedTable<'a, N> {
+    // Proved:
+    //     ensures { result ≡ [] }
+    fn default() -> Self {
+        HashedTable {
+            table: Table::default(),
+            places: Places {
+                start: 0,
+                pilots: &[],
+                moves: &[],
+            },
+        }
     }
 }
 

@@ -137,6 +137,31 @@ impl<'a, const N: usize, const M: usize> HashedTextMap<'a, N, M> {
         }
     }
 
+    /// The value of a key of any capacity, or `None` if the map doesn't have the key. Both capacities must be below 2^63.
+    ///
+    /// # Panics
+    ///
+    /// Where `N` is above `isize::MAX` or `K` is above `isize::MAX`.
+    ///
+    /// # [Contract](crate::definitions)
+    /// <details>
+    ///
+    /// ```text
+    /// requires texts { N < 2 ^ 63 }
+    /// requires key { K < 2 ^ 63 }
+    /// ensures { result ≡ get self.now key.now }
+    /// ```
+    /// </details>
+    #[must_use]
+    pub fn find_text<const K: usize>(&self, key: &TinyAsciiStr<K>) -> Option<TinyAsciiStr<M>> {
+        assert!(N <= isize::MAX as usize, "no array is so long");
+        assert!(K <= isize::MAX as usize, "no array is so long");
+        // Its contract says that no key is longer than `N` bytes.
+        let _ = self.keys.table().len();
+        let key = key.try_resize()?;
+        self.get(&key)
+    }
+
     /// Whether the map has a key.
     ///
     /// # [Contract](crate::definitions)
@@ -192,5 +217,16 @@ impl<'a, const N: usize, const M: usize> HashedTextMap<'a, N, M> {
     #[must_use]
     pub const fn iter(&self) -> TextEntries<'a, N, M> {
         TextEntries::new(self.keys.table(), &self.values)
+    }
+}
+
+impl<'a, const N: usize, const M: usize> Default for HashedTextMap<'a, N, M> {
+    // Proved:
+    //     ensures { result ≡ [] }
+    fn default() -> Self {
+        HashedTextMap {
+            keys: HashedTable::default(),
+            values: Table::default(),
+        }
     }
 }

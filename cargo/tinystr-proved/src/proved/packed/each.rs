@@ -142,6 +142,10 @@ impl<'a, 'k, const N: usize> Iterator for BinarySearchEach<'a, 'k, N> {
         Some(self.answers[0])
     }
 
+    // Proved:
+    //     ensures lower { IsWithinCount result.0 (at_most (length self.now)) }
+    //     ensures upper { IfSome result.1 (UpTo (at_most (length self.now))) }
+    //     ensures exact { result ≡ (length self.now, Some (length self.now)) }
     fn size_hint(&self) -> (usize, Option<usize>) {
         let len = self.len();
         (len, Some(len))

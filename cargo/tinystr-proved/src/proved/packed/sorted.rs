@@ -283,3 +283,13 @@ impl<'a, const N: usize> SortedTable<'a, N> {
         start..start + len
     }
 }
+
+impl<'a, const N: usize> Default for SortedTable<'a, N> {
+    // Proved:
+    //     ensures { result ≡ [] }
+    fn default() -> Self {
+        SortedTable {
+            table: Table::default(),
+        }
+    }
+}

@@ -260,6 +260,14 @@ impl<'a, const N: usize> Table<'a, N> {
     }
 }
 
+impl<'a, const N: usize> Default for Table<'a, N> {
+    // Proved:
+    //     ensures { result ≡ [] }
+    fn default() -> Self {
+        Table { records: &[] }
+    }
+}
+
 /// An iterator over the texts of a table, in order.
 ///
 /// ```
@@ -289,8 +297,18 @@ impl<'a, const N: usize> Iterator for Texts<'a, N> {
         Some(unsafe { TinyAsciiStr::from_utf8_unchecked(*raw) }.hinted())
     }
 
+    // Proved:
+    //     ensures lower { IsWithinCount result.0 (at_most (length self.now)) }
+    //     ensures upper { IfSome result.1 (UpTo (at_most (length self.now))) }
+    //     ensures exact { result ≡ (length self.now, Some (length self.now)) }
     fn size_hint(&self) -> (usize, Option<usize>) {
         let len = self.records.len();
         (len, Some(len))
+    }
+}
+
+impl<'a, const N: usize> ExactSizeIterator for Texts<'a, N> {
+    fn len(&self) -> usize {
+        self.records.len()
     }
 }

@@ -145,6 +145,38 @@ impl<'a, const N: usize, const M: usize> TextMap<'a, N, M> {
         }
     }
 
+    /// The value of a key of any capacity, or `None` if the map doesn't have the key. Both capacities must be below 2^63.
+    ///
+    /// ```
+    /// use tinystr::tinystr;
+    /// use tinystr::packed::TextMap;
+    ///
+    /// let currencies = TextMap::<2, 3>::new(b"CHJP", b"CHFJPY").unwrap();
+    /// assert_eq!(currencies.find_text(&tinystr!(8, "JP")), Some(tinystr!(3, "JPY")));
+    /// assert_eq!(currencies.find_text(&tinystr!(8, "JPN")), None);
+    /// ```
+    ///
+    /// # Panics
+    ///
+    /// Where `N` is above `isize::MAX` or `K` is above `isize::MAX`.
+    ///
+    /// # [Contract](crate::definitions)
+    /// <details>
+    ///
+    /// ```text
+    /// requires texts { N < 2 ^ 63 }
+    /// requires key { K < 2 ^ 63 }
+    /// ensures { result ≡ get self.now key.now }
+    /// ```
+    /// </details>
+    #[must_use]
+    pub fn find_text<const K: usize>(&self, key: &TinyAsciiStr<K>) -> Option<TinyAsciiStr<M>> {
+        assert!(N <= isize::MAX as usize, "no array is so long");
+        assert!(K <= isize::MAX as usize, "no array is so long");
+        let key = key.try_resize()?;
+        self.get(&key)
+    }
+
     /// Whether the map has a key.
     ///
     /// # [Contract](crate::definitions)
@@ -232,6 +264,17 @@ impl<'a, const N: usize, const M: usize> TextMap<'a, N, M> {
     }
 }
 
+impl<'a, const N: usize, const M: usize> Default for TextMap<'a, N, M> {
+    // Proved:
+    //     ensures { result ≡ [] }
+    fn default() -> Self {
+        TextMap {
+            keys: SortedTable::default(),
+            values: Table::default(),
+        }
+    }
+}
+
 /// An iterator over the entries of a map, in the order of their keys.
 ///
 /// ```
@@ -296,7 +339,17 @@ impl<'a, const N: usize, const M: usize> Iterator for TextEntries<'a, N, M> {
         Some((key, value))
     }
 
+    // Proved:
+    //     ensures lower { IsWithinCount result.0 (at_most (length self.now)) }
+    //     ensures upper { IfSome result.1 (UpTo (at_most (length self.now))) }
+    //     ensures exact { result ≡ (length self.now, Some (length self.now)) }
     fn size_hint(&self) -> (usize, Option<usize>) {
         self.keys.size_hint()
+    }
+}
+
+impl<'a, const N: usize, const M: usize> ExactSizeIterator for TextEntries<'a, N, M> {
+    fn len(&self) -> usize {
+        self.keys.len()
     }
 }

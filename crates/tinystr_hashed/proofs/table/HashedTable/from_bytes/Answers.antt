@@ -12,7 +12,7 @@ use Rattle.tinystr_hashed.proofs.table.HashedTable.from_bytes.Goals as goal
 pub invariant_of-result : goal.invariant_of-result
 invariant_of-result g c =
     let places = c.in-Ok.parts.places in
-    (c.requires, AreOrdered-none places.pilots.now (place_in places.start places.pilots.now (map word places.moves.now) g.row.N (length c.in-Ok-new.table)) c.in-Ok-new.table (c.is_empty.ensures.0 c.if-is_empty.true))
+    (λ _. c.requires, AreOrdered-none places.pilots.now (place_in places.start places.pilots.now (map word places.moves.now) g.row.N (length c.in-Ok-new.table)) c.in-Ok-new.table (c.is_empty.ensures.0 c.if-is_empty.true))
 
 pub returns-then-is_empty : goal.returns-then-is_empty
 returns-then-is_empty g c =
@@ -32,7 +32,7 @@ first_out_of_order-requires g c =
     (omega arith, (c.requires, sized))
 
 pub invariant_of-result-in-None : goal.invariant_of-result-in-None
-invariant_of-result-in-None g c = (c.requires, c.in-None.ensures.none refl)
+invariant_of-result-in-None g c = (λ _. c.requires, c.in-None.ensures.none refl)
 
 pub returns-in-None : goal.returns-in-None
 returns-in-None g c =

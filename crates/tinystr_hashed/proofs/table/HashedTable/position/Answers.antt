@@ -1,4 +1,4 @@
-use Rattle.std.proofs.Common.{List, ℕ, ap, arith, length, map, refl, sym, ◌<◌, ◌≤◌, ◌*◌, ◌∙◌, ◌≡◌, ◌≢◌}
+use Rattle.std.proofs.Common.{List, ℕ, suc, zero, ap, arith, length, map, refl, sym, ◌^◌, ◌<◌, ◌≤◌, ◌*◌, ◌∙◌, ◌≡◌, ◌≢◌}
 use Rattle.std.specs.List.{slice_get}
 use Rattle.std.specs.declared.option.Option.TheVariants.{None, Some}
 use Rattle.std.proofs.Math.Nat.{le-mul_of_pos_right}
@@ -10,16 +10,21 @@ use Rattle.tinystr_hashed.specs.Hashing.{place_in, AreOrdered, ArePlaced}
 use Rattle.tinystr_hashed.proofs.Lookups.{AreDistinct-ordered, Contains-absent, found-exactly, position-at, position-none}
 use Rattle.tinystr_hashed.proofs.table.HashedTable.position.Goals as goal
 
+-- records of at least one byte are as many as their bytes at most
+few : (n m : ℕ) → (0 < n → 0 < m) → n * (m * 1) < 2 ^ 63 → n < 2 ^ 63
+few zero m some below = omega arith
+few (suc n) m some below = omega (arith, le-mul_of_pos_right {m = m * 1} (suc n) (omega (arith, some (omega arith))), below)
+
 pub place-requires : goal.place-requires
 place-requires g c =
-    let fewer : length c.records-count.result.now ≤ length c.records-count.result.now * (g.row.N * 1) = le-mul_of_pos_right (length c.records-count.result.now) (omega (arith, c.self.invariant.0)) in
-    (omega arith, omega (arith, fewer, c.records-count.type_inv.1))
+    let count : length c.records-count.result.now ≡ length c.self.inside.table = sym (length-map c.records-count.result.now text_of) ∙ ap (λ (l : List (List ℕ)). length l) c.records-count.ensures.texts in
+    (omega arith, few (length c.records-count.result.now) g.row.N (rw count c.self.invariant.0) c.records-count.type_inv.1)
 
 pub position_by_halves-requires : goal.position_by_halves-requires
 position_by_halves-requires g c =
     let no_pilots : ¬ (0 < length c.self.inside.places.pilots.now) = λ some. false≢true (c.in_default.ensures.exact.1 some) in
     let none : length c.self.inside.places.pilots.now ≡ 0 = omega (arith, no_pilots) in
-    (omega arith, (omega arith, (c.self.invariant.0, rw c.self.view_is at c.self.invariant.1.rising none)))
+    (omega arith, (omega arith, rw c.self.view_is at c.self.invariant.1.rising none))
 
 pub returns-in_default : goal.returns-in_default
 returns-in_default g c =

@@ -7,5 +7,5 @@ use Rattle.tinystr_hashed.proofs.table.HashedTable.position_by_halves.Goals as g
 pub returns : goal.returns
 returns g c =
     let packed : ArePackedRising c.args.self.now c.as_flattened.result.now g.row.N =
-    ArePackedRising-records c.records.result.now c.args.self.now c.as_flattened.result.now g.row.N c.records.ensures.padded (c.records.ensures.texts ∙ c.self.view_is) c.as_flattened.ensures.value c.requires.rising in
-    c.ok.ensures.value ∙ position-searched c.args.self.now c.args.key.now c.search.result c.requires.rising (c.search.ensures.searched c.args.self.now packed)
+    ArePackedRising-records c.records-records.result.now c.args.self.now c.as_flattened.result.now g.row.N c.records-records.ensures.padded (c.records-records.ensures.texts ∙ c.self.view_is) c.as_flattened.ensures.value c.requires in
+    c.ok.ensures.value ∙ position-searched c.args.self.now c.args.key.now c.search.result c.requires (c.search.ensures.searched c.args.self.now packed)
