@@ -226,6 +226,15 @@ impl<'a> TryFrom<&'a str> for LangId {
     }
 }
 
+impl From<Language> for LangId {
+    ghost from_gives = { λ language id. id ≡ language };
+
+    #[inline]
+    fn from(language: Language) -> Self {
+        Self::from_parts(language, None, None)
+    }
+}
+
 impl AsStr for LangId {
     ghost text = { λ t. t };
 

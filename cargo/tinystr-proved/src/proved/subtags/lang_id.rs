@@ -261,6 +261,13 @@ impl<'a> TryFrom<&'a str> for LangId {
     }
 }
 
+impl From<Language> for LangId {
+    #[inline]
+    fn from(language: Language) -> Self {
+        Self::from_parts(language, None, None)
+    }
+}
+
 impl fmt::Display for LangId {
     fn fmt(&self, f: &mut fmt::Formatter<'_>) -> fmt::Result {
         fmt::Display::fmt(&self.text, f)
