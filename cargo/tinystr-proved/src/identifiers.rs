@@ -108,12 +108,6 @@ impl Default for LangId {
     }
 }
 
-impl From<Language> for LangId {
-    fn from(language: Language) -> Self {
-        LangId::from_parts(language, None, None)
-    }
-}
-
 #[doc(hidden)]
 #[macro_export]
 macro_rules! __constant {

@@ -19,9 +19,18 @@ impl Random {
     }
 }
 
-/// The proved reader returns what that of constants does, which takes one subtag after another.
+/// The proved readers return what that of constants does, which takes one subtag after another.
 fn assert_read(input: &[u8]) {
     assert_eq!(LangId::try_from_utf8(input), LangId::try_from_utf8_const(input), "{:?}", String::from_utf8_lossy(input));
+    assert_eq!(LangId::from_prefix(input), prefix(input), "{:?}", String::from_utf8_lossy(input));
+}
+
+/// The longest prefix of whole subtags that is an identifier, and the rest.
+fn prefix(input: &[u8]) -> Result<(LangId, &[u8]), LangIdError> {
+    let ends = (0..=input.len()).rev().filter(|end| matches!(input.get(*end), None | Some(b'-' | b'_')));
+    let mut fronts = ends.map(|end| input.split_at(end));
+    let read = fronts.find_map(|(front, rest)| LangId::try_from_utf8_const(front).ok().map(|id| (id, rest)));
+    read.ok_or(LangIdError::InvalidLanguage)
 }
 
 /// A language, perhaps a script, perhaps a region, and sometimes another byte somewhere.

@@ -19,7 +19,7 @@ use Rattle.subtags.proofs.SplitLemmas.{subtags_after, subtags_at_first_separator
 use Rattle.subtags.proofs.TailLemmas.{few_id, short_id}
 
 -- the first subtag of the first n bytes is cut there
-first_subtag-take : (n : ℕ) (u : List ℕ) → first_subtag (take n u) ≡ take n (first_subtag u)
+pub first_subtag-take : (n : ℕ) (u : List ℕ) → first_subtag (take n u) ≡ take n (first_subtag u)
 first_subtag-take zero u = refl
 first_subtag-take (suc n) [] = refl
 first_subtag-take (suc n) (b ∷ u) = step (not (is_separator b)) _ _ (first_subtag-take n u) where

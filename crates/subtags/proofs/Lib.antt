@@ -8,4 +8,5 @@ pub mod JoinLemmas
 pub mod PlaceLemmas
 pub mod HeadLemmas
 pub mod IdentifierLemmas
+pub mod PrefixLemmas
 pub mod ForCallers

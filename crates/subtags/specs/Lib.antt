@@ -1,4 +1,5 @@
 pub mod Grammar
 pub mod Subtags
 pub mod Answers
+pub mod Prefixes
 pub mod Private

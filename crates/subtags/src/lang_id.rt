@@ -1,12 +1,14 @@
 //! Language identifiers.
 
-ghost use Rattle.std.specs.Prelude.{◌≡◌, ◌<◌, ◌+◌, ◌≤◌, length, None, ◌∷◌, Some, IsOk, IfOk, IfErr, IfSome, ◌↔◌};
+ghost use Rattle.std.specs.Prelude.{◌≡◌, ◌<◌, ◌+◌, ◌≤◌, ℕ, length, None, ◌∷◌, Some, IsOk, IfOk, IfErr, IfSome, IsTrue, ◌↔◌};
 ghost use Rattle.std.specs.Fmt.{debug_str, styled_text};
 ghost use Rattle.std.specs.Result.{result_ok};
 ghost use Rattle.tinystr.specs.Case.{lowercase, titlecase, uppercase};
-ghost use Rattle.subtags.specs.Grammar.{dash, fold_text, is_language, is_script, is_region, IsLangId, IsCanonical, canonical_text, canonical_of};
-ghost use Rattle.subtags.specs.Subtags.{IsCanonicalSubtag, language_of, script_of, region_of, join_subtags};
+ghost use Rattle.subtags.specs.Grammar.{dash, fold_text, subtags_of, is_language, is_script, is_region, IsLangId, IsCanonical, canonical_text, canonical_of};
+ghost use Rattle.subtags.specs.Subtags.{first, IsCanonicalSubtag, language_of, script_of, region_of, join_subtags};
 ghost use Rattle.subtags.specs.Answers.{refusal_of, IsLangIdRead};
+ghost use Rattle.subtags.specs.Prefixes.{is_subtag_end, IsIdPrefix, IsLongestId};
+ghost use Rattle.subtags.specs.declared.error.LangIdError.TheVariants.{InvalidLanguage};
 
 use crate::classes::{Classes, is_alphabetic};
 use crate::error::LangIdError;
@@ -89,6 +91,38 @@ impl LangId {
         Ok(LangId {
             text: text_in_case(classes.input(), end),
         })
+    }
+
+    /// Reads the longest prefix of whole subtags that is an identifier, and gives it and the rest of the input. The rest is
+    /// empty, or a separator and any bytes.
+    ///
+    /// The error is `InvalidLanguage`, and means that the first subtag isn't a language.
+    ///
+    /// ```rust
+    /// let (id, rest) = LangId::from_prefix(b"DE_at-1996")?;
+    /// assert_eq!(rt; id.as_str(), "de-AT");
+    /// assert_eq!(rt; rest, b"-1996".as_slice());
+    /// assert_eq!(rt; LangId::from_prefix(b"x-klingon"), Err(LangIdError::InvalidLanguage));
+    /// ```
+    #[tactic(auto, using(crate::proofs::PrefixLemmas::prefixes))]
+    pub fn from_prefix(code_units: &[u8]) -> Result<(Self, &[u8]), LangIdError>
+        ensures accepted { IsOk result ↔ IsTrue (is_language (first (subtags_of (fold_text code_units.now)))) }
+        ensures read { IfOk result (λ read. IsLongestId code_units.now read.0 read.1.now) }
+        ensures refusal { IfErr result (λ e. e ≡ InvalidLanguage) }
+        ensures none { IfErr result (λ _. (n : ℕ) → ¬ IsIdPrefix code_units.now n) }
+    {
+        let mut end = code_units.len().min(MOST);
+        while end > 0 {
+            if is_subtag_end(code_units, end) {
+                match Self::try_from_utf8(&code_units[..end]) {
+                    Ok(id) => return Ok((id, &code_units[end..])),
+                    Err(LangIdError::InvalidLanguage) => return Err(LangIdError::InvalidLanguage),
+                    Err(LangIdError::InvalidSubtag) => {}
+                }
+            }
+            end -= 1;
+        }
+        Err(LangIdError::InvalidLanguage)
     }
 
     /// Makes the identifier of these subtags, which its other calls give back.
@@ -192,6 +226,15 @@ impl<'a> TryFrom<&'a str> for LangId {
     }
 }
 
+impl From<Language> for LangId {
+    ghost from_gives = { λ language id. id ≡ language };
+
+    #[inline]
+    fn from(language: Language) -> Self {
+        Self::from_parts(language, None, None)
+    }
+}
+
 impl AsStr for LangId {
     ghost text = { λ t. t };
 
@@ -225,6 +268,18 @@ impl fmt::Debug for LangId {
 
     fn fmt<W: fmt::Write>(&self, f: &mut fmt::Formatter<W>) -> fmt::Result {
         fmt::Debug::fmt(&self.text, f)
+    }
+}
+
+// Whether a subtag ends at this place: the input ends there, or a separator is there.
+#[inline]
+fn is_subtag_end(code_units: &[u8], end: usize) -> bool
+    requires { end ≤ length code_units.now }
+    ensures { result ≡ is_subtag_end code_units.now end }
+{
+    match code_units.get(end) {
+        Some(byte) => *byte == b'-' || *byte == b'_',
+        None => true,
     }
 }
 

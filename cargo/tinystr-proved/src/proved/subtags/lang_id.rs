@@ -80,6 +80,46 @@ impl LangId {
         })
     }
 
+    /// Reads the longest prefix of whole subtags that is an identifier, and gives it and the rest of the input. The rest is
+    /// empty, or a separator and any bytes.
+    ///
+    /// The error is `InvalidLanguage`, and means that the first subtag isn't a language.
+    ///
+    /// ```
+    /// use tinystr::subtags::{LangId, LangIdError};
+    ///
+    /// let (id, rest) = LangId::from_prefix(b"DE_at-1996")?;
+    /// assert_eq!(id.as_str(), "de-AT");
+    /// assert_eq!(rest, b"-1996".as_slice());
+    /// assert_eq!(LangId::from_prefix(b"x-klingon"), Err(LangIdError::InvalidLanguage));
+    /// # Ok::<(), Box<dyn std::error::Error>>(())
+    /// ```
+    ///
+    /// # [Contract](crate::definitions)
+    /// <details>
+    ///
+    /// ```text
+    /// ensures accepted { IsOk result ↔ IsTrue (is_language (first (subtags_of (fold_text code_units.now)))) }
+    /// ensures read { IfOk result (λ read. IsLongestId code_units.now read.0 read.1.now) }
+    /// ensures refusal { IfErr result (λ e. e ≡ InvalidLanguage) }
+    /// ensures none { IfErr result (λ _. (n : ℕ) → ¬ IsIdPrefix code_units.now n) }
+    /// ```
+    /// </details>
+    pub fn from_prefix(code_units: &[u8]) -> Result<(Self, &[u8]), LangIdError> {
+        let mut end = code_units.len().min(MOST);
+        while end > 0 {
+            if is_subtag_end(code_units, end) {
+                match Self::try_from_utf8(&code_units[..end]) {
+                    Ok(id) => return Ok((id, &code_units[end..])),
+                    Err(LangIdError::InvalidLanguage) => return Err(LangIdError::InvalidLanguage),
+                    Err(LangIdError::InvalidSubtag) => {}
+                }
+            }
+            end -= 1;
+        }
+        Err(LangIdError::InvalidLanguage)
+    }
+
     /// Makes the identifier of these subtags, which its other calls give back.
     ///
     /// ```
@@ -221,6 +261,13 @@ impl<'a> TryFrom<&'a str> for LangId {
     }
 }
 
+impl From<Language> for LangId {
+    #[inline]
+    fn from(language: Language) -> Self {
+        Self::from_parts(language, None, None)
+    }
+}
+
 impl fmt::Display for LangId {
     fn fmt(&self, f: &mut fmt::Formatter<'_>) -> fmt::Result {
         fmt::Display::fmt(&self.text, f)
@@ -230,6 +277,18 @@ impl fmt::Display for LangId {
 impl fmt::Debug for LangId {
     fn fmt(&self, f: &mut fmt::Formatter<'_>) -> fmt::Result {
         fmt::Debug::fmt(&self.text, f)
+    }
+}
+
+// Whether a subtag ends at this place: the input ends there, or a separator is there.
+// Proved:
+//     requires { end ≤ length code_units.now }
+//     ensures { result ≡ is_subtag_end code_units.now end }
+#[inline]
+fn is_subtag_end(code_units: &[u8], end: usize) -> bool {
+    match code_units.get(end) {
+        Some(byte) => *byte == b'-' || *byte == b'_',
+        None => true,
     }
 }
 
