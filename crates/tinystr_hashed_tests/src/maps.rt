@@ -31,7 +31,8 @@ const ONE_KEY: &[u8] = b"\x01\0\0\0\0\0\0\0\0\0\0\0\0\0\0\0EUR";
 
 fn value_of(keys: &[u8], values: &[u8], key: &str) -> Option<[u8; 2]> {
     let map = HashedMap::<3, 2>::new(keys, values).ok()?;
-    map.get(&TinyAsciiStr::try_from_str(key).ok()?).copied()
+    map.find_text(&TinyAsciiStr::<8>::try_from_str(key).ok()?)
+        .copied()
 }
 
 fn is_key(keys: &[u8], values: &[u8], key: &str) -> bool {
@@ -64,7 +65,7 @@ fn each_key_has_its_value(rt: HostRuntime) {
 
 #[test]
 fn other_texts_have_no_value(rt: HostRuntime) {
-    for key in "AA|B|E|EU|EUS|FUR|eur|USA|U|JPZ|~~~".split('|') {
+    for key in "AA|B|E|EU|EUS|FUR|eur|USA|U|JPZ|~~~|EURO".split('|') {
         assert!(rt;
             is_no_key(KEYS, VALUES, key) && is_no_key(ONE_KEY, b"\x01\x02", key),
             "{key}"
@@ -80,7 +81,7 @@ fn other_texts_have_no_value(rt: HostRuntime) {
 fn entries_are_in_the_order_of_the_keys(rt: HostRuntime) {
     assert!(rt; has_entries(KEYS, VALUES, ENTRIES));
     assert!(rt; has_entries(ONE_KEY, b"\x07\x08", &[("EUR", [7, 8])]));
-    assert!(rt; has_entries(NO_KEY, b"", &[]));
+    assert!(rt; has_entries(NO_KEY, b"", &[]) && has_len(&HashedMap::default(), 0));
 }
 
 /// Whether the map has these entries in this order and no more, and each count is that of those that are left.

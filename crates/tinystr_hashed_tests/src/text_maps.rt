@@ -31,7 +31,7 @@ const ONE_KEY: &[u8] = b"\x01\0\0\0\0\0\0\0\0\0\0\0\0\0\0\0EUR";
 
 fn value_of(keys: &[u8], values: &[u8], key: &str) -> Option<TinyAsciiStr<2>> {
     let map = HashedTextMap::<3, 2>::new(keys, values).ok()?;
-    map.get(&TinyAsciiStr::try_from_str(key).ok()?)
+    map.find_text(&TinyAsciiStr::<8>::try_from_str(key).ok()?)
 }
 
 fn is_key(keys: &[u8], values: &[u8], key: &str) -> bool {
@@ -67,7 +67,7 @@ fn each_key_has_its_text(rt: HostRuntime) {
 
 #[test]
 fn other_texts_have_no_text(rt: HostRuntime) {
-    for key in "AA|B|E|EU|EUS|FUR|eur|USA|U|JPZ|~~~".split('|') {
+    for key in "AA|B|E|EU|EUS|FUR|eur|USA|U|JPZ|~~~|EURO".split('|') {
         assert!(rt;
             is_no_key(KEYS, VALUES, key) && is_no_key(ONE_KEY, b"EU", key),
             "{key}"
@@ -83,7 +83,7 @@ fn other_texts_have_no_text(rt: HostRuntime) {
 fn entries_are_the_keys_with_their_texts(rt: HostRuntime) {
     assert!(rt; has_entries(KEYS, VALUES, ENTRIES));
     assert!(rt; has_entries(ONE_KEY, b"EU", &[("EUR", "EU")]));
-    assert!(rt; has_entries(NO_KEY, b"", &[]));
+    assert!(rt; has_entries(NO_KEY, b"", &[]) && has_len(&HashedTextMap::default(), 0));
 }
 
 /// Whether the map has these entries in this order and no more, and each count is that of those that are left.

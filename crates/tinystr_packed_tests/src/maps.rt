@@ -34,10 +34,12 @@ fn have_entries(map: &PackedMap<'_, 4, 3>, texts: &TextMap<'_, 4, 3>) -> bool {
         let is_entry = entries.size_hint() == hint
             && entries.next() == Some((key, *bytes))
             && map.get(&key) == Some(*bytes)
+            && map.find_text(&key.resize::<8>()) == Some(*bytes)
             && map.contains_key(&key);
         let is_text_entry = text_entries.size_hint() == hint
             && text_entries.next() == Some((key, value))
             && texts.get(&key) == Some(value)
+            && texts.find_text(&key.resize::<8>()) == Some(value)
             && texts.contains_key(&key);
         if !is_entry || !is_text_entry {
             return false;
@@ -75,6 +77,7 @@ fn each_key_has_its_value_and_its_text(rt: HostRuntime) {
         _ => false,
     };
     assert!(rt; are_right);
+    assert!(rt; PackedMap::<4, 3>::default().is_empty() && TextMap::<4, 3>::default().is_empty());
 }
 
 // Keys and values, each with the fault for which they are rejected: the first of several.
