@@ -180,6 +180,24 @@ static void rejected_packs(void) {
     CHECK(is(tinystr_sorted_pack(NULL, 0, 3, NULL, 0), TINYSTR_OK, 0));
 }
 
+/* The codes of tinystr_hashed_pack, in their order. Each but DUPLICATE leaves `out` as it was. */
+static void rejected_hashed_packs(void) {
+    const char bytes[] = "JPYE\0RE\xff" "RAB", good[] = "JPYEURCHF", twice[] = "JPYEURJPYEUR";
+    uint8_t out[TINYSTR_HASHED_PACK_OUT(4, 3)] = {7}, scratch[TINYSTR_HASHED_PACK_SCRATCH(4, 3)];
+    CHECK(is(tinystr_hashed_pack(bytes, 11, 5, NULL, 0, NULL, 0), TINYSTR_BAD_ARGUMENT, 5));
+    CHECK(is(tinystr_hashed_pack(bytes, 11, 3, NULL, 0, NULL, 0), TINYSTR_BAD_LENGTH, 11));
+    CHECK(is(tinystr_hashed_pack(bytes, 9, 3, NULL, 0, NULL, 0), TINYSTR_NUL, 1));
+    CHECK(is(tinystr_hashed_pack(bytes + 6, 3, 3, NULL, 0, NULL, 0), TINYSTR_NON_ASCII, 0));
+    CHECK(is(tinystr_hashed_pack(good, 9, 3, NULL, 0, NULL, 0), TINYSTR_NO_ROOM, 98));
+    CHECK(is(tinystr_hashed_pack(good, 9, 3, out, 97, scratch, sizeof scratch), TINYSTR_NO_ROOM, 98));
+    CHECK(is(tinystr_hashed_pack(good, 9, 3, out, 98, NULL, 0), TINYSTR_NO_ROOM, 641));
+    CHECK(is(tinystr_hashed_pack(good, 9, 3, out, 98, scratch, 640), TINYSTR_NO_ROOM, 641) && out[0] == 7 && !out[1]);
+    CHECK(is(tinystr_hashed_pack(twice, 12, 3, out, sizeof out, scratch, sizeof scratch), TINYSTR_DUPLICATE, 2));
+    tinystr_result made = tinystr_hashed_pack(good, 9, 3, out, 98, scratch, 641);
+    CHECK(made.code == TINYSTR_OK && made.value <= 98 && is(tinystr_hashed_check(out, made.value, 3), TINYSTR_OK, 3));
+    CHECK(is(tinystr_hashed_pack(NULL, 0, 3, out, 80, scratch, 512), TINYSTR_OK, 16));
+}
+
 static tinystr_result each(const void *keys, size_t keys_len, tinystr_result *out, size_t out_len) {
     return tinystr_sorted_search_each("CADCHFEURGB\0JPY", 15, 3, keys, keys_len, out, out_len);
 }
@@ -229,6 +247,7 @@ int main(void) {
     tables();
     hashed();
     rejected_packs();
+    rejected_hashed_packs();
     many_keys();
     null_pointers();
     puts(has_failed ? "failed" : "passed");

@@ -150,6 +150,7 @@ def check_hashed(texts, keys, capacity):
     same(call("hashed_check", data, capacity), ok(len(texts)), data)
     same(call("hashed_map_check", data, capacity, bytes(4 * len(texts)), 4), ok(len(texts)), data)
     same(call("hashed_map_check", data, capacity, data, 8), error(BAD_VALUES, len(data)), data)
+    check_packed_hashed(texts, capacity)
     wanted = [ok(places[key]) if key in places else error(NOT_FOUND, 0) for key in keys]
     for key, found in zip(keys, wanted):
         field = key + bytes(random.randrange(4))
@@ -163,6 +164,18 @@ def check_hashed(texts, keys, capacity):
         other = bytes(other[: random.choice([len(data), len(data), random.randrange(len(data))])])
         code, number = hashed.checked(other, capacity)
         same(call("hashed_check", other, capacity), error(code, number) if code else ok(number), other, capacity)
+
+
+def check_packed_hashed(texts, capacity):
+    shuffled = random.sample([text.ljust(capacity, b"\0") for text in texts], len(texts))
+    out, scratch = (ctypes.create_string_buffer(512 + (len(texts) + 1) * (capacity + 40)) for _ in range(2))
+    made = hashed.packed(texts, capacity)
+    result = call("hashed_pack", b"".join(shuffled), capacity, out, scratch)
+    same((result, out.raw[: len(made)]), (ok(len(made)), made), "hashed_pack", texts)
+    if texts:
+        place = random.randrange(1, len(texts) + 1)
+        twice = [*shuffled[:place], shuffled[random.randrange(place)], *shuffled[place:]]
+        same(call("hashed_pack", b"".join(twice), capacity, out, scratch), error(DUPLICATE, place), "hashed_pack", twice)
 
 
 def main():

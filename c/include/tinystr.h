@@ -10,7 +10,7 @@
  *
  * What the caller must ensure: no call checks it, and otherwise the behaviour is undefined
  *   - A pointer whose length isn't 0 points to that many bytes (`tinystr_result *`: results) of one object, at most SSIZE_MAX
- *     bytes. All can be read. Those of `out`, of the `text` of tinystr_change_case, and of both arguments of
+ *     bytes. All can be read. Those of `out`, of `scratch`, of the `text` of tinystr_change_case, and of the records of
  *     tinystr_sorted_pack can be written too.
  *   - What a call may write overlaps no other argument: `out` overlaps no input.
  *   - While the call runs, no other thread writes these bytes, or reads those that the call may write. Any calls that keep this
@@ -226,8 +226,8 @@ tinystr_result tinystr_map_check(const void *keys, size_t keys_len, size_t capac
                                  const void *values, size_t values_len, size_t value_size);
 
 /* ---- Hashed tables: records in the order of a hash, so that a text is compared with one record, and before them numbers from
- * which a text's place, its index among the records, is computed. The repository's command tinystr-table makes them, and its
- * crates/tinystr_hashed/CALLING.md has their format. */
+ * which a text's place, its index among the records, is computed. tinystr_hashed_pack and the repository's command
+ * tinystr-table make them, and its crates/tinystr_hashed/CALLING.md has their format. */
 
 /* Whether the bytes are a hashed table. It isn't a checksum: a cut table can pass.
  *   OK                 value: how many texts.
@@ -238,6 +238,22 @@ tinystr_result tinystr_map_check(const void *keys, size_t keys_len, size_t capac
  *   NUL, NON_ASCII     detail: the index of the first record that isn't a padded text.
  *   MISPLACED          detail: the index of the first text that isn't at its place or, without pilots, above the one before. */
 tinystr_result tinystr_hashed_check(const void *bytes, size_t bytes_len, size_t capacity);
+
+/* How many bytes tinystr_hashed_pack needs of `out` and of `scratch` for `count` records. */
+#define TINYSTR_HASHED_PACK_OUT(count, capacity) (80 + (size_t)(count) * ((size_t)(capacity) + 3))
+#define TINYSTR_HASHED_PACK_SCRATCH(count, capacity) (512 + (size_t)(count) * ((size_t)(capacity) + 40))
+
+/* Packs the texts of records, no two of which may be equal, as a hashed table at the start of `out`, by the help of `scratch`.
+ * The table depends only on the set of the texts. The bytes of `out` after it, and `scratch`, end in any state.
+ *   OK                 value: how many bytes the table has.
+ *   BAD_LENGTH         detail: `bytes_len`.
+ *   NUL, NON_ASCII     detail: the index of the first record that isn't a padded text.
+ *   NO_ROOM            detail: TINYSTR_HASHED_PACK_OUT, which is above `out_len`; or, if it isn't,
+ *                      TINYSTR_HASHED_PACK_SCRATCH, which is above `scratch_len`.
+ *   DUPLICATE          detail: the index of the first record that is the same as one before it.
+ * With any code but OK and DUPLICATE, `out` is as it was; with DUPLICATE it is in any state. */
+tinystr_result tinystr_hashed_pack(const void *bytes, size_t bytes_len, size_t capacity, void *out, size_t out_len,
+                                   void *scratch, size_t scratch_len);
 
 /* Searches a text in a hashed table. The bytes aren't checked: if they are anything else, it returns
  * OK with the index of some record, or NOT_FOUND.

@@ -19,7 +19,7 @@ NAMES = {
     "tinystr::packed": "MapError NotRising PackedMap SortedError SortedTable Table TextEntries TextMap TextMapError"
     " count_texts in_place pack pack_map pack_sorted pack_text_map unpack",
     "tinystr::hashed": "HashedError HashedMap HashedMapError HashedTable HashedTextMap HashedTextMapError PackHashedError"
-    " in_place pack_hashed pack_hashed_map pack_hashed_text_map",
+    " PackIntoError in_place most_bytes pack_hashed pack_hashed_into pack_hashed_map pack_hashed_text_map scratch_bytes",
     "std::collections": "BTreeMap",
 }
 

@@ -44,7 +44,6 @@ EVERYWHERE = [
     Rule(r"^use std::collections::", "use alloc::collections::", OF_ALLOCATOR),
     Rule(r"^    alloc: Global,\n", "", OF_ALLOCATOR),
     Rule(r"\(alloc(?:: Global)?(?:, |(?=\)))", "(", OF_ALLOCATOR),
-    Rule(r", alloc: Global\b", "", OF_ALLOCATOR),
     Rule(r"vec!\[in alloc; ", "vec![", OF_ALLOCATOR),
     Rule(r" It fails only if an allocation fails\.| or an allocation fails(?=\.)", "", WANT_OF_MEMORY),
     Rule(r'(tinystr!\(\d+, "[^"]*"\))(?:\?|\.unwrap\(\))', r"\1", "`tinystr!` returns the text, or fails at compile time"),
@@ -211,13 +210,19 @@ IN_FILE = {
     ],
     "tinystr_hashed/lib.rt": [
         *of_feature("packing", "packing_maps"),
-        Rule("mod placing;", '#[cfg(feature = "alloc")]\nmod placing;', OF_FEATURE),
+        *(
+            Rule(
+                f"mod {module};",
+                f'#[cfg_attr(not(feature = "alloc"), allow(dead_code))]\nmod {module};',
+                "what allocates calls more of it",
+            )
+            for module in ("building", "placing")
+        ),
     ],
     "tinystr_hashed/packing.rt": [
         WITH_MACRO,
         Rule("    /// An allocation failed.\n    Memory,\n", "", WANT_OF_MEMORY),
     ],
-    "tinystr_hashed/placing.rt": [WITH_MACRO],
     "tinystr_words/decimal.rt": [
         Rule("for i in 0..4u32", "for _ in 0..4u32", "the proof alone names the counter"),
     ],

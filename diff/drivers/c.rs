@@ -80,6 +80,7 @@ exports! {
     sorted_prefix(In, usize, usize, In, usize) -> Range, 0x8f;
     map_check(In, usize, usize, In, usize, usize) -> Found, 0x78d;
     hashed_check(In, usize, usize) -> Found, 0xf18d;
+    hashed_pack(In, usize, usize, Out, usize, Out, usize) -> Found, 0x101cd;
     hashed_search(In, usize, usize, In, usize) -> Found, 0x88f;
     hashed_search_each(In, usize, usize, In, usize, *mut Found, usize) -> Found, 0x1cd;
     hashed_map_check(In, usize, usize, In, usize, usize) -> Found, 0xf58d;
@@ -197,6 +198,14 @@ fn any_call(function: Function, library: &Library, random: &mut Random) -> Call 
             let mut texts = records(random, n);
             texts.truncate(MOST / n);
             call.first = spoiled(random, padded(&texts, n));
+            if function == Function::hashed_pack {
+                let count = random.below(6);
+                let texts: Vec<Vec<u8>> = (0..count).map(|_| key(random, &texts, n)).collect();
+                call.first = spoiled(random, padded(&texts, n));
+                call.out_len = 80 + count * (n + 3) - random.below(2);
+                call.size = 512 + count * (n + 40) - random.below(2);
+                return call;
+            }
             if function == Function::sorted_pack {
                 let texts: Vec<Vec<u8>> = (0..random.below(12)).map(|_| key(random, &texts, n)).collect();
                 call.first = spoiled(random, padded(&texts, n));
@@ -255,6 +264,10 @@ fn answer(library: &Library, function: Function, call: &Call, (first, second): (
             }
             Function::map_check => (library.map_check)(a, a_len, n, b, b_len, size),
             Function::hashed_check => (library.hashed_check)(a, a_len, n),
+            Function::hashed_pack => {
+                let mut scratch = vec![7; size];
+                (library.hashed_pack)(a, a_len, n, out, call.out_len, scratch.as_mut_ptr(), size)
+            }
             Function::hashed_search => (library.hashed_search)(a, a_len, n, b, b_len),
             Function::hashed_search_each => (library.hashed_search_each)(a, a_len, n, b, b_len, results, call.out_len),
             Function::hashed_map_check => (library.hashed_map_check)(a, a_len, n, b, b_len, size),

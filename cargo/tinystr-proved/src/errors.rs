@@ -4,7 +4,7 @@ use crate::error::ParseError;
 use crate::forms::{BytesReadError, FormWriteError};
 #[cfg(feature = "alloc")]
 use crate::hashed::PackHashedError;
-use crate::hashed::{HashedError, HashedMapError, HashedTextMapError};
+use crate::hashed::{HashedError, HashedMapError, HashedTextMapError, PackIntoError};
 use crate::packed::{MapError, NotRising, SortedError, TextMapError};
 use crate::ule::UleError;
 use core::error::Error;
@@ -138,3 +138,15 @@ impl<const N: usize> Display for PackHashedError<N> {
 
 #[cfg(feature = "alloc")]
 impl<const N: usize> Error for PackHashedError<N> {}
+
+impl Display for PackIntoError {
+    fn fmt(&self, f: &mut Formatter<'_>) -> Result {
+        match self {
+            PackIntoError::Out => write!(f, "there is too little room for the table"),
+            PackIntoError::Scratch => write!(f, "there is too little scratch"),
+            PackIntoError::Duplicate { index } => write!(f, "text {index} is equal to one before it"),
+        }
+    }
+}
+
+impl Error for PackIntoError {}

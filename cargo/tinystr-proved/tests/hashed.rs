@@ -2,9 +2,9 @@
 #![cfg(feature = "alloc")]
 
 use std::collections::{BTreeMap, HashMap, HashSet};
-use tinystr::hashed::{HashedError, HashedMap, HashedTable, HashedTextMap, PackHashedError};
-use tinystr::hashed::{in_place, pack_hashed, pack_hashed_map, pack_hashed_text_map};
-use tinystr::packed::pack_sorted;
+use tinystr::hashed::{HashedError, HashedMap, HashedTable, HashedTextMap, PackHashedError, PackIntoError};
+use tinystr::hashed::{in_place, most_bytes, pack_hashed, pack_hashed_into, pack_hashed_map, pack_hashed_text_map, scratch_bytes};
+use tinystr::packed::{Table, pack, pack_sorted};
 use tinystr::{TinyAsciiStr, tinystr};
 
 /// The header of a table without pilots.
@@ -93,12 +93,23 @@ fn maps_of_currencies_agree_with_a_map_of_std() {
     }
 }
 
+/// The table that is made in memory of the caller, of just the size that it takes.
+fn packed_into<const N: usize>(texts: &[TinyAsciiStr<N>]) -> Result<Vec<u8>, PackIntoError> {
+    let records = pack(texts);
+    let mut out = vec![7; most_bytes(texts.len(), N)];
+    let mut scratch = vec![7; scratch_bytes(texts.len(), N)];
+    let len = pack_hashed_into(&Table::<N>::new(&records).unwrap(), &mut out, &mut scratch)?;
+    out.truncate(len);
+    Ok(out)
+}
+
 #[test]
 fn a_text_that_occurs_twice_is_not_packed() {
     let texts = countries();
     for text in &texts {
         let twice = [texts.as_slice(), &[*text]].concat();
         assert_eq!(pack_hashed(&twice), Err(PackHashedError::Duplicate { text: *text }));
+        assert_eq!(packed_into(&twice), Err(PackIntoError::Duplicate { index: texts.len() }));
     }
     let none = tinystr!(2, "");
     assert_eq!(pack_hashed(&[none, none]), Err(PackHashedError::Duplicate { text: none }));
@@ -152,7 +163,9 @@ fn random_texts_agree<const N: usize>() {
     let mut seed = 0x9e37_79b9 + N as u64;
     for count in [1, 2, 3, 50, 1000] {
         let texts: HashSet<TinyAsciiStr<N>> = (0..count).map(|_| random_text(&mut seed)).collect();
-        let bytes = pack_hashed(&texts.iter().copied().collect::<Vec<_>>()).unwrap();
+        let packed: Vec<_> = texts.iter().copied().collect();
+        let bytes = pack_hashed(&packed).unwrap();
+        assert_eq!(packed_into(&packed), Ok(bytes.clone()));
         let others: Vec<_> = (0..count).map(|_| random_text(&mut seed)).collect();
         agrees(&bytes, &texts, texts.iter().copied().chain(others));
     }
@@ -205,6 +218,7 @@ fn packs_as<const N: usize>(texts: impl IntoIterator<Item = String>, digest: u64
     for _ in 0..2 {
         let bytes = pack_hashed(&texts).unwrap();
         assert_eq!((digest_of(&bytes), bytes.len()), (digest, len));
+        assert_eq!(packed_into(&texts), Ok(bytes.clone()));
         agrees(&bytes, &texts.iter().copied().collect(), texts.iter().copied());
         texts.reverse();
     }

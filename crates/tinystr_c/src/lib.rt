@@ -19,7 +19,7 @@ ghost use Rattle.tinystr_c.specs.Codes.{bad_argument, no_range, VERSION};
 ghost use Rattle.tinystr_c.specs.Hashed.{ChecksHashed, ChecksHashedMap, SearchesHashed, SearchesHashedEach};
 ghost use Rattle.tinystr_c.specs.Langid.{langid_answer, langid_bytes};
 ghost use Rattle.tinystr_c.specs.Messages.{message_answer, message_bytes};
-ghost use Rattle.tinystr_c.specs.Packing.{PacksSorted};
+ghost use Rattle.tinystr_c.specs.Packing.{PacksHashed, PacksSorted};
 ghost use Rattle.tinystr_c.specs.Tables.{IsCapacity, IsValueSize, ChecksTable, ChecksSorted, ChecksMap, Searches, SearchesEach, FindsPrefix};
 ghost use Rattle.tinystr_c.specs.Texts.{without_nuls, read_answer, read_bytes, ask_answer, case_answer, case_bytes};
 
@@ -28,7 +28,7 @@ use answer::{bad_argument, no_range};
 use hashed::{hashed_check, hashed_map_check, hashed_search, hashed_search_each};
 use key::without_nuls;
 use packed::{map_check, sorted_check, sorted_prefix, sorted_search, table_check};
-use packing::sorted_pack;
+use packing::{hashed_pack, sorted_pack};
 use search_each::sorted_search_each;
 
 // Calls a function at one of the capacities of records, or returns another value.
@@ -228,6 +228,29 @@ pub extern "C" fn tinystr_hashed_check(bytes: &[u8], capacity: usize) -> Tinystr
     ensures checked { IsCapacity capacity → ChecksHashed result bytes.now capacity }
 {
     at_capacity!(capacity, hashed_check, bad_argument(capacity), bytes)
+}
+
+/// Packs the texts of packed records, no two of which may be equal, as a hashed table at the start of `out`. The value is how
+/// many bytes it has. `out` and `scratch` must have room, and end with any other bytes. An error but DUPLICATE leaves `out` as it
+/// was.
+#[unsafe(no_mangle)]
+pub extern "C" fn tinystr_hashed_pack(
+    bytes: &[u8],
+    capacity: usize,
+    out: &mut [u8],
+    scratch: &mut [u8],
+) -> TinystrResult
+    ensures capacity { ¬ IsCapacity capacity → (result ≡ bad_argument capacity) × (out.new ≡ out.old) }
+    ensures packed { IsCapacity capacity → PacksHashed result bytes.now out.old out.new (length scratch.old) capacity }
+{
+    at_capacity!(
+        capacity,
+        hashed_pack,
+        bad_argument(capacity),
+        bytes,
+        out,
+        scratch
+    )
 }
 
 /// The index of a text, which may have NULs after it, in a hashed table, or that the table doesn't have it. The bytes aren't

@@ -9,3 +9,4 @@ pub mod Marks
 pub mod Packs
 pub mod Placed
 pub mod SortedTables
+mod SortedRecords

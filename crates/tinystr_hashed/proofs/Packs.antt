@@ -82,7 +82,7 @@ occurs_twice-moved : (texts sorted : List (List ℕ)) (t : List ℕ) → IsPermu
 occurs_twice-moved texts sorted t moved twice = rw (← sum_by-IsPermutation (λ s. cond (bytes_eq t s) 1 0) texts sorted moved) twice
 
 -- sorted texts that aren't equal to the next are each below it
-rises : (t s : List ℕ) (o : Ordering) → o ≡ slice_cmp nat_cmp t s → is_lt (slice_cmp nat_cmp s t) ≡ false → t ≢ s → o ≡ Less
+pub rises : (t s : List ℕ) (o : Ordering) → o ≡ slice_cmp nat_cmp t s → is_lt (slice_cmp nat_cmp s t) ≡ false → t ≢ s → o ≡ Less
 rises t s Less is up differ = refl
 rises t s Equal is up differ = absurd (differ ((bytes_eq-Decides t s).0 (sym (is_eq-slice_cmp t s) ∙ ap is_eq (sym is))))
 rises t s Greater is up differ =

@@ -4,3 +4,5 @@ pub mod Map
 pub mod TextMap
 pub mod Packing
 pub mod PackingMaps
+pub mod PackingInto
+pub mod Private

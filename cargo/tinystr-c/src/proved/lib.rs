@@ -15,7 +15,7 @@ use answer::{bad_argument, no_range};
 use hashed::{hashed_check, hashed_map_check, hashed_search, hashed_search_each};
 use key::without_nuls;
 use packed::{map_check, sorted_check, sorted_prefix, sorted_search, table_check};
-use packing::sorted_pack;
+use packing::{hashed_pack, sorted_pack};
 use search_each::sorted_search_each;
 
 // Calls a function at one of the capacities of records, or returns another value.
@@ -413,6 +413,46 @@ pub unsafe extern "C" fn tinystr_hashed_check(
     // SAFETY: the caller meets the conditions that `tinystr.h` documents.
     let bytes = unsafe { slices::slice(bytes, bytes_len) };
     at_capacity!(capacity, hashed_check, bad_argument(capacity), bytes)
+}
+
+/// Packs the texts of packed records, no two of which may be equal, as a hashed table at the start of `out`. The value is how
+/// many bytes it has. `out` and `scratch` must have room, and end with any other bytes. An error but DUPLICATE leaves `out` as it
+/// was.
+///
+/// # Contract
+///
+/// ```text
+/// ensures capacity { ¬ IsCapacity capacity → (result ≡ bad_argument capacity) × (out.new ≡ out.old) }
+/// ensures packed { IsCapacity capacity → PacksHashed result bytes.now out.old out.new (length scratch.old) capacity }
+/// ```
+///
+/// # Safety
+///
+/// The caller must meet the conditions that `tinystr.h` documents.
+#[unsafe(no_mangle)]
+pub unsafe extern "C" fn tinystr_hashed_pack(
+    bytes: *const u8,
+    bytes_len: usize,
+    capacity: usize,
+    out: *mut u8,
+    out_len: usize,
+    scratch: *mut u8,
+    scratch_len: usize,
+) -> TinystrResult {
+    // SAFETY: the caller meets the conditions that `tinystr.h` documents.
+    let bytes = unsafe { slices::slice(bytes, bytes_len) };
+    // SAFETY: the caller meets the conditions that `tinystr.h` documents.
+    let out = unsafe { slices::slice_mut(out, out_len) };
+    // SAFETY: the caller meets the conditions that `tinystr.h` documents.
+    let scratch = unsafe { slices::slice_mut(scratch, scratch_len) };
+    at_capacity!(
+        capacity,
+        hashed_pack,
+        bad_argument(capacity),
+        bytes,
+        out,
+        scratch
+    )
 }
 
 /// The index of a text, which may have NULs after it, in a hashed table, or that the table doesn't have it. The bytes aren't

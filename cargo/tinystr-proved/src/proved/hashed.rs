@@ -2,14 +2,17 @@
 //! Hashed tables: packed records in the order of a hash, so that a key is looked up in one record. Their bytes are checked
 //! once, and then read in place.
 
+#[cfg_attr(not(feature = "alloc"), allow(dead_code))]
+mod building;
 mod hashing;
 pub mod in_place;
 mod map;
 #[cfg(feature = "alloc")]
 mod packing;
+mod packing_into;
 #[cfg(feature = "alloc")]
 mod packing_maps;
-#[cfg(feature = "alloc")]
+#[cfg_attr(not(feature = "alloc"), allow(dead_code))]
 mod placing;
 mod table;
 mod text_map;
@@ -17,6 +20,7 @@ mod text_map;
 pub use map::{Entries, HashedMap, HashedMapError};
 #[cfg(feature = "alloc")]
 pub use packing::{PackHashedError, pack_hashed};
+pub use packing_into::{PackIntoError, most_bytes, pack_hashed_into, scratch_bytes};
 #[cfg(feature = "alloc")]
 pub use packing_maps::{pack_hashed_map, pack_hashed_text_map};
 pub use table::{HashedError, HashedTable};

@@ -1,6 +1,6 @@
 use Rattle.std.proofs.Common.{◌≤◌, ◌*◌, arith, length}
 use Rattle.std.proofs.Math.Nat.{le-mul_of_pos_right}
-use Rattle.tinystr_hashed.proofs.packing.write_records.Goals as goal
+use Rattle.tinystr_hashed.proofs.building.put_records.Goals as goal
 
 pub place_of_hash-requires : goal.place_of_hash-requires
 place_of_hash-requires g c =
