@@ -26,11 +26,14 @@ def headline(cargo: Results, cargo_v2: Results, jobs: Results, c: Results) -> st
     rows = [
         ("what", "time", "compared with"),
         ("---", "---", "---"),
-        ("Cargo: a call over a list", f"{full:.2f} (full texts), {mixed:.2f} (mixed lengths)", "`tinystr` 0.8.5"),
-        ("Cargo: a call of one value", f"{full_alone:.2f}, {mixed_alone:.2f}", "the same"),
+        (
+            "Cargo: a call over a list; of one value",
+            f"{full:.2f} (full texts), {mixed:.2f} (mixed lengths); {full_alone:.2f}, {mixed_alone:.2f}",
+            "`tinystr` 0.8.5",
+        ),
         (f"Cargo: the worst case, {call}, at capacity {capacity}", f"{ratio:.1f}", "the same"),
-        ("C, built by the kit: a search in a sorted table", f"{bsearch:.2f}", "`bsearch` with `memcmp`"),
-        ("C, built by the kit: a language identifier", f"{by_hand:.2f}; {icu:.2f}", "a parser by hand; ICU, which does more"),
+        ("C (the kit's build): a search in a sorted table", f"{bsearch:.2f}", "`bsearch`"),
+        ("C (the kit's build): a language identifier", f"{by_hand:.2f}; {icu:.2f}", "a parser by hand; ICU, which does more"),
         ("Rattle: a whole job", range_text(jobs, jobs.times, THERE), "the job in Rust"),
     ]
     return "".join(f"| {' | '.join(row)} |\n" for row in rows)

@@ -25,17 +25,47 @@ static int is_no_range(tinystr_range r, uint32_t code, size_t detail) {
 }
 static int is_filled(tinystr_result r) { return r.value == 77 && r.code == 77 && r.detail == 77; }
 
+/* Whether bytes that were all 7 have a text and NULs up to a length, or are as they were where there is no text. */
+static int is_written(const uint8_t *out, const char *text, size_t out_len) {
+    size_t k, len = text ? strlen(text) : 0;
+    for (k = 0; k <= TINYSTR_LANGID_ROOM; k++)
+        if (out[k] != (k < len ? text[k] : text && k < out_len ? 0 : 7)) return 0;
+    return 1;
+}
+
+/* Of each input and length of `out` the canonical text, and the result of tinystr_langid_parts; tinystr_langid tells no place. */
+#define NO_TEXT(code, detail, subtag) NULL, {0, code, detail, subtag, 0, 0, 0, 0, 0}
 static void langids(void) {
-    static const char longest[] = "abcdefgh-Latn-419";
-    uint8_t out[TINYSTR_LANGID_ROOM];
-    CHECK(is(tinystr_langid("ZH_hANT-tw", 10, out, sizeof out), TINYSTR_OK, 10) && !strcmp((char *)out, "zh-Hant-TW"));
-    CHECK(is(tinystr_langid(longest, 17, out, sizeof out), TINYSTR_OK, 17) && !strcmp((char *)out, longest));
-    CHECK(sizeof longest == TINYSTR_LANGID_ROOM);
-    memset(out, 7, sizeof out);
-    CHECK(is(tinystr_langid(longest, 17, out, 16), TINYSTR_NO_ROOM, 17) && out[0] == 7);
-    CHECK(is(tinystr_langid("e", 1, out, sizeof out), TINYSTR_INVALID_LANGUAGE, 0) && out[0] == 7);
-    CHECK(is(tinystr_langid("en-US-posix", 11, out, sizeof out), TINYSTR_INVALID_SUBTAG, 0) && out[0] == 7);
-    CHECK(is(tinystr_langid("en-US", 5, out, 5), TINYSTR_OK, 5) && !memcmp(out, "en-US\7", 6));
+    static const struct {
+        const char *input;
+        size_t out_len;
+        const char *text;
+        tinystr_parts parts;
+    } rows[] = {
+        {"ZH_hANT-tw", TINYSTR_LANGID_ROOM, "zh-Hant-TW", {10, TINYSTR_OK, 0, 0, 2, 3, 4, 8, 2}},
+        {"abcdefgh-Latn-419", TINYSTR_LANGID_ROOM, "abcdefgh-Latn-419", {17, TINYSTR_OK, 0, 0, 8, 9, 4, 14, 3}},
+        {"sr-latn", 7, "sr-Latn", {7, TINYSTR_OK, 0, 0, 2, 3, 4, 0, 0}},
+        {"EN_us", 5, "en-US", {5, TINYSTR_OK, 0, 0, 2, 0, 0, 3, 2}},
+        {"QQQ", 4, "qqq", {3, TINYSTR_OK, 0, 0, 3, 0, 0, 0, 0}},
+        {"abcdefgh-Latn-419", 16, NO_TEXT(TINYSTR_NO_ROOM, 17, 0)},
+        {"abcd-US", 0, NO_TEXT(TINYSTR_INVALID_LANGUAGE, 0, 0)},
+        {"en-", TINYSTR_LANGID_ROOM, NO_TEXT(TINYSTR_INVALID_SUBTAG, 3, 1)},
+        {"en-US-posix", TINYSTR_LANGID_ROOM, NO_TEXT(TINYSTR_INVALID_SUBTAG, 6, 2)},
+        {"abcdefgh-Latn-419_x", 0, NO_TEXT(TINYSTR_INVALID_SUBTAG, 18, 3)},
+    };
+    size_t k;
+    for (k = 0; k < sizeof rows / sizeof *rows; k++) {
+        const char *input = rows[k].input;
+        uint8_t out[TINYSTR_LANGID_ROOM + 1];
+        tinystr_parts parts;
+        tinystr_result r;
+        parts = tinystr_langid_parts(input, strlen(input), memset(out, 7, sizeof out), rows[k].out_len);
+        CHECK(!memcmp(&parts, &rows[k].parts, sizeof parts) && is_written(out, rows[k].text, rows[k].out_len));
+        r = tinystr_langid(input, strlen(input), memset(out, 7, sizeof out), rows[k].out_len);
+        CHECK(r.value == parts.value && r.code == parts.code && r.detail == (r.code == TINYSTR_NO_ROOM ? parts.detail : 0));
+        CHECK(is_written(out, rows[k].text, rows[k].out_len));
+    }
+    CHECK(sizeof "abcdefgh-Latn-419" == TINYSTR_LANGID_ROOM);
 }
 
 /* Each code has a text of its own, which ends inside TINYSTR_MESSAGE_ROOM. */
@@ -225,6 +255,7 @@ static void many_keys(void) {
 /* NULL with no bytes, as each pointer. */
 static void null_pointers(void) {
     CHECK(is(tinystr_langid(NULL, 0, NULL, 0), TINYSTR_INVALID_LANGUAGE, 0));
+    CHECK(tinystr_langid_parts(NULL, 0, NULL, 0).code == TINYSTR_INVALID_LANGUAGE);
     CHECK(is(tinystr_read(NULL, 0, NULL, 0), TINYSTR_OK, 0));
     CHECK(is(tinystr_ask(NULL, 0, TINYSTR_NUMERIC), TINYSTR_OK, 1));
     CHECK(is(tinystr_change_case(NULL, 0, TINYSTR_UPPER), TINYSTR_OK, 0));

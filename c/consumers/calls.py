@@ -19,7 +19,6 @@ AWKWARD = (
     "zh_hANT-tw|abcdefgh-latn-419|abcdefgh-latn-4199|en-US-posix|en_Latn_US_x|a|abcd|abcdefghi|es-419|es-41|-|en-|_en|en--US"
     "|EN_us|Ωmega|né|üb|a\x7f|\x01|qqq|z|419|A1|a b||a\0b"
 ).split("|")
-LANGUAGE = re.compile(rb"(?:[a-z]{2,3}|[a-z]{5,8})", re.I)
 IDENTIFIER = re.compile(
     rb"(?P<language>[a-z]{2,3}|[a-z]{5,8})(?:[-_](?P<script>[a-z]{4}))?(?:[-_](?P<region>[a-z]{2}|[0-9]{3}))?", re.I
 )
@@ -31,7 +30,7 @@ def ok(value):
 
 
 def error(code, detail):
-    return 0, code, detail
+    return 0, code, min(detail, 2**32 - 1)
 
 
 class Result(ctypes.Structure):
@@ -42,8 +41,13 @@ class Range(ctypes.Structure):
     _fields_ = [("start", ctypes.c_size_t), ("count", ctypes.c_size_t), ("code", ctypes.c_uint32), ("detail", ctypes.c_uint32)]
 
 
+class Parts(ctypes.Structure):
+    PLACES = "subtag", "language_len", "script_start", "script_len", "region_start", "region_len"
+    _fields_ = [*Result._fields_, *((place, ctypes.c_size_t) for place in PLACES)]
+
+
 LIBRARY = ctypes.CDLL(sys.argv[1])
-RESULTS = {"version": ctypes.c_uint32, "sorted_prefix": Range}
+RESULTS = {"version": ctypes.c_uint32, "sorted_prefix": Range, "langid_parts": Parts}
 count = 0
 
 
@@ -74,11 +78,17 @@ def check_identifier(word):
     if found := IDENTIFIER.fullmatch(word):
         texts = found["language"].lower(), (found["script"] or b"").capitalize(), (found["region"] or b"").upper()
         text = b"-".join(text for text in texts if text)
-        wanted = ok(len(text)), text
+        starts = (max(found.start(name), 0) for name in ("script", "region"))
+        wanted = ok(len(text))
+        places = 0, len(texts[0]), next(starts), len(texts[1]), next(starts), len(texts[2])
     else:
-        is_language = LANGUAGE.fullmatch(re.split(b"[-_]", word)[0])
-        wanted = error(INVALID_SUBTAG if is_language else INVALID_LANGUAGE, 0), b""
-    same((call("langid", word, out), out.value), wanted, "langid", word)
+        text, subtags = b"", re.split(b"[-_]", word)
+        count = next(count for count in range(9) if not IDENTIFIER.fullmatch(b"-".join(subtags[: count + 1])))
+        wanted = error(INVALID_SUBTAG if count else INVALID_LANGUAGE, sum(len(subtag) + 1 for subtag in subtags[:count]))
+        places = count, 0, 0, 0, 0, 0
+    same((call("langid_parts", word, out), out.value), ((*wanted, *places), text), "langid_parts", word)
+    out.value = b""
+    same((call("langid", word, out), out.value), ((*wanted[:2], 0), text), "langid", word)
 
 
 def check_messages():

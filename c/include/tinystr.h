@@ -31,8 +31,8 @@
  *
  * NULs after a text
  *   A key, a prefix, and the text of tinystr_ask and tinystr_change_case may have any number of NULs after them, which don't
- *   count: the field `char code[4]` that holds "GB\0\0" can be passed with its length 4. tinystr_read and tinystr_langid read
- *   strings, in which each NUL is a fault.
+ *   count: the field `char code[4]` that holds "GB\0\0" can be passed with its length 4. tinystr_read, tinystr_langid and
+ *   tinystr_langid_parts read strings, in which each NUL is a fault.
  *
  * Words
  *   text          bytes from 1 to 127, none or more
@@ -113,6 +113,19 @@ typedef struct tinystr_range {
     uint32_t detail;
 } tinystr_range;
 
+/* What tinystr_langid_parts lists. Every other field is 0. */
+typedef struct tinystr_parts {
+    size_t value;
+    uint32_t code;
+    uint32_t detail;
+    size_t subtag;
+    size_t language_len;
+    size_t script_start;
+    size_t script_len;
+    size_t region_start;
+    size_t region_len;
+} tinystr_parts;
+
 /* The version of the linked library, as TINYSTR_VERSION. */
 uint32_t tinystr_version(void);
 
@@ -137,6 +150,17 @@ tinystr_result tinystr_message(uint32_t code, void *out, size_t out_len);
  *   NO_ROOM            detail: the length of the text, which is above `out_len`.
  * With any code but OK, `out` is as it was. */
 tinystr_result tinystr_langid(const void *input, size_t input_len, void *out, size_t out_len);
+
+/* Does the same, and tells where the subtags are, or which one isn't accepted.
+ *   OK                 value: the length of the text. The language is its first `language_len` bytes, the script
+ *                      `script_len` bytes from byte `script_start` on, and the region `region_len` from `region_start` on.
+ *                      The places in `input` are the same.
+ *   INVALID_LANGUAGE   detail: 0.
+ *   INVALID_SUBTAG     subtag: the index of the first subtag that can't follow those before it: 1, 2 or 3.
+ *                      detail: the index in `input` of its first byte, or `input_len` if it is empty and the last.
+ *   NO_ROOM            detail: the length of the text, which is above `out_len`.
+ * With any code but OK, `out` is as it was. */
+tinystr_parts tinystr_langid_parts(const void *input, size_t input_len, void *out, size_t out_len);
 
 /* Reads a text of at most `out_len` bytes, and writes it padded. `out_len` is the capacity, of at most 16.
  *   OK                 value: the length of the text.

@@ -1,21 +1,31 @@
 """Functions that constants call: proved ones once more, in a hand-written frame that names them.
 
 A line '//= FILE: `NAMES`' of the frame is replaced by the functions of these names in a made file, and '//= FILE, ITEM: `NAMES`'
-by those of one item. Each becomes a `pub const fn` without its comment; rules change what a `const fn` can't do.
+by those of one item, with `free` before the names if they are no methods here. Each becomes a `pub const fn` without its comment,
+in what a `const fn` can do.
 """
 
 import re
 
 from eraser import Stopped
+from lib.rattle import Tokens
 
 # The frame, and the name by which its rules are listed.
 FRAME = "cargo/eraser/in_constants.rs"
 NAME = "tinystr_words/in_constants.rt"
-MARK = re.compile(r"^( *)//= (?P<file>\S+\.rs)(?:, (?P<item>.*))?: `(?P<names>[\w ]+)`\n", re.M)
+MARK = re.compile(r"^( *)//= (?P<file>\S+\.rs)(?:, (?P<item>.*?))?: (?P<free>free )?`(?P<names>[\w ]+)`\n", re.M)
 HEAD = r"( *)(?:pub(?:\(crate\))? )?(?:const )?fn "
 # An item, and a function that has a body, with its attributes: each ends at the first brace as far in as its head.
 ITEM = r"^()%s \{\n(?:.*\n)*?\}\n"
 FUNCTION = rf"(?:^ *#\[.*\]\n)*^{HEAD}%s\b.*[^;]\n(?:.*\n)*?\1\}}\n"
+# The frame names the code unit by a type `U`, and its trait's functions are free.
+OF_UNITS = [
+    (r"<U: CodeUnit>", ""),
+    (r"<U: CodeUnit, |(?<=::)<U, ", "<"),
+    (r"\bU::(?=\w)", ""),
+    (r"([\w\[\]]+)\.(code|is_character|low_byte)\(\)", r"\2(\1)"),
+    (r"<(u\d+) as Word<\d+>>::load\(", r"Load::<\1>::load("),
+]
 
 
 def with_functions(frame: str, made: dict[str, str]) -> str:
@@ -24,7 +34,8 @@ def with_functions(frame: str, made: dict[str, str]) -> str:
     def functions(mark: re.Match) -> str:
         file = mark["file"]
         text = only(ITEM, mark["item"], made[file], file) if mark["item"] else made[file]
-        return "\n".join(placed(only(FUNCTION, name, text, file), mark[1]) for name in mark["names"].split())
+        found = (only(FUNCTION, name, text, file) for name in mark["names"].split())
+        return "\n".join(placed(without_self(it) if mark["free"] else it, mark[1]) for it in found)
 
     return MARK.sub(functions, frame)
 
@@ -37,8 +48,55 @@ def only(pattern: str, name: str, text: str, file: str) -> str:
     return found[0][0]
 
 
+def without_self(method: str) -> str:
+    """A method of a code unit as a function of one."""
+    return re.sub(r"\bself\b", "unit", re.sub(r"(fn \w+)\(self\)", r"\1(unit: U)", method))
+
+
 def placed(function: str, indent: str) -> str:
     """A function as a constant can call it, where the line is that names it."""
     own = re.match(" *", function)[0]
-    text = re.sub(f"^{HEAD}", r"\1pub const fn ", function, count=1, flags=re.M)
+    for old, new in OF_UNITS:
+        function = re.sub(old, new, function)
+    text = re.sub(f"^{HEAD}", r"\1pub const fn ", as_const(function), count=1, flags=re.M)
     return re.sub(f"^{own}(?=.)", indent, text, flags=re.M)
+
+
+PART = re.compile(r"(?P<lent>&mut |&)?\b(?P<of>\w+)\[(?P<start>[^\[\]]*?)\.\.(?P<end>[^\[\]]*)\]")
+FROM = re.compile(r"\b(?P<type>u\d+)::from\(")
+CALLED = re.compile(r"\(.*\)\Z")
+LEAST = re.compile(r"(\b\w[\w.]*(?:\(\))?)\.min\(([\w.]+(?:\(\))?)\)")
+OVER_RANGE = re.compile(r"^( *)for (\w+) in (\w+)\.\.(.+) \{\n((?:.*\n)*?)\1\}\n", re.M)
+OVER_SLICE = re.compile(r"^( *)for (\w+) in (\w+) \{\n", re.M)
+
+
+def as_const(text: str) -> str:
+    """The text without what a `const fn` can't call: traits, so an index by a range, `for`, `min` and `from`."""
+    text = OVER_RANGE.sub(r"\1let mut \2 = \3;\n\1while \2 < \4 {\n\5\1    \2 += 1;\n\1}\n", text)
+    text = OVER_SLICE.sub(r"\1let mut rest = \3;\n\1while let &[\2, ref after @ ..] = rest {\n\1    rest = after;\n", text)
+    text = LEAST.sub(r"crate::ranges::least(\1, \2)", text)
+    return without_from(PART.sub(part, text))
+
+
+def part(found: re.Match) -> str:
+    """A part of a slice or an array, whose ends were an index by a range. The whole was that of an array."""
+    if not found["start"] + found["end"]:
+        return f"&mut {found['of']}" if found["lent"] == "&mut " else f"{found['of']}.as_slice()"
+    split = "split_at" if found["lent"] == "&" else "split_at_mut"
+    end = f".{split}({found['end']}).0" if found["end"] else ""
+    start = f".{split}({found['start']}).1" if found["start"] else ""
+    return found["of"] + end + start
+
+
+def without_from(text: str) -> str:
+    """The text with `as` for `from` of numbers."""
+    while found := FROM.search(text):
+        rest = Tokens(text[found.end() - 1 :])
+        end = rest.after_bracket(0)
+        number, after = rest.joined(1, end - 1), rest.joined(end, len(rest))
+        # a name, an element or a call takes no brackets
+        cast = f"{number if ' ' not in re.sub(CALLED, '', number) else f'({number})'} as {found['type']}"
+        # before a `<` the type would seem to have parameters
+        cast = f"({cast})" if after.startswith(" <") else cast
+        text = text[: found.start()] + cast + after
+    return text

@@ -1,11 +1,13 @@
-//! The questions and the changes of case as constants can call them. A `const fn` calls no trait, so the proved functions of
-//! `word`, `kernel`, `int_ops` and `padded` are here once more, with those of the trait `Word` as functions of a type, for each
-//! width. Each has the contract that the function of its name has there.
+//! What constants call of the proved functions of `word`, `kernel`, `code_unit`, `int_ops`, `padded` and `ascii::strict`. A
+//! `const fn` calls no trait, so they are here once more, with those of the traits `Word` and `CodeUnit` as functions of a type:
+//! for each width, and for each code unit. Each has the contract that the function of its name has there.
 
-use crate::ranges::{part, part_mut};
+use crate::ascii::TinyAsciiStr;
+use crate::error::ParseError;
 use crate::simd::u64x2;
+use crate::words::code_unit::CHARACTERS;
 use crate::words::kernel::{DIGIT, LOWER, NOT_NUL, Range, UPPER};
-use crate::words::padded::{Width, width_of};
+use crate::words::padded::{Width, resize_at_once, width_of};
 use crate::words::question::{Case, Question};
 use crate::words::word::{HALF, halves, joined, whole};
 
@@ -19,26 +21,29 @@ pub struct Aligned<T, const LEN: usize> {
     word: T,
 }
 
-/// Writes functions out for each width: `T` is the word, and `LEN` the number of its bytes.
+/// Writes functions out for each width: `T` is the word, `Number` what it holds, and `LEN` the number of its bytes.
 macro_rules! for_each_width {
     ($($functions:tt)*) => {
-        mod four {
+        pub mod four {
             use super::*;
-            type T = Word<u32>;
+            type T = Word<Number>;
+            type Number = u32;
             const LEN: usize = 4;
             $($functions)*
         }
 
-        mod eight {
+        pub mod eight {
             use super::*;
-            type T = Word<u64>;
+            type T = Word<Number>;
+            type Number = u64;
             const LEN: usize = 8;
             $($functions)*
         }
 
-        mod sixteen {
+        pub mod sixteen {
             use super::*;
-            type T = Word<u128>;
+            type T = Word<Number>;
+            type Number = u128;
             const LEN: usize = 16;
             $($functions)*
         }
@@ -53,37 +58,47 @@ for_each_width! {
     }
 
     impl Aligned<T, LEN> {
-        //= words/int_ops.rs: `from_ascii_bytes from_padded ask each_in none_in each_letter each_letter_or_digit in_case`
+        //= words/int_ops.rs: `from_ascii_bytes from_padded to_bytes`
+
+        //= words/int_ops.rs: `ask each_in none_in each_letter each_letter_or_digit in_case`
     }
 }
 
 impl Word<u32> {
-    //= words/word.rs, impl Word<4> for u32: `from_le_bytes to_bytes_in_registers load plus and or xor not`
+    //= words/word.rs, impl Word<4> for u32: `from_le_bytes to_bytes_in_registers plus and or xor not`
 
     //= words/word.rs, impl Word<4> for u32: `high_bits_as_case_bits equals`
 
     //= words/word.rs, pub trait Word<const LEN: usize>: Copy: `to_bytes_in_memory`
+
+    #[inline(always)]
+    pub const fn load(src: &[u8]) -> Self {
+        Word(bytes::Load::<u32>::load(src))
+    }
 }
 
 impl Word<u64> {
-    //= words/word.rs, impl Word<8> for u64: `from_le_bytes to_bytes_in_registers load plus and or xor not`
+    //= words/word.rs, impl Word<8> for u64: `from_le_bytes to_bytes_in_registers plus and or xor not`
 
     //= words/word.rs, impl Word<8> for u64: `high_bits_as_case_bits equals`
 
     //= words/word.rs, pub trait Word<const LEN: usize>: Copy: `to_bytes_in_memory`
+
+    #[inline(always)]
+    pub const fn load(src: &[u8]) -> Self {
+        Word(bytes::Load::<u64>::load(src))
+    }
 }
 
 impl Word<u128> {
-    //= words/word.rs, impl Word<16> for u128: `from_le_bytes to_bytes_in_memory load plus and or xor not`
+    //= words/word.rs, impl Word<16> for u128: `from_le_bytes to_bytes_in_registers to_bytes_in_memory`
 
-    //= words/word.rs, impl Word<16> for u128: `high_bits_as_case_bits equals`
-}
+    //= words/word.rs, impl Word<16> for u128: `plus and or xor not high_bits_as_case_bits equals`
 
-/// `load` of less than a word for changes of case. It is inlined first, so that the bytes need no copy in memory.
-struct Rest;
-
-impl Rest {
-    //= words/word.rs, impl Word<16> for u128: `load`
+    #[inline(always)]
+    pub const fn load(src: &[u8]) -> Self {
+        Word(bytes::Late::load(src))
+    }
 }
 
 /// Past sixteen bytes, word by word.
@@ -97,6 +112,44 @@ type Aligned4 = Aligned<Word<u32>, 4>;
 type Aligned8 = Aligned<Word<u64>, 8>;
 type Aligned16 = Aligned<Word<u128>, 16>;
 
-//= words/code_unit.rs, impl CodeUnit for u8: `word_of_four`
-
 //= words/padded.rs: `ask put_in_case`
+
+/// The readers of bytes.
+pub mod bytes {
+    use super::*;
+    type U = u8;
+
+    //= words/code_unit.rs, impl CodeUnit for u8: free `code is_character low_byte as_bytes word_of_four eight_low_bytes`
+
+    //= words/code_unit.rs: `are_characters is_text_by_ends is_text`
+
+    /// The lowest bytes of code units, as a number.
+    pub struct Load<T>(T);
+
+    impl Load<u32> {
+        //= words/word.rs, impl Word<4> for u32: `load`
+    }
+
+    impl Load<u64> {
+        //= words/word.rs, impl Word<8> for u64: `load`
+    }
+
+    impl Load<u128> {
+        //= words/word.rs, impl Word<16> for u128: `load`
+    }
+
+    /// That of 16 bytes for questions, which take an instruction more if it is inlined first.
+    pub struct Late;
+
+    impl Late {
+        //= words/word.rs, impl Word<16> for u128: `load`
+    }
+
+    for_each_width! {
+        //= words/int_ops.rs: `try_from_text`
+    }
+
+    //= words/padded/code_units.rs: `byte_or read_piece read_pair read_many read_all put_low_bytes low_bytes`
+
+    //= ascii/strict.rs: `read read_pieces find_fault fault`
+}

@@ -26,7 +26,7 @@ PRIVATE_FILE = "tinystr/short_input.rt"
 CONST = {
     "tinystr/ascii.rt": ["default() -> Self", "from_padded("],
     "tinystr/ascii/views.rt": ["is_empty(", "get_byte(", "all_bytes("],
-    "tinystr/ascii/readers.rt": ["from_utf8_unchecked("],
+    "tinystr/ascii/readers.rt": ["try_from_str(", "try_from_utf8(", "from_utf8_unchecked("],
     "tinystr/ascii/resize.rt": ["resize<"],
     "tinystr/forms.rt": ["to_bytes(&self) -> [u8; N]"],
     "tinystr/ule.rt": ["niche_bit_pattern("],
@@ -48,9 +48,12 @@ CONST = {
         *(f"to_ascii_{word}case(" for word in ("lower", "title", "upper")),
     ],
     "tinystr_words/padded.rt": ["width_of("],
-    "tinystr_words/padded/copying.rt": ["put(", "resize<"],
+    "tinystr_words/padded/copying.rt": ["put(", "resize<", "resize_at_once<", "append("],
     "tinystr_words/question.rt": ["of_later_words(", "of_later_words("],
 }
+
+# Files whose functions are all `const`.
+CONST_FILES = {"tinystr_words/padded/copying.rt"}
 
 # The number of calls of the one `unsafe fn`, by file. The condition of each is proved, except in an example.
 UNSAFE_CALLS = {"tinystr/ascii/readers.rt": 1, "tinystr_packed/table.rt": 2}

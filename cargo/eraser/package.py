@@ -11,7 +11,7 @@ from eraser.examples import with_doc_tests, with_shown_examples
 from eraser.fields import with_fields
 from eraser.ghosts import without_ghosts
 from eraser.items import with_derives, without_items
-from eraser.modules import EXPORTED, MODULES, PRIVATE, PRIVATE_FILE, with_paths, with_signatures
+from eraser.modules import CONST_FILES, EXPORTED, MODULES, PRIVATE, PRIVATE_FILE, with_paths, with_signatures
 from eraser.rules import EVERYWHERE, IN_FILE, Rules
 from lib.rattle import unmatched_bracket
 
@@ -54,6 +54,7 @@ class Package:
         text = with_folds(text) if is_shown else text
         text = with_derives(text, file)
         text = with_fields(self.rules.apply(without_allocation_errors(with_paths(text, crate)), file), file)
+        text = constants.as_const(text) if file in CONST_FILES else text
         text = with_signatures(text, file, is_private)
         text = with_shown_examples(text, file) if is_private else with_doc_tests(text, file)
         return finished(text, file)

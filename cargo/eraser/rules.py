@@ -120,6 +120,8 @@ IN_FILE = {
         Rule("padded::equals(&self.bytes, &other.bytes)", "padded::equals(self.as_array(), other.as_array())", OF_BYTES),
     ],
     "tinystr/ascii/readers.rt": [
+        Rule("use crate::words::{CodeUnit, padded};", "use crate::words::{CodeUnit, in_constants, padded};", OF_CONST_CALLS),
+        Rule("strict::read::<u8, N>(", "in_constants::bytes::read::<N>(", OF_CONST_CALLS),
         Rule("it runs: the condition is\n    /// proved at the call.", "it\n    /// runs.", NOT_PROVED_HERE),
     ],
     "tinystr/forms.rt": [
@@ -139,16 +141,16 @@ IN_FILE = {
         Rule("padded::ask(", "in_constants::ask(", OF_CONST_CALLS),
         Rule("padded::put_in_case(", "in_constants::put_in_case(", OF_CONST_CALLS),
     ],
-    "tinystr/ascii/views.rt": [
-        Rule("pub fn get(", "pub fn get_byte(", NAMED_AS_STR),
-        Rule(".get(", ".get_byte(", NAMED_AS_STR, 2),
-        Rule("// proved: these bytes", "// SAFETY: proved: these bytes", "Rust's word for why a block is sound"),
-    ],
     "tinystr/ascii/strict.rt": [
         Rule("from_padded(padded::low_bytes(units))", "from_padded(padded::low_bytes(units)).hinted_in_result()", HINTED),
         Rule(
             "    Ok(TinyAsciiStr::from_padded(bytes))\n", "    Ok(TinyAsciiStr::from_padded(bytes).hinted_in_result())\n", HINTED
         ),
+    ],
+    "tinystr/ascii/views.rt": [
+        Rule("pub fn get(", "pub fn get_byte(", NAMED_AS_STR),
+        Rule(".get(", ".get_byte(", NAMED_AS_STR, 2),
+        Rule("// proved: these bytes", "// SAFETY: proved: these bytes", "Rust's word for why a block is sound"),
     ],
     "tinystr_packed/sorted.rt": [
         Rule(
@@ -226,20 +228,6 @@ IN_FILE = {
     "tinystr_words/decimal.rt": [
         Rule("for i in 0..4u32", "for _ in 0..4u32", "the proof alone names the counter"),
     ],
-    "tinystr_words/padded/copying.rt": [
-        Rule("bytes.len().min(src.len())", "crate::ranges::least(bytes.len(), src.len())", IN_CONSTANTS),
-        Rule(
-            "bytes[at..at + 8].copy_from_slice(&src[at..at + 8])",
-            "crate::ranges::part_mut(bytes, at, at + 8).copy_from_slice(crate::ranges::part(src, at, at + 8))",
-            IN_CONSTANTS,
-        ),
-        Rule(
-            "bytes[at..len].copy_from_slice(&src[at..len])",
-            "crate::ranges::part_mut(bytes, at, len).copy_from_slice(crate::ranges::part(src, at, len))",
-            IN_CONSTANTS,
-        ),
-        Rule("put(&mut resized[..], bytes)", "put(&mut resized, bytes)", IN_CONSTANTS),
-    ],
     "tinystr_words/word.rt": [
         Rule("const HALF:", "pub(crate) const HALF:", OF_CONSTANTS),
         *(Rule(f"fn {name}(", f"pub(crate) const fn {name}(", OF_CONSTANTS) for name in ("halves", "joined", "whole")),
@@ -251,8 +239,6 @@ IN_FILE = {
         *(Rule(f"(self, other: {word})", "(self, other: Self)", OF_WIDTHS, 5) for word in WORDS),
         *(Rule(f"Self) -> {word} {{", "Self) -> Self {", OF_WIDTHS, 4) for word in WORDS),
         *(Rule(f"(self) -> {word} {{", "(self) -> Self {", OF_WIDTHS, 2) for word in WORDS),
-        *(Rule(f"load<U: CodeUnit>(src: &[U]) -> {word} {{", "load(src: &[u8]) -> Self {", OF_WIDTHS) for word in WORDS[:2]),
-        Rule("load<U: CodeUnit>(src: &[U]) -> u128 {", "load(src: &[u8]) -> Word<u128> {", OF_WIDTHS, 2),
         *(
             Rule(
                 f"]) -> {word} {{\n        {word}::from_le_bytes(*bytes)",
@@ -281,49 +267,44 @@ IN_FILE = {
             IN_CONSTANTS,
         ),
         # words of bytes
-        Rule("return 0;", "return Word(0);", OF_WIDTHS),
-        Rule("return U::word_of_four(src);", "return Word(word_of_four(src));", OF_WIDTHS),
-        Rule(
-            "u32::from(src[0].low_byte())\n            | u32::from(src[middle].low_byte()) << (8 * middle)\n"
-            "            | u32::from(src[last].low_byte()) << (8 * last)",
-            "Word(src[0] as u32 | (src[middle] as u32) << (8 * middle) | (src[last] as u32) << (8 * last))",
-            IN_CONSTANTS,
+        Rule("(self >> ", "(self.0 >> ", OF_WIDTHS, 4),
+        Rule("(self % ", "(self.0 % ", OF_WIDTHS, 2),
+        Rule("(self / ", "(self.0 / ", OF_WIDTHS),
+        *(
+            Rule(f"&Word::to_bytes_in_registers({half})", f"&Word({half}).to_bytes_in_registers()", OF_WIDTHS)
+            for half in ("low", "high")
         ),
-        Rule("u64::from(<u32 as Word<4>>::load(src))", "Word(Word::<u32>::load(src).0 as u64)", IN_CONSTANTS),
-        Rule("<u32 as Word<4>>::load(&src[..4])", "Word::<u32>::load(part(src, 0, 4)).0", IN_CONSTANTS),
-        Rule("<u32 as Word<4>>::load(&src[len - 4..])", "Word::<u32>::load(part(src, len - 4, len)).0", IN_CONSTANTS),
-        Rule(
-            "u64::from(low) + ((u64::from(high) >> (8 * (8 - len))) << 32)",
-            "Word(low as u64 + ((high as u64 >> (8 * (8 - len))) << 32))",
-            IN_CONSTANTS,
-        ),
-        Rule("u128::from(<u64 as Word<8>>::load(src))", "Word(Word::<u64>::load(src).0 as u128)", IN_CONSTANTS, 2),
-        Rule("<u64 as Word<8>>::load(&src[..8])", "Word::<u64>::load(part(src, 0, 8)).0", IN_CONSTANTS, 2),
-        Rule("<u64 as Word<8>>::load(&src[len - 8..])", "Word::<u64>::load(part(src, len - 8, len)).0", IN_CONSTANTS, 2),
-        Rule("joined(low, high >> (8 * (16 - len)))", "Word(joined(low, high >> (8 * (16 - len))))", OF_WIDTHS, 2),
-        Rule("(self % HALF)", "(self.0 % HALF)", OF_WIDTHS),
-        Rule("(self / HALF)", "(self.0 / HALF)", OF_WIDTHS),
-        Rule("bytes[8..].copy", "part_mut(&mut bytes, 8, 16).copy", IN_CONSTANTS),
-        Rule("bytes[..8].copy", "part_mut(&mut bytes, 0, 8).copy", IN_CONSTANTS),
-        Rule("&Word::to_bytes_in_registers(high)", "&Word(high).to_bytes_in_registers()", OF_WIDTHS),
-        Rule("&Word::to_bytes_in_registers(low)", "&Word(low).to_bytes_in_registers()", OF_WIDTHS),
-        Rule(
-            "        bytes\n    }\n\n    #[inline(always)]\n    pub const fn load",
-            "        bytes\n    }\n\n    #[inline]\n    pub const fn load",
-            "questions take an instruction more from 16 bytes on if this is inlined first",
-        ),
-        # parts of slices
         Rule(
             "let (word, rest) = bytes.split_first_chunk::<16>()?;",
             "let Some((word, rest)) = bytes.split_first_chunk::<16>() else {\n            return None;\n        };",
             IN_CONSTANTS,
         ),
-        Rule("&bytes[start..end]", "part(bytes, start, end)", IN_CONSTANTS),
-        Rule("bytes[start..end].copy", "part_mut(bytes, start, end).copy", IN_CONSTANTS),
-        Rule("Aligned16::from_padded(&bytes[start..])", "Aligned { word: Rest::load(bytes.split_at(start).1) }", IN_CONSTANTS),
-        Rule("bytes[start..].copy", "bytes.split_at_mut(start).1.copy", IN_CONSTANTS),
-        Rule("&word[..count]", "part(&word, 0, count)", IN_CONSTANTS),
-        Rule("&word[..N]", "part(&word, 0, N)", IN_CONSTANTS, 2),
+        Rule(
+            "Aligned16::from_padded(bytes.split_at(start).1)",
+            "Aligned { word: Word(bytes::Load::<u128>::load(bytes.split_at(start).1)) }",
+            "inlined first, so that the bytes need no copy in memory",
+        ),
+        Rule("impl Late {\n        #[inline(always)]", "impl Late {\n        #[inline]", "as its comment says"),
+        Rule("to_bytes(&self) -> [u8; LEN] {", "to_bytes(self) -> [u8; LEN] {", "in Rust what is `Copy` is taken by value"),
+        # readers
+        Rule(
+            "    pub const fn find_fault",
+            "    #[inline]\n    pub const fn find_fault",
+            "callers can inline a generic function, and this one only so",
+        ),
+        Rule("try_from_text(units: &[U]) -> Option<Self>", "try_from_text(units: &[U]) -> Option<Aligned<T, LEN>>", OF_WIDTHS),
+        Rule("word: T::load(units)", "word: Word(Load::<Number>::load(units))", OF_WIDTHS),
+        *(
+            Rule(f"Aligned{width}::try_from_text(", f"{name}::try_from_text(", OF_WIDTHS)
+            for width, name in ((8, "eight"), (16, "sixteen"))
+        ),
+        *(Rule(f"padded::{name}(", f"{name}(", OF_CONST_CALLS) for name in ("low_bytes", "read_all")),
+        Rule(
+            "find_fault(units).unwrap_or(ParseError::ContainsNull)",
+            "match find_fault(units) {\n"
+            "            Some(fault) => fault,\n            None => ParseError::ContainsNull,\n        }",
+            IN_CONSTANTS,
+        ),
     ],
     "tinystr_words/padded/words.rt": [
         Rule(

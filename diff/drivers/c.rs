@@ -29,6 +29,15 @@ struct Range {
     detail: u32,
 }
 
+/// `tinystr_parts`.
+#[repr(C)]
+struct Parts {
+    value: usize,
+    code: u32,
+    detail: u32,
+    places: [usize; 6],
+}
+
 extern "C" {
     fn dlopen(path: *const c_char, flags: c_int) -> *mut c_void;
     fn dlsym(from: *mut c_void, name: *const c_char) -> *mut c_void;
@@ -69,6 +78,7 @@ exports! {
     version() -> u32, 0x1;
     message(u32, Out, usize) -> Found, 0x41;
     langid(In, usize, Out, usize) -> Found, 0x71;
+    langid_parts(In, usize, Out, usize) -> Parts, 0x71;
     read(In, usize, Out, usize) -> Found, 0x8f;
     ask(In, usize, u32) -> Found, 0x8f;
     change_case(Out, usize, u32) -> Found, 0x8f;
@@ -174,7 +184,7 @@ fn any_call(function: Function, library: &Library, random: &mut Random) -> Call 
             call.size = random.below(20);
             call.out_len = random.below(70);
         }
-        Function::langid | Function::read => {
+        Function::langid | Function::langid_parts | Function::read => {
             if function != Function::read && !random.one_in(4) {
                 call.first = identifier(random);
             }
@@ -241,6 +251,11 @@ fn answer(library: &Library, function: Function, call: &Call, (first, second): (
             Function::version => Found { value: (library.version)() as usize, code: 0, detail: 0 },
             Function::message => (library.message)(size as u32, out, call.out_len),
             Function::langid => (library.langid)(a, a_len, out, call.out_len),
+            Function::langid_parts => {
+                let Parts { value, code, detail, places } = (library.langid_parts)(a, a_len, out, call.out_len);
+                answer.numbers.extend(places);
+                Found { value, code, detail }
+            }
             Function::read => (library.read)(a, a_len, out, call.out_len),
             Function::ask => (library.ask)(a, a_len, size as u32),
             Function::change_case => {

@@ -68,7 +68,7 @@ impl<const N: usize> TinyAsciiStr<N> {
     /// this text has no such byte the compiler leaves out a test. Where the text is in a vector, the hint costs more than the
     /// test, so few functions give it.
     #[inline(always)]
-    pub(crate) fn hinted(self) -> Self {
+    pub(crate) const fn hinted(self) -> Self {
         let bytes = self.all_bytes();
         // SAFETY: each byte of a text is below 128.
         unsafe { assert_unchecked(N == 0 || bytes[0] < 128) };
@@ -78,7 +78,7 @@ impl<const N: usize> TinyAsciiStr<N> {
     /// The same where the `Result` with a `ParseError` is as large as the text. Else it has a word of its own that says which
     /// it is.
     #[inline(always)]
-    pub(crate) fn hinted_in_result(self) -> Self {
+    pub(crate) const fn hinted_in_result(self) -> Self {
         if size_of::<Result<Self, crate::error::ParseError>>() == N { self.hinted() } else { self }
     }
 }

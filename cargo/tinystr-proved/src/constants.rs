@@ -61,23 +61,6 @@ impl<const N: usize> TinyAsciiStr<N> {
     /// The empty text.
     pub const EMPTY: Self = Self::default();
 
-    /// `try_from_str` at compile time. At run time `try_from_str` is faster.
-    ///
-    /// ```
-    /// use tinystr::{ParseError, TinyAsciiStr};
-    ///
-    /// const READ: Result<TinyAsciiStr<3>, ParseError> = TinyAsciiStr::try_from_str_const("EUR");
-    /// assert_eq!(READ, TinyAsciiStr::try_from_str("EUR"));
-    /// ```
-    pub const fn try_from_str_const(s: &str) -> Result<Self, ParseError> {
-        Self::try_from_utf8_const(s.as_bytes())
-    }
-
-    /// `try_from_utf8` at compile time. At run time `try_from_utf8` is faster.
-    pub const fn try_from_utf8_const(code_units: &[u8]) -> Result<Self, ParseError> {
-        Self::of_checked(padded!(code_units, false))
-    }
-
     /// `try_from_utf16` at compile time. At run time `try_from_utf16` is faster.
     pub const fn try_from_utf16_const(code_units: &[u16]) -> Result<Self, ParseError> {
         Self::of_checked(padded!(code_units, false))
@@ -260,7 +243,7 @@ const fn is_below<const N: usize>(left: &[u8; N], right: &[u8; N]) -> bool {
 #[macro_export]
 macro_rules! tinystr {
     ($n:literal, $s:literal) => {{
-        const TEXT: $crate::TinyAsciiStr<$n> = match $crate::TinyAsciiStr::try_from_utf8_const($s.as_bytes()) {
+        const TEXT: $crate::TinyAsciiStr<$n> = match $crate::TinyAsciiStr::try_from_utf8($s.as_bytes()) {
             Ok(text) => text,
             // the literal may have braces, so it is no format
             Err(_) => panic!("{}", concat!("no text of capacity ", $n, ": ", $s)),

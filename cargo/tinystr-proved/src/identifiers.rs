@@ -12,7 +12,7 @@ impl Language {
 
     #[doc(hidden)]
     pub const fn try_from_utf8_const(code_units: &[u8]) -> Option<Self> {
-        match TinyAsciiStr::try_from_utf8_const(code_units) {
+        match TinyAsciiStr::try_from_utf8(code_units) {
             Ok(text) if matches!(code_units.len(), 2 | 3 | 5..=8) && text.is_ascii_alphabetic() => {
                 Some(Self::from_canonical(text.to_ascii_lowercase()))
             }
@@ -24,7 +24,7 @@ impl Language {
 impl Script {
     #[doc(hidden)]
     pub const fn try_from_utf8_const(code_units: &[u8]) -> Option<Self> {
-        match TinyAsciiStr::try_from_utf8_const(code_units) {
+        match TinyAsciiStr::try_from_utf8(code_units) {
             Ok(text) if code_units.len() == 4 && text.is_ascii_alphabetic() => {
                 Some(Self::from_canonical(text.to_ascii_titlecase()))
             }
@@ -36,7 +36,7 @@ impl Script {
 impl Region {
     #[doc(hidden)]
     pub const fn try_from_utf8_const(code_units: &[u8]) -> Option<Self> {
-        match (TinyAsciiStr::try_from_utf8_const(code_units), code_units.len()) {
+        match (TinyAsciiStr::try_from_utf8(code_units), code_units.len()) {
             (Ok(text), 2) if text.is_ascii_alphabetic() => Some(Self::from_canonical(text.to_ascii_uppercase())),
             (Ok(text), 3) if text.is_ascii_numeric() => Some(Self::from_canonical(text)),
             _ => None,

@@ -24,8 +24,8 @@
 //!
 //! Names, arguments and results are the same, but for these, which the README has in full:
 //!
-//! - Ten `const fn` of the original aren't `const`, such as `try_from_utf8`, `as_str` and `len`. Constants call their twins, such
-//!   as [`len_const`](TinyAsciiStr::len_const).
+//! - Eight `const fn` of the original aren't `const`, such as `as_str`, `len` and `concat`. Constants call their twins, such as
+//!   [`len_const`](TinyAsciiStr::len_const).
 //! - At capacity 0 `is_empty` returns true, where the original panics, and `new_unsigned_decimal(0)` returns an error.
 //! - Class predicates on letters in a case return true for the empty text at every capacity.
 //! - `Hash` writes the `N` bytes in one call.

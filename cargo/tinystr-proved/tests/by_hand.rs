@@ -11,10 +11,10 @@ use tinystr::{ParseError, TinyAsciiStr, TinyStr8, UnvalidatedTinyAsciiStr, tinys
 
 fn read_alike<const N: usize>(units: &[u8]) {
     let numbers: Vec<u16> = units.iter().map(|unit| (*unit).into()).collect();
-    assert_eq!(TinyAsciiStr::<N>::try_from_utf8_const(units), TinyAsciiStr::try_from_utf8(units), "{units:?} at {N}");
     assert_eq!(TinyAsciiStr::<N>::try_from_utf16_const(&numbers), TinyAsciiStr::try_from_utf16(&numbers), "{units:?} at {N}");
+    assert_eq!(TinyAsciiStr::<N>::try_from_utf16_const(&numbers), TinyAsciiStr::try_from_utf8(units), "{units:?} at {N}");
     if let Ok(s) = str::from_utf8(units) {
-        assert_eq!(TinyAsciiStr::<N>::try_from_str_const(s), TinyAsciiStr::try_from_str(s), "{s:?} at {N}");
+        assert_eq!(TinyAsciiStr::<N>::try_from_utf8(units), TinyAsciiStr::try_from_str(s), "{s:?} at {N}");
     }
     if let Ok(raw) = units.try_into() {
         assert_eq!(TinyAsciiStr::<N>::try_from_raw_const(raw), TinyAsciiStr::try_from_raw(raw), "{units:?}");

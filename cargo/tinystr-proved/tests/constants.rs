@@ -5,7 +5,7 @@ use tinystr::hashed::{HashedMap, HashedTable, HashedTextMap};
 use tinystr::packed::{NotRising, PackedMap, SortedError, SortedTable, Table, TextEntries, TextMap};
 use tinystr::subtags::{LangId, Language};
 use tinystr::ule::UleError;
-use tinystr::{Case, Question, TinyAsciiStr, UnvalidatedTinyAsciiStr, tinystr};
+use tinystr::{Case, ParseError, Question, TinyAsciiStr, UnvalidatedTinyAsciiStr, tinystr};
 
 // A program's own constants, and a function of its own that makes one.
 const L: TinyAsciiStr<8> = tinystr!(4, "latn").resize();
@@ -13,7 +13,7 @@ const N: usize = L.len_const();
 const SCRIPTS: [u8; N] = [0; N];
 
 const fn region(code: &[u8]) -> Option<TinyAsciiStr<3>> {
-    match TinyAsciiStr::<3>::try_from_utf8_const(code) {
+    match TinyAsciiStr::<3>::try_from_utf8(code) {
         Ok(text) if text.len_const() == 2 && text.is_ascii_alphabetic() => Some(text.to_ascii_uppercase()),
         Ok(text) if text.len_const() == 3 && text.is_ascii_numeric() => Some(text),
         _ => None,
@@ -132,33 +132,38 @@ fn twins_agree<const N: usize>(text: TinyAsciiStr<N>) {
 }
 
 // The first and the last byte of each class, and those beside them.
-const EDGES: [u8; 15] = *b"\0\x01/09:@AZ[`az{\x7f";
+const EDGES: [u8; 16] = *b"\0\x01/09:@AZ[`az{\x7f\x80";
 
-/// What a constant has of one text: its answers, and its changes of case.
-type Facts<const N: usize> = ([bool; 9], [TinyAsciiStr<N>; 3]);
+/// What a constant has of some bytes: how they are read, and of a text and NULs the answers and the changes of case.
+type Facts<const N: usize> = (Result<TinyAsciiStr<N>, ParseError>, Option<([bool; 9], [TinyAsciiStr<N>; 3])>);
 
-/// What constants have of texts of at most two bytes of `EDGES`, after the most letters that fit at `N`.
-const fn edge_facts<const N: usize>() -> [[Option<Facts<N>>; 15]; 15] {
-    let mut facts = [[None; 15]; 15];
-    let mut at = 0;
-    while at < 15 * 15 {
-        let mut bytes = [b'a'; N];
-        (bytes[N - 2], bytes[N - 1]) = (EDGES[at / 15], EDGES[at % 15]);
-        if let Ok(text) = TinyAsciiStr::try_from_raw_const(bytes) {
-            facts[at / 15][at % 15] = Some((answers(text), in_cases(text)));
-        }
-        at += 1;
-    }
-    facts
+const fn facts<const N: usize>(bytes: [u8; N]) -> Facts<N> {
+    let of_text = match TinyAsciiStr::try_from_raw_const(bytes) {
+        Ok(text) => Some((answers(text), in_cases(text))),
+        Err(_) => None,
+    };
+    (TinyAsciiStr::try_from_utf8(&bytes), of_text)
 }
 
-fn edges_agree<const N: usize>(facts: [[Option<Facts<N>>; 15]; 15]) {
-    for (first, facts) in EDGES.into_iter().zip(facts) {
-        for (second, fact) in EDGES.into_iter().zip(facts) {
+/// What constants have of two bytes of `EDGES`, after the most letters that fit at `N`.
+const fn edge_facts<const N: usize>() -> [[Facts<N>; 16]; 16] {
+    let mut found = [[(Err(ParseError::NonAscii), None); 16]; 16];
+    let mut at = 0;
+    while at < 16 * 16 {
+        let mut bytes = [b'a'; N];
+        (bytes[N - 2], bytes[N - 1]) = (EDGES[at / 16], EDGES[at % 16]);
+        found[at / 16][at % 16] = facts(bytes);
+        at += 1;
+    }
+    found
+}
+
+fn edges_agree<const N: usize>(found: [[Facts<N>; 16]; 16]) {
+    for (first, found) in EDGES.into_iter().zip(found) {
+        for (second, found) in EDGES.into_iter().zip(found) {
             let mut bytes = [b'a'; N];
             (bytes[N - 2], bytes[N - 1]) = (first, second);
-            let text = TinyAsciiStr::try_from_raw(std::hint::black_box(bytes)).ok();
-            assert_eq!(fact, text.map(|text| (answers(text), in_cases(text))), "{bytes:?}");
+            assert_eq!(found, facts(std::hint::black_box(bytes)), "{bytes:?}");
         }
     }
 }

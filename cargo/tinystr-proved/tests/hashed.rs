@@ -4,11 +4,8 @@
 use std::collections::{BTreeMap, HashMap, HashSet};
 use tinystr::hashed::{HashedError, HashedMap, HashedTable, HashedTextMap, PackHashedError, PackIntoError};
 use tinystr::hashed::{in_place, most_bytes, pack_hashed, pack_hashed_into, pack_hashed_map, pack_hashed_text_map, scratch_bytes};
-use tinystr::packed::{Table, pack, pack_sorted};
+use tinystr::packed::{Table, pack};
 use tinystr::{TinyAsciiStr, tinystr};
-
-/// The header of a table without pilots.
-const HEADER: &[u8] = b"\x01\0\0\0\0\0\0\0\0\0\0\0\0\0\0\0";
 
 /// The codes of ISO 3166-1.
 const COUNTRIES: &str = "AD AE AF AG AI AL AM AO AQ AR AS AT AU AW AX AZ BA BB BD BE BF BG BH BI BJ BL BM BN BO BQ BR BS
@@ -265,28 +262,4 @@ fn texts_without_pilots_are_packed_in_order() {
     packs_as::<8>(chosen.iter().cloned(), 0x6aea_f6ee_0bd5_105a, 16 + 8 * 396);
     let twice: Vec<TinyAsciiStr<8>> = chosen.iter().chain([&chosen[0]]).map(|text| text.parse().unwrap()).collect();
     assert_eq!(pack_hashed(&twice), Err(PackHashedError::Duplicate { text: twice[0] }));
-}
-
-fn flipped_bits_are_read<const N: usize>() {
-    let mut seed = 0x9e37_79b9 + N as u64;
-    let texts: HashSet<TinyAsciiStr<N>> = (0..30).map(|_| random_text(&mut seed)).collect();
-    let texts: Vec<_> = texts.into_iter().collect();
-    let sorted = [HEADER, pack_sorted(&texts).as_slice()].concat();
-    for mut bytes in [pack_hashed(&texts).unwrap(), sorted] {
-        for bit in 0..8 * bytes.len() {
-            bytes[bit / 8] ^= 1 << (bit % 8);
-            let _ = changed_bytes_are_read(&bytes, &texts);
-            bytes[bit / 8] ^= 1 << (bit % 8);
-        }
-        assert!(changed_bytes_are_read(&bytes, &texts).is_ok());
-    }
-}
-
-#[test]
-fn a_flipped_bit_of_either_kind_is_rejected_or_makes_another_table() {
-    flipped_bits_are_read::<1>();
-    flipped_bits_are_read::<3>();
-    flipped_bits_are_read::<8>();
-    flipped_bits_are_read::<16>();
-    flipped_bits_are_read::<17>();
 }

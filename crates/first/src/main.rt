@@ -1,4 +1,4 @@
-//! Prints a currency code in upper case, and the error for a word that is too long.
+//! Reads two words as currency codes.
 #![tactic(auto)]
 
 use std::io::Error;

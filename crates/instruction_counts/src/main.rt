@@ -3,7 +3,6 @@
 #![tactic(auto)]
 
 mod inputs;
-mod output;
 mod prefixes;
 mod readers;
 mod searches;
@@ -14,4 +13,17 @@ fn main(rt: HostRuntime) -> io::Result<()> {
     searches::run(&rt)?;
     prefixes::run(&rt)?;
     readers::run(&rt)
+}
+
+/// Prints the name of a call with its capacity, the number of records or of inputs, what the inputs are, and a sum of the
+/// results.
+fn print_sum(
+    rt: &HostRuntime,
+    call: &str,
+    capacity: usize,
+    count: usize,
+    inputs: &str,
+    sum: usize,
+) -> io::Result<()> {
+    println!(rt; "{call} {capacity} {count} {inputs}: {sum}")
 }

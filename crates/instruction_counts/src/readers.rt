@@ -2,7 +2,7 @@
 
 ghost use Rattle.std.specs.Prelude.{◌<◌, ◌^◌};
 
-use crate::output::print_sum;
+use crate::print_sum;
 use std::alloc::{AllocError, Global};
 use std::io::{self, ErrorKind};
 use subtags::LangId;

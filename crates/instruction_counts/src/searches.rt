@@ -3,7 +3,7 @@
 ghost use Rattle.std.specs.Prelude.{◌<◌, ◌^◌};
 
 use crate::inputs::{Order, Shape};
-use crate::output::print_sum;
+use crate::print_sum;
 use std::io::{self, ErrorKind};
 use tinystr::TinyAsciiStr;
 use tinystr_hashed::{HashedTable, PackHashedError, pack_hashed};

@@ -6,7 +6,7 @@ use Rattle.subtags.specs.Subtags.{language_of, script_of, region_of, join_subtag
 use Rattle.subtags.proofs.PlaceLemmas.{InPlace-canonical}
 pub use Rattle.subtags.proofs.CanonLemmas.{IsCanonical-canonical_text as canonical_once_canonical, fold_text-canonical_text as canonical_once_fold, same_canonical_text as fold_tells_apart}
 pub use Rattle.subtags.proofs.PlaceLemmas.{length-canonical_text as canonical_len_same}
-pub use Rattle.subtags.proofs.SplitLemmas.{subtags_of-fold_text as split_before_fold}
+pub use Rattle.subtags.proofs.CanonLemmas.{subtags_of-fold_text as split_before_fold}
 
 pub ruleset canonical_once = (canonical_once_canonical, canonical_once_fold)
 

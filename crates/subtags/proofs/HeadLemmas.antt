@@ -8,7 +8,7 @@ use Rattle.std.proofs.lemmas.List.Folds.{length-prefix_len}
 use Rattle.std.proofs.lemmas.List.Sums.{prefix_len_is, prefix_len_passes, prefix_len-le-length, AllPass-from_list_all, list_all-from_AllPass}
 use Rattle.tinystr.specs.Classes.{is_alphabetic}
 use Rattle.subtags.proofs.FoldLemmas.{is_language-fold_text, IsCanonicalSubtag-lowercase}
-use Rattle.subtags.proofs.SplitLemmas.{subtags_at_first_separator}
+use Rattle.subtags.proofs.CanonLemmas.{subtags_at_first_separator}
 use Rattle.subtags.specs.Grammar.{is_separator, is_language, is_language_length}
 use Rattle.subtags.specs.Answers.{refusal_of}
 use Rattle.subtags.specs.declared.error.LangIdError.TheVariants.{InvalidLanguage, InvalidSubtag}

@@ -1,12 +1,9 @@
 pub mod MaskLemmas
 pub mod FoldLemmas
-pub mod SplitLemmas
 pub mod CanonLemmas
 pub mod TailLemmas
 pub mod CaseLemmas
-pub mod JoinLemmas
 pub mod PlaceLemmas
 pub mod HeadLemmas
 pub mod IdentifierLemmas
-pub mod PrefixLemmas
 pub mod ForCallers

@@ -16,9 +16,8 @@ use Rattle.subtags.specs.Subtags.{IsCanonicalSubtag, language_of, script_of, reg
 use Rattle.subtags.specs.Private.Tails.{first_subtag}
 use Rattle.subtags.specs.Private.SubtagPlaces.{language_end, region_start}
 use Rattle.subtags.proofs.FoldLemmas.{fold_text-fold_text, fold_text-alphanumeric, alphanumeric-from_subtag, IsCanonicalSubtag-titlecase, IsCanonicalSubtag-uppercase}
-use Rattle.subtags.proofs.SplitLemmas.{subtags_of-join, subtags_after, subtags_at_first_separator}
+use Rattle.subtags.proofs.CanonLemmas.{subtags_of-join, subtags_after, subtags_at_first_separator, same_kind, is_tail-canonical, no_script-from_region, join_with_byte-tail, plain_subtags, fold_text-canonical_text}
 use Rattle.subtags.proofs.TailLemmas.{bytes_of_script, bytes_of_region}
-use Rattle.subtags.proofs.CanonLemmas.{same_kind, is_tail-canonical, no_script-from_region, join_with_byte-tail, plain_subtags, fold_text-canonical_text}
 
 pub length-language : (l : List ℕ) → is_language l ≡ true → (2 ≤ length l) × (length l ≤ 8)
 length-language l h = (grind (arith, nat_tests), grind (arith, nat_tests))

@@ -64,8 +64,20 @@ impl LangId {
     /// assert_eq!(rt; LangId::try_from_utf8(b"e"), Err(LangIdError::InvalidLanguage));
     /// assert_eq!(rt; LangId::try_from_utf8(b"en-US-posix"), Err(LangIdError::InvalidSubtag));
     /// ```
-    #[tactic(auto, using(crate::proofs::IdentifierLemmas::reading, crate::proofs::CaseLemmas::text_of_letters))]
     pub fn try_from_utf8(code_units: &[u8]) -> Result<Self, LangIdError>
+        ensures accepted { IsOk result ↔ IsLangId code_units.now }
+        ensures text { IfOk result (λ id. id ≡ canonical_text code_units.now) }
+        ensures fold { IfOk result (λ id. fold_text id ≡ fold_text code_units.now) }
+        ensures refusal { IfErr result (λ e. e ≡ refusal_of code_units.now) }
+        ensures value { result_ok result ≡ canonical_of code_units.now }
+    {
+        Self::read(code_units)
+    }
+
+    // The same, inlined into both readers, which would otherwise share a call.
+    #[tactic(auto, using(crate::proofs::IdentifierLemmas::reading, crate::proofs::CaseLemmas::text_of_letters))]
+    #[inline(always)]
+    fn read(code_units: &[u8]) -> Result<Self, LangIdError>
         ensures accepted { IsOk result ↔ IsLangId code_units.now }
         ensures text { IfOk result (λ id. id ≡ canonical_text code_units.now) }
         ensures fold { IfOk result (λ id. fold_text id ≡ fold_text code_units.now) }
@@ -104,7 +116,7 @@ impl LangId {
     /// assert_eq!(rt; rest, b"-1996".as_slice());
     /// assert_eq!(rt; LangId::from_prefix(b"x-klingon"), Err(LangIdError::InvalidLanguage));
     /// ```
-    #[tactic(auto, using(crate::proofs::PrefixLemmas::prefixes))]
+    #[tactic(auto, using(crate::proofs::IdentifierLemmas::prefixes))]
     pub fn from_prefix(code_units: &[u8]) -> Result<(Self, &[u8]), LangIdError>
         ensures accepted { IsOk result ↔ IsTrue (is_language (first (subtags_of (fold_text code_units.now)))) }
         ensures read { IfOk result (λ read. IsLongestId code_units.now read.0 read.1.now) }
@@ -114,7 +126,7 @@ impl LangId {
         let mut end = code_units.len().min(MOST);
         while end > 0 {
             if is_subtag_end(code_units, end) {
-                match Self::try_from_utf8(&code_units[..end]) {
+                match Self::read(&code_units[..end]) {
                     Ok(id) => return Ok((id, &code_units[end..])),
                     Err(LangIdError::InvalidLanguage) => return Err(LangIdError::InvalidLanguage),
                     Err(LangIdError::InvalidSubtag) => {}
@@ -132,7 +144,7 @@ impl LangId {
     /// assert_eq!(rt; id.as_str(), "zh-Hant-TW");
     /// assert_eq!(rt; LangId::from_parts("es".parse()?, None, Some("419".parse()?)).as_str(), "es-419");
     /// ```
-    #[tactic(auto, using(crate::proofs::JoinLemmas::subtags_of_join_subtags))]
+    #[tactic(auto, using(crate::proofs::CanonLemmas::subtags_of_join_subtags))]
     pub fn from_parts(language: Language, script: Option<Script>, region: Option<Region>) -> Self
         ensures text { result ≡ join_subtags language script region }
         ensures language { language_of result ≡ language }
@@ -333,7 +345,7 @@ fn join_subtags(
 }
 
 // The same of all three, which fit into sixteen bytes unless the language has 8 letters.
-#[tactic(auto, using(crate::proofs::JoinLemmas::take_take_append))]
+#[tactic(auto, using(crate::proofs::CanonLemmas::take_take_append))]
 #[inline]
 fn join_three(language: TinyAsciiStr<8>, script: Script, region: Region) -> TinyAsciiStr<17>
     ensures { result ≡ join_subtags language (Some script) (Some region) }

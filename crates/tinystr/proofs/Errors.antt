@@ -9,6 +9,9 @@ use Rattle.tinystr_words.specs.Reading.Fault.{too_long, contains_null, non_ascii
 use Rattle.tinystr.specs.Error.{fault_of, parse_error_of}
 use Rattle.tinystr.specs.declared.error.ParseError.{ParseError}
 use Rattle.tinystr.specs.declared.error.ParseError.TheVariants.{TooLong, ContainsNull, NonAscii}
+use Rattle.std.proofs.lemmas.Bool.Decides.{nat_tests}
+use Rattle.std.proofs.lemmas.List.{get_or-map, length-map}
+use Rattle.tinystr_words.proofs.Reading.OnePass.{first_fault-high, first_fault-late, first_fault-none, fault_in-long, fault_in-fits}
 
 -- an error is the one that names its fault
 pub parse_error_of-fault_of : (e : ParseError) → parse_error_of (fault_of e) ≡ e
@@ -31,3 +34,6 @@ read_is (Ok s) test t fault decides accepted text refusal =
 read_is (Err e) test t fault decides accepted text refusal =
     let other : test ≡ false = one_answer test false decides accepted in
     rw (other, ← refusal, parse_error_of-fault_of e) refl
+
+-- for a pass that looks for the first fault of code units
+pub ruleset scan_steps = (nat_tests, get_or-map, length-map, first_fault-high, first_fault-late, first_fault-none, fault_in-long, fault_in-fits)

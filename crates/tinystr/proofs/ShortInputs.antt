@@ -16,7 +16,7 @@ use Rattle.tinystr_words.proofs.Texts.{NULS, length-pad, get_or-pad, IsPaddedTex
 use Rattle.tinystr_words.proofs.Words.Lanes.{below, below_at}
 use Rattle.tinystr.specs.ShortInput.{has_lowercase_bit, lower_but, upper_but, in_case_of}
 use Rattle.tinystr.specs.Private.ShortInputs.{IsLoaded}
-use Rattle.tinystr.proofs.Letters.{less}
+use Rattle.tinystr.proofs.EightLanes.{less}
 
 -- ---- the bits of lanes
 

@@ -11,7 +11,7 @@ use Rattle.std.proofs.lemmas.Simd.{bitmask_splat, first_set_mask_l}
 use Rattle.std.proofs.lemmas.List.Sums.{fails_before_first, passes_at_first, position_or_len_is}
 use Rattle.tinystr_words.specs.Text.{IsPadded, IsPaddedText, IsText, pad, text_of}
 use Rattle.tinystr_words.proofs.Parts.Splits.{slice_split-found, slice_split-missed}
-use Rattle.tinystr_words.proofs.Parts.Positions.{position-None, position-None-fails, position-at}
+use Rattle.tinystr_words.proofs.Parts.Found.{position-None, position-None-fails, position-at}
 use Rattle.tinystr_words.proofs.Texts.{IsPaddedText-made, IsPaddedText-drop, IsPaddedText-take, get_or-text_of, length-pad, length-text_of-le, text_of-drop, text_of-made, text_of-take}
 
 -- ---- a byte of a padded text

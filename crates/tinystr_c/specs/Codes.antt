@@ -11,6 +11,7 @@ use Rattle.tinystr_words.specs.Reading.{Fault}
 use Rattle.tinystr_words.specs.Reading.Fault.{too_long, contains_null, non_ascii}
 use Rattle.tinystr_c.specs.declared.answer.TinystrResult.{TinystrResult}
 use Rattle.tinystr_c.specs.declared.answer.TinystrRange.{TinystrRange}
+use Rattle.tinystr_c.specs.declared.answer.TinystrParts.{TinystrParts}
 
 abbrev pub VERSION : ℕ
 VERSION = 300
@@ -91,6 +92,10 @@ bad_argument argument = failure BAD_ARGUMENT argument
 -- no records, with the code and the detail of a failure
 abbrev pub no_range : TinystrResult → TinystrRange
 no_range failed = record { start = 0; count = 0; code = failed.code; detail = failed.detail }
+
+-- no subtags, with the code and the detail of a failure, and the index of a subtag
+abbrev pub no_parts : TinystrResult → ℕ → TinystrParts
+no_parts failed subtag = record { value = 0; code = failed.code; detail = failed.detail; subtag = subtag; language_len = 0; script_start = 0; script_len = 0; region_start = 0; region_len = 0 }
 
 -- why code units aren't a text
 abbrev pub fault_code : Fault → ℕ

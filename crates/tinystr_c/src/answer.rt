@@ -3,7 +3,7 @@
 ghost use Rattle.std.specs.Prelude.{◌≡◌};
 ghost use Rattle.tinystr.specs.Error.{fault_of};
 ghost use Rattle.tinystr_c.specs.Hashed.{hashed_map_answer};
-ghost use Rattle.tinystr_c.specs.Codes.{success, failure, bad_argument, no_range, fault_code, first_nul, first_non_ascii, fault_answer, records_answer, map_answer, search_answer, hashed_answer, position_answer};
+ghost use Rattle.tinystr_c.specs.Codes.{success, failure, bad_argument, no_range, no_parts, fault_code, first_nul, first_non_ascii, fault_answer, records_answer, map_answer, search_answer, hashed_answer, position_answer};
 
 use crate::numbers::{
     BAD_ARGUMENT, BAD_HEADER, BAD_INDEX, BAD_LENGTH, BAD_VALUES, BAD_VERSION, MISPLACED, NON_ASCII,
@@ -32,6 +32,23 @@ pub struct TinystrRange {
     pub count: usize,
     pub code: u32,
     pub detail: u32,
+}
+
+/// The length of a canonical text, and the places of its subtags in it, which are 0 unless the code is `OK`; a code; its
+/// detail, which is 0 if the code is `OK`; and the index of the subtag that isn't accepted, which is 0 unless the code is
+/// `INVALID_SUBTAG`.
+#[repr(C)]
+#[derive(Clone, Copy)]
+pub struct TinystrParts {
+    pub value: usize,
+    pub code: u32,
+    pub detail: u32,
+    pub subtag: usize,
+    pub language_len: usize,
+    pub script_start: usize,
+    pub script_len: usize,
+    pub region_start: usize,
+    pub region_len: usize,
 }
 
 /// The result of a call that succeeds.
@@ -76,6 +93,24 @@ pub fn no_range(failed: TinystrResult) -> TinystrRange
         count: 0,
         code: failed.code,
         detail: failed.detail,
+    }
+}
+
+/// No subtags, and why: the index of one, and what else is told.
+#[inline]
+pub fn no_parts(failed: TinystrResult, subtag: usize) -> TinystrParts
+    ensures { result ≡ no_parts failed subtag }
+{
+    TinystrParts {
+        value: 0,
+        code: failed.code,
+        detail: failed.detail,
+        subtag,
+        language_len: 0,
+        script_start: 0,
+        script_len: 0,
+        region_start: 0,
+        region_len: 0,
     }
 }
 

@@ -17,13 +17,13 @@ mod texts;
 ghost use Rattle.std.specs.Prelude.{◌≡◌, length};
 ghost use Rattle.tinystr_c.specs.Codes.{bad_argument, no_range, VERSION};
 ghost use Rattle.tinystr_c.specs.Hashed.{ChecksHashed, ChecksHashedMap, SearchesHashed, SearchesHashedEach};
-ghost use Rattle.tinystr_c.specs.Langid.{langid_answer, langid_bytes};
+ghost use Rattle.tinystr_c.specs.Langid.{langid_answer, langid_bytes, AnswersParts};
 ghost use Rattle.tinystr_c.specs.Messages.{message_answer, message_bytes};
 ghost use Rattle.tinystr_c.specs.Packing.{PacksHashed, PacksSorted};
 ghost use Rattle.tinystr_c.specs.Tables.{IsCapacity, IsValueSize, ChecksTable, ChecksSorted, ChecksMap, Searches, SearchesEach, FindsPrefix};
 ghost use Rattle.tinystr_c.specs.Texts.{without_nuls, read_answer, read_bytes, ask_answer, case_answer, case_bytes};
 
-pub use answer::{TinystrRange, TinystrResult};
+pub use answer::{TinystrParts, TinystrRange, TinystrResult};
 use answer::{bad_argument, no_range};
 use hashed::{hashed_check, hashed_map_check, hashed_search, hashed_search_each};
 use key::without_nuls;
@@ -71,6 +71,15 @@ pub extern "C" fn tinystr_langid(input: &[u8], out: &mut [u8]) -> TinystrResult
     ensures bytes { out.new ≡ langid_bytes input.now out.old }
 {
     langid::langid(input, out)
+}
+
+/// The same, with the places of the subtags, or of the subtag that isn't accepted.
+#[unsafe(no_mangle)]
+pub extern "C" fn tinystr_langid_parts(input: &[u8], out: &mut [u8]) -> TinystrParts
+    ensures answer { AnswersParts result input.now (length out.old) }
+    ensures bytes { out.new ≡ langid_bytes input.now out.old }
+{
+    langid::langid_parts(input, out)
 }
 
 /// Reads a text that isn't longer than `out`, and writes it with NULs up to the end of `out`. An error leaves `out`

@@ -16,7 +16,6 @@ mod numbers;
 mod printing;
 mod readers;
 mod records;
-mod searches;
 mod tables;
 
 use batches::Batches;
@@ -25,8 +24,7 @@ use cuts::{concat_batch, resize_batch};
 use lang_ids::lang_id_batch;
 use printing::display_batch;
 use readers::read_bytes_batch;
-use records::records_found;
-use searches::search_batch;
+use records::{records_found, search_batch};
 
 /// A question, the length or the last byte of each text, as a number.
 #[unsafe(no_mangle)]

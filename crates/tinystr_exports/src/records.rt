@@ -1,7 +1,9 @@
-//! Packed records.
+//! Batches over packed records.
 
 ghost use Rattle.std.specs.Prelude.{◌≤◌};
 
+use crate::batch::read_texts;
+use crate::tables::search_each;
 use tinystr::ule::UleError;
 use tinystr::{ParseError, TinyAsciiStr};
 
@@ -25,4 +27,18 @@ pub fn records_found<const N: usize>(bytes: &[u8], found: &mut [u32]) -> bool
         Err(UleError::Parse { index, .. }) => 3 + 4 * (index % (1 << 28)) as u32,
     };
     true
+}
+
+/// Answers a call for each key; false where there is no such call, or the capacity is none of a table.
+pub fn search_batch<const N: usize>(
+    call: usize,
+    bytes: &[u8],
+    values: &[u8],
+    keys: &[u8],
+    answers: &mut [u64],
+) -> bool
+    requires { N ≤ 128 }
+{
+    let keys = read_texts::<N>(keys);
+    search_each(call, bytes, values, &keys[..], answers)
 }

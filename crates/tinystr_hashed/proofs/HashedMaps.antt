@@ -1,47 +1,18 @@
 -- Maps whose keys are a hashed table.
-use Rattle.std.proofs.Common.{List, [], ap, arith, get_or, length, refl, sym, ℕ, ◌*◌, ◌<◌, ◌∙◌, ◌≡◌, ◌≢◌}
-use Rattle.std.specs.Bool.{Decides}
-use Rattle.std.specs.Cmp.Lexicographic.{slice_cmp}
-use Rattle.std.specs.Cmp.{Equal-is}
-use Rattle.std.specs.List.{slice_get, zip}
+use Rattle.std.proofs.Common.{List, ap, length, refl, sym, ℕ, ◌*◌, ◌<◌, ◌∙◌, ◌≡◌, ◌≢◌}
+use Rattle.std.specs.List.{zip}
 use Rattle.std.specs.Map.{keys_of, values_of}
-use Rattle.std.specs.Option.{option_map}
-use Rattle.std.specs.Ordering.{eq_by_cmp, nat_cmp}
 use Rattle.std.specs.Simd.{first_chunks}
-use Rattle.std.specs.declared.option.Option.{Option}
-use Rattle.std.specs.declared.option.Option.TheVariants.{Some}
-use Rattle.std.proofs.lemmas.Cmp.{eq_by_cmp_equiv, nat_list_cmp_total, tied_itself}
-use Rattle.std.proofs.lemmas.List.{get_or-map}
-use Rattle.std.proofs.lemmas.Map.Entries.{length-keys_of, length-values_of, lookup_from_place}
-use Rattle.std.proofs.lemmas.Map.Lookups.{exact_bytes}
-use Rattle.std.proofs.lemmas.Map.Made.{IsDistinct-from_AllPairs, keys_of-zip}
-use Rattle.std.proofs.lemmas.Option.{get_or_from_slice_get, slice_get-get_or, slice_get-map, slice_get_within}
+use Rattle.std.proofs.lemmas.Map.Entries.{length-keys_of, length-values_of}
+use Rattle.std.proofs.lemmas.Map.Made.{keys_of-zip}
 use Rattle.std.proofs.lemmas.Slice.Zip.{seconds-zip}
 use Rattle.tinystr_words.proofs.Reading.Records.{AllStrict, length-first_chunks}
-use Rattle.tinystr_packed.specs.Map.{get}
-use Rattle.tinystr_packed.proofs.PackedMaps.{All-first_chunks, flat_map-first_chunks, length-same}
+use Rattle.tinystr_packed.proofs.PackedMaps.{All-first_chunks, Entries, flat_map-first_chunks, length-same}
 use Rattle.tinystr_packed.proofs.PackedTexts.{packed, packed_injective}
-use Rattle.tinystr_hashed.specs.Hashing.{AreDistinct}
 use Rattle.tinystr_hashed.specs.Map.{AreHashed}
 use Rattle.tinystr_hashed.specs.Reading.{IsHashed}
 use Rattle.tinystr_hashed.specs.TextMap.{AreHashedTexts}
 use Rattle.tinystr_hashed.proofs.Placed.{same_texts}
-
-abbrev Entries : Type 0
-Entries = List (List ℕ × List ℕ)
-
-pub same-Decides : (t s : List ℕ) → Decides (eq_by_cmp (slice_cmp nat_cmp) t s) (t ≡ s)
-same-Decides t s = ((λ e. exact_bytes t s (grind (arith, Equal-is))), λ e. rw (e, tied_itself nat_list_cmp_total s) refl)
-
--- the value of a key is at the key's index
-pub get-at : (es : Entries) (key : List ℕ) (i : ℕ) → AreDistinct (keys_of es) → slice_get (keys_of es) i ≡ Some key → get es key ≡ slice_get (values_of es) i
-get-at es key i distinct here =
-    let inside : i < length es = omega (arith, slice_get_within (keys_of es) i key here, length-keys_of es) in
-    let e = get_or es i (key, []) in
-    let is_key : e.0 ≡ key = sym (get_or-map (λ (e : List ℕ × List ℕ). e.0) es i (key, []) key inside) ∙ get_or_from_slice_get (keys_of es) i key key here in
-    let entry : slice_get es i ≡ Some (key, e.1) = slice_get-get_or es i (key, []) inside ∙ ap (λ (k : List ℕ). Some (k, e.1)) is_key in
-    lookup_from_place (eq_by_cmp_equiv nat_list_cmp_total) es i key e.1 (IsDistinct-from_AllPairs same-Decides (keys_of es) distinct) entry
-    ∙ sym (slice_get-map (λ (e : List ℕ × List ℕ). e.1) es i ∙ ap (λ (o : Option (List ℕ × List ℕ)). option_map (λ (e : List ℕ × List ℕ). e.1) o) entry)
 
 -- keys, and m bytes for each
 pub AreHashed-new : (ks vs : List (List ℕ)) (keys values : List ℕ) (n m k : ℕ) → IsHashed ks keys n → length values ≡ k * m → k ≡ length ks → vs ≡ first_chunks m k values → AreHashed (zip ks vs) keys values n m

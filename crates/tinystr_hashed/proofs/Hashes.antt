@@ -8,7 +8,7 @@ use Rattle.std.proofs.lemmas.Nat.{mul-mod_first}
 use Rattle.std.proofs.lemmas.List.{drop_min, drop-drop, take_all, take_min, take_more}
 use Rattle.std.proofs.lemmas.List.Sums.{fold_push}
 use Rattle.tinystr_words.specs.Words.{word}
-use Rattle.tinystr_hashed.specs.Hashing.{folded, hash_on, hash_of, pilot_of, place_of_hash, scaled, slot_of}
+use Rattle.tinystr_hashed.specs.Hashing.{folded, hash_on, hash_of, pilot_of, place_of_hash, place_of_slot, scaled, slot_of}
 
 -- a piece of at most sixteen bytes, in two words
 pub hash_on-numbers : (hash : ℕ) (piece front back : List ℕ) (m low high r : ℕ) → m ≡ min (length piece) 8 → front ≡ take m piece → back ≡ drop m piece
@@ -58,18 +58,19 @@ unfolding slot_of
 slot_of-factor hash pilot slots factor r is made =
     made ∙ ap (λ k. scaled k slots) (ap (λ f. f * pilot % 2 ^ 64) is ∙ mul-mod_first (hash * 0xe703_7ed1_a0b4_28db) pilot (2 ^ 64))
 
--- a slot among the records is a place
-pub place-slot : (pilots moves : List ℕ) (count hash pilot slot : ℕ) → pilot ≡ pilot_of pilots hash → slot ≡ slot_of hash pilot (count + length moves) → slot < count → slot ≡ place_of_hash pilots moves count hash
+-- the place of the slot of a hash is that of the hash
+pub place-slot : (pilots moves : List ℕ) (count hash pilot slot : ℕ) → pilot ≡ pilot_of pilots hash → slot ≡ slot_of hash pilot (count + length moves) → place_of_slot moves count slot ≡ place_of_hash pilots moves count hash
 unfolding place_of_hash
-place-slot pilots moves count hash pilot slot is at inside =
-    let here : slot_of hash (pilot_of pilots hash) (count + length moves) ≡ slot = sym (at ∙ ap (λ p. slot_of hash p (count + length moves)) is) in
+place-slot pilots moves count hash pilot slot is at = rw (at, is) refl
+
+-- a slot among the records is a place
+pub place_of_slot-inside : (moves : List ℕ) (count slot : ℕ) → slot < count → slot ≡ place_of_slot moves count slot
+place_of_slot-inside moves count slot inside =
     let test : nat_lt slot count ≡ true = lt-ltb slot count inside in
-    rw (here, test) refl
+    rw test refl
 
 -- and one past them has a move
-pub place-move : (pilots moves : List ℕ) (count hash pilot slot r : ℕ) → pilot ≡ pilot_of pilots hash → slot ≡ slot_of hash pilot (count + length moves) → count ≤ slot → r ≡ slice_index_or moves (slot - count) count → r ≡ place_of_hash pilots moves count hash
-unfolding place_of_hash
-place-move pilots moves count hash pilot slot r is at past made =
-    let here : slot_of hash (pilot_of pilots hash) (count + length moves) ≡ slot = sym (at ∙ ap (λ p. slot_of hash p (count + length moves)) is) in
+pub place_of_slot-past : (moves : List ℕ) (count slot : ℕ) → count ≤ slot → slice_index_or moves (slot - count) count ≡ place_of_slot moves count slot
+place_of_slot-past moves count slot past =
     let test : nat_lt slot count ≡ false = grind (arith, nat_tests) in
-    rw (here, test) made
+    rw test refl

@@ -1,13 +1,11 @@
 -- Bytes that were checked before, and their records.
-use Rattle.std.proofs.Common.{All, List, [], ap, arith, length, map, refl, sym, ℕ, ◌*◌, ◌/◌, ◌<◌, ◌∙◌, ◌∷◌, ◌≡◌, ◌≢◌}
+use Rattle.std.proofs.Common.{All, List, [], ap, length, map, sym, ℕ, ◌/◌, ◌<◌, ◌∙◌, ◌≡◌, ◌≢◌}
 use Rattle.std.specs.List.{slice_get}
 use Rattle.std.specs.Simd.{first_chunks}
 use Rattle.std.specs.declared.option.Option.TheVariants.{None, Some}
-use Rattle.std.proofs.Math.Nat.{suc-mul}
 use Rattle.std.proofs.lemmas.Option.{get_or_from_slice_get, slice_get_within}
 use Rattle.tinystr_words.specs.Packed.{IsPacked}
 use Rattle.tinystr_words.specs.Text.{IsPaddedText, pad, text_of}
-use Rattle.tinystr_words.proofs.Reading.Records.{length-joined}
 use Rattle.tinystr_packed.proofs.InPlace.{missed_record, no_text_at}
 use Rattle.tinystr_packed.proofs.PackedTexts.{AllPadded-chunks, texts_of-records}
 use Rattle.tinystr_packed.specs.Rising.{ArePackedRising}
@@ -19,13 +17,6 @@ pub hashed_records : (bytes part : List ℕ) (records texts : List (List ℕ)) (
 hashed_records bytes part records texts n some h here are count =
     let packed : IsPacked part n = record { texts = texts; each = h.strict; joined = here ∙ h.joined } in
     (AllPadded-chunks part records n some packed are count, texts_of-records part records n some packed are)
-
--- no bytes are no texts
-pub none_from_empty : (texts : List (List ℕ)) (bytes part : List ℕ) (n : ℕ) → 0 < n → length part ≡ 0 → part ≡ records_in bytes → IsHashed texts bytes n → texts ≡ []
-none_from_empty [] bytes part n some none here h = refl
-none_from_empty (t ∷ ts) bytes part n some none here h =
-    let long : length part ≡ length (t ∷ ts) * n = ap (λ (l : List ℕ). length l) (here ∙ h.joined) ∙ length-joined n (t ∷ ts) h.strict in
-    absurd (omega (arith, suc-mul (length ts) n))
 
 -- where there is no record, there is no text
 pub no_text : (records texts : List (List ℕ)) (key : List ℕ) (i : ℕ) → map text_of records ≡ texts → slice_get records i ≡ None → slice_get texts i ≢ Some key

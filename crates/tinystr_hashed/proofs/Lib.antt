@@ -8,5 +8,5 @@ pub mod MapPacks
 pub mod Marks
 pub mod Packs
 pub mod Placed
+pub mod Repeats
 pub mod SortedTables
-mod SortedRecords

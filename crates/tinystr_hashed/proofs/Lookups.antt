@@ -5,7 +5,7 @@ use Rattle.std.specs.List.{Contains, position, position_or_len, slice_get}
 use Rattle.std.specs.List.Sorted.{IsStrictlySortedBy}
 use Rattle.std.specs.Ordering.{nat_cmp}
 use Rattle.std.specs.Option.{IfSome}
-use Rattle.std.specs.Prelude.{IsSome, nat_lt}
+use Rattle.std.specs.Prelude.{IsNone, IsSome, nat_lt}
 use Rattle.std.specs.declared.option.Option.{Option}
 use Rattle.std.specs.Result.{result_ok}
 use Rattle.std.specs.Str.{bytes_eq}
@@ -76,6 +76,12 @@ Contains-absent place ts key p placed is other found =
     let same : get_or ts k [] ≡ key = get_or_default ts k [] key found.1 ∙ found.2 in
     let at : k ≡ p = sym (placed k found.1) ∙ ap place same ∙ sym is in
     other (rw (sym at) (slice_get-get_or ts k [] found.1 ∙ ap Some same))
+
+-- a key is the text at its place, or none of them
+pub position-placed : (place : List ℕ → ℕ) (ts : List (List ℕ)) (key : List ℕ) (p : ℕ) (r : Option ℕ) → ArePlaced place ts → p ≡ place key
+    → IfSome r (λ i. (i ≡ p) × (slice_get ts i ≡ Some key)) → (IsNone r → slice_get ts p ≢ Some key) → r ≡ position (bytes_eq key) ts
+position-placed place ts key p (Some i) placed is there elsewhere = position-at ts key i (AreDistinct-placed place ts placed) there.1
+position-placed place ts key p None placed is there elsewhere = position-none ts key (Contains-absent place ts key p placed is (elsewhere refl))
 
 -- ---- what a search among ascending texts finds
 

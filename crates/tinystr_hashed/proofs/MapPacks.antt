@@ -20,14 +20,14 @@ use Rattle.std.proofs.lemmas.List.Elements.{All-append, All-cons, All-contains, 
 use Rattle.std.proofs.lemmas.List.Kept.{IsStrictlySortedBy-filter}
 use Rattle.std.proofs.lemmas.List.Sums.{length-filter}
 use Rattle.std.proofs.lemmas.Map.Keys.{IsDistinct-from_sorted}
-use Rattle.std.proofs.lemmas.Map.Made.{is_member-Decides, keys_of-zip, length-le_from_is_member}
+use Rattle.std.proofs.lemmas.Map.Made.{IsDistinct-from_AllPairs, is_member-Decides, keys_of-zip, length-le_from_is_member}
 use Rattle.std.proofs.lemmas.Map.Views.{Contains-keys_from_lookup, IsSome-lookup_from_Contains}
 use Rattle.std.proofs.lemmas.Option.{slice_get-map, slice_get_read}
 use Rattle.std.proofs.lemmas.Slice.Eq.{bytes_eq-Decides}
 use Rattle.std.proofs.lemmas.Slice.Zip.{seconds-zip}
 use Rattle.tinystr_words.specs.Text.{IsStrictText, pad}
 use Rattle.tinystr_packed.specs.Map.{get}
-use Rattle.tinystr_packed.proofs.PackedMaps.{get-absent}
+use Rattle.tinystr_packed.proofs.PackedMaps.{Entries, get-absent, get-zip, same-Decides}
 use Rattle.tinystr_hashed.specs.Hashing.{AreDistinct}
 use Rattle.tinystr_hashed.specs.Packing.{ArePackedHashed, RefusesToPack}
 use Rattle.tinystr_hashed.specs.PackingMaps.{ArePackedHashedEntries, ArePackedHashedTexts, IsNotDuplicate}
@@ -35,11 +35,7 @@ use Rattle.tinystr_hashed.specs.Reading.{IsHashed, pilots_of, place_by}
 use Rattle.tinystr_hashed.specs.declared.packing.PackHashedError.{PackHashedError}
 use Rattle.tinystr_hashed.specs.declared.packing.PackHashedError.TheVariants.{Duplicate, Memory}
 use Rattle.tinystr_hashed.proofs.ForCallers.{hashed_once}
-use Rattle.tinystr_hashed.proofs.HashedMaps.{get-at, same-Decides}
 use Rattle.tinystr_hashed.proofs.Lookups.{AreDistinct-ordered}
-
-abbrev Entries : Type 0
-Entries = List (List ℕ × List ℕ)
 
 -- ---- no key occurs twice
 
@@ -131,9 +127,8 @@ values_of-entries_by es ks = seconds-zip ks (map (value_in es) ks) (length-map k
 get-entries_by : (es : Entries) (ks : List (List ℕ)) (key : List ℕ) → AreDistinct ks → Contains ks key → get (entries_by es ks) key ≡ Some (value_in es key)
 get-entries_by es ks key distinct here =
     let at : slice_get ks here.0 ≡ Some key = slice_get_read ks (length ks) here.0 key refl here.1 (sym here.2) in
-    let keys = keys_of-entries_by es ks in
-    get-at (entries_by es ks) key here.0 (rw keys distinct) (rw keys at)
-    ∙ rw (values_of-entries_by es ks, slice_get-map (value_in es) ks here.0, at) refl
+    get-zip ks (map (value_in es) ks) (entries_by es ks) key here.0 refl (length-map ks (value_in es)) (IsDistinct-from_AllPairs same-Decides ks distinct) at
+    ∙ rw (slice_get-map (value_in es) ks here.0, at) refl
 
 -- and for any other there is none
 same_value : (es : Entries) (ks : List (List ℕ)) (key : List ℕ) (o : Option (List ℕ)) → AreDistinct ks → ((t : List ℕ) → (Contains ks t → Contains (keys_of es) t) × (Contains (keys_of es) t → Contains ks t)) → o ≡ get es key

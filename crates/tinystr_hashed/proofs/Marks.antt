@@ -4,7 +4,7 @@ use Rattle.std.specs.List.{All, Contains, IsDistinct, slice_get}
 use Rattle.std.specs.Set.{is_member}
 use Rattle.std.specs.Str.{bytes_eq}
 use Rattle.std.specs.declared.option.Option.TheVariants.{Some}
-use Rattle.std.proofs.lemmas.Bool.{cases_lt, false_from_ne_true}
+use Rattle.std.proofs.lemmas.Bool.{cases_eq, cases_lt, false_from_ne_true}
 use Rattle.std.proofs.lemmas.Grind.{get_or-set_at}
 use Rattle.std.proofs.lemmas.Cmp.{nat_list_eq_equiv}
 use Rattle.std.proofs.lemmas.List.{get_or-replicate, get_or-set_other, get_or-take, length-replicate, length-set, length-take}
@@ -47,12 +47,6 @@ AreMarked-none table marks none =
       unmarked = λ p inside is here. absurd (omega (arith, here.1));
     }
 
-same_or_other : (q p : ℕ) → (q ≡ p) ⊎ (q ≢ p)
-same_or_other q p = elim (cases_lt q p) [
-  | inl before ↦ inr (λ same. absurd (omega arith))
-  | inr from ↦ elim (cases_lt p q) [ inl after ↦ inr (λ same. absurd (omega arith)) | inr to ↦ inl (omega arith) ]
-]
-
 -- one more
 text_other : (table : List (List ℕ)) (p q : ℕ) → AreDistinct table → p < length table → q < length table → q ≢ p → text_at table q ≢ text_at table p
 text_other table p q apart inside here other same = elim (cases_lt q p) [
@@ -61,13 +55,13 @@ text_other table p q apart inside here other same = elim (cases_lt q p) [
 ]
 
 marked_more : (table : List (List ℕ)) (marks : List ℕ) (texts : List (List ℕ)) (t : List ℕ) (p : ℕ) → AreMarked table marks texts → text_at table p ≡ t → (q : ℕ) → q < length table → get_or (slice_set marks p 1) q 0 ≢ 0 → Contains (texts ++ t ∷ []) (text_at table q)
-marked_more table marks texts t p h text q here on = elim (same_or_other q p) [
+marked_more table marks texts t p h text q here on = elim (cases_eq q p) [
   | inl same ↦ Contains-append_right texts (t ∷ []) (text_at table q) (0, omega arith, sym text ∙ ap (λ (k : ℕ). text_at table k) (sym same))
   | inr other ↦ Contains-append_left texts (t ∷ []) (text_at table q) (h.marked q here (λ zero. on (get_or-set_other marks p q 1 0 other ∙ zero)))
 ]
 
 unmarked_more : (table : List (List ℕ)) (marks : List ℕ) (texts : List (List ℕ)) (t : List ℕ) (p : ℕ) → AreDistinct table → AreMarked table marks texts → text_at table p ≡ t → p < length table → (q : ℕ) → q < length table → get_or (slice_set marks p 1) q 0 ≡ 0 → ¬ Contains (texts ++ t ∷ []) (text_at table q)
-unmarked_more table marks texts t p apart h text inside q here off found = elim (same_or_other q p) [
+unmarked_more table marks texts t p apart h text inside q here off found = elim (cases_eq q p) [
   | inl same ↦ (let on : get_or (slice_set marks p 1) q 0 ≡ 1 = get_or-set_at marks p q 1 0 same (rw h.size inside) in absurd (omega (arith, on, off)))
   | inr other ↦ elim (Contains-push_cases texts t (text_at table q) found) [
     | inl old ↦ h.unmarked q here (sym (get_or-set_other marks p q 1 0 other) ∙ off) old

@@ -2,7 +2,7 @@
 use Rattle.std.proofs.Common.{◌≡◌, ◌≢◌, ℕ, ◌+◌, ◌<◌, ◌≤◌, ◌∙◌, List, [], ◌∷◌, ◌++◌, Bool, true, false, ap, sym, refl, arith, cond, get_or, length, inl, inr, add-one}
 use Rattle.std.specs.Cmp.Lexicographic.{slice_cmp}
 use Rattle.std.specs.List.{All, Contains, IsDistinct, count_by}
-use Rattle.std.specs.List.Sorted.{IsPermutation, IsSorted, IsStrictlySortedBy}
+use Rattle.std.specs.List.Sorted.{IsPermutation, IsSorted}
 use Rattle.std.specs.Ordering.{is_eq, is_lt, nat_cmp, ordering_reverse}
 use Rattle.std.specs.Option.{IfSome, IsNone, MatchOption}
 use Rattle.std.specs.Set.{is_member}
@@ -17,12 +17,13 @@ use Rattle.std.proofs.lemmas.List.{get_or_default, length-append}
 use Rattle.std.proofs.lemmas.List.Elements.{All-contains, All-contains_itself, All-weaker, Contains-push_cases}
 use Rattle.std.proofs.lemmas.List.Sorted.{IsPermutation-sym, sum_by-IsPermutation}
 use Rattle.std.proofs.lemmas.List.Sums.{count_by_more_yes, sum_by-take-le}
-use Rattle.std.proofs.lemmas.Map.Keys.{IsDistinct-from_apart, IsDistinct-IsPermutation, IsDistinct-push, Less-from_sorted, sorted_from_all_adjacent}
-use Rattle.std.proofs.lemmas.Map.Made.{is_member-Decides, length-le_from_is_member}
+use Rattle.std.proofs.lemmas.Map.Keys.{IsDistinct-IsPermutation, IsDistinct-push}
+use Rattle.std.proofs.lemmas.Map.Made.{IsDistinct-from_AllPairs, is_member-Decides, length-le_from_is_member}
 use Rattle.std.proofs.lemmas.Map.Text.{is_eq-slice_cmp}
 use Rattle.std.proofs.lemmas.Slice.Eq.{bytes_eq-Decides}
-use Rattle.tinystr_packed.specs.Rising.{text_at}
+use Rattle.tinystr_packed.specs.Rising.{order, text_at, IsRising}
 use Rattle.tinystr_hashed.proofs.ForCallers.{hashed_once}
+use Rattle.tinystr_hashed.proofs.Lookups.{AreDistinct-rising}
 use Rattle.tinystr_hashed.specs.Packing.{ArePackedHashed}
 use Rattle.tinystr_hashed.specs.Reading.{IsHashed}
 
@@ -82,7 +83,7 @@ occurs_twice-moved : (texts sorted : List (List ℕ)) (t : List ℕ) → IsPermu
 occurs_twice-moved texts sorted t moved twice = rw (← sum_by-IsPermutation (λ s. cond (bytes_eq t s) 1 0) texts sorted moved) twice
 
 -- sorted texts that aren't equal to the next are each below it
-pub rises : (t s : List ℕ) (o : Ordering) → o ≡ slice_cmp nat_cmp t s → is_lt (slice_cmp nat_cmp s t) ≡ false → t ≢ s → o ≡ Less
+rises : (t s : List ℕ) (o : Ordering) → o ≡ slice_cmp nat_cmp t s → is_lt (slice_cmp nat_cmp s t) ≡ false → t ≢ s → o ≡ Less
 rises t s Less is up differ = refl
 rises t s Equal is up differ = absurd (differ ((bytes_eq-Decides t s).0 (sym (is_eq-slice_cmp t s) ∙ ap is_eq (sym is))))
 rises t s Greater is up differ =
@@ -90,20 +91,21 @@ rises t s Greater is up differ =
     let same : true ≡ false = sym (ap is_lt back) ∙ up in
     cc
 
+pub IsRising-differ : (sorted : List (List ℕ)) → IsSorted order sorted → ((k : ℕ) → k + 1 < length sorted → text_at sorted k ≢ text_at sorted (k + 1)) → IsRising sorted
+IsRising-differ sorted up differ k inside =
+    rises (text_at sorted k) (text_at sorted (k + 1)) (order (text_at sorted k) (text_at sorted (k + 1))) refl (up k [] (omega arith) inside) (differ k inside)
+
 -- so no two are equal, in any order
-distinct-sorted : (texts sorted : List (List ℕ)) → IsPermutation texts sorted → IsSorted (slice_cmp nat_cmp) sorted → ((k : ℕ) → k + 1 < length sorted → text_at sorted k ≢ text_at sorted (k + 1)) → IsDistinct bytes_eq texts
-distinct-sorted texts sorted moved up differ =
-    let strict : IsStrictlySortedBy (slice_cmp nat_cmp) sorted =
-    sorted_from_all_adjacent nat_list_cmp_total sorted [] (λ k inside. rises (text_at sorted k) (text_at sorted (k + 1)) (slice_cmp nat_cmp (text_at sorted k) (text_at sorted (k + 1))) refl (up k [] (omega arith) inside) (differ k inside)) in
-    let apart : IsDistinct bytes_eq sorted =
-    IsDistinct-from_apart bytes_eq sorted (λ i j d before inside. sym (is_eq-slice_cmp (get_or sorted i d) (get_or sorted j d)) ∙ ap is_eq (Less-from_sorted (slice_cmp nat_cmp) sorted i j d strict before inside)) in
+pub distinct-rising : (texts sorted : List (List ℕ)) → IsPermutation texts sorted → IsRising sorted → IsDistinct bytes_eq texts
+distinct-rising texts sorted moved up =
+    let apart : IsDistinct bytes_eq sorted = IsDistinct-from_AllPairs (λ a b. bytes_eq-Decides a b) sorted (AreDistinct-rising sorted up) in
     IsDistinct-IsPermutation bytes_eq (nat_list_eq_equiv.symm) sorted texts (IsPermutation-sym texts sorted moved) apart
 
 -- so what is found in the sorted texts holds of the texts
 pub repeated-sorted : (texts sorted : List (List ℕ)) (found : Option (List ℕ)) → IsPermutation texts sorted → IsSorted (slice_cmp nat_cmp) sorted
     → (IsNone found → (k : ℕ) → k + 1 < length sorted → text_at sorted k ≢ text_at sorted (k + 1)) → IfSome found (λ t. 2 ≤ count_by (bytes_eq t) sorted)
     → MatchOption found (IsDistinct bytes_eq texts) (λ t. 2 ≤ count_by (bytes_eq t) texts)
-repeated-sorted texts sorted None moved up differ twice = distinct-sorted texts sorted moved up (differ refl)
+repeated-sorted texts sorted None moved up differ twice = distinct-rising texts sorted moved (IsRising-differ sorted up (differ refl))
 repeated-sorted texts sorted (Some t) moved up differ twice = occurs_twice-moved texts sorted t moved twice
 
 -- the text at an index of the rest is at the next

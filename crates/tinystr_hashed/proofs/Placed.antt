@@ -1,5 +1,5 @@
 -- Bytes are a hashed table exactly if their texts are in the order of one.
-use Rattle.std.proofs.Common.{All, List, [], ap, arith, false, get_or, length, map, refl, suc, sym, ℕ, ◌++◌, ◌∷◌, ◌&&◌, ◌*◌, ◌+◌, ◌<◌, ◌==◌, ◌^◌, ◌∙◌, ◌≡◌, ◌≢◌, ◌≤◌}
+use Rattle.std.proofs.Common.{All, List, [], ap, arith, false, get_or, length, map, refl, suc, sym, ℕ, ◌∷◌, ◌&&◌, ◌*◌, ◌+◌, ◌<◌, ◌==◌, ◌^◌, ◌∙◌, ◌≡◌, ◌≢◌, ◌≤◌}
 use Rattle.std.specs.Bool.{Decides, one_answer}
 use Rattle.std.specs.List.{flat_map}
 use Rattle.std.specs.Prelude.{nat_le}
@@ -18,6 +18,7 @@ use Rattle.tinystr_packed.specs.Rising.{text_at, is_rising, ArePackedRising, IsF
 use Rattle.tinystr_packed.proofs.PackedTexts.{AllStrict-texts, packed, packed_injective, texts_of-packed}
 use Rattle.tinystr_packed.proofs.Computed.{is_rising-Decides}
 use Rattle.tinystr_packed.proofs.RisingTexts.{not_rising}
+use Rattle.tinystr_packed.proofs.SortedRecords.{flat-records}
 use Rattle.tinystr_hashed.specs.Hashing.{place_of, place_in, start_of, AreOrdered, ArePlaced, IsFirstMisplaced, IsFirstOutOfOrder}
 use Rattle.tinystr_hashed.specs.Reading.{IsHashed, IsWhole, are_ordered, are_placed, hashed_table_of, hashed_texts, index_size, is_hashed, moves_of, pilots_of, place_by, records_in, seed_of, version_of}
 
@@ -50,14 +51,7 @@ misplaced-texts records ts pilots moves start n i h view m =
       before = λ k earlier. (let here : k < length records = omega (arith, m.inside) in rw (← count, pad-record records ts n k h view here) (m.before k earlier));
     }
 
--- records, joined, are their texts, packed
-pub flat-records : (records : List (List ℕ)) (n : ℕ) → All (λ raw. IsPaddedText raw n) records → flat_map (λ x. x) records ≡ packed n (map text_of records)
-flat-records [] n h = refl
-flat-records (r ∷ rs) n h =
-    let first : r ≡ pad (text_of r) n = (h 0 [] (omega arith)).padded in
-    let others = flat-records rs n (λ i d inside. h (suc i) d (omega arith)) in
-    ap (λ (l : List ℕ). l ++ flat_map (λ x. x) rs) first ∙ ap (λ (l : List ℕ). pad (text_of r) n ++ l) others
-
+-- records of strictly ascending texts are packed
 pub ArePackedRising-records : (records ts : List (List ℕ)) (bytes : List ℕ) (n : ℕ) → All (λ raw. IsPaddedText raw n) records → map text_of records ≡ ts → bytes ≡ flat_map (λ x. x) records → IsRising ts → ArePackedRising ts bytes n
 ArePackedRising-records records ts bytes n h view is up =
     record { strict = rw view at (AllStrict-texts records n h); joined = is ∙ flat-records records n h ∙ ap (λ (l : List (List ℕ)). packed n l) view; rising = up }

@@ -42,9 +42,7 @@ impl<'a> Places<'a> {
         ensures place { IfSome result (λ place. place
             ≡ Spec.place_of_hash self.now.pilots.now (map word self.now.moves.now) count hash) }
     {
-        let group = scaled(hash, self.pilots.len());
-        let pilot = self.pilots.get(group)?;
-        let slot = slot_of(hash, *pilot, count + self.moves.len());
+        let slot = self.slot_of_hash(hash, count)?;
         Some(if slot < count {
             slot
         } else {
@@ -52,10 +50,34 @@ impl<'a> Places<'a> {
         })
     }
 
-    // The place of a slot past the records. It isn't inlined, since few slots are.
+    /// The slot of a record among `count` records and the moves, or `None` if there are no pilots.
+    #[inline(always)]
+    pub(crate) fn slot<const N: usize>(&self, raw: &[u8; N], count: usize) -> Option<usize>
+        requires { count < 2 ^ 63 }
+        ensures exact { IsSome result ↔ (0 < length self.now.pilots.now) }
+        ensures slot { IfSome result (λ slot. Spec.place_of_slot (map word self.now.moves.now) count slot
+            ≡ Spec.place_of self.now.start self.now.pilots.now (map word self.now.moves.now) count raw.now) }
+    {
+        self.slot_of_hash(hash_of(self.start, raw), count)
+    }
+
+    // The same of the record's hash.
+    #[inline(always)]
+    fn slot_of_hash(&self, hash: u64, count: usize) -> Option<usize>
+        requires { count < 2 ^ 63 }
+        ensures exact { IsSome result ↔ (0 < length self.now.pilots.now) }
+        ensures slot { IfSome result (λ slot. Spec.place_of_slot (map word self.now.moves.now) count slot
+            ≡ Spec.place_of_hash self.now.pilots.now (map word self.now.moves.now) count hash) }
+    {
+        let group = scaled(hash, self.pilots.len());
+        let pilot = self.pilots.get(group)?;
+        Some(slot_of(hash, *pilot, count + self.moves.len()))
+    }
+
+    /// The place of a slot past the records. It isn't inlined, since few slots are.
     #[cold]
     #[inline(never)]
-    fn moved(&self, slot: usize, count: usize) -> usize
+    pub(crate) fn moved(&self, slot: usize, count: usize) -> usize
         requires { count ≤ slot }
         ensures { result ≡ slice_index_or (map word self.now.moves.now) (slot - count) count }
     {

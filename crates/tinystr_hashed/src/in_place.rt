@@ -27,10 +27,6 @@ pub fn position<const N: usize>(bytes: &[u8], key: &TinyAsciiStr<N>) -> Option<u
     let Ok(parts) = Parts::of(bytes) else {
         return None;
     };
-    // where there is no record, an array of `N` bytes may have no size
-    if parts.records.is_empty() {
-        return None;
-    }
     let records = parts.records.as_chunks().0;
     let raw = key.all_bytes();
     let Some(place) = parts.places.place(raw, records.len()) else {

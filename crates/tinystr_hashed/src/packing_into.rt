@@ -3,10 +3,10 @@
 ghost use Rattle.std.specs.Prelude.{◌≡◌, ◌↔◌, ◌<◌, ◌≤◌, ◌+◌, ◌-◌, ◌*◌, ◌^◌, min, length, take, IsTrue, IfOk, IfErr, IfSome};
 ghost use Rattle.std.specs.List.{IsDistinct};
 ghost use Rattle.std.specs.Str.{bytes_eq};
+ghost use Rattle.tinystr_packed.specs.Sorting.{AreSorted, AreSortedRows};
 ghost use Rattle.tinystr_hashed.specs.Packing.{ArePackedHashed};
 ghost use Rattle.tinystr_hashed.specs.PackingInto as Spec;
 ghost use Rattle.tinystr_hashed.specs.PackingInto.{ArePackedInto, IsFirstRepeat, RefusesToPackInto};
-ghost use Rattle.tinystr_hashed.specs.Private.Sorted.{AreSorted, AreSortedRows};
 
 use crate::building::{ATTEMPTS, Attempt, Plan, SORTED, Texts, builds, can_have_pilots};
 use tinystr_packed::{SortedTable, Table};

@@ -1,12 +1,12 @@
 //! Hashed tables, and the look-up in them.
 
-ghost use Rattle.std.specs.Prelude.{◌≡◌, ◌<◌, ◌^◌, ◌↔◌, ℕ, List, [], IsOk, IsSome, IsNone, IsTrue, IfOk, IfErr, IfSome, Some, Contains, length, map, slice_get};
+ghost use Rattle.std.specs.Prelude.{◌≡◌, ◌≢◌, ◌<◌, ◌≤◌, ◌^◌, ◌↔◌, ℕ, List, [], IsOk, IsSome, IsNone, IsTrue, IfOk, IfErr, IfSome, Some, Contains, length, map, slice_get};
 ghost use Rattle.tinystr_words.specs.Words.{word};
 ghost use Rattle.std.specs.List as list;
 ghost use Rattle.std.specs.Result.{result_ok};
 ghost use Rattle.std.specs.Str.{bytes_eq};
 ghost use Rattle.tinystr_packed.specs.Rising.{IsRising};
-ghost use Rattle.tinystr_hashed.specs.Hashing.{start_of, place_in, AreOrdered, IsFirstOutOfOrder, AreDistinct};
+ghost use Rattle.tinystr_hashed.specs.Hashing.{start_of, place_in, place_of_slot, AreOrdered, IsFirstOutOfOrder, AreDistinct};
 ghost use Rattle.tinystr_hashed.specs.Reading.{IsHashed, IsWhole, RefusesHashed, seed_of, pilots_of, moves_of, records_in, hashed_table_of};
 
 use crate::hashing::{Places, short_number, start_of};
@@ -135,6 +135,7 @@ impl<'a, const N: usize> HashedTable<'a, N> {
 
     /// The index of a text, or `None` if the table doesn't have it. Each key takes one hash, one pilot and one record, and some
     /// keys one move. If there are no pilots, a key is searched for by halves.
+    #[inline(always)]
     pub fn position(&self, key: &TinyAsciiStr<N>) -> Option<usize>
         ensures found { IfSome result (λ index. slice_get self.now index ≡ Some key.now) }
         ensures exact { IsSome result ↔ Contains self.now key.now }
@@ -142,13 +143,14 @@ impl<'a, const N: usize> HashedTable<'a, N> {
         ensures distinct { AreDistinct self.now }
     {
         let count = self.table.records().len();
-        let Some(place) = self.places.place(key.all_bytes(), count) else {
+        let Some(slot) = self.places.slot(key.all_bytes(), count) else {
             return self.position_by_halves(key);
         };
-        if self.has_text_at(place, key) {
-            Some(place)
+        // a call at the end of each way, so that the usual one keeps no register
+        if slot < count {
+            position_at(&self.table, slot, key)
         } else {
-            None
+            position_moved(&self.table, &self.places, slot, key)
         }
     }
 
@@ -165,17 +167,6 @@ impl<'a, const N: usize> HashedTable<'a, N> {
             return None;
         }
         search(records.as_flattened(), key).ok()
-    }
-
-    // Whether a text is at an index. It is compared in place, since a copy would be stored before it is loaded.
-    #[inline(always)]
-    fn has_text_at(&self, index: usize, text: &TinyAsciiStr<N>) -> bool
-        ensures { IsTrue result ↔ (slice_get self.now index ≡ Some text.now) }
-    {
-        match self.table.records().get(index) {
-            Some(raw) => padded::equals(raw, text.all_bytes()),
-            None => false,
-        }
     }
 
     /// Whether the table has a text.
@@ -221,6 +212,52 @@ impl<'a, const N: usize> Default for HashedTable<'a, N> {
             },
         }
     }
+}
+
+// A place, if a text is there.
+#[inline(always)]
+fn position_at<const N: usize>(
+    table: &Table<'_, N>,
+    place: usize,
+    text: &TinyAsciiStr<N>,
+) -> Option<usize>
+    ensures there { IfSome result (λ index. (index ≡ place) × (slice_get table.now index ≡ Some text.now)) }
+    ensures elsewhere { IsNone result → (slice_get table.now place ≢ Some text.now) }
+{
+    if has_text_at(table, place, text) {
+        Some(place)
+    } else {
+        None
+    }
+}
+
+// Whether a text is at an index. It is compared in place, since a copy would be stored before it is loaded.
+#[inline(always)]
+fn has_text_at<const N: usize>(table: &Table<'_, N>, index: usize, text: &TinyAsciiStr<N>) -> bool
+    ensures { IsTrue result ↔ (slice_get table.now index ≡ Some text.now) }
+{
+    match table.records().get(index) {
+        Some(raw) => padded::equals(raw, text.all_bytes()),
+        None => false,
+    }
+}
+
+// The same of the place of a slot past the records. It isn't inlined, since few slots are.
+#[cold]
+#[inline(never)]
+fn position_moved<const N: usize>(
+    table: &Table<'_, N>,
+    places: &Places<'_>,
+    slot: usize,
+    text: &TinyAsciiStr<N>,
+) -> Option<usize>
+    requires { length table.now ≤ slot }
+    ensures there { IfSome result (λ index. (index ≡ place_of_slot (map word places.now.moves.now) (length table.now) slot)
+        × (slice_get table.now index ≡ Some text.now)) }
+    ensures elsewhere { IsNone result
+        → (slice_get table.now (place_of_slot (map word places.now.moves.now) (length table.now) slot) ≢ Some text.now) }
+{
+    position_at(table, places.moved(slot, table.len()), text)
 }
 
 // The index of the first text that isn't at its place or, if there are no pilots, isn't above the one before it.

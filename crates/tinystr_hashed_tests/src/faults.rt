@@ -1,6 +1,6 @@
 //! Bytes that aren't a hashed table, and why. The results come from another program, which is written from the definition.
 
-use crate::files::file;
+use crate::file;
 use std::alloc::{AllocError, Global};
 use std::test::Fail;
 use tinystr::ParseError::{ContainsNull, NonAscii};

@@ -8,8 +8,6 @@ mod errors;
 #[cfg(test)]
 mod faults;
 #[cfg(test)]
-mod files;
-#[cfg(test)]
 mod hashes;
 #[cfg(test)]
 mod maps;
@@ -21,3 +19,22 @@ mod spread;
 mod tables;
 #[cfg(test)]
 mod text_maps;
+
+#[cfg(test)]
+use std::alloc::{AllocError, Global};
+
+/// The front of a table, which is its header, its pilots and its moves, and texts as records of `N` bytes.
+#[cfg(test)]
+fn file<const N: usize>(
+    alloc: Global,
+    front: &[u8],
+    texts: &[&str],
+) -> Result<Vec<u8>, AllocError> {
+    let mut file = front.to_vec(alloc)?;
+    for text in texts {
+        let end = file.len().saturating_add(N);
+        file.extend_from_slice(text.as_bytes())?;
+        file.resize(end, 0)?;
+    }
+    Ok(file)
+}

@@ -3,7 +3,7 @@
 
 ghost use Rattle.std.specs.Prelude.{◌<◌, ◌^◌};
 
-use crate::files::file;
+use crate::file;
 use crate::tables::is_table;
 use std::alloc::{AllocError, Global};
 use std::test::Fail;

@@ -1,5 +1,5 @@
--- The lines and the output of an input, from its first line on.
-use Rattle.std.proofs.Common.{◌≡◌, ℕ, inl, inr, List, [], ◌∷◌, ◌++◌, ◌<◌, length, refl, ap, sym, ◌∙◌, arith, append-nil, append_assoc, length-append, take_all, drop_of_length-le}
+-- The lines and the output of an input, from its first line on, and what is written of it.
+use Rattle.std.proofs.Common.{◌≡◌, ℕ, inl, inr, List, [], ◌∷◌, ◌++◌, ◌<◌, length, refl, ap, sym, ◌∙◌, arith, append-nil, append_assoc, length-append, take_all, drop_of_length-le, ◌-◌, Option, Ok, Err, Result, OnErr, take, drop, take-append-drop, subst}
 use Rattle.std.specs.List.{before_first, after_first, position_or_len, flat_map, slice_split}
 use Rattle.std.proofs.lemmas.Bool.{cases_lt}
 use Rattle.std.proofs.lemmas.Bool.Decides.{nat_tests}
@@ -7,7 +7,13 @@ use Rattle.std.proofs.lemmas.List.Sums.{fails_before_first}
 use Rattle.std.proofs.lemmas.List.Concat.{flat_map-append}
 use Rattle.std.proofs.lemmas.List.Splits.{slice_split_first, slice_split_none, length-slice_split}
 use Rattle.tinystr_lines.specs.Reply.{reply}
-use Rattle.tinystr_lines.specs.Output.{is_line_feed, without_empty_last, lines_of, reply_line, output_of}
+use Rattle.tinystr_lines.specs.Output.{is_line_feed, without_empty_last, lines_of, reply_line, output_of, AppendsBeginning}
+use Rattle.std.proofs.Math.Seq.{take-append_seam}
+use Rattle.std.proofs.lemmas.List.{take_rest}
+use Rattle.std.proofs.KnownBytes.{Appends-trans, Appends-kept}
+use Rattle.std.specs.Io.KnownBytes.{Appends, Keeps, WriteAppends}
+
+-- ---- the lines and the output of an input, from its first line on
 
 -- the first line of an input, and those of what follows it
 lines_of-first : (input : List ℕ) → 0 < length input → lines_of input ≡ before_first is_line_feed input ∷ lines_of (after_first is_line_feed input)
@@ -74,3 +80,28 @@ pub length-output_of : (input : List ℕ) → 0 < length input → 0 < length (o
 unfolding reply_line
 length-output_of input some =
     rw (output_of-first input some, length-append (reply (before_first is_line_feed input) ++ 10 ∷ []) (output_of (after_first is_line_feed input)), length-append (reply (before_first is_line_feed input)) (10 ∷ [])) (omega arith)
+
+-- ---- what is written of some bytes, and the remainder of them
+
+-- all the bytes but the rest are written
+abbrev pub AllBut : Option (List ℕ) → Option (List ℕ) → List ℕ → List ℕ → Type 0
+AllBut a b bytes rest = (done : List ℕ) × (bytes ≡ done ++ rest) × Appends a b done
+
+-- n more bytes are written
+pub AllBut-more : (a b c : Option (List ℕ)) (bytes rest : List ℕ) (n : ℕ) → Appends b c (take n rest) → AllBut a b bytes rest → AllBut a c bytes (take (length rest - n) (drop n rest))
+AllBut-more a b c bytes rest n piece (done, split, appended) =
+    (done ++ take n rest, rw take_rest (rw append_assoc (rw take-append-drop split)), Appends-trans a b c done (take n rest) appended piece)
+
+-- what is done is a beginning of the bytes
+AppendsBeginning-from_AllBut : (a b : Option (List ℕ)) (bytes rest : List ℕ) → AllBut a b bytes rest → AppendsBeginning a b bytes
+AppendsBeginning-from_AllBut a b bytes rest (done, split, appended) = (length done, subst (Appends a b) (sym (ap (take (length done)) split ∙ take-append_seam done rest)) appended)
+
+-- a write that took some bytes or failed leaves a beginning
+pub AppendsBeginning-from_write : {E : Type 0} (a b c : Option (List ℕ)) (bytes rest : List ℕ) (r : Result ℕ E) → WriteAppends b c r rest → AllBut a b bytes rest → AppendsBeginning a c bytes
+AppendsBeginning-from_write a b c bytes rest (Ok n) piece all_but = AppendsBeginning-from_AllBut a c bytes _ (AllBut-more a b c bytes rest n piece all_but)
+AppendsBeginning-from_write a b c bytes rest (Err e) kept (done, split, appended) = AppendsBeginning-from_AllBut a c bytes rest (done, split, Appends-kept a b c done appended kept)
+
+-- a flush that failed leaves a beginning
+pub AppendsBeginning-from_flush : {T E : Type 0} (a b c : Option (List ℕ)) (bytes rest : List ℕ) (r : Result T E) → Keeps b c → AllBut a b bytes rest → OnErr r (AppendsBeginning a c bytes)
+AppendsBeginning-from_flush a b c bytes rest (Ok v) kept all_but = tt
+AppendsBeginning-from_flush a b c bytes rest (Err e) kept all_but = AppendsBeginning-from_write a b c bytes rest (Err e) kept all_but

@@ -14,7 +14,7 @@ use Rattle.tinystr_words.proofs.Reading.Decided.{is_packed-Decides}
 use Rattle.tinystr_packed.specs.Map.{ArePacked}
 use Rattle.tinystr_packed.specs.Reading.{are_packed, map_of, sorted_of, table_of, texts_of}
 use Rattle.tinystr_packed.specs.Rising.{IsRising, is_rising, order}
-use Rattle.tinystr_packed.proofs.PackedMaps.{ArePacked-new, length-ArePacked}
+use Rattle.tinystr_packed.proofs.PackedMaps.{ArePacked-new, Entries, length-ArePacked}
 use Rattle.tinystr_packed.proofs.PackedTexts.{packed, texts_of-packed}
 use Rattle.tinystr_packed.proofs.RisingTexts.{Less-from_is_lt}
 
@@ -68,18 +68,13 @@ sorted_of-other ts other =
 
 -- ---- a map
 
-abbrev Entries : Type 0
-Entries = List (List ℕ × List ℕ)
-
 -- keys that are packed and strictly ascending, with m bytes for each
 ArePacked-zip : (keys values : List ℕ) (n m : ℕ) → 0 < n → 0 < m → IsPacked keys n → IsRising (texts_of n keys) → length values ≡ length (texts_of n keys) * m
     → ArePacked (zip (texts_of n keys) (records_of m values)) keys values n m
 ArePacked-zip keys values n m some more h up long =
     let texts = texts_of-joined keys h.texts n some h.each h.joined in
-    let strict : AllStrict n (texts_of n keys) = rw texts h.each in
-    let joined : keys ≡ packed n (texts_of n keys) = rw texts h.joined in
     let count : length values / m ≡ length (texts_of n keys) = rw long (mul-div_cancel (length (texts_of n keys)) more) in
-    ArePacked-new (texts_of n keys) (records_of m values) keys values n m (length values / m) strict up joined (rw count long) count refl
+    ArePacked-new (texts_of n keys) (records_of m values) keys values n m (length values / m) (record { strict = rw texts h.each; joined = rw texts h.joined; rising = up }) (rw count long) count refl
 
 -- the keys of entries are packed and strictly ascending, with m bytes for each
 IsPacked-keys : (es : Entries) (keys values : List ℕ) (n m : ℕ) → 0 < n → ArePacked es keys values n m → (IsPacked keys n × IsRising (texts_of n keys)) × (length values ≡ length (texts_of n keys) * m)

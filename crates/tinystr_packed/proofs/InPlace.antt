@@ -22,13 +22,6 @@ records_are bytes records texts n some h are count =
     let packed : IsPacked bytes n = record { texts = texts; each = h.strict; joined = h.joined } in
     (AllPadded-chunks bytes records n some packed are count, texts_of-records bytes records n some packed are)
 
--- no bytes are no texts
-pub none_from_empty : (texts : List (List ℕ)) (bytes : List ℕ) (n : ℕ) → 0 < n → length bytes ≡ 0 → ArePackedRising texts bytes n → texts ≡ []
-none_from_empty [] bytes n some none h = refl
-none_from_empty (t ∷ ts) bytes n some none h =
-    let long : length bytes ≡ length (t ∷ ts) * n = ap (λ (l : List ℕ). length l) h.joined ∙ length-joined n (t ∷ ts) h.strict in
-    absurd (omega (arith, suc-mul (length ts) n))
-
 -- the text of a record that is the key's
 pub found_record : (records : List (List ℕ)) (raw bytes key : List ℕ) (i : ℕ) → slice_get records i ≡ Some raw → raw ≡ bytes → text_of bytes ≡ key → slice_get (map text_of records) i ≡ Some key
 found_record records raw bytes key i at same is = rw (slice_get-map, at, same, is) refl
@@ -44,15 +37,3 @@ missed_record records raw bytes key n i padded at is differs inside same =
 -- where there is no record, there is no text
 pub no_text_at : (records : List (List ℕ)) (key : List ℕ) (i : ℕ) → slice_get records i ≡ None → i < length (map text_of records) → text_at (map text_of records) i ≢ key
 no_text_at records key i none inside is = let some = slice_get-get_or records i [] (rw (← length-map records text_of) inside) in cc
-
--- among no texts a text has its place
-pub IsFirstNotBelow-none : (t : List ℕ) → IsFirstNotBelow t [] 0
-IsFirstNotBelow-none t = record { inside = omega arith; below = λ k before. absurd (omega arith); not_below = λ k from inside. absurd (omega arith) }
-
--- and isn't found
-pub IsSearched-none : (key : List ℕ) → IsSearched key [] (Err 0)
-IsSearched-none key = record {
-  found = tt;
-  place = record { inside = omega arith; below = λ k before. absurd (omega arith); above = λ k from inside. absurd (omega arith) };
-  exact = (λ no. absurd (false≢true no), λ found. absurd (omega (arith, found.1)));
-}

@@ -1,4 +1,3 @@
-pub mod Counted
 pub mod InPlace
 pub mod MapBytes
 pub mod NumberPlaces
@@ -12,6 +11,7 @@ pub mod RisingTexts
 pub mod Searches
 pub mod EightSearches
 pub mod SortedPacks
+pub mod SortedRecords
 pub mod Computed
 pub mod ForCallers
 pub mod Collected

@@ -11,12 +11,10 @@ use Rattle.std.proofs.lemmas.List.Elements.{All-append, All-cons, All-nil, All-h
 use Rattle.std.proofs.lemmas.Map.Entries.{length-keys_of, length-values_of}
 use Rattle.std.proofs.lemmas.Map.Keys.{Less-from_sorted}
 use Rattle.tinystr_words.specs.Text.{IsStrictText, pad}
+use Rattle.tinystr_packed.proofs.PackedMaps.{Entries}
 use Rattle.tinystr_packed.proofs.PackedTexts.{packed_injective}
 use Rattle.tinystr_packed.specs.Map.{ArePacked}
 use Rattle.tinystr_packed.specs.Rising.{ArePackedRising, IsRising}
-
-abbrev Entries : Type 0
-Entries = List (List ℕ × List ℕ)
 
 -- packed keys, if they are strictly ascending
 abbrev ArePackedRisingIf : Entries → List ℕ → ℕ → Type 0

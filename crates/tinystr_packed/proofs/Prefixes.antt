@@ -1,5 +1,5 @@
 -- Texts that begin with a text.
-use Rattle.std.proofs.Common.{◌≡◌, ◌≢◌, ℕ, suc, zero, ◌+◌, ◌-◌, ◌<◌, ◌≤◌, Bool, true, false, ◌&&◌, List, [], ◌∷◌, ◌++◌, length, map, take, drop, get_or, refl, sym, ap, ◌∙◌, arith, nat_eq, inl, inr}
+use Rattle.std.proofs.Common.{◌≡◌, ◌≢◌, ℕ, suc, zero, ◌+◌, ◌-◌, ◌<◌, ◌≤◌, Bool, true, false, ◌&&◌, List, [], ◌∷◌, ◌++◌, length, map, take, drop, get_or, refl, sym, ap, ◌∙◌, arith, rules, nat_eq, inl, inr}
 use Rattle.std.specs.List.{starts_with, filter, zip, All}
 use Rattle.std.specs.List.Sorted.{IsPartitionedBy, IsPartitionPoint}
 use Rattle.std.specs.Map.{keys_of}
@@ -8,9 +8,11 @@ use Rattle.std.proofs.lemmas.Slice.Eq.{bytes_eq-Decides}
 use Rattle.std.specs.declared.cmp.Ordering.TheVariants.{Less, Equal, Greater}
 use Rattle.std.proofs.lemmas.Bool.{and_parts, cases_lt, false_from_ne_true, false≢true}
 use Rattle.std.proofs.lemmas.Bool.Decides.{nat_tests}
-use Rattle.std.proofs.lemmas.List.{get_or-drop, get_or-map, get_or-take, get_or_default, append-nil, length-drop, length-map, length-take, length-take-le, take-append-drop}
+use Rattle.std.proofs.lemmas.List.{get_or-drop, get_or-map, get_or-take, get_or_default, append-nil, length-drop, length-map, length-take, length-take-le, places, same_lists, take-append-drop}
 use Rattle.std.proofs.lemmas.List.Elements.{filter-append, All-head, All-tail}
 use Rattle.std.proofs.lemmas.Map.Entries.{length-keys_of}
+use Rattle.std.proofs.lemmas.Map.Made.{keys_of-zip}
+use Rattle.std.proofs.lemmas.Slice.Zip.{get_or-zip, length-zip}
 use Rattle.tinystr_words.specs.Text.{IsTextByte, IsText, IsStrictText, IsPaddedText, pad, text_of}
 use Rattle.tinystr_words.proofs.Order.OfPadded.{cmp-IsPaddedText}
 use Rattle.tinystr_words.proofs.Texts.{NULS, length-pad, text_of-pad, IsPaddedText-pad}
@@ -40,16 +42,10 @@ not_below_beginning [] [] h less = cc
 not_below_beginning [] (y ∷ t) h less = cc
 not_below_beginning (x ∷ p) [] h less = cc
 not_below_beginning (x ∷ p) (y ∷ t) h less =
-    elim (cases_lt x y) [
-      | inl more ↦ (let e : nat_eq x y ≡ false = grind (arith, nat_tests) in absurd (false≢true (rw e at h)))
-      | inr others ↦ elim (cases_lt y x) [
-        | inl fewer ↦ (let e : nat_eq x y ≡ false = grind (arith, nat_tests) in absurd (false≢true (rw e at h)))
-        | inr rest ↦ (let same : y ≡ x = omega arith in
-            let tie : nat_cmp x x ≡ Equal = grind (arith, nat_tests) in
-            let one : nat_eq x x ≡ true = grind (arith, nat_tests) in
-            not_below_beginning p t (rw (same, one) at h) (rw (same, tie) at less))
-      ]
-    ]
+    let parts = and_parts (nat_eq x y) (begins p t) h in
+    let same : y ≡ x = grind (arith, nat_tests, parts.0) in
+    let tie : nat_cmp x x ≡ Equal = grind (arith, nat_tests) in
+    not_below_beginning p t parts.1 (rw (same, tie) at less)
 
 -- between p and a text that begins with p all begin with p
 begins-between : (p t s : List ℕ) → order t p ≢ Less → order t s ≢ Greater → begins p s ≡ true → begins p t ≡ true
@@ -229,7 +225,7 @@ filter-texts p ts i j h =
     filter-middle (begins p) ts [] i (j - i) (λ k below _. h.before k below) (λ k from to _. h.within k from (omega (arith, h.ordered))) (λ k from inside. h.behind k (omega (arith, h.ordered)) inside)
 
 -- and the entries whose keys they are
-pub filter-entries : (p : List ℕ) (es : List (List ℕ × List ℕ)) (ks : List (List ℕ)) (i j : ℕ) → ks ≡ keys_of es → IsPrefixRange p ks i j → take (j - i) (drop i es) ≡ filter (λ e. begins p e.0) es
+filter-entries : (p : List ℕ) (es : List (List ℕ × List ℕ)) (ks : List (List ℕ)) (i j : ℕ) → ks ≡ keys_of es → IsPrefixRange p ks i j → take (j - i) (drop i es) ≡ filter (λ e. begins p e.0) es
 filter-entries p es ks i j are h =
     let key : (k : ℕ) → k < length es → begins p (get_or es k ([], [])).0 ≡ begins p (text_at ks k) =
     λ k inside. ap (begins p) (sym (get_or-map (λ (e : List ℕ × List ℕ). e.0) es k ([], []) [] inside) ∙ ap (λ (l : List (List ℕ)). get_or l k []) (sym are)) in
@@ -240,20 +236,9 @@ filter-entries p es ks i j are h =
     (λ k from inside. key k inside ∙ h.behind k (omega (arith, h.ordered)) (omega arith))
 
 -- a part of entries has a part of the keys and of the values
-drop-zip : (ks vs : List (List ℕ)) (i : ℕ) → drop i (zip ks vs) ≡ zip (drop i ks) (drop i vs)
-drop-zip ks vs zero = refl
-drop-zip [] vs (suc i) = refl
-drop-zip (k ∷ ks) [] (suc i) = zip-nil (drop i ks) where
-  zip-nil : (ks : List (List ℕ)) → ◌≡◌ {A = List (List ℕ × List ℕ)} [] (zip ks [])
-  zip-nil [] = refl
-  zip-nil (k ∷ ks) = refl
-drop-zip (k ∷ ks) (v ∷ vs) (suc i) = drop-zip ks vs i
+zip-part : (ks vs : List (List ℕ)) (i m : ℕ) → take m (drop i (zip ks vs)) ≡ zip (take m (drop i ks)) (take m (drop i vs))
+zip-part ks vs i m =
+    same_lists (take m (drop i (zip ks vs))) (zip (take m (drop i ks)) (take m (drop i vs))) (search (rules, places, length-zip)) (λ k d inside. grind (arith, places, length-zip, get_or-zip))
 
-take-zip : (ks vs : List (List ℕ)) (m : ℕ) → take m (zip ks vs) ≡ zip (take m ks) (take m vs)
-take-zip ks vs zero = refl
-take-zip [] vs (suc m) = refl
-take-zip (k ∷ ks) [] (suc m) = refl
-take-zip (k ∷ ks) (v ∷ vs) (suc m) = ap (λ (l : List (List ℕ × List ℕ)). (k, v) ∷ l) (take-zip ks vs m)
-
-pub zip-part : (ks vs : List (List ℕ)) (i j : ℕ) → take (j - i) (drop i (zip ks vs)) ≡ zip (take (j - i) (drop i ks)) (take (j - i) (drop i vs))
-zip-part ks vs i j = ap (λ (l : List (List ℕ × List ℕ)). take (j - i) l) (drop-zip ks vs i) ∙ take-zip (drop i ks) (drop i vs) (j - i)
+pub filter-zip : (p : List ℕ) (ks vs : List (List ℕ)) (es : List (List ℕ × List ℕ)) (i j : ℕ) → zip ks vs ≡ es → length vs ≡ length ks → IsPrefixRange p ks i j → zip (take (j - i) (drop i ks)) (take (j - i) (drop i vs)) ≡ filter (λ e. begins p e.0) es
+filter-zip p ks vs es i j is same h = rw (← is) (sym (zip-part ks vs i (j - i)) ∙ filter-entries p (zip ks vs) ks i j (sym (keys_of-zip ks vs same)) h)

@@ -24,7 +24,7 @@ use Rattle.tinystr_packed.specs.Private.Numbers.{IsRecord, AreRisingRecords}
 use Rattle.tinystr_packed.specs.Rising.{order, text_at, IsRising, IsFirstFall, IsPlaceFor, IsFirstNotBelow, IsFirstNotBelowWithin}
 
 -- a padded text has n bytes
-length-padded : (xs : List ℕ) (n : ℕ) → IsPaddedText xs n → length xs ≡ n
+pub length-padded : (xs : List ℕ) (n : ℕ) → IsPaddedText xs n → length xs ≡ n
 length-padded xs n h = ap (λ (l : List ℕ). length l) h.padded ∙ length-pad (text_of xs) n h.fits
 
 -- the record of the text at an index

@@ -26,6 +26,21 @@ struct EightPairs {
     nexts: [u64; 8],
 }
 
+impl EightPairs {
+    // One of the pairs.
+    #[inline(always)]
+    fn pair(&self, lane: usize) -> Pair
+        requires { lane < 8 }
+        ensures number { paired result.first result.next ≡ wanted self.now.firsts self.now.nexts lane }
+        ensures text { (n : ℕ) → ArePairsOfTexts n self.now.firsts self.now.nexts → IsPairOfText n result.first result.next }
+    {
+        Pair {
+            first: self.firsts[lane],
+            next: self.nexts[lane],
+        }
+    }
+}
+
 /// Back-off: the number of blocks of eight keys that are searched for one key at a time, before eight at a time are tried again.
 #[derive(Clone, Copy)]
 pub(crate) struct SingleBlocks {
@@ -237,15 +252,7 @@ fn are_ascending<const N: usize>(pairs: &EightPairs) -> bool
 {
     let mut descents = 0u64;
     for lane in 0..7usize {
-        let number = Pair {
-            first: pairs.firsts[lane],
-            next: pairs.nexts[lane],
-        };
-        let other = Pair {
-            first: pairs.firsts[lane + 1],
-            next: pairs.nexts[lane + 1],
-        };
-        descents += bit_below::<N>(other, number);
+        descents += bit_below::<N>(pairs.pair(lane + 1), pairs.pair(lane));
     }
     descents == 0
 }
@@ -266,11 +273,7 @@ fn halved_each<const N: usize>(
     ensures { ArePlacesWithin N start records.now (wanted pairs.now.firsts pairs.now.nexts) places.new (size / 2) }
 {
     for lane in 0..8usize {
-        let number = Pair {
-            first: pairs.firsts[lane],
-            next: pairs.nexts[lane],
-        };
-        places[lane] = halved(records, start, number, places[lane], size);
+        places[lane] = halved(records, start, pairs.pair(lane), places[lane], size);
     }
 }
 
@@ -312,11 +315,7 @@ fn are_at_most<const N: usize>(
     ensures { IsTrue result → AreNumbered N start records.now → (i k : ℕ) → i < 8 → index ≤ k → k < length records.now
         → wanted pairs.now.firsts pairs.now.nexts i ≤ pair_at start (text_at records.now k) }
 {
-    let last = Pair {
-        first: pairs.firsts[7],
-        next: pairs.nexts[7],
-    };
-    index == records.len() || bit_below_at(records, start, index, last) == 0
+    index == records.len() || bit_below_at(records, start, index, pairs.pair(7)) == 0
 }
 
 // Whether they are at least an index: the first one decides.
@@ -334,11 +333,7 @@ fn are_at_least<const N: usize>(
     ensures { IsTrue result → AreNumbered N start records.now → (i k : ℕ) → i < 8 → k < index
         → pair_at start (text_at records.now k) < wanted pairs.now.firsts pairs.now.nexts i }
 {
-    let first = Pair {
-        first: pairs.firsts[0],
-        next: pairs.nexts[0],
-    };
-    index == 0 || bit_below_at(records, start, index - 1, first) == 1
+    index == 0 || bit_below_at(records, start, index - 1, pairs.pair(0)) == 1
 }
 
 // A range of records that holds eight places: if the pairs are ascending, the first window after an index, or one eight times as

@@ -23,10 +23,6 @@ pub fn search<const N: usize>(bytes: &[u8], key: &TinyAsciiStr<N>) -> Result<usi
     ensures bound { IfErr result (λ place. place ≤ length bytes.now / N) }
     ensures searched { (texts : List (List ℕ)) → ArePackedRising texts bytes.now N → IsSearched key.now texts result }
 {
-    // where there is no record, an array of `N` bytes may have no size
-    if bytes.is_empty() {
-        return Err(0);
-    }
     binary_search_whole(bytes.as_chunks().0, key)
 }
 
@@ -53,9 +49,6 @@ pub fn search_eight<const N: usize>(
     ensures searched { (texts : List (List ℕ)) → ArePackedRising texts bytes.now N → (i : ℕ) → i < 8 →
         IsSearched (text_at keys.now i) texts (slice_index_or result i (Ok 0)) }
 {
-    if bytes.is_empty() {
-        return [Err(0); 8];
-    }
     let records = bytes.as_chunks().0;
     if N > 16 {
         answers_one_by_one(records, keys, LongRecords::Whole)
@@ -78,8 +71,5 @@ pub fn with_prefix<const N: usize>(bytes: &[u8], beginning: &TinyAsciiStr<N>) ->
     ensures range { (texts : List (List ℕ)) → ArePackedRising texts bytes.now N →
         take result.1 (drop result.0 texts) ≡ filter (λ t. starts_with nat_eq t beginning.now) texts }
 {
-    if bytes.is_empty() {
-        return (0, 0);
-    }
     range_by_fronts(bytes.as_chunks().0, beginning)
 }

@@ -13,8 +13,8 @@ ghost use Rattle.tinystr_packed.specs.Rising.{IsRising};
 
 use crate::each::BinarySearchEach;
 use crate::laws;
-use crate::sorted::{NotRising, SortedTable};
-use crate::table::{Table, Texts};
+use crate::sorted::{NotRising, SortedError, SortedTable};
+use crate::table::Texts;
 use std::marker::Model;
 use std::ops::Range;
 use tinystr::TinyAsciiStr;
@@ -82,13 +82,10 @@ impl<'a, const N: usize, const M: usize> PackedMap<'a, N, M> {
         ensures fault { IfErr result (λ e. Spec.RefusesMap e keys.now values.now N M) }
         ensures value { result_ok result ≡ map_of N M keys.now values.now }
     {
-        let table = match Table::new(keys) {
-            Ok(table) => table,
-            Err(fault) => return Err(MapError::Keys(fault)),
-        };
-        let keys = match SortedTable::new(table) {
+        let keys = match SortedTable::from_bytes(keys) {
             Ok(keys) => keys,
-            Err(fault) => return Err(MapError::Order(fault)),
+            Err(SortedError::Records(fault)) => return Err(MapError::Keys(fault)),
+            Err(SortedError::Order(fault)) => return Err(MapError::Order(fault)),
         };
         let count = keys.table().len();
         let len = values.len();

@@ -23,9 +23,9 @@ use Rattle.tinystr_words.specs.Text.{IsPaddedText, IsStrictText, IsText, is_stri
 use Rattle.tinystr_words.specs.declared.question.Case.TheVariants.{Title}
 use Rattle.tinystr_words.proofs.Order.OfLists.{before_not_same, before_one_way}
 use Rattle.tinystr_words.proofs.Reading.ByteForms.{byte_fault-first_padded, byte_fault-padded}
-use Rattle.tinystr_words.proofs.Cases.Changes.{All-differs, IsStrictText-map, IsText-ask, IsText-list_all, ask-joined, ask-map, ask-titlecase, map-map_same, position-missed, titlecase-twice}
+use Rattle.tinystr_words.proofs.Cases.{All-differs, IsStrictText-map, IsText-ask, IsText-list_all, ask-joined, ask-map, ask-titlecase, map-map_same, position-missed, titlecase-twice}
 use Rattle.tinystr_words.proofs.Parts.Found.{All-absent}
-use Rattle.tinystr_words.proofs.Decimals.Shortest.{IsDecimalOf-decimal, IsText-decimal}
+use Rattle.tinystr_words.proofs.Decimals.{IsDecimalOf-decimal, IsText-decimal}
 use Rattle.tinystr_words.proofs.Parts.Splits.{map-joined}
 use Rattle.tinystr_words.proofs.Printing.{padded-before, padded-after, padded-between}
 use Rattle.tinystr_words.proofs.Reading.OnePass.{IsScanned-none, fault_in-fits, first_fault-high}
@@ -33,12 +33,12 @@ use Rattle.tinystr_words.proofs.Texts.{IsAscii-padded, after_first-joined, befor
 use Rattle.tinystr_words.proofs.Texts as texts
 use Rattle.tinystr_words.proofs.Pieces.Answers.{ask-append, in_case-append, length-in_case}
 use Rattle.tinystr_words.proofs.Reading.Decided.{is_strict_text-Decides}
-pub use Rattle.tinystr_words.proofs.Cases.Changes.{IsStrictText-titlecase as case_fits_title, lowercase-titlecase as case_last_lower_title, titlecase-lowercase as case_last_title_lower, titlecase-twice as case_last_title_title, titlecase-uppercase as case_last_title_upper, uppercase-titlecase as case_last_upper_title, lowercase-alone as case_fixed_lower, titlecase-alone as case_fixed_title, uppercase-alone as case_fixed_upper, All-differs as class_without_differs}
-pub use Rattle.tinystr_words.proofs.Cases.SameAsStd.{is_alphanumeric-std as same_as_std_letter_or_digit, lower-std as same_as_std_lowered, raise-std as same_as_std_raised, lowercase-std as same_as_std_lowercase, uppercase-std as same_as_std_uppercase}
-pub use Rattle.tinystr_words.proofs.Decimals.Shortest.{length-decimal-le_ten as digits_ten, IsDecimalOf-decimal as digits_shortest_is, IsDecimalOf-only as digits_shortest_only}
+pub use Rattle.tinystr_words.proofs.Cases.{IsStrictText-titlecase as case_fits_title, lowercase-titlecase as case_last_lower_title, titlecase-lowercase as case_last_title_lower, titlecase-twice as case_last_title_title, titlecase-uppercase as case_last_title_upper, uppercase-titlecase as case_last_upper_title, lowercase-alone as case_fixed_lower, titlecase-alone as case_fixed_title, uppercase-alone as case_fixed_upper, All-differs as class_without_differs}
+pub use Rattle.tinystr_words.proofs.Cases.{is_alphanumeric-std as same_as_std_letter_or_digit, lower-std as same_as_std_lowered, raise-std as same_as_std_raised, lowercase-std as same_as_std_lowercase, uppercase-std as same_as_std_uppercase}
+pub use Rattle.tinystr_words.proofs.Decimals.{length-decimal-le_ten as digits_ten, IsDecimalOf-decimal as digits_shortest_is, IsDecimalOf-only as digits_shortest_only}
 pub use Rattle.tinystr_words.proofs.Order.OfLists.{before_or_same as order_total_one, before_padded as order_total_padded, cmp_is_before as order_compared_less, cmp_is_same as order_compared_equal}
 pub use Rattle.tinystr_words.proofs.Parts.Found.{text_position-at as text_position_at, text_position-some as text_position_exact, text_position-none as text_position_missing, text_position-distinct as text_position_distinct, byte_position-some as byte_position_exact, byte_position-none as byte_position_missing, split-whole as byte_split_whole, before_first-absent as byte_split_absent, Contains-joined as byte_split_joined}
-pub use Rattle.tinystr_words.proofs.Parts.Prefixes.{lowercase-take as case_cut_lower, titlecase-take as case_cut_title, uppercase-take as case_cut_upper, take_join_cut as join_cut}
+pub use Rattle.tinystr_words.proofs.Parts.Splits.{lowercase-take as case_cut_lower, titlecase-take as case_cut_title, uppercase-take as case_cut_upper, take_join_cut as join_cut}
 pub use Rattle.tinystr_words.proofs.Parts.Splits.{IsStrictText-take as strict_parts_front, IsStrictText-drop as strict_parts_back, IsStrictText-before_first as strict_parts_before, IsStrictText-after_first as strict_parts_behind, slice_split-joined as split_joined_back, IsStrictText-slice_split as split_joined_strict, slice_split-found as split_found_parts, slice_split-missed as split_found_one, IsText-joined as joined_texts_text, ask-joined_texts as joined_texts_asked}
 pub use Rattle.tinystr_words.proofs.Pieces.Answers.{ask-same as same_as_std_each}
 pub use Rattle.tinystr_words.proofs.Printing.{char_count-text as print_width_chars, take_chars-text as print_width_cut, styled-padded as print_width_styled, length-padded as print_width_width}

@@ -2,4 +2,3 @@
 pub mod OfLists
 pub mod OfPadded
 pub mod ByNumbers
-pub mod Equality

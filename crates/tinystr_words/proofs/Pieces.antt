@@ -1,7 +1,6 @@
 -- Texts and arrays, piece by piece.
 pub mod CodeUnits
 pub mod Answers
-pub mod WholeCodeUnits
 pub mod PaddedWords
 pub mod Copying
 pub mod Word

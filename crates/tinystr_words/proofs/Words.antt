@@ -1,9 +1,7 @@
 -- Texts in one word, lane by lane.
 pub mod Lanes
-pub mod LowLanes
 pub mod Formulas
 pub mod Kernels
 pub mod Texts
 pub mod Numbers
 pub mod Laws
-pub mod Concat

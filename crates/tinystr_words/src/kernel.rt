@@ -41,7 +41,7 @@ pub const NOT_NUL: u8 = 0x7f;
 
 /// The high bit of each lane that isn't NUL.
 #[inline(always)]
-#[tactic(auto, using(crate::proofs::Words::LowLanes::low_first_then))]
+#[tactic(auto, using(crate::proofs::Words::Numbers::low_first_then))]
 pub fn present<T: Word<LEN>, const LEN: usize>(text: T) -> T
     requires { HasLowLanes (T.number text) }
     ensures { T.number result ≡
@@ -52,7 +52,7 @@ pub fn present<T: Word<LEN>, const LEN: usize>(text: T) -> T
 
 /// The high bit of each lane whose lower bits aren't all clear.
 #[inline(always)]
-#[tactic(auto, using(crate::proofs::Words::LowLanes::low_and, crate::proofs::Words::LowLanes::low_first_then))]
+#[tactic(auto, using(crate::proofs::Words::Numbers::low_and, crate::proofs::Words::Numbers::low_first_then))]
 pub fn marks<T: Word<LEN>, const LEN: usize>(bytes: T) -> T
     ensures { T.number result ≡ bit_and
         (bit_and (T.number bytes) (word (first_then LEN 0x7f 0x7f)) + word (first_then LEN NOT_NUL NOT_NUL))
@@ -74,7 +74,7 @@ pub fn unpadded<T: Word<LEN>, const LEN: usize>(bytes: T, marks: T) -> T
 
 /// The high bit of each lane whose byte is outside its range.
 #[inline(always)]
-#[tactic(auto, using(crate::proofs::Words::LowLanes::low_first_then))]
+#[tactic(auto, using(crate::proofs::Words::Numbers::low_first_then))]
 pub fn outside<T: Word<LEN>, const LEN: usize>(text: T, first: Range, others: Range) -> T
     requires { HasLowLanes (T.number text) }
     ensures { T.number result ≡ bit_or
@@ -89,7 +89,7 @@ pub fn outside<T: Word<LEN>, const LEN: usize>(text: T, first: Range, others: Ra
 /// The high bit of each lane whose byte is in its range. Past the range both sums have that bit, so their `xor`
 /// doesn't, and this takes one step less than `outside`.
 #[inline(always)]
-#[tactic(auto, using(crate::proofs::Words::LowLanes::low_first_then))]
+#[tactic(auto, using(crate::proofs::Words::Numbers::low_first_then))]
 pub fn inside<T: Word<LEN>, const LEN: usize>(text: T, first: Range, others: Range) -> T
     requires { HasLowLanes (T.number text) }
     ensures { T.number result ≡ bit_xor
@@ -116,7 +116,7 @@ pub fn case_bits<T: Word<LEN>, const LEN: usize>(text: T, first: Range, others: 
 
 /// The text with the case bit set in each lane: its letters in lowercase, and some of its other bytes changed.
 #[inline(always)]
-#[tactic(auto, using(crate::proofs::Words::LowLanes::low_or, crate::proofs::Words::LowLanes::low_first_then))]
+#[tactic(auto, using(crate::proofs::Words::Numbers::low_or, crate::proofs::Words::Numbers::low_first_then))]
 pub fn with_case_bits<T: Word<LEN>, const LEN: usize>(text: T) -> T
     requires { HoldsText LEN (T.number text) }
     ensures bits { T.number result ≡ bit_or (T.number text) (word (first_then LEN 0x20 0x20)) }

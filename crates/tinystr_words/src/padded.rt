@@ -160,7 +160,7 @@ pub fn put_in_case<const N: usize>(bytes: &mut [u8; N], case: Case)
 /// The first `Q` bytes of the two texts joined. The way is chosen at compile time, except that a first text which fills
 /// the result is found at run time.
 #[inline(always)]
-#[tactic(auto, using(crate::proofs::Parts::Prefixes::prefixes_joined))]
+#[tactic(auto, using(crate::proofs::Parts::Splits::prefixes_joined))]
 pub fn concat<const N: usize, const M: usize, const Q: usize>(
     first: &[u8; N],
     second: &[u8; M],

@@ -3,7 +3,7 @@
 import itertools
 import re
 from collections import Counter
-from collections.abc import Iterable
+from collections.abc import Iterable, Iterator
 from dataclasses import dataclass
 
 from lib.sources import TOP, Item, items
@@ -15,6 +15,7 @@ BLOCK = re.compile(
     r"(?:elsewhere: (?P<elsewhere>.+)\n)?(?P<pairs>(?:old: .+\nnew:.*\n)+)"
 )
 PAIR = re.compile(r"old: (.+)\nnew: ?(.*)\n")
+WITHOUT = re.compile(r"without (\w+(?:,\s+\w+)*): (.+)")
 
 
 class Unreadable(Exception):
@@ -65,17 +66,34 @@ def has_edits(crate: str) -> bool:
     return (TOP / "crates" / crate / "wrong-bodies").is_dir()
 
 
-def edits_of(crate: str) -> list[Edit]:
-    """The edits of a crate, by the order of their files and of the blocks in each: those of src/PATH.rt are in PATH.edits."""
-    folder, found = TOP / "crates" / crate / "wrong-bodies", []
-    for path in sorted(folder.rglob("*.edits")):
+def blocks_of(crate: str) -> Iterator[tuple[str, str]]:
+    """The blocks in a crate's files, each with its source, whose path is in a line above it."""
+    for path in sorted((TOP / "crates" / crate / "wrong-bodies").glob("*.edits")):
+        file = ""
         for block in path.read_text(encoding="utf-8").removesuffix("\n").split("\n\n"):
-            if not (read := BLOCK.fullmatch(f"{block}\n")):
-                raise Unreadable(f"{path.relative_to(TOP)}: no block of an edit: {block.partition(chr(10))[0]}")
-            file = f"src/{path.relative_to(folder).with_suffix('.rt')}"
-            said = [read[field] or "" for field in ("function", "goal", "elsewhere")]
-            pairs = tuple(PAIR.findall(read["pairs"]))
-            found.append(Edit(read["name"], file, f"{block}\n", read["kind"] or "refused", *said, pairs))
+            if not block.startswith("src/"):
+                yield file, block
+            elif not (TOP / "crates" / crate / (file := block)).is_file():
+                raise Unreadable(f"{path.relative_to(TOP)}: no source {file}")
+
+
+def without_of(crate: str) -> dict[tuple[str, str], str]:
+    """The items of a crate that have no edit, by their sources and names, and why."""
+    listed = [(file, read) for file, block in blocks_of(crate) if (read := WITHOUT.fullmatch(block))]
+    return {(file, name): read[2] for file, read in listed for name in re.split(r",\s+", read[1])}
+
+
+def edits_of(crate: str) -> list[Edit]:
+    """The edits of a crate, by the order of their files and of the blocks in each."""
+    found = []
+    for file, block in blocks_of(crate):
+        if WITHOUT.fullmatch(block):
+            continue
+        if not file or not (read := BLOCK.fullmatch(f"{block}\n")):
+            raise Unreadable(f"{file or 'below no path'}: no block of an edit: {block.partition(chr(10))[0]}")
+        said = [read[field] or "" for field in ("function", "goal", "elsewhere")]
+        pairs = tuple(PAIR.findall(read["pairs"]))
+        found.append(Edit(read["name"], file, f"{block}\n", read["kind"] or "refused", *said, pairs))
     if twice := [name for name, count in Counter(edit.name for edit in found).items() if count > 1]:
         raise Unreadable(f"the names of two: {', '.join(twice)}")
     return found

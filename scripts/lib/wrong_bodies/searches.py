@@ -73,7 +73,7 @@ def searches_of(edits: list[Edit], texts: dict[str, str]) -> set[Search]:
 
 def search_of(edit: Edit, function: Item, text: str) -> Search:
     """The search for the goal that an edit names, of a function of a source with this text."""
-    at = text.rfind(f"fn {function.name}", 0, function.code)
+    at = text.rfind(f"fn {function.name}", 0, text.index("\n", function.code))
     using = USING.search(ABOVE.search(text[: text.rfind("\n", 0, at) + 1])[0])
     is_generic = any(map(GENERIC.match, (function.block, text[at:])))
     return Search(edit.function, edit.goal, is_generic, tuple(using[1].split(", ")) if using else ())

@@ -30,6 +30,23 @@ pub struct TinystrRange {
     pub detail: u32,
 }
 
+/// The length of a canonical text, and the places of its subtags in it, which are 0 unless the code is `OK`; a code; its
+/// detail, which is 0 if the code is `OK`; and the index of the subtag that isn't accepted, which is 0 unless the code is
+/// `INVALID_SUBTAG`.
+#[repr(C)]
+#[derive(Clone, Copy)]
+pub struct TinystrParts {
+    pub value: usize,
+    pub code: u32,
+    pub detail: u32,
+    pub subtag: usize,
+    pub language_len: usize,
+    pub script_start: usize,
+    pub script_len: usize,
+    pub region_start: usize,
+    pub region_len: usize,
+}
+
 /// The result of a call that succeeds.
 ///
 /// # Contract
@@ -88,6 +105,28 @@ pub fn no_range(failed: TinystrResult) -> TinystrRange {
         count: 0,
         code: failed.code,
         detail: failed.detail,
+    }
+}
+
+/// No subtags, and why: the index of one, and what else is told.
+///
+/// # Contract
+///
+/// ```text
+/// ensures { result ≡ no_parts failed subtag }
+/// ```
+#[inline]
+pub fn no_parts(failed: TinystrResult, subtag: usize) -> TinystrParts {
+    TinystrParts {
+        value: 0,
+        code: failed.code,
+        detail: failed.detail,
+        subtag,
+        language_len: 0,
+        script_start: 0,
+        script_len: 0,
+        region_start: 0,
+        region_len: 0,
     }
 }
 

@@ -10,7 +10,7 @@ mod packing;
 mod search_each;
 mod texts;
 
-pub use answer::{TinystrRange, TinystrResult};
+pub use answer::{TinystrParts, TinystrRange, TinystrResult};
 use answer::{bad_argument, no_range};
 use hashed::{hashed_check, hashed_map_check, hashed_search, hashed_search_each};
 use key::without_nuls;
@@ -93,6 +93,32 @@ pub unsafe extern "C" fn tinystr_langid(
     // SAFETY: the caller meets the conditions that `tinystr.h` documents.
     let out = unsafe { slices::slice_mut(out, out_len) };
     langid::langid(input, out)
+}
+
+/// The same, with the places of the subtags, or of the subtag that isn't accepted.
+///
+/// # Contract
+///
+/// ```text
+/// ensures answer { AnswersParts result input.now (length out.old) }
+/// ensures bytes { out.new ≡ langid_bytes input.now out.old }
+/// ```
+///
+/// # Safety
+///
+/// The caller must meet the conditions that `tinystr.h` documents.
+#[unsafe(no_mangle)]
+pub unsafe extern "C" fn tinystr_langid_parts(
+    input: *const u8,
+    input_len: usize,
+    out: *mut u8,
+    out_len: usize,
+) -> TinystrParts {
+    // SAFETY: the caller meets the conditions that `tinystr.h` documents.
+    let input = unsafe { slices::slice(input, input_len) };
+    // SAFETY: the caller meets the conditions that `tinystr.h` documents.
+    let out = unsafe { slices::slice_mut(out, out_len) };
+    langid::langid_parts(input, out)
 }
 
 /// Reads a text that isn't longer than `out`, and writes it with NULs up to the end of `out`. An error leaves `out`

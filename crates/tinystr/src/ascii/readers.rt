@@ -89,7 +89,7 @@ impl<const N: usize> TinyAsciiStr<N> {
     }
 
     // The first code units, with the replacement for each that isn't a character.
-    #[tactic(auto, using(tinystr_words::proofs::Pieces::WholeCodeUnits::lossy_is_padded))]
+    #[tactic(auto, using(tinystr_words::proofs::Pieces::CodeUnits::lossy_is_padded))]
     #[inline(always)]
     fn read_lossy<U: CodeUnit>(units: &[U], replacement: u8) -> Self
         requires { IsTextByte replacement }

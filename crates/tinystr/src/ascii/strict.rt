@@ -79,7 +79,7 @@ pub(crate) fn are_padded<const N: usize>(records: &[[u8; N]]) -> bool
 
 // The text of the code units, read by pieces, or its fault. Each way returns its own error: a single return, at the end,
 // made texts that fill their capacity slower.
-#[tactic(auto, using(crate::proofs::Scans::scan_steps))]
+#[tactic(auto, using(crate::proofs::Errors::scan_steps))]
 #[inline(always)]
 fn read_pieces<U: CodeUnit, const N: usize>(units: &[U]) -> Result<TinyAsciiStr<N>, ParseError>
     ensures accepted { IsOk result ↔ IsStrictText (map U.number units.now) N }
@@ -105,7 +105,7 @@ fn read_pieces<U: CodeUnit, const N: usize>(units: &[U]) -> Result<TinyAsciiStr<
 
 // The fault at the first position whose code unit is above 127, or is a character after a NUL. A code unit above 127
 // after a NUL is `NonAscii`: `forms::find_byte_fault` has the other order, that of the byte form.
-#[tactic(auto, using(crate::proofs::Scans::scan_steps))]
+#[tactic(auto, using(crate::proofs::Errors::scan_steps))]
 fn find_fault<U: CodeUnit>(units: &[U]) -> Option<ParseError>
     ensures { option_map fault_of result ≡ first_fault (map U.number units.now) }
 {
@@ -125,7 +125,7 @@ fn find_fault<U: CodeUnit>(units: &[U]) -> Option<ParseError>
 }
 
 // Why the code units aren't a text of at most `N`.
-#[tactic(auto, using(crate::proofs::Scans::scan_steps))]
+#[tactic(auto, using(crate::proofs::Errors::scan_steps))]
 #[inline(always)]
 fn fault<U: CodeUnit, const N: usize>(units: &[U]) -> ParseError
     ensures { fault_of result ≡ fault_in N (map U.number units.now) }

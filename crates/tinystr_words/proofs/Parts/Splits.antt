@@ -1,17 +1,19 @@
 -- Parts of texts: cut at a place, split at a byte, and joined by one.
-use Rattle.std.proofs.Common.{◌≡◌, ◌≢◌, ℕ, zero, suc, ◌+◌, ◌<◌, ◌≤◌, ◌==◌, Bool, true, false, cond, Some, None, inl, inr, List, [], ◌∷◌, ◌++◌, length, get_or, take, drop, map, refl, sym, ap, ◌∙◌, arith, add-one, append_assoc}
+use Rattle.std.proofs.Common.{◌≡◌, ◌≢◌, ℕ, zero, suc, ◌+◌, ◌<◌, ◌≤◌, ◌==◌, Bool, true, false, cond, Some, None, inl, inr, List, [], ◌∷◌, ◌++◌, length, get_or, take, drop, map, refl, sym, ap, ◌∙◌, arith, add-one, append_assoc, rules, min}
 use Rattle.std.specs.List.{All, before_first, after_first, join_with_byte, list_all, onto_first, position, position_or_len, slice_split, sum_by}
 use Rattle.std.proofs.lemmas.Bool.{cases_lt}
 use Rattle.std.proofs.lemmas.Bool.Decides.{nat_tests}
-use Rattle.std.proofs.lemmas.List.{length-append, length-drop, length-take, map-append}
+use Rattle.std.proofs.lemmas.List.{length-append, length-drop, length-take, map-append, places, same_lists, take-map}
 use Rattle.std.proofs.lemmas.List.Folds.{list_all-append}
 use Rattle.std.proofs.lemmas.List.Sums.{count_by-le-length, fails_before_first, sum_by-cons, sum_by_more_le}
 use Rattle.std.proofs.lemmas.List.Elements.{All-append, All-cons, All-drop, All-head, All-nil, All-tail, All-take, All-weaker}
 use Rattle.std.proofs.lemmas.List.Splits.{length-slice_split, slice_split_at, slice_split_first, slice_split_none}
 use Rattle.tinystr_words.specs.Classes.{ask}
-use Rattle.tinystr_words.specs.Text.{IsStrictText, IsText, IsTextByte}
+use Rattle.tinystr_words.specs.Text.{IsStrictText, IsText, IsTextByte, IsPaddedText, text_of}
 use Rattle.tinystr_words.proofs.Reading.Records.{AllStrict}
 use Rattle.tinystr_words.proofs.Pieces.Answers.{ask-same}
+use Rattle.tinystr_words.proofs.Texts.{text_of-take}
+use Rattle.tinystr_words.specs.Case.{lower, raise, lowercase, titlecase, uppercase}
 
 -- ---- cut at a place
 
@@ -156,3 +158,32 @@ pub ruleset first_parts = (IsStrictText-take, IsStrictText-drop, length-slice_sp
 
 -- one more text of those that are joined
 pub ruleset joined_parts = (length-joined_first, length-joined_more, joined-more)
+
+-- ---- the front of changed and of joined texts
+
+-- the front of a text, put in lowercase, is the front of the text in lowercase
+pub lowercase-take : (m : ℕ) (t : List ℕ) → lowercase (take m t) ≡ take m (lowercase t)
+lowercase-take m t = sym (take-map lower m t)
+
+-- it is the same for uppercase
+pub uppercase-take : (m : ℕ) (t : List ℕ) → uppercase (take m t) ≡ take m (uppercase t)
+uppercase-take m t = sym (take-map raise m t)
+
+-- and for titlecase
+pub titlecase-take : (m : ℕ) (t : List ℕ) → titlecase (take m t) ≡ take m (titlecase t)
+titlecase-take zero [] = refl
+titlecase-take zero (b ∷ t) = refl
+titlecase-take (suc m) [] = refl
+titlecase-take (suc m) (b ∷ t) = ap (λ (l : List ℕ). raise b ∷ l) (lowercase-take m t)
+
+-- the front of three lists joined, with the first two or the last two joined and cut before
+pub take_join_cut : (a b c : List ℕ) (p q r : ℕ) → q ≤ p → q ≤ r → take q (take p (a ++ b) ++ c) ≡ take q (a ++ take r (b ++ c))
+take_join_cut a b c p q r first second = same_lists _ _ (search (rules, places)) (λ k d h. grind (arith, places))
+
+-- the fronts of two texts, joined, begin as both texts joined
+pub prefixes_joined : (l r : List ℕ) (n m q : ℕ) → IsPaddedText l n → IsPaddedText r m
+    → take q (text_of (take (min n q) l) ++ text_of (take (min m q) r)) ≡ take q (text_of l ++ text_of r)
+prefixes_joined l r n m q p o =
+    let first = p.fits in
+    let second = o.fits in
+    rw (text_of-take l n (min n q) p, text_of-take r m (min m q) o) (same_lists _ _ (search (rules, places)) (λ k d h. grind (arith, places)))

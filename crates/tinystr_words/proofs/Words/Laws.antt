@@ -11,11 +11,10 @@ use Rattle.std.specs.Int.{IsInRange}
 use Rattle.tinystr_words.specs.Text.{IsText, pad}
 use Rattle.tinystr_words.specs.Words.{word, lane, lanes_of}
 use Rattle.tinystr_words.proofs.Words.Lanes.{Ascii, IsBytes, IsBytes-from_Ascii, IsBytes-from_IsText, addition, op-word, word-lt}
-use Rattle.tinystr_words.proofs.Words.LowLanes.{low_sum, low_word}
+use Rattle.tinystr_words.proofs.Words.Numbers.{low_sum, low_word, div-pow_256, lanes_of-word, word-nuls, word_bounds, exponent-lt}
 use Rattle.tinystr_words.proofs.Words.Kernels.{is_in-sums}
 use Rattle.tinystr_words.specs.declared.kernel.Range.{Range}
 use Rattle.std.proofs.lemmas.Bool.Decides.{nat_tests}
-use Rattle.tinystr_words.proofs.Words.Numbers.{div-pow_256, lanes_of-word, word-nuls, word_bounds, exponent-lt}
 
 -- the byte at a place is the lane there
 get_or-lanes_of : (n w i : ℕ) → i < n → get_or (lanes_of n w) i 0 ≡ lane w i

@@ -41,7 +41,7 @@ pub(crate) fn fit_vectors(first_len: usize, second_len: usize) -> bool
 /// The first `Q` bytes of two texts joined, in one word of eight bytes, which a register holds: for results of at most
 /// eight.
 #[inline(always)]
-#[tactic(auto, using(crate::proofs::Parts::Prefixes::prefixes_joined))]
+#[tactic(auto, using(crate::proofs::Parts::Splits::prefixes_joined))]
 pub(crate) fn concat_in_word<const Q: usize>(first: &[u8], second: &[u8]) -> [u8; Q]
     requires result_fits { Q ≤ 8 }
     requires first { IsPadded first.now }

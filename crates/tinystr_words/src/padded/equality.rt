@@ -9,7 +9,7 @@ use std::simd::prelude::*;
 // The kit compiles `==` of arrays that are in registers to a test of each byte. Here the last sixteen bytes may overlap
 // those before them, so all bytes are tested in vectors, and up to 32 without a branch.
 #[inline(always)]
-#[tactic(auto, using(crate::proofs::Order::Equality::windows))]
+#[tactic(auto, using(crate::proofs::Vectors::windows))]
 pub(crate) fn equal(left: &[u8], right: &[u8]) -> bool
     requires lengths { length left.now ≡ length right.now }
     requires sixteen { 16 ≤ length left.now }

@@ -11,7 +11,7 @@ use std::simd::prelude::*;
 /// Whether more than sixteen bytes are a text and then NULs. No load of sixteen bytes begins inside another: after a
 /// copy such a load would lie across two stores, and wait for both.
 #[inline(always)]
-#[tactic(auto, using(crate::proofs::Padding::InVectors::padding))]
+#[tactic(auto, using(crate::proofs::Padding::padding))]
 pub(crate) fn is_padded(bytes: &[u8]) -> bool
     requires { 17 ≤ length bytes.now }
     ensures { IsTrue result ↔ IsPadded bytes.now }

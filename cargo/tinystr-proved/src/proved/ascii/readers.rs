@@ -3,7 +3,7 @@
 
 use crate::ascii::{TinyAsciiStr, strict};
 use crate::error::ParseError;
-use crate::words::{CodeUnit, padded};
+use crate::words::{CodeUnit, in_constants, padded};
 
 impl<const N: usize> TinyAsciiStr<N> {
     /// Reads a string of at most `N` bytes, each from 1 to 127.
@@ -32,7 +32,7 @@ impl<const N: usize> TinyAsciiStr<N> {
     /// ```
     /// </details>
     #[inline]
-    pub fn try_from_str(s: &str) -> Result<Self, ParseError> {
+    pub const fn try_from_str(s: &str) -> Result<Self, ParseError> {
         Self::try_from_utf8(s.as_bytes())
     }
 
@@ -57,8 +57,8 @@ impl<const N: usize> TinyAsciiStr<N> {
     /// ```
     /// </details>
     #[inline]
-    pub fn try_from_utf8(code_units: &[u8]) -> Result<Self, ParseError> {
-        strict::read::<u8, N>(code_units)
+    pub const fn try_from_utf8(code_units: &[u8]) -> Result<Self, ParseError> {
+        in_constants::bytes::read::<N>(code_units)
     }
 
     /// Reads at most `N` 16-bit code units, each from 1 to 127. The errors are those of `try_from_str`, and `len`

@@ -45,9 +45,7 @@ impl<'a> Places<'a> {
     /// ```
     #[inline(always)]
     pub(crate) fn place_of_hash(&self, hash: u64, count: usize) -> Option<usize> {
-        let group = scaled(hash, self.pilots.len());
-        let pilot = self.pilots.get(group)?;
-        let slot = slot_of(hash, *pilot, count + self.moves.len());
+        let slot = self.slot_of_hash(hash, count)?;
         Some(if slot < count {
             slot
         } else {
@@ -55,13 +53,43 @@ impl<'a> Places<'a> {
         })
     }
 
-    // The place of a slot past the records. It isn't inlined, since few slots are.
+    /// The slot of a record among `count` records and the moves, or `None` if there are no pilots.
+    ///
+    /// # Contract
+    ///
+    /// ```text
+    /// requires { count < 2 ^ 63 }
+    /// ensures exact { IsSome result ↔ (0 < length self.now.pilots.now) }
+    /// ensures slot { IfSome result (λ slot. place_of_slot (map word self.now.moves.now) count slot ≡ place_of self.now.start self.now.pilots.now (map word self.now.moves.now) count raw.now) }
+    /// ```
+    #[inline(always)]
+    pub(crate) fn slot<const N: usize>(&self, raw: &[u8; N], count: usize) -> Option<usize> {
+        self.slot_of_hash(hash_of(self.start, raw), count)
+    }
+
+    // The same of the record's hash.
     // Proved:
-    //     requires { count ≤ slot }
-    //     ensures { result ≡ slice_index_or (map word self.now.moves.now) (slot - count) count }
+    //     requires { count < 2 ^ 63 }
+    //     ensures exact { IsSome result ↔ (0 < length self.now.pilots.now) }
+    //     ensures slot { IfSome result (λ slot. place_of_slot (map word self.now.moves.now) count slot ≡ place_of_hash self.now.pilots.now (map word self.now.moves.now) count hash) }
+    #[inline(always)]
+    fn slot_of_hash(&self, hash: u64, count: usize) -> Option<usize> {
+        let group = scaled(hash, self.pilots.len());
+        let pilot = self.pilots.get(group)?;
+        Some(slot_of(hash, *pilot, count + self.moves.len()))
+    }
+
+    /// The place of a slot past the records. It isn't inlined, since few slots are.
+    ///
+    /// # Contract
+    ///
+    /// ```text
+    /// requires { count ≤ slot }
+    /// ensures { result ≡ slice_index_or (map word self.now.moves.now) (slot - count) count }
+    /// ```
     #[cold]
     #[inline(never)]
-    fn moved(&self, slot: usize, count: usize) -> usize {
+    pub(crate) fn moved(&self, slot: usize, count: usize) -> usize {
         match self.moves.get(slot - count) {
             Some(place) => short_number(&place[..]) as usize,
             None => count,

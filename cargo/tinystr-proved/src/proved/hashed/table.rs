@@ -160,16 +160,18 @@ impl<'a, const N: usize> HashedTable<'a, N> {
     /// ensures distinct { AreDistinct self.now }
     /// ```
     /// </details>
+    #[inline(always)]
     #[must_use]
     pub fn position(&self, key: &TinyAsciiStr<N>) -> Option<usize> {
         let count = self.table.records().len();
-        let Some(place) = self.places.place(key.all_bytes(), count) else {
+        let Some(slot) = self.places.slot(key.all_bytes(), count) else {
             return self.position_by_halves(key);
         };
-        if self.has_text_at(place, key) {
-            Some(place)
+        // a call at the end of each way, so that the usual one keeps no register
+        if slot < count {
+            position_at(&self.table, slot, key)
         } else {
-            None
+            position_moved(&self.table, &self.places, slot, key)
         }
     }
 
@@ -186,17 +188,6 @@ impl<'a, const N: usize> HashedTable<'a, N> {
             return None;
         }
         search(records.as_flattened(), key).ok()
-    }
-
-    // Whether a text is at an index. It is compared in place, since a copy would be stored before it is loaded.
-    // Proved:
-    //     ensures { IsTrue result ↔ (slice_get self.now index ≡ Some text.now) }
-    #[inline(always)]
-    fn has_text_at(&self, index: usize, text: &TinyAsciiStr<N>) -> bool {
-        match self.table.records().get(index) {
-            Some(raw) => padded::equals(raw, text.all_bytes()),
-            None => false,
-        }
     }
 
     /// Whether the table has a text.
@@ -267,6 +258,50 @@ impl<'a, const N: usize> Default for HashedTable<'a, N> {
             },
         }
     }
+}
+
+// A place, if a text is there.
+// Proved:
+//     ensures there { IfSome result (λ index. (index ≡ place) × (slice_get table.now index ≡ Some text.now)) }
+//     ensures elsewhere { IsNone result → (slice_get table.now place ≢ Some text.now) }
+#[inline(always)]
+fn position_at<const N: usize>(
+    table: &Table<'_, N>,
+    place: usize,
+    text: &TinyAsciiStr<N>,
+) -> Option<usize> {
+    if has_text_at(table, place, text) {
+        Some(place)
+    } else {
+        None
+    }
+}
+
+// Whether a text is at an index. It is compared in place, since a copy would be stored before it is loaded.
+// Proved:
+//     ensures { IsTrue result ↔ (slice_get table.now index ≡ Some text.now) }
+#[inline(always)]
+fn has_text_at<const N: usize>(table: &Table<'_, N>, index: usize, text: &TinyAsciiStr<N>) -> bool {
+    match table.records().get(index) {
+        Some(raw) => padded::equals(raw, text.all_bytes()),
+        None => false,
+    }
+}
+
+// The same of the place of a slot past the records. It isn't inlined, since few slots are.
+// Proved:
+//     requires { length table.now ≤ slot }
+//     ensures there { IfSome result (λ index. (index ≡ place_of_slot (map word places.now.moves.now) (length table.now) slot) × (slice_get table.now index ≡ Some text.now)) }
+//     ensures elsewhere { IsNone result → (slice_get table.now (place_of_slot (map word places.now.moves.now) (length table.now) slot) ≢ Some text.now) }
+#[cold]
+#[inline(never)]
+fn position_moved<const N: usize>(
+    table: &Table<'_, N>,
+    places: &Places<'_>,
+    slot: usize,
+    text: &TinyAsciiStr<N>,
+) -> Option<usize> {
+    position_at(table, places.moved(slot, table.len()), text)
 }
 
 // The index of the first text that isn't at its place or, if there are no pilots, isn't above the one before it.

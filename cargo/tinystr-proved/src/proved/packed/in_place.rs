@@ -34,10 +34,6 @@ use crate::TinyAsciiStr;
 /// </details>
 pub fn search<const N: usize>(bytes: &[u8], key: &TinyAsciiStr<N>) -> Result<usize, usize> {
     assert!(N > 0, "a record has at least one byte");
-    // where there is no record, an array of `N` bytes may have no size
-    if bytes.is_empty() {
-        return Err(0);
-    }
     binary_search_whole(bytes.as_chunks().0, key)
 }
 
@@ -77,9 +73,6 @@ pub fn search_eight<const N: usize>(
     near: usize,
 ) -> [Result<usize, usize>; 8] {
     assert!(N > 0, "a record has at least one byte");
-    if bytes.is_empty() {
-        return [Err(0); 8];
-    }
     let records = bytes.as_chunks().0;
     if N > 16 {
         answers_one_by_one(records, keys, LongRecords::Whole)
@@ -116,8 +109,5 @@ pub fn search_eight<const N: usize>(
 #[must_use]
 pub fn with_prefix<const N: usize>(bytes: &[u8], beginning: &TinyAsciiStr<N>) -> (usize, usize) {
     assert!(N > 0, "a record has at least one byte");
-    if bytes.is_empty() {
-        return (0, 0);
-    }
     range_by_fronts(bytes.as_chunks().0, beginning)
 }

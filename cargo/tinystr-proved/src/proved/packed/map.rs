@@ -2,8 +2,8 @@
 //! Maps whose keys and values are packed, read in place.
 
 use crate::packed::each::BinarySearchEach;
-use crate::packed::sorted::{NotRising, SortedTable};
-use crate::packed::table::{Table, Texts};
+use crate::packed::sorted::{NotRising, SortedError, SortedTable};
+use crate::packed::table::Texts;
 use core::ops::Range;
 use crate::TinyAsciiStr;
 use crate::ule::UleError;
@@ -80,13 +80,10 @@ impl<'a, const N: usize, const M: usize> PackedMap<'a, N, M> {
     pub fn new(keys: &'a [u8], values: &'a [u8]) -> Result<Self, MapError> {
         assert!(N > 0, "a record has at least one byte");
         assert!(M > 0, "a value has at least one byte");
-        let table = match Table::new(keys) {
-            Ok(table) => table,
-            Err(fault) => return Err(MapError::Keys(fault)),
-        };
-        let keys = match SortedTable::new(table) {
+        let keys = match SortedTable::from_bytes(keys) {
             Ok(keys) => keys,
-            Err(fault) => return Err(MapError::Order(fault)),
+            Err(SortedError::Records(fault)) => return Err(MapError::Keys(fault)),
+            Err(SortedError::Order(fault)) => return Err(MapError::Order(fault)),
         };
         let count = keys.table().len();
         let len = values.len();

@@ -59,6 +59,18 @@ impl LangId {
     /// ```
     /// </details>
     pub fn try_from_utf8(code_units: &[u8]) -> Result<Self, LangIdError> {
+        Self::read(code_units)
+    }
+
+    // The same, inlined into both readers, which would otherwise share a call.
+    // Proved:
+    //     ensures accepted { IsOk result ↔ IsLangId code_units.now }
+    //     ensures text { IfOk result (λ id. id ≡ canonical_text code_units.now) }
+    //     ensures fold { IfOk result (λ id. fold_text id ≡ fold_text code_units.now) }
+    //     ensures refusal { IfErr result (λ e. e ≡ refusal_of code_units.now) }
+    //     ensures value { result_ok result ≡ canonical_of code_units.now }
+    #[inline(always)]
+    fn read(code_units: &[u8]) -> Result<Self, LangIdError> {
         let Some(input) = ShortInput::new(code_units) else {
             return Err(refusal_of_more(code_units));
         };
@@ -109,7 +121,7 @@ impl LangId {
         let mut end = code_units.len().min(MOST);
         while end > 0 {
             if is_subtag_end(code_units, end) {
-                match Self::try_from_utf8(&code_units[..end]) {
+                match Self::read(&code_units[..end]) {
                     Ok(id) => return Ok((id, &code_units[end..])),
                     Err(LangIdError::InvalidLanguage) => return Err(LangIdError::InvalidLanguage),
                     Err(LangIdError::InvalidSubtag) => {}

@@ -2,7 +2,7 @@ use Rattle.std.proofs.Common.{◌≡◌, ◌∙◌, ap, take, w8, arith}
 use Rattle.std.proofs.lemmas.List.{length-take, take-map, take_min}
 use Rattle.std.proofs.lemmas.Simd.{below_from_Fits, chunk-fits}
 use Rattle.tinystr_words.proofs.Pieces.Word.{map-mod_bytes}
-use Rattle.tinystr.proofs.Letters.{lanes_of-bytes}
+use Rattle.tinystr.proofs.EightLanes.{lanes_of-bytes}
 use Rattle.tinystr.proofs.short_input.first_lanes.Goals as goal
 
 pub returns : goal.returns

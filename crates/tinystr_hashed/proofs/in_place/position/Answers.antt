@@ -11,15 +11,9 @@ use Rattle.tinystr_words.specs.Text.{text_of}
 use Rattle.tinystr_packed.proofs.InPlace.{found_record}
 use Rattle.tinystr_hashed.specs.Reading.{pilots_of, place_by}
 use Rattle.tinystr_hashed.specs.Hashing.{ArePlaced}
-use Rattle.tinystr_hashed.proofs.InPlace.{another, ArePackedRising-hashed, hashed_records, no_text, none_from_empty}
+use Rattle.tinystr_hashed.proofs.InPlace.{another, ArePackedRising-hashed, hashed_records, no_text}
 use Rattle.tinystr_hashed.proofs.Lookups.{AreDistinct-ordered, Contains-absent, position-at, position-none, position-searched}
 use Rattle.tinystr_hashed.proofs.in_place.position.Goals as goal
-
-pub returns-then-is_empty-clause-position : goal.returns-then-is_empty-clause-position
-returns-then-is_empty-clause-position g c = λ texts h.
-    let empty : length c.in-Ok.parts.records.now ≡ 0 = search rules in
-    let none = none_from_empty texts c.args.bytes.now c.in-Ok.parts.records.now g.row.N c.requires empty c.in-Ok.ensures.records h in
-    rw none refl
 
 pub returns-in_default-get-clause-position : goal.returns-in_default-get-clause-position
 returns-in_default-get-clause-position g c = λ texts h.
@@ -35,8 +29,6 @@ pub returns-then-eq-clause-position : goal.returns-then-eq-clause-position
 returns-then-eq-clause-position g c = λ texts h.
     let parts = c.in-Ok.ensures in
     let are = hashed_records c.args.bytes.now c.in-Ok.parts.records.now c.as_chunks.result.0.now texts g.row.N c.requires h parts.records c.as_chunks.ensures.front c.as_chunks.ensures.front_len in
-    let count : length c.as_chunks.result.0.now ≡ length texts = sym (length-map c.as_chunks.result.0.now text_of) ∙ ap (λ (l : List (List ℕ)). length l) are.1 in
-    let is : c.in-Some.place ≡ place_by c.args.bytes.now g.row.N (length texts) c.args.key.now = c.in-Some.ensures.place ∙ rw (parts.start, parts.pilots, parts.moves, count, c.all_bytes-raw.ensures.bytes) refl in
     let here : slice_get c.as_chunks.result.0.now c.in-Some.place ≡ Some c.in-Some-get.found.now = sym (option_copied-item c.as_chunks.result.0.now c.in-Some.place c.get.result c.get.ensures.lookup) ∙ ap (λ (o : Option (Bor (List ℕ))). option_copied o) c.in-Some-get.is in
     let same : c.in-Some-get.found.now ≡ c.all_bytes-raw.result.now = search rules in
     let found = found_record c.as_chunks.result.0.now c.in-Some-get.found.now c.all_bytes-raw.result.now c.args.key.now c.in-Some.place here same c.all_bytes-raw.ensures.text in

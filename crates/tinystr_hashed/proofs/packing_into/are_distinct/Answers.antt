@@ -1,4 +1,4 @@
-use Rattle.tinystr_hashed.proofs.SortedRecords.{rising-read}
+use Rattle.tinystr_hashed.proofs.Repeats.{rising-read}
 use Rattle.tinystr_hashed.proofs.packing_into.are_distinct.Goals as goal
 
 pub returns-in-Ok-clause-distinct : goal.returns-in-Ok-clause-distinct

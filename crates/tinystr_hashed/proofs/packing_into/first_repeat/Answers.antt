@@ -1,6 +1,6 @@
 use Rattle.std.proofs.Common.{◌≡◌, ◌+◌, arith, take}
 use Rattle.std.proofs.lemmas.List.{take_all}
-use Rattle.tinystr_hashed.proofs.SortedRecords.{IsFirstRepeat-next, distinct-none, some-repeat}
+use Rattle.tinystr_hashed.proofs.Repeats.{IsFirstRepeat-next, distinct-none, some-repeat}
 use Rattle.tinystr_hashed.proofs.packing_into.first_repeat.Goals as goal
 
 pub loop-low-init : goal.loop-low-init

@@ -1,5 +1,6 @@
 use Rattle.std.proofs.Common.{◌≡◌, ◌++◌, arith, refl}
-use Rattle.tinystr_hashed.proofs.SortedRecords.{ArePackedInOrder-sorted, length-sorted, rising-distinct}
+use Rattle.tinystr_packed.proofs.SortedRecords.{ArePackedInOrder-sorted, length-sorted}
+use Rattle.tinystr_hashed.proofs.Repeats.{rising-distinct}
 use Rattle.tinystr_hashed.proofs.SortedTables.{ArePackedHashed-sorted, sorted_header}
 use Rattle.tinystr_hashed.proofs.packing_into.put_in_order.Goals as goal
 

@@ -1,4 +1,4 @@
-use Rattle.tinystr_hashed.proofs.SortedRecords.{AreSorted-records}
+use Rattle.tinystr_packed.proofs.SortedRecords.{AreSorted-records}
 use Rattle.tinystr_hashed.proofs.packing_into.sorted_records.Goals as goal
 
 pub returns : goal.returns

@@ -1,4 +1,4 @@
-use Rattle.tinystr_lines.proofs.Written.{AllBut-more, AppendsBeginning-from_write, AppendsBeginning-from_flush}
+use Rattle.tinystr_lines.proofs.Lines.{AllBut-more, AppendsBeginning-from_write, AppendsBeginning-from_flush}
 use Rattle.tinystr_lines.proofs.engine.write_output.Goals as goal
 
 pub loop-rest-preserved : goal.loop-rest-preserved

@@ -1,6 +1,6 @@
 -- What is gone from `rest` was written.
 use Rattle.std.proofs.Common.{length}
-use Rattle.tinystr_lines.proofs.Written.{AllBut}
+use Rattle.tinystr_lines.proofs.Lines.{AllBut}
 use Rattle.tinystr_lines.proofs.engine.write_output.Given as goal
 
 abbrev pub invariant-loop-rest : goal.invariant-loop-rest

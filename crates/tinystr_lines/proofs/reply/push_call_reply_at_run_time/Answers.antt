@@ -1,5 +1,5 @@
 use Rattle.std.proofs.Common.{arith, rules}
-use Rattle.tinystr_lines.proofs.Capacities.{call_reply-fits, call_reply-too_long}
+use Rattle.tinystr_lines.proofs.Replies.{call_reply-fits, call_reply-too_long}
 use Rattle.tinystr_lines.proofs.reply.push_call_reply_at_run_time.Goals as goal
 
 pub returns-then-capacity-len : goal.returns-then-capacity-len

@@ -1,5 +1,5 @@
 use Rattle.std.proofs.Common.{rules}
-use Rattle.tinystr_lines.proofs.Capacities.{lossy-take}
+use Rattle.tinystr_lines.proofs.Replies.{lossy-take}
 use Rattle.tinystr_lines.proofs.reply.push_lossy_reply.Goals as goal
 
 pub returns : goal.returns

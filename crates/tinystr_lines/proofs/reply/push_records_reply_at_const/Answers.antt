@@ -1,5 +1,5 @@
 use Rattle.std.proofs.Common.{refl, arith}
-use Rattle.tinystr_lines.proofs.Records.{records_reply-packed, records_reply-length, records_reply-bad}
+use Rattle.tinystr_lines.proofs.Replies.{records_reply-packed, records_reply-length, records_reply-bad}
 use Rattle.tinystr_lines.proofs.reply.push_records_reply_at_const.Goals as goal
 
 pub returns-in-Ok : goal.returns-in-Ok

@@ -1,6 +1,6 @@
 use Rattle.std.proofs.Common.{◌+◌, nat_eq, ap, ◌∙◌, arith}
 use Rattle.std.proofs.lemmas.Bool.Decides.{nat_tests}
-use Rattle.tinystr_words.proofs.Parts.Positions.{position_or_len-take, position_or_len-drop}
+use Rattle.tinystr_words.proofs.Parts.Found.{position_or_len-take, position_or_len-drop}
 use Rattle.tinystr_lines.proofs.split.find.Goals as goal
 
 pub returns-then-at-lt32 : goal.returns-then-at-lt32

@@ -1,6 +1,6 @@
 use Rattle.std.proofs.Common.{nat_eq, length, arith}
 use Rattle.std.proofs.lemmas.Bool.Decides.{nat_tests}
-use Rattle.tinystr_words.proofs.Parts.Positions.{position_or_len-take}
+use Rattle.tinystr_words.proofs.Parts.Found.{position_or_len-take}
 use Rattle.tinystr_lines.proofs.split.find_ahead.Goals as goal
 
 pub returns-then-text-at : goal.returns-then-text-at

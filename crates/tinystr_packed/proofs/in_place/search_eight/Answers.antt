@@ -1,18 +1,9 @@
-use Rattle.std.proofs.Common.{◌≡◌, ℕ, length, rules}
 use Rattle.std.specs.List.{slice_index_or}
-use Rattle.std.specs.declared.result.Result.{Result}
-use Rattle.std.specs.declared.result.Result.TheVariants.{Ok, Err}
-use Rattle.std.proofs.lemmas.List.{get_or-replicate}
+use Rattle.std.specs.declared.result.Result.TheVariants.{Ok}
 use Rattle.tinystr_packed.specs.Rising.{text_at}
-use Rattle.tinystr_packed.proofs.InPlace.{records_are, none_from_empty, IsSearched-none}
+use Rattle.tinystr_packed.proofs.InPlace.{records_are}
 use Rattle.tinystr_packed.proofs.Searches.{IsSearched-result}
 use Rattle.tinystr_packed.proofs.in_place.search_eight.Goals as goal
-
-pub returns-then-is_empty-clause-searched : goal.returns-then-is_empty-clause-searched
-returns-then-is_empty-clause-searched g c = λ texts h i lane.
-    let empty : length c.args.bytes.now ≡ 0 = search rules in
-    let none = none_from_empty texts c.args.bytes.now g.row.N c.requires empty h in
-    rw (none, get_or-replicate {A = Result ℕ ℕ} 8 i (Err 0) (Ok 0) lane) (IsSearched-none (text_at c.args.keys.now i))
 
 pub returns-then-this-gt16-clause-searched : goal.returns-then-this-gt16-clause-searched
 returns-then-this-gt16-clause-searched g c = λ texts h i lane.

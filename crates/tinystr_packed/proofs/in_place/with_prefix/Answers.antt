@@ -1,23 +1,10 @@
-use Rattle.std.proofs.Common.{◌≡◌, length, refl, rules}
-use Rattle.tinystr_packed.proofs.InPlace.{records_are, none_from_empty, IsFirstNotBelow-none}
+use Rattle.tinystr_packed.proofs.InPlace.{records_are}
 use Rattle.tinystr_packed.proofs.in_place.with_prefix.Goals as goal
-
-pub returns-then-is_empty-clause-range : goal.returns-then-is_empty-clause-range
-returns-then-is_empty-clause-range g c = λ texts h.
-    let empty : length c.args.bytes.now ≡ 0 = search rules in
-    let none = none_from_empty texts c.args.bytes.now g.row.N c.requires empty h in
-    rw none refl
 
 pub returns-clause-range : goal.returns-clause-range
 returns-clause-range g c = λ texts h.
     let are = records_are c.args.bytes.now c.as_chunks.result.0.now texts g.row.N c.requires h c.as_chunks.ensures.front c.as_chunks.ensures.front_len in
     rw are.1 at (c.range_by_fronts.ensures.range are.0 (rw are.1 h.rising))
-
-pub returns-then-is_empty-clause-start : goal.returns-then-is_empty-clause-start
-returns-then-is_empty-clause-start g c = λ texts h.
-    let empty : length c.args.bytes.now ≡ 0 = search rules in
-    let none = none_from_empty texts c.args.bytes.now g.row.N c.requires empty h in
-    rw none (IsFirstNotBelow-none c.args.beginning.now)
 
 pub returns-clause-start : goal.returns-clause-start
 returns-clause-start g c = λ texts h.

@@ -1,4 +1,4 @@
-use Rattle.tinystr_words.proofs.Words.LowLanes.{low_first_then}
+use Rattle.tinystr_words.proofs.Words.Numbers.{low_first_then}
 use Rattle.tinystr_questions_tests.proofs.words.with_added.Goals as goal
 
 pub plus-requires-clause-right : goal.plus-requires-clause-right

@@ -1,7 +1,7 @@
 use Rattle.std.proofs.Common.{arith}
 use Rattle.std.proofs.lemmas.Bool.Decides.{nat_tests}
 use Rattle.std.proofs.lemmas.Fmt.{length-decimal-le, decimal_nonempty}
-use Rattle.tinystr_words.proofs.Decimals.Shortest.{length-decimal-le_ten, decimal-lt}
+use Rattle.tinystr_words.proofs.Decimals.{length-decimal-le_ten, decimal-lt}
 use Rattle.tinystr_words.proofs.decimal.decimal_fits.Goals as goal
 
 pub returns-then-most-ge10 : goal.returns-then-most-ge10

@@ -1,6 +1,6 @@
 use Rattle.std.proofs.Common.{◌<◌, ◌∙◌, sym, arith}
 use Rattle.std.specs.Fmt.{decimal}
-use Rattle.tinystr_words.proofs.Decimals.Digits.{word_is_onto, word_onto-two_digits, word_onto-one_digit, word_onto-last_two, fits_more, enough_next, enough_small}
+use Rattle.tinystr_words.proofs.Decimals.{word_is_onto, word_onto-two_digits, word_onto-one_digit, word_onto-last_two, fits_more, enough_next, enough_small}
 use Rattle.tinystr_words.proofs.decimal.decimal_word.Goals as goal
 use Rattle.tinystr_words.proofs.decimal.decimal_word.Goals.{else-loop-i-test, then-loop-i-test+then-rest-lt100}
 

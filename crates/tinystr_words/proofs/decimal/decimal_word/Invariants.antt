@@ -1,6 +1,6 @@
 use Rattle.std.proofs.Common.{◌≡◌, ◌<◌, ◌≤◌, ◌*◌, ◌^◌}
 use Rattle.std.specs.Fmt.{decimal}
-use Rattle.tinystr_words.proofs.Decimals.Digits.{word_onto}
+use Rattle.tinystr_words.proofs.Decimals.{word_onto}
 use Rattle.tinystr_words.proofs.decimal.decimal_word.Given as goal
 
 abbrev pub invariant-loop-i : goal.invariant-loop-i

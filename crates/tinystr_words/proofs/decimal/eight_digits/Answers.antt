@@ -1,5 +1,5 @@
 use Rattle.std.proofs.Common.{refl}
-use Rattle.tinystr_words.proofs.Decimals.EightDigits.{made}
+use Rattle.tinystr_words.proofs.Decimals.{made}
 use Rattle.tinystr_words.proofs.decimal.eight_digits.Goals as goal
 
 pub overflow_sub-result : goal.overflow_sub-result

@@ -15,10 +15,10 @@ pub(crate) const fn put(bytes: &mut [u8], src: &[u8]) {
     let len = crate::ranges::least(bytes.len(), src.len());
     let mut at = 0;
     while len - at >= 8 {
-        crate::ranges::part_mut(bytes, at, at + 8).copy_from_slice(crate::ranges::part(src, at, at + 8));
+        bytes.split_at_mut(at + 8).0.split_at_mut(at).1.copy_from_slice(src.split_at(at + 8).0.split_at(at).1);
         at += 8;
     }
-    crate::ranges::part_mut(bytes, at, len).copy_from_slice(crate::ranges::part(src, at, len));
+    bytes.split_at_mut(len).0.split_at_mut(at).1.copy_from_slice(src.split_at(len).0.split_at(at).1);
 }
 
 /// The first `M` bytes, padded with NULs if there are fewer, eight at a time: for bytes in memory. `resize_at_once`
@@ -49,9 +49,9 @@ pub const fn resize<const M: usize>(bytes: &[u8]) -> [u8; M] {
 /// ensures text { text_of result ≡ take M (text_of padded.now) }
 /// ```
 #[inline(always)]
-pub fn resize_at_once<const M: usize>(padded: &[u8]) -> [u8; M] {
+pub const fn resize_at_once<const M: usize>(padded: &[u8]) -> [u8; M] {
     let mut bytes = [0; M];
-    append(&mut bytes[..], 0, padded);
+    append(&mut bytes, 0, padded);
     bytes
 }
 
@@ -69,11 +69,11 @@ pub fn resize_at_once<const M: usize>(padded: &[u8]) -> [u8; M] {
 /// ensures text { text_of bytes.new ≡ take (length bytes.old) (text_of bytes.old ++ text_of padded.now) }
 /// ```
 #[inline(always)]
-pub(crate) fn append(bytes: &mut [u8], len: usize, padded: &[u8]) {
+pub(crate) const fn append(bytes: &mut [u8], len: usize, padded: &[u8]) {
     let free = bytes.len() - len;
     if padded.len() <= free {
-        bytes[len..len + padded.len()].copy_from_slice(padded);
+        bytes.split_at_mut(len + padded.len()).0.split_at_mut(len).1.copy_from_slice(padded);
     } else if free > 0 {
-        bytes[len..].copy_from_slice(&padded[..free]);
+        bytes.split_at_mut(len).1.copy_from_slice(padded.split_at(free).0);
     }
 }

@@ -2,7 +2,7 @@ use Rattle.std.proofs.Common.{◌≡◌, ◌≤◌, ◌==◌, ◌∙◌, ℕ, No
 use Rattle.std.specs.List.{position}
 use Rattle.std.proofs.lemmas.Bool.Decides.{nat_tests}
 use Rattle.tinystr_words.specs.Text.{text_of}
-use Rattle.tinystr_words.proofs.Parts.Positions.{position-first}
+use Rattle.tinystr_words.proofs.Parts.Found.{position-first}
 use Rattle.tinystr.proofs.Splits.{length-text_of-nul}
 use Rattle.tinystr.proofs.ascii.TinyAsciiStr.find.Goals as goal
 use Rattle.tinystr.proofs.ascii.TinyAsciiStr.find.Goals.{else-is_none-via-then-is_none+then-this-gt16+else-bytes-ne0, else-is_none-via-then-is_none+else-this-gt16, else-is_none-via-else-is_none}

@@ -1,7 +1,7 @@
 use Rattle.std.proofs.Common.{◌∙◌, take, ap, arith, rules}
 use Rattle.std.proofs.lemmas.List.{length-take, take-take, take_all}
 use Rattle.tinystr_words.specs.Text.{text_of}
-use Rattle.tinystr_words.proofs.Padding.KeptLanes.{IsPadded-first_lanes}
+use Rattle.tinystr_words.proofs.Padding.{IsPadded-first_lanes}
 use Rattle.tinystr_words.proofs.Texts.{IsPaddedText-take, text_of-take}
 use Rattle.tinystr.proofs.EightLanes.{IsPadded-whole}
 use Rattle.tinystr.proofs.ascii.TinyAsciiStr.prefix.Goals as goal

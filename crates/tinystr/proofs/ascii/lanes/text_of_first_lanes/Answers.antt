@@ -1,7 +1,7 @@
 use Rattle.std.proofs.Common.{◌∙◌, arith, rules}
 use Rattle.std.proofs.lemmas.List.{length-take}
 use Rattle.tinystr_words.specs.Text.{text_of}
-use Rattle.tinystr_words.proofs.Padding.KeptLanes.{IsPadded-first_lanes}
+use Rattle.tinystr_words.proofs.Padding.{IsPadded-first_lanes}
 use Rattle.tinystr.proofs.ascii.lanes.text_of_first_lanes.Goals as goal
 
 pub text_of_lanes-requires : goal.text_of_lanes-requires

@@ -4,7 +4,7 @@ use Rattle.std.proofs.lemmas.Simd.{below_from_Fits, chunk-fits}
 use Rattle.tinystr_words.specs.Words.{word, lanes_of}
 use Rattle.tinystr_words.proofs.Words.Numbers.{bytes_low_first_is_lanes}
 use Rattle.tinystr_words.proofs.Pieces.Word.{map-mod_bytes}
-use Rattle.tinystr.proofs.Letters.{lanes_of-bytes}
+use Rattle.tinystr.proofs.EightLanes.{lanes_of-bytes}
 use Rattle.tinystr.proofs.ascii.letters.front_lanes.Goals as goal
 
 pub returns : goal.returns

@@ -1,4 +1,4 @@
-use Rattle.tinystr.proofs.Letters.{prefix_len-others}
+use Rattle.tinystr.proofs.EightLanes.{prefix_len-others}
 use Rattle.tinystr.proofs.ascii.letters.lowercase_lanes.Goals as goal
 
 pub returns-then-others-eq0-clause-len : goal.returns-then-others-eq0-clause-len

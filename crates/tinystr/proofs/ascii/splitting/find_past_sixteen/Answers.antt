@@ -1,6 +1,6 @@
 use Rattle.std.proofs.Common.{◌==◌, ◌∙◌, ap, sym, take}
 use Rattle.tinystr_words.specs.Text.{text_of}
-use Rattle.tinystr_words.proofs.Parts.Positions.{position-after, position-none_after}
+use Rattle.tinystr_words.proofs.Parts.Found.{position-after, position-none_after}
 use Rattle.tinystr.proofs.Splits.{IsPadded-rest, text_of-rest}
 use Rattle.tinystr.proofs.ascii.splitting.find_past_sixteen.Goals as goal
 

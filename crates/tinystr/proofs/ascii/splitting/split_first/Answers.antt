@@ -2,7 +2,7 @@ use Rattle.std.proofs.Common.{ℕ, ◌==◌, ◌≡◌, ◌≤◌, ◌+◌, ◌�
 use Rattle.std.proofs.lemmas.Bool.Decides.{nat_tests}
 use Rattle.std.proofs.lemmas.List.{length-drop, length-take, take-take, take_rest}
 use Rattle.tinystr_words.specs.Text.{text_of}
-use Rattle.tinystr_words.proofs.Parts.Positions.{position-front}
+use Rattle.tinystr_words.proofs.Parts.Found.{position-front}
 use Rattle.tinystr_words.proofs.Texts.{length-text_of-le}
 use Rattle.tinystr.proofs.Splits.{IsPadded-rest, length-text_of-nul, position-inside, slice_split-padded, slice_split-whole}
 use Rattle.tinystr.proofs.ascii.splitting.split_first.Goals as goal

@@ -1,6 +1,6 @@
 use Rattle.std.proofs.Common.{◌≡◌, ◌∙◌, length, map, rules, arith, refl}
 use Rattle.std.proofs.lemmas.List.{length-map}
-use Rattle.tinystr_words.proofs.Pieces.WholeCodeUnits.{IsReadPiece-text, IsPaddedText-full}
+use Rattle.tinystr_words.proofs.Pieces.CodeUnits.{IsReadPiece-text, IsPaddedText-full}
 use Rattle.tinystr.proofs.ascii.strict.read_pieces.Goals as goal
 
 pub from_padded-requires : goal.from_padded-requires

@@ -1,17 +1,14 @@
-use Rattle.std.proofs.Common.{◌≡◌, sym, true≢false}
-use Rattle.std.specs.Map.{keys_of, values_of}
-use Rattle.std.proofs.lemmas.Map.Made.{keys_of-zip}
-use Rattle.std.proofs.lemmas.Slice.Zip.{seconds-zip}
-use Rattle.tinystr_packed.proofs.PackedMaps.{get-found, get-absent, option_copied-item}
+use Rattle.std.proofs.Common.{sym, true≢false}
+use Rattle.tinystr_packed.proofs.PackedMaps.{DifferentKeys-rising, get-zip, get-zip_absent, option_copied-item}
 use Rattle.tinystr_packed.proofs.map.PackedMap.get.Goals as goal
 
 pub returns-in-Ok : goal.returns-in-Ok
 returns-in-Ok g c =
-    let keys : keys_of c.args.self.now ≡ c.self.inside.keys = rw (← c.self.view_is) (keys_of-zip c.self.inside.keys c.self.inside.values.now c.self.invariant.1) in
-    let values : values_of c.args.self.now ≡ c.self.inside.values.now = rw (← c.self.view_is) (seconds-zip c.self.inside.keys c.self.inside.values.now c.self.invariant.1) in
-    rw (get-found c.args.self.now c.args.key.now c.in-Ok.index (rw keys c.self.invariant.0) (rw keys c.in-Ok.ensures.found), values) (option_copied-item c.self.inside.values.now c.in-Ok.index c.get.result c.get.ensures.lookup)
+    let s = c.self.inside in
+    let found = get-zip s.keys s.values.now c.args.self.now c.args.key.now c.in-Ok.index c.self.view_is c.self.invariant.1 (DifferentKeys-rising s.keys c.self.invariant.0) c.in-Ok.ensures.found in
+    rw found (option_copied-item s.values.now c.in-Ok.index c.get.result c.get.ensures.lookup)
 
 pub returns-in-Err : goal.returns-in-Err
 returns-in-Err g c =
-    let keys : keys_of c.args.self.now ≡ c.self.inside.keys = rw (← c.self.view_is) (keys_of-zip c.self.inside.keys c.self.inside.values.now c.self.invariant.1) in
-    sym (get-absent c.args.self.now c.args.key.now (rw keys (λ found. true≢false (sym (c.in-Err.ensures.exact.1 found)))))
+    let s = c.self.inside in
+    sym (get-zip_absent s.keys s.values.now c.args.self.now c.args.key.now c.self.view_is c.self.invariant.1 (λ found. true≢false (sym (c.in-Err.ensures.exact.1 found))))

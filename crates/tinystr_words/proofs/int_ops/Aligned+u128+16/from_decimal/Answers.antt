@@ -1,7 +1,7 @@
 use Rattle.std.proofs.Common.{◌≡◌, ◌<◌, ◌^◌, ℕ, arith}
 use Rattle.std.specs.Fmt.{decimal}
 use Rattle.tinystr_words.specs.Words.{word, text_in, HoldsText}
-use Rattle.tinystr_words.proofs.Decimals.Shortest.{IsText-decimal, length-decimal-le_ten}
+use Rattle.tinystr_words.proofs.Decimals.{IsText-decimal, length-decimal-le_ten}
 use Rattle.tinystr_words.proofs.Words.Texts.{HoldsText-word}
 use Rattle.tinystr_words.proofs.int_ops.Aligned+u128+16.from_decimal.Goals as goal
 

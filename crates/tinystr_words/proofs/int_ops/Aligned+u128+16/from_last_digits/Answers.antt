@@ -3,7 +3,7 @@ use Rattle.std.proofs.Math.Nat.{mod-lt}
 use Rattle.std.specs.Fmt.{decimal}
 use Rattle.tinystr_words.specs.Decimal.{last}
 use Rattle.tinystr_words.specs.Words.{word, text_in, HoldsText}
-use Rattle.tinystr_words.proofs.Decimals.Shortest.{IsText-decimal, length-decimal-le_ten, decimal-last_digits, pow_10-bounds}
+use Rattle.tinystr_words.proofs.Decimals.{IsText-decimal, length-decimal-le_ten, decimal-last_digits, pow_10-bounds}
 use Rattle.tinystr_words.proofs.Words.Texts.{HoldsText-rest}
 use Rattle.tinystr_words.proofs.int_ops.Aligned+u128+16.from_last_digits.Goals as goal
 

@@ -1,7 +1,7 @@
 use Rattle.std.proofs.Common.{List, arith, length, sym, take, ℕ, ◌++◌, ◌∙◌, ◌≡◌}
 use Rattle.std.proofs.Math.Seq.{take-append_seam}
 use Rattle.tinystr_words.proofs.Words.Numbers.{pow_256}
-use Rattle.tinystr_words.proofs.Words.Concat.{HoldsText-concat}
+use Rattle.tinystr_words.proofs.Words.Texts.{HoldsText-concat}
 use Rattle.tinystr_words.proofs.int_ops.Aligned+u64+8.concat.Goals as goal
 
 full : (t s : List ℕ) (n : ℕ) → length t ≡ n → t ≡ take n (t ++ s)

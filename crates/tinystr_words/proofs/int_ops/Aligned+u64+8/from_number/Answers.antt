@@ -6,8 +6,7 @@ use Rattle.std.specs.Fmt.{decimal}
 use Rattle.tinystr_words.specs.Decimal.{last}
 use Rattle.tinystr_words.specs.Text.{IsTextByte}
 use Rattle.tinystr_words.specs.Words.{word, text_in, HoldsText}
-use Rattle.tinystr_words.proofs.Decimals.EightDigits.{word-last, eight_digits-fit}
-use Rattle.tinystr_words.proofs.Decimals.Shortest.{IsText-decimal}
+use Rattle.tinystr_words.proofs.Decimals.{word-last, eight_digits-fit, IsText-decimal}
 use Rattle.tinystr_words.proofs.Words.Texts.{HoldsText-word}
 use Rattle.tinystr_words.proofs.Words.Numbers.{pow_256}
 use Rattle.tinystr_words.proofs.int_ops.Aligned+u64+8.from_number.Goals as goal

@@ -2,7 +2,7 @@ use Rattle.std.proofs.Common.{◌∙◌, sym}
 use Rattle.std.proofs.lemmas.Bool.{false≢true}
 use Rattle.tinystr_words.proofs.Pieces.Word.{map-mod_bytes}
 use Rattle.tinystr_words.proofs.Words.Lanes.{IsBytes-from_Fits}
-use Rattle.tinystr_words.proofs.Padding.InWords.{is_padded_word-Decides}
+use Rattle.tinystr_words.proofs.Padding.{is_padded_word-Decides}
 use Rattle.tinystr_words.proofs.Words.Texts.{HoldsText-padded}
 use Rattle.tinystr_words.proofs.int_ops.Aligned.try_from_padded.Goals as goal
 

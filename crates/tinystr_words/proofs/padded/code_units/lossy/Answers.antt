@@ -2,7 +2,7 @@ use Rattle.std.proofs.Common.{◌≡◌, ◌∙◌, length, rules, arith, map, a
 use Rattle.std.proofs.lemmas.List.{length-map}
 use Rattle.tinystr_words.specs.Reading.{lossy_byte}
 use Rattle.tinystr_words.specs.Text.{pad}
-use Rattle.tinystr_words.proofs.Pieces.WholeCodeUnits.{IsReadPiece-whole, lossy-all, lossy-full, lossy-front}
+use Rattle.tinystr_words.proofs.Pieces.CodeUnits.{IsReadPiece-whole, lossy-all, lossy-full, lossy-front}
 use Rattle.tinystr_words.proofs.padded.code_units.lossy.Goals as goal
 
 pub returns-in-Some : goal.returns-in-Some

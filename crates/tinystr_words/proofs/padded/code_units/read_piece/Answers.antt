@@ -1,6 +1,6 @@
 use Rattle.std.proofs.Common.{◌≡◌, ◌<◌, arith, rules, length, get_or, map, sym, ap, ◌∙◌}
 use Rattle.std.proofs.lemmas.List.{get_or-map, length-map}
-use Rattle.tinystr_words.proofs.Pieces.WholeCodeUnits.{IsReadPiece-more}
+use Rattle.tinystr_words.proofs.Pieces.CodeUnits.{IsReadPiece-more}
 use Rattle.tinystr_words.proofs.padded.code_units.read_piece.Goals as goal
 
 pub loop-i-preserved : goal.loop-i-preserved

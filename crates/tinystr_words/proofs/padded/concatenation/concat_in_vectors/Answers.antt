@@ -3,7 +3,7 @@ use Rattle.std.proofs.lemmas.List.{length-replicate, length-take}
 use Rattle.tinystr_words.specs.Text.{pad, text_of}
 use Rattle.tinystr_words.proofs.Texts.{NULS, length-pad}
 use Rattle.tinystr_words.proofs.Pieces.Copying.{copied_more}
-use Rattle.tinystr_words.proofs.Vectors.Concat.{take-sixteen_from, IsPaddedText-stored}
+use Rattle.tinystr_words.proofs.Vectors.{take-sixteen_from, IsPaddedText-stored}
 use Rattle.tinystr_words.proofs.padded.concatenation.concat_in_vectors.Goals as goal
 
 pub loop-at-preserved : goal.loop-at-preserved

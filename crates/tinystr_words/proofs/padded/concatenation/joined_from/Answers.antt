@@ -2,7 +2,7 @@ use Rattle.std.proofs.Common.{◌<◌, arith, drop, inl, inr, length, take, ◌+
 use Rattle.std.proofs.lemmas.List.{append_assoc, length-append, length-drop, length-take, take-append-drop}
 use Rattle.tinystr_words.specs.Text.{text_of}
 use Rattle.tinystr_words.proofs.Texts.{length-text_of-le}
-use Rattle.tinystr_words.proofs.Vectors.Concat.{HasLanes, get_or-first_sixteen, HasLanes-sixteen_from, sixteen_from-HasLanes, get_or-last_sixteen, HasLanes-or, HasLanes-same}
+use Rattle.tinystr_words.proofs.Vectors.{HasLanes, get_or-first_sixteen, HasLanes-sixteen_from, sixteen_from-HasLanes, get_or-last_sixteen, HasLanes-or, HasLanes-same}
 use Rattle.tinystr_words.proofs.padded.concatenation.joined_from.Goals as goal
 use Rattle.tinystr_words.proofs.padded.concatenation.joined_from.Goals.{then-at, else-at, then-at-gt0+then-at-2, else-at-gt0, else-at-gt0-via-then-at-gt0+else-at-2, else-at-gt0-via-else-at-gt0}
 

@@ -1,7 +1,7 @@
 use Rattle.std.proofs.Common.{◌+◌, ◌-◌, ◌∙◌, ap, arith, rules}
 use Rattle.tinystr_words.specs.Text.{pad}
 use Rattle.tinystr_words.proofs.Texts.{IsPaddedText-drop, IsPaddedText-take}
-use Rattle.tinystr_words.proofs.Vectors.Concat.{sixteen_from-loaded}
+use Rattle.tinystr_words.proofs.Vectors.{sixteen_from-loaded}
 use Rattle.tinystr_words.proofs.padded.concatenation.lanes_from.Goals as goal
 
 pub from_padded-requires : goal.from_padded-requires

@@ -1,4 +1,4 @@
-use Rattle.tinystr_words.proofs.Vectors.Concat.{swz_l-lanes_of_table, SwzOk-lanes_of_table}
+use Rattle.tinystr_words.proofs.Vectors.{swz_l-lanes_of_table, SwzOk-lanes_of_table}
 use Rattle.tinystr_words.proofs.padded.concatenation.shifted.Goals as goal
 
 pub swizzle : goal.swizzle

@@ -1,6 +1,6 @@
 use Rattle.std.proofs.Common.{arith, drop, take}
 use Rattle.std.proofs.lemmas.List.{length-drop, length-take}
-use Rattle.tinystr_words.proofs.Vectors.Equality.{vectors_same}
+use Rattle.tinystr_words.proofs.Vectors.{vectors_same}
 use Rattle.tinystr_words.proofs.padded.equality.sixteen_equal.Goals as goal
 
 pub returns : goal.returns

@@ -1,5 +1,5 @@
 use Rattle.std.proofs.Common.{arith}
-use Rattle.tinystr_words.proofs.Padding.KeptLanes.{zip2-kept_lanes}
+use Rattle.tinystr_words.proofs.Padding.{zip2-kept_lanes}
 use Rattle.tinystr_words.proofs.padded.first_lanes.first_lanes_of_eight.Goals as goal
 
 pub returns : goal.returns

@@ -1,6 +1,6 @@
 use Rattle.std.proofs.Common.{◌+◌}
-use Rattle.tinystr_words.proofs.Vectors.Concat.{HasLanes-sixteen_from}
-use Rattle.tinystr_words.proofs.Padding.InVectors.{ArePaddedFrom-tested, HasLanes-next, IsBytes-HasLanes, sixteen_fine}
+use Rattle.tinystr_words.proofs.Vectors.{HasLanes-sixteen_from}
+use Rattle.tinystr_words.proofs.Padding.{ArePaddedFrom-tested, HasLanes-next, IsBytes-HasLanes, sixteen_fine}
 use Rattle.tinystr_words.proofs.padded.padding.are_sixteen_padded.Goals as goal
 
 pub returns : goal.returns

@@ -1,6 +1,6 @@
 use Rattle.std.proofs.Common.{arith, ◌+◌}
 use Rattle.std.proofs.lemmas.Bool.Decides.{nat_tests}
-use Rattle.tinystr_words.proofs.Padding.InVectors.{ArePaddedFrom-more, ArePaddedFrom-padded, IsPadded-whole}
+use Rattle.tinystr_words.proofs.Padding.{ArePaddedFrom-more, ArePaddedFrom-padded, IsPadded-whole}
 use Rattle.tinystr_words.proofs.padded.padding.is_padded.Goals as goal
 
 pub returns : goal.returns

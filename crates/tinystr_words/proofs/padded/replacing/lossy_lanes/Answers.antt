@@ -2,7 +2,7 @@ use Rattle.std.proofs.Common.{ap, ◌∙◌}
 use Rattle.tinystr_words.specs.Words.{lanes_of, word}
 use Rattle.tinystr_words.proofs.Words.Lanes.{IsBytes-from_Fits}
 use Rattle.tinystr_words.proofs.Pieces.Word.{map-mod_bytes}
-use Rattle.tinystr_words.proofs.Vectors.Replacing.{sel_l-units}
+use Rattle.tinystr_words.proofs.Vectors.{sel_l-units}
 use Rattle.tinystr_words.proofs.padded.replacing.lossy_lanes.Goals as goal
 
 pub returns : goal.returns

@@ -2,7 +2,7 @@ use Rattle.std.proofs.Common.{ap, arith, length, map, take, ◌∙◌, ◌≡◌
 use Rattle.std.proofs.lemmas.List.{length-map}
 use Rattle.tinystr_words.specs.Reading.{lossy_byte}
 use Rattle.tinystr_words.specs.Text.{pad}
-use Rattle.tinystr_words.proofs.Vectors.Replacing.{pad-pad}
+use Rattle.tinystr_words.proofs.Vectors.{pad-pad}
 use Rattle.tinystr_words.proofs.padded.replacing.lossy_word.Goals as goal
 
 pub returns : goal.returns

@@ -1,5 +1,5 @@
 use Rattle.std.proofs.Common.{◌∙◌}
-use Rattle.tinystr_words.proofs.Vectors.Replacing.{pad-take_replicate}
+use Rattle.tinystr_words.proofs.Vectors.{pad-take_replicate}
 use Rattle.tinystr_words.proofs.padded.replacing.replacements.Goals as goal
 
 pub returns : goal.returns

@@ -1,5 +1,5 @@
 use Rattle.std.proofs.Common.{arith}
-use Rattle.tinystr_words.proofs.Words.LowLanes.{low_sum}
+use Rattle.tinystr_words.proofs.Words.Numbers.{low_sum}
 use Rattle.tinystr_words.proofs.word.U64Word8.plus.Goals as goal
 
 pub overflow_add-result : goal.overflow_add-result

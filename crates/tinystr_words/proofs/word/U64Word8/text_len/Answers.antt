@@ -1,6 +1,6 @@
 use Rattle.std.proofs.Common.{◌+◌, ◌*◌, arith}
 use Rattle.std.proofs.lemmas.Nat.{leading_top}
-use Rattle.tinystr_words.proofs.Words.LowLanes.{low_bound}
+use Rattle.tinystr_words.proofs.Words.Numbers.{low_bound}
 use Rattle.tinystr_words.proofs.Words.Texts.{length-text_in-by_top}
 use Rattle.tinystr_words.proofs.word.U64Word8.text_len.Goals as goal
 

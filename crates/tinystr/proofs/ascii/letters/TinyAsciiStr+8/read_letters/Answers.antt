@@ -1,7 +1,7 @@
 use Rattle.std.proofs.Common.{◌∙◌, ap, lit<}
 use Rattle.tinystr_words.specs.Text.{pad}
 use Rattle.tinystr_words.proofs.Texts.{IsPaddedText-made, text_of-made}
-use Rattle.tinystr.proofs.Letters.{letters-read}
+use Rattle.tinystr.proofs.EightLanes.{letters-read}
 use Rattle.tinystr.proofs.ascii.letters.TinyAsciiStr+8.read_letters.Goals as goal
 
 pub from_padded-requires : goal.from_padded-requires
