@@ -8,11 +8,19 @@ in what a `const fn` can do.
 import re
 
 from eraser import Stopped
+from eraser.items import without_item
 from lib.rattle import Tokens
 
 # The frame, and the name by which its rules are listed.
 FRAME = "cargo/eraser/in_constants.rs"
 NAME = "tinystr_words/in_constants.rt"
+# What only constants' forms are left of: files, and functions of files.
+MOVED = {
+    "ascii/strict.rs": ["read_padded"],
+    "words/padded.rs": ["len", "ask", "put_in_case", "concat"],
+    "words/padded/concatenation.rs": [],
+    "words/padded/words.rs": [],
+}
 MARK = re.compile(r"^( *)//= (?P<file>\S+\.rs)(?:, (?P<item>.*?))?: (?P<free>free )?`(?P<names>[\w ]+)`\n", re.M)
 HEAD = r"( *)(?:pub(?:\(crate\))? )?(?:const )?fn "
 # An item, and a function that has a body, with its attributes: each ends at the first brace as far in as its head.
@@ -38,6 +46,17 @@ def with_functions(frame: str, made: dict[str, str]) -> str:
         return "\n".join(placed(without_self(it) if mark["free"] else it, mark[1]) for it in found)
 
     return MARK.sub(functions, frame)
+
+
+def without_moved(made: dict[str, str]) -> dict[str, str]:
+    """The made files without what the frame has in their place."""
+    left = {file: text for file, text in made.items() if MOVED.get(file) != []}
+    for file, names in MOVED.items():
+        for name in names:
+            left[file], count = without_item(left[file], rf"^(?:pub(?:\(crate\))? )?fn {name}\b")
+            if count != 1:
+                raise Stopped(f"{file}: `{name}` is there {count} times, and not once")
+    return left
 
 
 def only(pattern: str, name: str, text: str, file: str) -> str:

@@ -4,10 +4,12 @@
 
 use crate::ascii::TinyAsciiStr;
 use crate::error::ParseError;
+use crate::in_words;
 use crate::simd::u64x2;
 use crate::words::code_unit::CHARACTERS;
 use crate::words::kernel::{DIGIT, LOWER, NOT_NUL, Range, UPPER};
-use crate::words::padded::{Width, resize_at_once, width_of};
+use crate::words::padded::copying::{append, put};
+use crate::words::padded::{Width, resize, resize_at_once, width_of};
 use crate::words::question::{Case, Question};
 use crate::words::word::{HALF, halves, joined, whole};
 
@@ -51,14 +53,14 @@ macro_rules! for_each_width {
 }
 
 for_each_width! {
-    //= words/kernel.rs: `present outside inside case_bits with_case_bits no_character_marked no_lane_marked`
+    //= words/kernel.rs: `present marks unpadded outside inside case_bits with_case_bits no_character_marked no_lane_marked`
 
     impl T {
         //= words/word.rs, pub trait Word<const LEN: usize>: Copy: `first_then splat`
     }
 
     impl Aligned<T, LEN> {
-        //= words/int_ops.rs: `from_ascii_bytes from_padded to_bytes`
+        //= words/int_ops.rs: `from_ascii_bytes from_padded try_from_padded to_bytes`
 
         //= words/int_ops.rs: `ask each_in none_in each_letter each_letter_or_digit in_case`
     }
@@ -67,7 +69,7 @@ for_each_width! {
 impl Word<u32> {
     //= words/word.rs, impl Word<4> for u32: `from_le_bytes to_bytes_in_registers plus and or xor not`
 
-    //= words/word.rs, impl Word<4> for u32: `high_bits_as_case_bits equals`
+    //= words/word.rs, impl Word<4> for u32: `text_len high_bits_as_case_bits next_lanes equals`
 
     //= words/word.rs, pub trait Word<const LEN: usize>: Copy: `to_bytes_in_memory`
 
@@ -80,7 +82,7 @@ impl Word<u32> {
 impl Word<u64> {
     //= words/word.rs, impl Word<8> for u64: `from_le_bytes to_bytes_in_registers plus and or xor not`
 
-    //= words/word.rs, impl Word<8> for u64: `high_bits_as_case_bits equals`
+    //= words/word.rs, impl Word<8> for u64: `text_len high_bits_as_case_bits next_lanes equals`
 
     //= words/word.rs, pub trait Word<const LEN: usize>: Copy: `to_bytes_in_memory`
 
@@ -93,7 +95,7 @@ impl Word<u64> {
 impl Word<u128> {
     //= words/word.rs, impl Word<16> for u128: `from_le_bytes to_bytes_in_registers to_bytes_in_memory`
 
-    //= words/word.rs, impl Word<16> for u128: `plus and or xor not high_bits_as_case_bits equals`
+    //= words/word.rs, impl Word<16> for u128: `plus and or xor not high_bits_as_case_bits next_lanes equals`
 
     #[inline(always)]
     pub const fn load(src: &[u8]) -> Self {
@@ -109,10 +111,28 @@ mod words {
 }
 
 type Aligned4 = Aligned<Word<u32>, 4>;
-type Aligned8 = Aligned<Word<u64>, 8>;
+pub type Aligned8 = Aligned<Word<u64>, 8>;
 type Aligned16 = Aligned<Word<u128>, 16>;
 
-//= words/padded.rs: `ask put_in_case`
+impl Aligned4 {
+    //= words/int_ops.rs: `len`
+}
+
+impl Aligned8 {
+    //= words/int_ops.rs: `len`
+
+    //= words/int_ops.rs, impl Aligned<u64, 8>: `concat`
+}
+
+//= words/padded.rs: `is_padded len ask put_in_case concat`
+
+//= words/padded/concatenation.rs: `concat_in_word concat_in_memory put_both`
+
+/// What `strict::read_padded` returns.
+#[inline(always)]
+pub const fn read_padded<const N: usize>(raw: [u8; N]) -> Result<TinyAsciiStr<N>, ParseError> {
+    if is_padded(&raw) { Ok(TinyAsciiStr::from_padded(raw)) } else { Err(bytes::fault::<N>(&raw)) }
+}
 
 /// The readers of bytes.
 pub mod bytes {
@@ -152,4 +172,14 @@ pub mod bytes {
     //= words/padded/code_units.rs: `byte_or read_piece read_pair read_many read_all put_low_bytes low_bytes`
 
     //= ascii/strict.rs: `read read_pieces find_fault fault`
+}
+
+/// The lossy reader of 16-bit numbers, which has no vectors.
+pub mod numbers {
+    use super::*;
+    type U = u16;
+
+    //= words/code_unit.rs, impl CodeUnit for u16: free `is_character low_byte`
+
+    //= words/padded/code_units.rs: `byte_or read_piece read_pair read_many read_all lossy_chunk lossy`
 }

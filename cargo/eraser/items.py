@@ -13,6 +13,7 @@ LEFT_OUT = {
     "tinystr_hashed/packing.rt": {
         "impl<const N: usize> From<AllocError> for PackHashedError": "want of memory ends a program in Rust, and is no error"
     },
+    "tinystr/ascii/readers.rt": {"fn read_lossy": "`in_constants.rs` has it for each code unit"},
     "tinystr/forms.rt": {"pub enum JsonReadError": "JSON is left out, with `forms/json.rt`: feature `serde` has its place"},
 }
 
@@ -23,7 +24,7 @@ KIT_IMPL = r"^impl\b[^{]*?\b(?:" + "|".join(KIT_TRAITS) + r")(?:<\w+>)? for "
 def without_items(text: str, file: str) -> str:
     """Leaves out the implementations of the kit's traits, and the items that the table names, with their comments."""
     for head in LEFT_OUT.get(file, {}):
-        text, count = without_item(text, f"^{re.escape(head)}\\b")
+        text, count = without_item(text, f"^ *{re.escape(head)}\\b")
         if count != 1:
             raise Stopped(f"{file}: `{head}` is there {count} times, and not once")
     return without_item(text, KIT_IMPL)[0]

@@ -25,8 +25,9 @@ PRIVATE_FILE = "tinystr/short_input.rt"
 # Functions whose bodies Rust can run at compile time, by file: each as often as it is there.
 CONST = {
     "tinystr/ascii.rt": ["default() -> Self", "from_padded("],
-    "tinystr/ascii/views.rt": ["is_empty(", "get_byte(", "all_bytes("],
-    "tinystr/ascii/readers.rt": ["try_from_str(", "try_from_utf8(", "from_utf8_unchecked("],
+    "tinystr/ascii/concat.rt": ["concat<"],
+    "tinystr/ascii/views.rt": ["len(", "is_empty(", "get_byte(", "as_utf8(", "as_str(", "all_bytes("],
+    "tinystr/ascii/readers.rt": ["try_from_str(", "try_from_utf8(", "try_from_raw(", "from_utf16_lossy(", "from_utf8_unchecked("],
     "tinystr/ascii/resize.rt": ["resize<"],
     "tinystr/forms.rt": ["to_bytes(&self) -> [u8; N]"],
     "tinystr/ule.rt": ["niche_bit_pattern("],

@@ -39,6 +39,7 @@ class Package:
         self.contracts.finish()
         frame = constants.with_functions((self.top / constants.FRAME).read_text(encoding="utf-8"), made)
         text = self.rules.apply(frame, constants.NAME)
+        made = constants.without_moved(made)
         made["words/in_constants.rs"] = generated_from(f"{constants.FRAME} and crates/tinystr_words", text)
         self.rules.finish()
         return made

@@ -56,6 +56,7 @@ NOT_PROVED_HERE = "in Rust nothing proves a condition at a call"
 AT_ROOT = "so that the documentation has it at its root"
 IN_CONSTANTS = "a `const fn` calls no trait, so it has neither an index by a range nor `min`"
 OF_CONSTANTS = "`in_constants.rs` calls it"
+WITHOUT_VECTORS = "a `const fn` calls no vector"
 OF_CONST_CALLS = "the same function as constants can call it"
 OF_WIDTHS = "in `in_constants.rs` each width has its own functions"
 # The words of the widths.
@@ -120,9 +121,24 @@ IN_FILE = {
         Rule("padded::equals(&self.bytes, &other.bytes)", "padded::equals(self.as_array(), other.as_array())", OF_BYTES),
     ],
     "tinystr/ascii/readers.rt": [
-        Rule("use crate::words::{CodeUnit, padded};", "use crate::words::{CodeUnit, in_constants, padded};", OF_CONST_CALLS),
+        Rule("use crate::words::{CodeUnit, padded};", "use crate::words::{in_constants, padded};", OF_CONST_CALLS),
         Rule("strict::read::<u8, N>(", "in_constants::bytes::read::<N>(", OF_CONST_CALLS),
+        Rule("strict::read_padded(", "in_constants::read_padded(", OF_CONST_CALLS),
+        Rule(
+            "Self::read_lossy::<u8>(code_units, replacement)",
+            "TinyAsciiStr::from_padded(padded::lossy(code_units, replacement))",
+            OF_CONST_CALLS,
+        ),
+        Rule(
+            "Self::read_lossy::<u16>(code_units, replacement)",
+            "TinyAsciiStr::from_padded(in_constants::numbers::lossy(code_units, replacement))",
+            OF_CONST_CALLS,
+        ),
         Rule("it runs: the condition is\n    /// proved at the call.", "it\n    /// runs.", NOT_PROVED_HERE),
+    ],
+    "tinystr/ascii/concat.rt": [
+        Rule("use crate::words::padded;", "use crate::words::in_constants;", OF_CONST_CALLS),
+        Rule("padded::concat(", "in_constants::concat(", OF_CONST_CALLS),
     ],
     "tinystr/forms.rt": [
         Rule(
@@ -150,6 +166,13 @@ IN_FILE = {
     "tinystr/ascii/views.rt": [
         Rule("pub fn get(", "pub fn get_byte(", NAMED_AS_STR),
         Rule(".get(", ".get_byte(", NAMED_AS_STR, 2),
+        Rule("use crate::words::padded;", "use crate::words::in_constants;", OF_CONST_CALLS),
+        Rule("padded::len(", "in_constants::len(", OF_CONST_CALLS),
+        Rule(
+            "        &bytes[..self.len()]",
+            "        // SAFETY: a text in `N` bytes has at most `N`\n        unsafe { bytes.split_at_unchecked(self.len()) }.0",
+            IN_CONSTANTS,
+        ),
         Rule("// proved: these bytes", "// SAFETY: proved: these bytes", "Rust's word for why a block is sound"),
     ],
     "tinystr_packed/sorted.rt": [
@@ -234,11 +257,11 @@ IN_FILE = {
         Rule("u128::from(low) | u128::from(high) << 64", "low as u128 | (high as u128) << 64", IN_CONSTANTS),
     ],
     "tinystr_words/in_constants.rt": [
-        Rule("<T: Word<LEN>, const LEN: usize>", "", OF_WIDTHS, 7),
+        Rule("<T: Word<LEN>, const LEN: usize>", "", OF_WIDTHS, 9),
         # words as a type
         *(Rule(f"(self, other: {word})", "(self, other: Self)", OF_WIDTHS, 5) for word in WORDS),
         *(Rule(f"Self) -> {word} {{", "Self) -> Self {", OF_WIDTHS, 4) for word in WORDS),
-        *(Rule(f"(self) -> {word} {{", "(self) -> Self {", OF_WIDTHS, 2) for word in WORDS),
+        *(Rule(f"(self) -> {word} {{", "(self) -> Self {", OF_WIDTHS, 3) for word in WORDS),
         *(
             Rule(
                 f"]) -> {word} {{\n        {word}::from_le_bytes(*bytes)",
@@ -251,6 +274,10 @@ IN_FILE = {
         *(Rule(f"        self {sign} other\n", f"        Word(self.0 {sign} other.0)\n", OF_WIDTHS, 2) for sign in "+&|^"),
         Rule("-> [u8; LEN] {\n        self.to_b", "-> [u8; size_of::<Self>()] {\n        self.to_b", OF_WIDTHS, 2),
         Rule("        !self\n", "        Word(!self.0)\n", OF_WIDTHS, 2),
+        Rule("        self >> 8\n", "        Word(self.0 >> 8)\n", OF_WIDTHS, 3),
+        Rule("::leading_zeros(self)", "::leading_zeros(self.0)", OF_WIDTHS),
+        Rule("2 * self + 1", "2 * self.0 + 1", OF_WIDTHS),
+        Rule("word: front + (back << (8 * len))", "word: Word(front.0 + (back.0 << (8 * len)))", OF_WIDTHS),
         Rule("(self & Self::splat(0x80)) >> 2", "Word((self.0 & Self::splat(0x80).0) >> 2)", OF_WIDTHS, 2),
         Rule("self == other", "self.0 == other.0", OF_WIDTHS, 3),
         # operators of vectors
@@ -286,6 +313,34 @@ IN_FILE = {
         ),
         Rule("impl Late {\n        #[inline(always)]", "impl Late {\n        #[inline]", "as its comment says"),
         Rule("to_bytes(&self) -> [u8; LEN] {", "to_bytes(self) -> [u8; LEN] {", "in Rust what is `Copy` is taken by value"),
+        # past eight bytes, and 16-bit numbers
+        Rule("words::len(bytes)", "in_words::text_len(bytes)", WITHOUT_VECTORS),
+        Rule(
+            "Width::Eight => Aligned8::try_from_padded(bytes.as_slice()).is_some(),\n"
+            "        Width::Sixteen => Aligned16::try_from_padded(bytes.as_slice()).is_some(),\n"
+            "        Width::Many => padding::is_padded(bytes.as_slice()),",
+            "Width::Eight | Width::Sixteen | Width::Many => in_words::is_padded(bytes),",
+            WITHOUT_VECTORS,
+        ),
+        Rule(
+            "        if units.len() >= N {\n"
+            "            // past 8 bytes the loop of a known length is faster\n"
+            "            let front = units.split_at(N).0;\n"
+            "            return match as_bytes(front) {\n"
+            "                Some(bytes) if N <= 8 => lossy_word(bytes, replacement),\n"
+            "                _ => lossy_chunk(front, replacement),\n"
+            "            };\n"
+            "        }\n"
+            "        if let Some(bytes) = as_bytes(units)\n"
+            "            && bytes.len() <= 16\n"
+            "        {\n"
+            "            return lossy_word(bytes, replacement);\n"
+            "        }\n",
+            "        if units.len() >= N {\n            return lossy_chunk(units.split_at(N).0, replacement);\n        }\n",
+            "numbers are no bytes",
+        ),
+        Rule("fit_vectors(first_part.len(), second_part.len())", "N <= 16 && M <= 16", WITHOUT_VECTORS),
+        Rule("concat_in_vectors(first_part, second_part)", "in_words::concat(first, len(first), second)", WITHOUT_VECTORS),
         # readers
         Rule(
             "    pub const fn find_fault",
@@ -306,13 +361,10 @@ IN_FILE = {
             IN_CONSTANTS,
         ),
     ],
-    "tinystr_words/padded/words.rt": [
-        Rule(
-            "    let mut rest = bytes;\n    let mut sum",
-            "    if crate::simd::IS_PORTABLE {\n        return crate::simd::text_len(bytes);\n    }\n"
-            "    let mut rest = bytes;\n    let mut sum",
-            IN_WORDS,
-        ),
+    "tinystr_words/padded.rt": [
+        Rule("mod copying;", "pub mod copying;", OF_CONSTANTS),
+        *(Rule(f"mod {module};\n", "", OF_CONST_CALLS) for module in ("concatenation", "words")),
+        Rule("use concatenation::{concat_in_memory, concat_in_vectors, concat_in_word, fit_vectors};\n", "", OF_CONST_CALLS),
     ],
     "tinystr_words/padded/replacing.rt": [
         Rule(
@@ -322,13 +374,6 @@ IN_FILE = {
             "    }\n"
             "    let are_characters = (given",
             IN_WORDS,
-        ),
-    ],
-    "tinystr_words/padded/concatenation.rt": [
-        Rule(
-            "first_len <= LONGEST && second_len <= LONGEST",
-            'cfg!(target_feature = "ssse3") && first_len <= LONGEST && second_len <= LONGEST',
-            "without a shuffle another of the proved ways serves, and gives the same",
         ),
     ],
 }

@@ -6,69 +6,32 @@ use crate::error::ParseError;
 use crate::packed::{NotRising, SortedError, SortedTable, Table};
 use crate::ule::UleError;
 
-// The bytes of code units that are a text of at most `N`, or their fault. NULs after the text are allowed where `$nuls` says so.
-macro_rules! padded {
-    ($code_units:expr, $nuls:expr) => {{
-        let code_units = $code_units;
-        let count = code_units.len();
-        let mut bytes = [0; N];
-        let mut fault = None;
-        if count > N {
-            fault = Some(ParseError::TooLong { max: N, len: count });
-        }
-        let mut at = 0;
-        let mut is_after_nul = false;
-        while at < count && fault.is_none() {
-            let code = code_units[at];
-            if code > 127 {
-                fault = Some(ParseError::NonAscii);
-            } else if code == 0 {
-                is_after_nul = true;
-            } else if is_after_nul {
-                fault = Some(ParseError::ContainsNull);
-            } else {
-                bytes[at] = code as u8;
-            }
-            at += 1;
-        }
-        if is_after_nul && fault.is_none() && !$nuls {
-            fault = Some(ParseError::ContainsNull);
-        }
-        match fault {
-            None => Ok(bytes),
-            Some(fault) => Err(fault),
-        }
-    }};
-}
-
-// The text of the first `N` code units, with the replacement in the place of each that is no character.
-macro_rules! replaced {
-    ($code_units:expr, $replacement:expr) => {{
-        let (code_units, replacement) = ($code_units, $replacement);
-        assert!(matches!(replacement, 1..=127), "replacement must be a non-null ASCII byte (1..=127)");
-        let mut bytes = [0; N];
-        let mut at = 0;
-        while at < N && at < code_units.len() {
-            let code = code_units[at];
-            bytes[at] = if matches!(code, 1..=127) { code as u8 } else { replacement };
-            at += 1;
-        }
-        Self::of_padded(bytes)
-    }};
-}
-
 impl<const N: usize> TinyAsciiStr<N> {
     /// The empty text.
     pub const EMPTY: Self = Self::default();
 
     /// `try_from_utf16` at compile time. At run time `try_from_utf16` is faster.
     pub const fn try_from_utf16_const(code_units: &[u16]) -> Result<Self, ParseError> {
-        Self::of_checked(padded!(code_units, false))
-    }
-
-    /// `try_from_raw` at compile time. At run time `try_from_raw` is faster.
-    pub const fn try_from_raw_const(raw: [u8; N]) -> Result<Self, ParseError> {
-        Self::of_checked(padded!(raw, true))
+        let len = code_units.len();
+        if len > N {
+            return Err(ParseError::TooLong { max: N, len });
+        }
+        let mut bytes = [0; N];
+        let mut has_nul = false;
+        let mut at = 0;
+        while at < len {
+            let code = code_units[at];
+            if code > 127 {
+                return Err(ParseError::NonAscii);
+            }
+            if code != 0 && has_nul {
+                return Err(ParseError::ContainsNull);
+            }
+            has_nul |= code == 0;
+            bytes[at] = code as u8;
+            at += 1;
+        }
+        if has_nul { Err(ParseError::ContainsNull) } else { Self::try_from_raw(bytes) }
     }
 
     /// `from_utf8_lossy` at compile time. At run time `from_utf8_lossy` is faster.
@@ -78,87 +41,14 @@ impl<const N: usize> TinyAsciiStr<N> {
     /// Where the replacement isn't from 1 to 127.
     #[must_use]
     pub const fn from_utf8_lossy_const(code_units: &[u8], replacement: u8) -> Self {
-        replaced!(code_units, replacement)
-    }
-
-    /// `from_utf16_lossy` at compile time. At run time `from_utf16_lossy` is faster.
-    ///
-    /// # Panics
-    ///
-    /// Where the replacement isn't from 1 to 127.
-    #[must_use]
-    pub const fn from_utf16_lossy_const(code_units: &[u16], replacement: u8) -> Self {
-        replaced!(code_units, replacement)
-    }
-
-    // The text of what `padded` gives.
-    const fn of_checked(bytes: Result<[u8; N], ParseError>) -> Result<Self, ParseError> {
-        match bytes {
-            // SAFETY: `padded` gives bytes from 1 to 127 and then NULs
-            Ok(bytes) => Ok(unsafe { Self::from_utf8_unchecked(bytes) }),
-            Err(fault) => Err(fault),
-        }
-    }
-
-    // The text of bytes that are one and then NULs: others panic.
-    const fn of_padded(bytes: [u8; N]) -> Self {
-        match Self::try_from_raw_const(bytes) {
-            Ok(text) => text,
-            Err(_) => panic!("the bytes aren't a text and then NULs"),
-        }
-    }
-
-    /// `len` at compile time. At run time `len` is faster.
-    #[must_use]
-    pub const fn len_const(&self) -> usize {
-        let mut len = 0;
-        while len < N && self.all_bytes()[len] != 0 {
-            len += 1;
-        }
-        len
-    }
-
-    /// `as_utf8` at compile time. At run time `as_utf8` is faster.
-    #[must_use]
-    pub const fn as_utf8_const(&self) -> &[u8] {
-        self.all_bytes().split_at(self.len_const()).0
-    }
-
-    /// `as_str` at compile time. At run time `as_str` is faster.
-    ///
-    /// ```
-    /// use tinystr::{TinyAsciiStr, tinystr};
-    ///
-    /// const EURO: TinyAsciiStr<4> = tinystr!(4, "EUR");
-    /// const CODE: &str = EURO.as_str_const();
-    /// assert_eq!(CODE, "EUR");
-    /// ```
-    #[must_use]
-    pub const fn as_str_const(&self) -> &str {
-        match core::str::from_utf8(self.as_utf8_const()) {
-            Ok(s) => s,
-            Err(_) => panic!("ASCII is UTF-8"),
-        }
-    }
-
-    /// `concat` at compile time. At run time `concat` is faster.
-    ///
-    /// ```
-    /// use tinystr::{TinyAsciiStr, tinystr};
-    ///
-    /// const TAG: TinyAsciiStr<5> = tinystr!(3, "en-").concat_const(tinystr!(2, "GB"));
-    /// assert_eq!(TAG, "en-GB");
-    /// ```
-    #[must_use]
-    pub const fn concat_const<const M: usize, const Q: usize>(self, other: TinyAsciiStr<M>) -> TinyAsciiStr<Q> {
-        let mut bytes = [0; Q];
-        let (first, second) = (self.as_utf8_const(), other.as_utf8_const());
+        let mut units = [0; N];
+        let len = crate::ranges::least(code_units.len(), N);
         let mut at = 0;
-        while at < Q && at < first.len() + second.len() {
-            bytes[at] = if at < first.len() { first[at] } else { second[at - first.len()] };
+        while at < len {
+            units[at] = code_units[at] as u16;
             at += 1;
         }
-        TinyAsciiStr::of_padded(bytes)
+        Self::from_utf16_lossy(units.split_at(len).0, replacement)
     }
 }
 
@@ -176,7 +66,7 @@ impl<'a, const N: usize> Table<'a, N> {
         }
         let mut index = 0;
         while index < records.len() {
-            if let Err(fault) = TinyAsciiStr::<N>::try_from_raw_const(records[index]) {
+            if let Err(fault) = TinyAsciiStr::<N>::try_from_raw(records[index]) {
                 return Err(UleError::Parse { index, fault });
             }
             index += 1;

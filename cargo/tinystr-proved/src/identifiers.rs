@@ -93,7 +93,7 @@ const fn split(code_units: &[u8]) -> (&[u8], Option<&[u8]>) {
 }
 
 const fn joined<const N: usize>(front: TinyAsciiStr<17>, subtag: TinyAsciiStr<N>) -> TinyAsciiStr<17> {
-    front.concat_const::<1, 17>(tinystr!(1, "-")).concat_const(subtag)
+    front.concat::<1, 17>(tinystr!(1, "-")).concat(subtag)
 }
 
 impl Default for Language {

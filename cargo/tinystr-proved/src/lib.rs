@@ -24,8 +24,8 @@
 //!
 //! Names, arguments and results are the same, but for these, which the README has in full:
 //!
-//! - Eight `const fn` of the original aren't `const`, such as `as_str`, `len` and `concat`. Constants call their twins, such as
-//!   [`len_const`](TinyAsciiStr::len_const).
+//! - `try_from_utf16` and `from_utf8_lossy` aren't `const`. Constants call their twins, such as
+//!   [`from_utf8_lossy_const`](TinyAsciiStr::from_utf8_lossy_const).
 //! - At capacity 0 `is_empty` returns true, where the original panics, and `new_unsigned_decimal(0)` returns an error.
 //! - Class predicates on letters in a case return true for the empty text at every capacity.
 //! - `Hash` writes the `N` bytes in one call.
@@ -58,6 +58,7 @@ pub mod definitions {}
 mod examples_of_readme {}
 mod errors;
 mod identifiers;
+mod in_words;
 mod ranges;
 mod sealed;
 #[cfg(feature = "serde")]

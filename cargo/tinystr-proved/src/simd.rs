@@ -8,7 +8,7 @@ use core::ops::{Add, BitAnd, BitOr, BitXor, Not, Shr, Sub};
 // (a target without an operating system may have no vectors)
 #[cfg(all(target_arch = "x86_64", target_feature = "sse2", not(portable_lanes)))]
 mod machine;
-// on x86-64 its shuffle alone is called, where there is no SSSE3, and what `IS_PORTABLE` leaves out
+// on x86-64 the tests call it, and what `IS_PORTABLE` leaves out
 #[allow(dead_code)]
 mod portable;
 #[cfg(test)]
@@ -16,7 +16,6 @@ mod tests;
 
 #[cfg(any(portable_lanes, not(all(target_arch = "x86_64", target_feature = "sse2"))))]
 use portable as machine;
-pub use portable::text_len;
 
 /// Whether the calls on sixteen bytes are `portable`'s. A few functions then have a shorter form in words of 64 bits.
 pub const IS_PORTABLE: bool = cfg!(any(portable_lanes, not(all(target_arch = "x86_64", target_feature = "sse2"))));
@@ -211,12 +210,6 @@ impl u8x16 {
             return Lanes(machine::next(self.0, other.0));
         }
         Lanes(places.map(|place| if place < 16 { self.0[place] } else { other.0[place - 16] }))
-    }
-
-    /// For each lane of `places` the lane at that place, or 0 past the last.
-    #[inline(always)]
-    pub fn swizzle_dyn(self, places: Self) -> Self {
-        Lanes(machine::shuffle(self.0, places.0))
     }
 
     /// Each lane from 1 to 127, and the other in the place of the rest.

@@ -16,8 +16,10 @@ fn read_alike<const N: usize>(units: &[u8]) {
     if let Ok(s) = str::from_utf8(units) {
         assert_eq!(TinyAsciiStr::<N>::try_from_utf8(units), TinyAsciiStr::try_from_str(s), "{s:?} at {N}");
     }
-    if let Ok(raw) = units.try_into() {
-        assert_eq!(TinyAsciiStr::<N>::try_from_raw_const(raw), TinyAsciiStr::try_from_raw(raw), "{units:?}");
+    if let Ok(raw) = <[u8; N]>::try_from(units) {
+        let text: Vec<u8> = units.iter().copied().take_while(|byte| *byte != 0).collect();
+        let is_padded = units[text.len()..].iter().all(|byte| *byte == 0) && text.is_ascii();
+        assert_eq!(TinyAsciiStr::<N>::try_from_raw(raw).ok(), TinyAsciiStr::try_from_utf8(&text).ok().filter(|_| is_padded), "{units:?}");
     }
 }
 

@@ -23,7 +23,6 @@ const PANICKING: &[(&str, fn())] = &[
     ("Table::new_const at 0", || ignore(Table::<0>::new_const(b""))),
     ("SortedTable::from_bytes_const at 0", || ignore(SortedTable::<0>::from_bytes_const(b""))),
     ("from_utf8_lossy_const by 0", || ignore(TinyAsciiStr::<2>::from_utf8_lossy_const(b"a", 0))),
-    ("from_utf16_lossy_const by 128", || ignore(TinyAsciiStr::<2>::from_utf16_lossy_const(&[0x61], 128))),
     ("SortedTable::from_bytes at 0", || ignore(SortedTable::<0>::from_bytes(b""))),
     ("text_at past the end", || ignore(table().text_at(2))),
     ("slice of a table past the end", || ignore(table().slice(1..3))),

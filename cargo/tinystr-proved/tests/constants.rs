@@ -1,5 +1,5 @@
-//! What constants call: the twins give the same as the proved calls, of all short texts and of random ones, and questions and
-//! changes of case are what the definitions say of each byte.
+//! What constants call gives what the definitions say, byte by byte, of all short texts and of random ones, at compile time and
+//! when it runs; and the twins give the same as the calls that aren't `const`.
 
 use tinystr::hashed::{HashedMap, HashedTable, HashedTextMap};
 use tinystr::packed::{NotRising, PackedMap, SortedError, SortedTable, Table, TextEntries, TextMap};
@@ -9,27 +9,27 @@ use tinystr::{Case, ParseError, Question, TinyAsciiStr, UnvalidatedTinyAsciiStr,
 
 // A program's own constants, and a function of its own that makes one.
 const L: TinyAsciiStr<8> = tinystr!(4, "latn").resize();
-const N: usize = L.len_const();
+const N: usize = L.len();
 const SCRIPTS: [u8; N] = [0; N];
 
 const fn region(code: &[u8]) -> Option<TinyAsciiStr<3>> {
     match TinyAsciiStr::<3>::try_from_utf8(code) {
-        Ok(text) if text.len_const() == 2 && text.is_ascii_alphabetic() => Some(text.to_ascii_uppercase()),
-        Ok(text) if text.len_const() == 3 && text.is_ascii_numeric() => Some(text),
+        Ok(text) if text.len() == 2 && text.is_ascii_alphabetic() => Some(text.to_ascii_uppercase()),
+        Ok(text) if text.len() == 3 && text.is_ascii_numeric() => Some(text),
         _ => None,
     }
 }
 
 const GB: TinyAsciiStr<3> = region(b"gb").unwrap();
-const TAG: TinyAsciiStr<6> = tinystr!(3, "en-").concat_const(GB);
+const TAG: TinyAsciiStr<6> = tinystr!(3, "en-").concat(GB);
 
 #[test]
 fn a_program_makes_constants() {
     assert_eq!((L, SCRIPTS.len(), GB, TAG.as_str()), (tinystr!(8, "latn"), 4, tinystr!(3, "GB"), "en-GB"));
     const { assert!(region(b"419").is_some() && region(b"g").is_none() && region(b"g1").is_none() && region(b"gbr").is_none()) }
     assert!(matches!(region(b"gb"), Some(GB)));
-    const CITY: &str = tinystr!(16, "New York").as_str_const();
-    const LOSSY: TinyAsciiStr<4> = TinyAsciiStr::from_utf16_lossy_const(&[0x61, 0x20ac, 0, 0x62, 0x63], b'?');
+    const CITY: &str = tinystr!(16, "New York").as_str();
+    const LOSSY: TinyAsciiStr<4> = TinyAsciiStr::from_utf16_lossy(&[0x61, 0x20ac, 0, 0x62, 0x63], b'?');
     assert_eq!((CITY, LOSSY.as_str()), ("New York", "a??b"));
 }
 
@@ -118,9 +118,10 @@ const fn in_cases<const N: usize>(text: TinyAsciiStr<N>) -> [TinyAsciiStr<N>; 3]
     [text.to_ascii_lowercase(), text.to_ascii_titlecase(), text.to_ascii_uppercase()]
 }
 
-/// Each twin of a call on a text gives what the call gives, and each question and change of case what the definition says.
-fn twins_agree<const N: usize>(text: TinyAsciiStr<N>) {
-    assert_eq!((text.len_const(), text.as_utf8_const(), text.as_str_const()), (text.len(), text.as_utf8(), text.as_str()));
+/// Views, questions and changes of case are what the definitions say.
+fn is_as_defined<const N: usize>(text: TinyAsciiStr<N>) {
+    let defined: Vec<u8> = text.all_bytes().iter().copied().take_while(|byte| *byte != 0).collect();
+    assert_eq!((text.len(), text.as_utf8(), text.as_str().as_bytes()), (defined.len(), &*defined, &*defined));
     for (question, answer) in QUESTIONS.into_iter().zip(answers(text)) {
         let defined = defined_answer(text.as_utf8(), question);
         assert_eq!((text.ask(question), answer), (defined, defined), "{text:?}");
@@ -135,11 +136,11 @@ fn twins_agree<const N: usize>(text: TinyAsciiStr<N>) {
 const EDGES: [u8; 16] = *b"\0\x01/09:@AZ[`az{\x7f\x80";
 
 /// What a constant has of some bytes: how they are read, and of a text and NULs the answers and the changes of case.
-type Facts<const N: usize> = (Result<TinyAsciiStr<N>, ParseError>, Option<([bool; 9], [TinyAsciiStr<N>; 3])>);
+type Facts<const N: usize> = (Result<TinyAsciiStr<N>, ParseError>, Option<(usize, [bool; 9], [TinyAsciiStr<N>; 3], [TinyAsciiStr<24>; 2])>);
 
 const fn facts<const N: usize>(bytes: [u8; N]) -> Facts<N> {
-    let of_text = match TinyAsciiStr::try_from_raw_const(bytes) {
-        Ok(text) => Some((answers(text), in_cases(text))),
+    let of_text = match TinyAsciiStr::try_from_raw(bytes) {
+        Ok(text) => Some((text.as_str().len(), answers(text), in_cases(text), [text.concat(text), L.concat(text)])),
         Err(_) => None,
     };
     (TinyAsciiStr::try_from_utf8(&bytes), of_text)
@@ -178,43 +179,49 @@ fn constants_are_what_runs() {
     edges_agree(const { edge_facts::<18>() });
 }
 
-/// The twins of `concat`, where the result holds both texts, and where it cuts the second or the first.
-fn concat_agrees<const N: usize, const M: usize>(text: TinyAsciiStr<N>, other: TinyAsciiStr<M>) {
-    assert_eq!(text.concat_const::<M, 64>(other), text.concat(other));
-    assert_eq!(text.concat_const::<M, 12>(other), text.concat(other));
-    assert_eq!(text.concat_const::<M, 3>(other), text.concat(other));
-    assert_eq!(text.concat_const::<M, 0>(other), text.concat(other));
+/// `concat` is the first bytes of both texts, where the result holds them, and where it cuts the second or the first.
+fn concat_is_as_defined<const N: usize, const M: usize>(text: TinyAsciiStr<N>, other: TinyAsciiStr<M>) {
+    let both = [text.as_utf8(), other.as_utf8()].concat();
+    assert_eq!(text.concat::<M, 64>(other).as_utf8(), &both[..both.len().min(64)]);
+    assert_eq!(text.concat::<M, 24>(other).as_utf8(), &both[..both.len().min(24)]);
+    assert_eq!(text.concat::<M, 12>(other).as_utf8(), &both[..both.len().min(12)]);
+    assert_eq!(text.concat::<M, 3>(other).as_utf8(), &both[..both.len().min(3)]);
+    assert_eq!(text.concat::<M, 0>(other).as_utf8(), b"");
 }
 
-/// The twins of lossy readers. Those of strict ones are in `by_hand.rs`.
-fn lossy_agrees<const N: usize>(units: &[u8], wide: &[u16]) {
+/// The lossy readers and the twin. Those of strict ones are in `by_hand.rs`.
+fn lossy_is_as_defined<const N: usize>(units: &[u8], wide: &[u16]) {
     for replacement in [1, b'?', 127] {
-        assert_eq!(TinyAsciiStr::<N>::from_utf8_lossy_const(units, replacement), TinyAsciiStr::from_utf8_lossy(units, replacement));
-        assert_eq!(TinyAsciiStr::<N>::from_utf16_lossy_const(wide, replacement), TinyAsciiStr::from_utf16_lossy(wide, replacement));
+        let defined = |unit: u16| if matches!(unit, 1..=127) { unit as u8 } else { replacement };
+        let of_bytes: Vec<u8> = units.iter().take(N).map(|unit| defined((*unit).into())).collect();
+        let of_numbers: Vec<u8> = wide.iter().take(N).map(|unit| defined(*unit)).collect();
+        assert_eq!(TinyAsciiStr::<N>::from_utf8_lossy_const(units, replacement).as_utf8(), of_bytes);
+        assert_eq!(TinyAsciiStr::<N>::from_utf8_lossy(units, replacement).as_utf8(), of_bytes);
+        assert_eq!(TinyAsciiStr::<N>::from_utf16_lossy(wide, replacement).as_utf8(), of_numbers);
     }
 }
 
 /// All texts of at most two bytes, with the others beside them.
 #[test]
-fn twins_agree_of_all_short_texts() {
+fn all_short_texts() {
     let mut before = TinyAsciiStr::EMPTY;
-    twins_agree(TinyAsciiStr::<0>::EMPTY);
+    is_as_defined(TinyAsciiStr::<0>::EMPTY);
     for a in 0..=127 {
         for b in 0..=127 {
             let Ok(text) = TinyAsciiStr::<2>::try_from_raw([a, b]) else { continue };
-            twins_agree(text);
-            twins_agree(text.resize::<5>());
-            twins_agree(text.resize::<9>());
-            twins_agree(text.resize::<17>());
-            twins_agree(tinystr!(16, "abcdefghijklmnop").concat::<2, 18>(text));
-            concat_agrees(text, before);
+            is_as_defined(text);
+            is_as_defined(text.resize::<5>());
+            is_as_defined(text.resize::<9>());
+            is_as_defined(text.resize::<17>());
+            is_as_defined(tinystr!(16, "abcdefghijklmnop").concat::<2, 18>(text));
+            concat_is_as_defined(text, before);
             before = text;
         }
     }
     for a in 0..=255 {
-        lossy_agrees::<2>(&[a], &[a.into()]);
+        lossy_is_as_defined::<2>(&[a], &[a.into()]);
         for b in 0..=255 {
-            lossy_agrees::<2>(&[a, b], &[u16::from(a) * 256, u16::from(b) * 257]);
+            lossy_is_as_defined::<2>(&[a, b], &[u16::from(a) * 256, u16::from(b) * 257]);
         }
     }
 }
@@ -248,33 +255,33 @@ impl Random {
     }
 }
 
-fn random_texts_agree<const N: usize>(count: usize) {
+fn random_texts_of<const N: usize>(count: usize) {
     let mut random = Random(0x9e37_79b9_7f4a_7c15 + N as u64);
     for _ in 0..count {
         let text = random.text::<N>();
-        twins_agree(text);
-        concat_agrees(text, random.text::<9>());
+        is_as_defined(text);
+        concat_is_as_defined(text, random.text::<9>());
         let units: Vec<u8> = text.as_utf8().iter().map(|byte| byte ^ if random.next() % 9 == 0 { 128 } else { 0 }).collect();
         let wide: Vec<u16> = units.iter().map(|byte| u16::from(*byte) << (8 * (random.next() % 2))).collect();
-        lossy_agrees::<N>(&units, &wide);
-        lossy_agrees::<5>(&units, &wide);
+        lossy_is_as_defined::<N>(&units, &wide);
+        lossy_is_as_defined::<5>(&units, &wide);
     }
 }
 
 /// A million random texts, or fewer where nothing is optimized.
 #[test]
-fn twins_agree_of_random_texts() {
+fn random_texts() {
     let part = if cfg!(debug_assertions) { 20 } else { 1 };
-    random_texts_agree::<1>(50_000 / part);
-    random_texts_agree::<3>(200_000 / part);
-    random_texts_agree::<4>(200_000 / part);
-    random_texts_agree::<8>(200_000 / part);
-    random_texts_agree::<12>(200_000 / part);
-    random_texts_agree::<16>(75_000 / part);
-    random_texts_agree::<17>(50_000 / part);
-    random_texts_agree::<24>(25_000 / part);
-    random_texts_agree::<32>(25_000 / part);
-    random_texts_agree::<33>(25_000 / part);
+    random_texts_of::<1>(50_000 / part);
+    random_texts_of::<3>(200_000 / part);
+    random_texts_of::<4>(200_000 / part);
+    random_texts_of::<8>(200_000 / part);
+    random_texts_of::<12>(200_000 / part);
+    random_texts_of::<16>(75_000 / part);
+    random_texts_of::<17>(50_000 / part);
+    random_texts_of::<24>(25_000 / part);
+    random_texts_of::<32>(25_000 / part);
+    random_texts_of::<33>(25_000 / part);
 }
 
 fn tables_agree<const N: usize>(bytes: &[u8]) {

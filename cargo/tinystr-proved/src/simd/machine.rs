@@ -81,15 +81,3 @@ pub fn next(a: [u8; 16], b: [u8; 16]) -> [u8; 16] {
     // SAFETY: the processor has SSE2, as `cfg` says where this module is named.
     bytes(unsafe { _mm_or_si128(_mm_srli_si128::<1>(vector(a)), _mm_slli_si128::<15>(vector(b))) })
 }
-
-/// The instruction gives 0 where the high bit of a place is set, and else takes its low four bits. With 0x70 added, and
-/// 255 for what is larger, each place from 16 on has the high bit.
-#[cfg(target_feature = "ssse3")]
-#[inline(always)]
-pub fn shuffle(a: [u8; 16], places: [u8; 16]) -> [u8; 16] {
-    // SAFETY: the processor has SSSE3, as `cfg` says.
-    bytes(unsafe { _mm_shuffle_epi8(vector(a), _mm_adds_epu8(vector(places), _mm_set1_epi8(0x70))) })
-}
-
-#[cfg(not(target_feature = "ssse3"))]
-pub use super::portable::shuffle;

@@ -111,40 +111,6 @@ pub fn next(a: [u8; 16], b: [u8; 16]) -> [u8; 16] {
     bytes([low >> 8 | high << 56, high >> 8 | following << 56])
 }
 
-/// The byte at each place, or 0 past the last.
-#[inline(always)]
-pub fn shuffle(a: [u8; 16], places: [u8; 16]) -> [u8; 16] {
-    places.map(|place| if place < 16 { a[usize::from(place % 16)] } else { 0 })
-}
-
-/// The length of a text with NULs after it.
-#[inline(always)]
-pub fn text_len(bytes: &[u8]) -> usize {
-    let ones = |word: u64| nonzero_low_bits(word) >> 7 & ONES;
-    let mut len = 0;
-    // a sum of 240 ones fits in a byte
-    for part in bytes.chunks(240) {
-        let (words, rest) = part.as_chunks();
-        let mut sum = ones(last_bytes(part, rest.len()));
-        for word in words {
-            sum += ones(u64::from_le_bytes(*word));
-        }
-        len += (sum.wrapping_mul(ONES) >> 56) as usize;
-    }
-    len
-}
-
-/// The last bytes, fewer than eight, with zeros after them.
-#[inline(always)]
-fn last_bytes(bytes: &[u8], count: usize) -> u64 {
-    if let Some(last) = bytes.last_chunk() {
-        return u64::from_le_bytes(*last) >> (8 * (7 - count)) >> 8;
-    }
-    let mut last = [0; 8];
-    last[..count].copy_from_slice(bytes);
-    u64::from_le_bytes(last)
-}
-
 /// In each lane the first byte where it is from 1 to 127, else the other.
 #[inline(always)]
 pub fn characters_or(a: [u8; 16], b: [u8; 16]) -> [u8; 16] {

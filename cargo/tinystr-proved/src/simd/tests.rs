@@ -1,7 +1,8 @@
 //! Each call returns in each lane what `std::simd` says of it: calls on bytes at all bytes that a lane can hold, masks at all
-//! masks, shuffles at each place in each lane. `machine` and `portable` are tested alike.
+//! masks. `machine` and `portable` are tested alike.
 
 use super::*;
+use crate::in_words::text_len;
 
 /// A pair of these has a call of `machine` and the same call of `portable`.
 type Binary = fn([u8; 16], [u8; 16]) -> [u8; 16];
@@ -91,19 +92,6 @@ fn equality() {
         like[lane] = b[lane];
         assert_eq!(Lanes(a) == Lanes(like), a[lane] == b[lane]);
     });
-}
-
-#[test]
-fn shuffles() {
-    for turn in 0..=255u8 {
-        let given: [u8; 16] = core::array::from_fn(|lane| (lane as u8).wrapping_mul(13) ^ turn);
-        for first in 0..=255u8 {
-            let places: [u8; 16] = core::array::from_fn(|lane| first.wrapping_add((lane as u8).wrapping_mul(37)));
-            let wanted = places.map(|place| *given.get(usize::from(place)).unwrap_or(&0));
-            assert_eq!([machine::shuffle(given, places), portable::shuffle(given, places)], [wanted; 2]);
-            assert_eq!(Lanes(given).swizzle_dyn(Lanes(places)).0, wanted);
-        }
-    }
 }
 
 /// Each place in each lane where the places are constants, of one vector and of two; and the places that `machine` knows.

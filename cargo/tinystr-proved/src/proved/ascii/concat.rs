@@ -2,7 +2,7 @@
 //! Texts joined.
 
 use crate::ascii::TinyAsciiStr;
-use crate::words::padded;
+use crate::words::in_constants;
 
 impl<const N: usize> TinyAsciiStr<N> {
     /// The two texts joined, truncated to `Q` bytes. If `Q` is at least `N + M`, nothing is truncated.
@@ -26,8 +26,8 @@ impl<const N: usize> TinyAsciiStr<N> {
     /// </details>
     #[inline]
     #[must_use]
-    pub fn concat<const M: usize, const Q: usize>(self, other: TinyAsciiStr<M>) -> TinyAsciiStr<Q> {
-        TinyAsciiStr::from_padded(padded::concat(self.bytes.as_array(), other.bytes.as_array()))
+    pub const fn concat<const M: usize, const Q: usize>(self, other: TinyAsciiStr<M>) -> TinyAsciiStr<Q> {
+        TinyAsciiStr::from_padded(in_constants::concat(self.bytes.as_array(), other.bytes.as_array()))
     }
 
     /// The two texts joined, or `None` if they have more than `Q` bytes together.

@@ -3,7 +3,7 @@
 
 use crate::ascii::{TinyAsciiStr, strict};
 use crate::error::ParseError;
-use crate::words::{CodeUnit, in_constants, padded};
+use crate::words::{in_constants, padded};
 
 impl<const N: usize> TinyAsciiStr<N> {
     /// Reads a string of at most `N` bytes, each from 1 to 127.
@@ -111,17 +111,8 @@ impl<const N: usize> TinyAsciiStr<N> {
     /// ```
     /// </details>
     #[inline]
-    pub fn try_from_raw(raw: [u8; N]) -> Result<Self, ParseError> {
-        strict::read_padded(raw)
-    }
-
-    // The first code units, with the replacement for each that isn't a character.
-    // Proved:
-    //     requires { IsTextByte replacement }
-    //     ensures { result ≡ lossy (map U.number units.now) replacement N }
-    #[inline(always)]
-    fn read_lossy<U: CodeUnit>(units: &[U], replacement: u8) -> Self {
-        TinyAsciiStr::from_padded(padded::lossy(units, replacement))
+    pub const fn try_from_raw(raw: [u8; N]) -> Result<Self, ParseError> {
+        in_constants::read_padded(raw)
     }
 
     /// Reads the first `N` bytes, with `replacement` for each that is NUL or above 127. Later bytes are ignored.
@@ -150,7 +141,7 @@ impl<const N: usize> TinyAsciiStr<N> {
     #[must_use]
     pub fn from_utf8_lossy(code_units: &[u8], replacement: u8) -> Self {
         assert!(matches!(replacement, 1..=127), "replacement must be a non-null ASCII byte (1..=127)");
-        Self::read_lossy::<u8>(code_units, replacement)
+        TinyAsciiStr::from_padded(padded::lossy(code_units, replacement))
     }
 
     /// Reads the first `N` 16-bit code units, with `replacement` for each that is 0 or above 127. Later ones are
@@ -176,9 +167,9 @@ impl<const N: usize> TinyAsciiStr<N> {
     /// </details>
     #[inline]
     #[must_use]
-    pub fn from_utf16_lossy(code_units: &[u16], replacement: u8) -> Self {
+    pub const fn from_utf16_lossy(code_units: &[u16], replacement: u8) -> Self {
         assert!(matches!(replacement, 1..=127), "replacement must be a non-null ASCII byte (1..=127)");
-        Self::read_lossy::<u16>(code_units, replacement)
+        TinyAsciiStr::from_padded(in_constants::numbers::lossy(code_units, replacement))
     }
 
     /// The text of an array, which must be a text and then NULs. Nothing is tested when it

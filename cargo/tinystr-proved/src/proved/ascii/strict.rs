@@ -41,34 +41,6 @@ pub(crate) fn read<U: CodeUnit, const N: usize>(units: &[U]) -> Result<TinyAscii
     Err(fault::<U, N>(units))
 }
 
-/// The text of bytes, or why they aren't padded. The value is made where its bytes are, as in `read`.
-///
-/// # Contract
-///
-/// ```text
-/// ensures accepted { IsOk result ↔ IsPaddedText raw.entry N }
-/// ensures text { IfOk result (λ t. t ≡ text_of raw.entry) }
-/// ensures fault { IfErr result (λ e. fault_of e ≡ fault_in N raw.entry) }
-/// ```
-#[inline(always)]
-pub(crate) fn read_padded<const N: usize>(raw: [u8; N]) -> Result<TinyAsciiStr<N>, ParseError> {
-    match width_of(N) {
-        // 9 to 16 bytes: those of the word, since the array would be copied in pieces that fit no register
-        Width::Sixteen => {
-            if let Some(text) = Aligned16::try_from_padded(&raw[..]) {
-                return Ok(TinyAsciiStr::from_padded(resize_at_once(&text.to_bytes())));
-            }
-        }
-        // the array as it was given, in one register, or in memory
-        Width::Four | Width::Eight | Width::Many => {
-            if padded::is_padded(&raw) {
-                return Ok(TinyAsciiStr::from_padded(raw));
-            }
-        }
-    }
-    Err(fault::<u8, N>(&raw[..]))
-}
-
 /// Whether all records are padded texts. There is no early exit, so that the compiler tests several in one step.
 ///
 /// # Contract

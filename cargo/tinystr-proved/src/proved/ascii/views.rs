@@ -2,7 +2,7 @@
 //! Views of a text: its length, its bytes and its string.
 
 use crate::ascii::TinyAsciiStr;
-use crate::words::padded;
+use crate::words::in_constants;
 
 impl<const N: usize> TinyAsciiStr<N> {
     /// The length of the text in bytes.
@@ -23,8 +23,8 @@ impl<const N: usize> TinyAsciiStr<N> {
     /// </details>
     #[inline]
     #[must_use]
-    pub fn len(&self) -> usize {
-        padded::len(self.bytes.as_array())
+    pub const fn len(&self) -> usize {
+        in_constants::len(self.bytes.as_array())
     }
 
     /// Whether the text is empty. At capacity 0 it always is.
@@ -87,9 +87,10 @@ impl<const N: usize> TinyAsciiStr<N> {
     /// </details>
     #[inline]
     #[must_use]
-    pub fn as_utf8(&self) -> &[u8] {
+    pub const fn as_utf8(&self) -> &[u8] {
         let bytes = self.bytes.as_array().as_slice();
-        &bytes[..self.len()]
+        // SAFETY: a text in `N` bytes has at most `N`
+        unsafe { bytes.split_at_unchecked(self.len()) }.0
     }
 
     /// Borrows the text as a string.
@@ -112,7 +113,7 @@ impl<const N: usize> TinyAsciiStr<N> {
     /// </details>
     #[inline]
     #[must_use]
-    pub fn as_str(&self) -> &str {
+    pub const fn as_str(&self) -> &str {
         let text = self.as_utf8();
         // SAFETY: proved: these bytes are ASCII, so they are UTF-8
         unsafe { core::str::from_utf8_unchecked(text) }

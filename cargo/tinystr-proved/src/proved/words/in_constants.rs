@@ -5,10 +5,12 @@
 
 use crate::ascii::TinyAsciiStr;
 use crate::error::ParseError;
+use crate::in_words;
 use crate::simd::u64x2;
 use crate::words::code_unit::CHARACTERS;
 use crate::words::kernel::{DIGIT, LOWER, NOT_NUL, Range, UPPER};
-use crate::words::padded::{Width, resize_at_once, width_of};
+use crate::words::padded::copying::{append, put};
+use crate::words::padded::{Width, resize, resize_at_once, width_of};
 use crate::words::question::{Case, Question};
 use crate::words::word::{HALF, halves, joined, whole};
 
@@ -55,6 +57,17 @@ for_each_width! {
     #[inline(always)]
     pub const fn present(text: T) -> T {
         text.plus(T::splat(NOT_NUL)).and(T::splat(0x80))
+    }
+
+    #[inline(always)]
+    pub const fn marks(bytes: T) -> T {
+        present(bytes.and(T::splat(0x7f)))
+    }
+
+    #[inline(always)]
+    pub const fn unpadded(bytes: T, marks: T) -> T {
+        let late = marks.next_lanes().and(marks.not());
+        bytes.and(T::splat(0x80)).or(late)
     }
 
     #[inline(always)]
@@ -115,6 +128,16 @@ for_each_width! {
         pub const fn from_padded(bytes: &[u8]) -> Self {
             Aligned {
                 word: T::load(bytes),
+            }
+        }
+
+        #[inline(always)]
+        pub const fn try_from_padded(bytes: &[u8]) -> Option<Self> {
+            let word = T::load(bytes);
+            if unpadded(word, marks(word)).equals(T::splat(0)) {
+                Some(Aligned { word })
+            } else {
+                None
             }
         }
 
@@ -213,8 +236,18 @@ impl Word<u32> {
     }
 
     #[inline]
+    pub const fn text_len(self) -> usize {
+        4 - u32::leading_zeros(self.0) as usize / 8
+    }
+
+    #[inline]
     pub const fn high_bits_as_case_bits(self) -> Self {
         Word((self.0 & Self::splat(0x80).0) >> 2)
+    }
+
+    #[inline]
+    pub const fn next_lanes(self) -> Self {
+        Word(self.0 >> 8)
     }
 
     #[inline]
@@ -270,8 +303,19 @@ impl Word<u64> {
     }
 
     #[inline]
+    pub const fn text_len(self) -> usize {
+        let bits = 63 - u64::leading_zeros(2 * self.0 + 1) as usize;
+        (bits + 7) / 8
+    }
+
+    #[inline]
     pub const fn high_bits_as_case_bits(self) -> Self {
         Word((self.0 & Self::splat(0x80).0) >> 2)
+    }
+
+    #[inline]
+    pub const fn next_lanes(self) -> Self {
+        Word(self.0 >> 8)
     }
 
     #[inline]
@@ -348,6 +392,11 @@ impl Word<u128> {
     }
 
     #[inline(always)]
+    pub const fn next_lanes(self) -> Self {
+        Word(self.0 >> 8)
+    }
+
+    #[inline(always)]
     pub const fn equals(self, other: Self) -> bool {
         self.0 == other.0
     }
@@ -402,8 +451,51 @@ mod words {
 }
 
 type Aligned4 = Aligned<Word<u32>, 4>;
-type Aligned8 = Aligned<Word<u64>, 8>;
+pub type Aligned8 = Aligned<Word<u64>, 8>;
 type Aligned16 = Aligned<Word<u128>, 16>;
+
+impl Aligned4 {
+    #[inline(always)]
+    pub const fn len(&self) -> usize {
+        self.word.text_len()
+    }
+}
+
+impl Aligned8 {
+    #[inline(always)]
+    pub const fn len(&self) -> usize {
+        self.word.text_len()
+    }
+
+    #[inline(always)]
+    pub const fn concat(&self, other: &Self) -> Self {
+        let (front, back) = (self.word, other.word);
+        let len = front.text_len();
+        if len == 8 {
+            return Aligned { word: front };
+        }
+        Aligned {
+            word: Word(front.0 + (back.0 << (8 * len))),
+        }
+    }
+}
+
+#[inline(always)]
+pub const fn is_padded<const N: usize>(bytes: &[u8; N]) -> bool {
+    match width_of(N) {
+        Width::Four => Aligned4::try_from_padded(bytes.as_slice()).is_some(),
+        Width::Eight | Width::Sixteen | Width::Many => in_words::is_padded(bytes),
+    }
+}
+
+#[inline(always)]
+pub const fn len<const N: usize>(bytes: &[u8; N]) -> usize {
+    match width_of(N) {
+        Width::Four => Aligned4::from_ascii_bytes(bytes).len(),
+        Width::Eight => Aligned8::from_ascii_bytes(bytes).len(),
+        Width::Sixteen | Width::Many => in_words::text_len(bytes),
+    }
+}
 
 #[inline(always)]
 pub const fn ask<const N: usize>(bytes: &[u8; N], question: Question) -> bool {
@@ -427,6 +519,63 @@ pub const fn put_in_case<const N: usize>(bytes: &mut [u8; N], case: Case) {
         }
         Width::Sixteen | Width::Many => words::put_in_case(bytes, case),
     }
+}
+
+#[inline(always)]
+pub const fn concat<const N: usize, const M: usize, const Q: usize>(
+    first: &[u8; N],
+    second: &[u8; M],
+) -> [u8; Q] {
+    let first_part = first.split_at(crate::ranges::least(N, Q)).0;
+    let second_part = second.split_at(crate::ranges::least(M, Q)).0;
+    match width_of(Q) {
+        // short arrays to more than 8 bytes, as `concat::<8, 16>` of a text of at most 8
+        Width::Sixteen | Width::Many if N <= 16 && M <= 16 => {
+            in_words::concat(first, len(first), second)
+        }
+        // a first text that fills the result is copied as it is
+        _ if Q > 0 && Q <= N && first[Q - 1] != 0 => resize_at_once(first),
+        // to at most 8 bytes, as `concat::<4, 8>`
+        Width::Four | Width::Eight => concat_in_word(first_part, second_part),
+        // a long array, as `concat::<64, 128>`
+        Width::Sixteen | Width::Many => concat_in_memory(*first, len(first), second),
+    }
+}
+
+#[inline(always)]
+pub const fn concat_in_word<const Q: usize>(first: &[u8], second: &[u8]) -> [u8; Q] {
+    let text = Aligned8::from_padded(first).concat(&Aligned8::from_padded(second));
+    resize_at_once(&text.to_bytes())
+}
+
+#[inline(always)]
+pub const fn concat_in_memory<const N: usize, const M: usize, const Q: usize>(
+    first: [u8; N],
+    first_len: usize,
+    second: &[u8; M],
+) -> [u8; Q] {
+    if N % 8 == 0 && first_len == N {
+        // both places are known at compile time, so that no byte goes through memory
+        let mut bytes = [0; Q];
+        put_both(&mut bytes, first.as_slice(), second.as_slice());
+        return bytes;
+    }
+    let mut bytes = resize::<Q>(first.as_slice());
+    append(&mut bytes, crate::ranges::least(first_len, Q), second.as_slice());
+    bytes
+}
+
+#[inline(always)]
+pub const fn put_both(bytes: &mut [u8], first: &[u8], second: &[u8]) {
+    put(bytes, first);
+    let end = crate::ranges::least(first.len(), bytes.len());
+    put(bytes.split_at_mut(end).1, second);
+}
+
+/// What `strict::read_padded` returns.
+#[inline(always)]
+pub const fn read_padded<const N: usize>(raw: [u8; N]) -> Result<TinyAsciiStr<N>, ParseError> {
+    if is_padded(&raw) { Ok(TinyAsciiStr::from_padded(raw)) } else { Err(bytes::fault::<N>(&raw)) }
 }
 
 /// The readers of bytes.
@@ -741,5 +890,103 @@ pub mod bytes {
             Some(fault) => fault,
             None => ParseError::ContainsNull,
         }
+    }
+}
+
+/// The lossy reader of 16-bit numbers, which has no vectors.
+pub mod numbers {
+    use super::*;
+    type U = u16;
+
+    #[inline(always)]
+    pub const fn is_character(unit: U) -> bool {
+        unit.wrapping_sub(1) < CHARACTERS as u16
+    }
+
+    #[inline(always)]
+    pub const fn low_byte(unit: U) -> u8 {
+        (unit % 256) as u8
+    }
+
+    #[inline(always)]
+    pub const fn byte_or(unit: U, replacement: u8) -> u8 {
+        if is_character(unit) {
+            low_byte(unit)
+        } else {
+            replacement
+        }
+    }
+
+    #[inline(always)]
+    pub const fn read_piece<const K: usize>(
+        bytes: &mut [u8],
+        units: &[U],
+        replacement: u8,
+        at: usize,
+    ) -> bool {
+        let mut are_characters = true;
+        let mut i = at;
+        while i < at + K {
+            let unit = units[i];
+            are_characters &= is_character(unit);
+            bytes[i] = byte_or(unit, replacement);
+            i += 1;
+        }
+        are_characters
+    }
+
+    #[inline(always)]
+    pub const fn read_pair<const K: usize>(bytes: &mut [u8], units: &[U], replacement: u8) -> bool {
+        let are_characters = read_piece::<K>(bytes, units, replacement, 0);
+        are_characters & read_piece::<K>(bytes, units, replacement, units.len() - K)
+    }
+
+    #[inline(always)]
+    pub const fn read_many(bytes: &mut [u8], units: &[U], replacement: u8) -> bool {
+        let last = units.len() - 32;
+        let mut are_characters = true;
+        let mut at = 0;
+        while at < last {
+            are_characters &= read_piece::<32>(bytes, units, replacement, at);
+            at += 32;
+        }
+        are_characters & read_piece::<32>(bytes, units, replacement, last)
+    }
+
+    #[inline(always)]
+    pub const fn read_all(bytes: &mut [u8], units: &[U], replacement: u8) -> bool {
+        // The capacity is known at compile time, so no code is built for pieces that are longer.
+        let capacity = bytes.len();
+        let len = units.len();
+        if capacity >= 32 && len >= 32 {
+            read_many(bytes, units, replacement)
+        } else if capacity >= 16 && len >= 16 {
+            read_pair::<16>(bytes, units, replacement)
+        } else if capacity >= 8 && len >= 8 {
+            read_pair::<8>(bytes, units, replacement)
+        } else if capacity >= 4 && len >= 4 {
+            read_pair::<4>(bytes, units, replacement)
+        } else if len >= 2 {
+            read_pair::<2>(bytes, units, replacement)
+        } else {
+            len == 0 || read_pair::<1>(bytes, units, replacement)
+        }
+    }
+
+    #[inline(always)]
+    pub const fn lossy_chunk<const N: usize>(units: &[U], replacement: u8) -> [u8; N] {
+        let mut bytes = [0; N];
+        read_piece::<N>(&mut bytes, units, replacement, 0);
+        bytes
+    }
+
+    #[inline(always)]
+    pub const fn lossy<const N: usize>(units: &[U], replacement: u8) -> [u8; N] {
+        if units.len() >= N {
+            return lossy_chunk(units.split_at(N).0, replacement);
+        }
+        let mut bytes = [0; N];
+        read_all(&mut bytes, units, replacement);
+        bytes
     }
 }

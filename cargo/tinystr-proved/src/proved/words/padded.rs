@@ -4,20 +4,17 @@
 //! one. Past 16 bytes it uses the module below that is named for what it does.
 
 mod code_units;
-mod concatenation;
-mod copying;
+pub mod copying;
 mod equality;
 mod first_lanes;
 mod order;
 mod padding;
 mod replacing;
-mod words;
 
 use crate::words::decimal::decimal_fits;
 use crate::words::int_ops::{Aligned4, Aligned8, Aligned16};
 use crate::words::question::{Case, Question};
 pub use code_units::{lossy, low_bytes, read_all};
-use concatenation::{concat_in_memory, concat_in_vectors, concat_in_word, fit_vectors};
 pub use copying::{resize, resize_at_once};
 pub use first_lanes::{first_lanes_of_eight, first_lanes_of_sixteen};
 pub use order::{compare, number};
@@ -97,23 +94,6 @@ pub fn decimal<const N: usize>(number: u32) -> Result<[u8; N], [u8; N]> {
     }
 }
 
-/// The length of the text.
-///
-/// # Contract
-///
-/// ```text
-/// requires { IsPaddedText bytes.now N }
-/// ensures { result ≡ length (text_of bytes.now) }
-/// ```
-#[inline(always)]
-pub fn len<const N: usize>(bytes: &[u8; N]) -> usize {
-    match width_of(N) {
-        Width::Four => Aligned4::from_ascii_bytes(bytes).len(),
-        Width::Eight => Aligned8::from_ascii_bytes(bytes).len(),
-        Width::Sixteen | Width::Many => words::len(bytes),
-    }
-}
-
 /// Whether two texts are equal.
 ///
 /// # Contract
@@ -137,74 +117,3 @@ pub fn equals<const N: usize>(left: &[u8; N], right: &[u8; N]) -> bool {
     }
 }
 
-/// The answer to a question about the text.
-///
-/// # Contract
-///
-/// ```text
-/// requires { IsPaddedText bytes.now N }
-/// ensures { result ≡ ask_question question (text_of bytes.now) }
-/// ```
-#[inline(always)]
-pub fn ask<const N: usize>(bytes: &[u8; N], question: Question) -> bool {
-    match width_of(N) {
-        Width::Four => Aligned4::from_ascii_bytes(bytes).ask(question),
-        Width::Eight => Aligned8::from_ascii_bytes(bytes).ask(question),
-        Width::Sixteen | Width::Many => words::ask(bytes, question),
-    }
-}
-
-/// Changes the case of the text in place.
-///
-/// # Contract
-///
-/// ```text
-/// requires { IsPaddedText bytes.old N }
-/// ensures { bytes.new ≡ pad (in_case case (text_of bytes.old)) N }
-/// ```
-#[inline(always)]
-pub fn put_in_case<const N: usize>(bytes: &mut [u8; N], case: Case) {
-    match width_of(N) {
-        Width::Four => {
-            let word = Aligned4::from_ascii_bytes(bytes).in_case(case);
-            bytes.copy_from_slice(&word[..N]);
-        }
-        Width::Eight => {
-            let word = Aligned8::from_ascii_bytes(bytes).in_case(case);
-            bytes.copy_from_slice(&word[..N]);
-        }
-        Width::Sixteen | Width::Many => words::put_in_case(bytes, case),
-    }
-}
-
-/// The first `Q` bytes of the two texts joined. The way is chosen at compile time, except that a first text which fills
-/// the result is found at run time.
-///
-/// # Contract
-///
-/// ```text
-/// requires first { IsPaddedText first.now N }
-/// requires second { IsPaddedText second.now M }
-/// ensures padded { IsPaddedText result Q }
-/// ensures text { text_of result ≡ take Q (text_of first.now ++ text_of second.now) }
-/// ```
-#[inline(always)]
-pub fn concat<const N: usize, const M: usize, const Q: usize>(
-    first: &[u8; N],
-    second: &[u8; M],
-) -> [u8; Q] {
-    let first_part = &first[..N.min(Q)];
-    let second_part = &second[..M.min(Q)];
-    match width_of(Q) {
-        // short arrays to more than 8 bytes, as `concat::<8, 16>` of a text of at most 8
-        Width::Sixteen | Width::Many if fit_vectors(first_part.len(), second_part.len()) => {
-            concat_in_vectors(first_part, second_part)
-        }
-        // a first text that fills the result is copied as it is
-        _ if Q > 0 && Q <= N && first[Q - 1] != 0 => resize_at_once(first),
-        // to at most 8 bytes, as `concat::<4, 8>`
-        Width::Four | Width::Eight => concat_in_word(first_part, second_part),
-        // a long array, as `concat::<64, 128>`
-        Width::Sixteen | Width::Many => concat_in_memory(*first, len(first), second),
-    }
-}
