@@ -260,6 +260,7 @@ fn random_texts_of<const N: usize>(count: usize) {
     for _ in 0..count {
         let text = random.text::<N>();
         is_as_defined(text);
+        concat_is_as_defined(text, random.text::<7>());
         concat_is_as_defined(text, random.text::<9>());
         let units: Vec<u8> = text.as_utf8().iter().map(|byte| byte ^ if random.next() % 9 == 0 { 128 } else { 0 }).collect();
         let wide: Vec<u16> = units.iter().map(|byte| u16::from(*byte) << (8 * (random.next() % 2))).collect();
