@@ -55,8 +55,9 @@ def machine(all_results: dict[str, Results]) -> str:
 
 def types(results: Results) -> str:
     """A section that the page has only once its measurements are taken."""
-    head = "## Beside `String`, `&str` and `ArrayString`\n\nValues of `tinystr-proved`, also as keys of Rust's maps:"
-    return f"{head}\n\n{fenced(all_tables(results))}\n"
+    head = "## Beside `String`, `&str` and `ArrayString`\n\nFrom Cargo, texts of 2 to 8 letters, also as keys of Rust's maps:"
+    cells = [cell for cell in results.times if not cell[1].endswith(("insert", "absent key"))]
+    return f"{head}\n\n{fenced(crate_table(results, cells))}\n"
 
 
 def fenced(text: str) -> str:

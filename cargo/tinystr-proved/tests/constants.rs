@@ -7,31 +7,7 @@ use tinystr::subtags::{LangId, Language};
 use tinystr::ule::UleError;
 use tinystr::{Case, ParseError, Question, TinyAsciiStr, UnvalidatedTinyAsciiStr, tinystr};
 
-// A program's own constants, and a function of its own that makes one.
 const L: TinyAsciiStr<8> = tinystr!(4, "latn").resize();
-const N: usize = L.len();
-const SCRIPTS: [u8; N] = [0; N];
-
-const fn region(code: &[u8]) -> Option<TinyAsciiStr<3>> {
-    match TinyAsciiStr::<3>::try_from_utf8(code) {
-        Ok(text) if text.len() == 2 && text.is_ascii_alphabetic() => Some(text.to_ascii_uppercase()),
-        Ok(text) if text.len() == 3 && text.is_ascii_numeric() => Some(text),
-        _ => None,
-    }
-}
-
-const GB: TinyAsciiStr<3> = region(b"gb").unwrap();
-const TAG: TinyAsciiStr<6> = tinystr!(3, "en-").concat(GB);
-
-#[test]
-fn a_program_makes_constants() {
-    assert_eq!((L, SCRIPTS.len(), GB, TAG.as_str()), (tinystr!(8, "latn"), 4, tinystr!(3, "GB"), "en-GB"));
-    const { assert!(region(b"419").is_some() && region(b"g").is_none() && region(b"g1").is_none() && region(b"gbr").is_none()) }
-    assert!(matches!(region(b"gb"), Some(GB)));
-    const CITY: &str = tinystr!(16, "New York").as_str();
-    const LOSSY: TinyAsciiStr<4> = TinyAsciiStr::from_utf16_lossy(&[0x61, 0x20ac, 0, 0x62, 0x63], b'?');
-    assert_eq!((CITY, LOSSY.as_str()), ("New York", "a??b"));
-}
 
 type Maps<'a> = (PackedMap<'a, 3, 1>, TextMap<'a, 3, 1>, HashedMap<'a, 3, 1>, HashedTextMap<'a, 3, 1>);
 type Tables<'a> = (Table<'a, 3>, SortedTable<'a, 3>, HashedTable<'a, 3>);
