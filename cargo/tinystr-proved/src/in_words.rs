@@ -1,5 +1,6 @@
-//! Texts past eight bytes in words of 64 bits, for `const fn`, which calls no vector. Written by hand. A sum of the low seven bits
-//! of bytes leaves their high bits for what it carries, so no byte carries into the next.
+//! What `const fn` has in words of 64 bits, since it calls no vector: `len` and `concat` past eight bytes, and the test of padding
+//! past four. Written by hand. A sum of the low seven bits of bytes leaves their high bits for what it carries, so no byte carries
+//! into the next.
 
 use crate::ranges::least;
 use crate::words::in_constants::{Aligned8, bytes::Load};
