@@ -134,6 +134,13 @@ pub const fn read_padded<const N: usize>(raw: [u8; N]) -> Result<TinyAsciiStr<N>
     if is_padded(&raw) { Ok(TinyAsciiStr::from_padded(raw)) } else { Err(bytes::fault::<N>(&raw)) }
 }
 
+/// Writes functions out for a code unit `U`, whose own stand beside them.
+macro_rules! reading_in_pieces {
+    () => {
+        //= words/padded/code_units.rs: `byte_or read_piece read_pair read_many read_all`
+    };
+}
+
 /// The readers of bytes.
 pub mod bytes {
     use super::*;
@@ -169,7 +176,9 @@ pub mod bytes {
         //= words/int_ops.rs: `try_from_text`
     }
 
-    //= words/padded/code_units.rs: `byte_or read_piece read_pair read_many read_all put_low_bytes low_bytes`
+    reading_in_pieces! {}
+
+    //= words/padded/code_units.rs: `put_low_bytes low_bytes`
 
     //= ascii/strict.rs: `read read_pieces find_fault fault`
 }
@@ -181,5 +190,7 @@ pub mod numbers {
 
     //= words/code_unit.rs, impl CodeUnit for u16: free `is_character low_byte`
 
-    //= words/padded/code_units.rs: `byte_or read_piece read_pair read_many read_all lossy_chunk lossy`
+    reading_in_pieces! {}
+
+    //= words/padded/code_units.rs: `lossy_chunk lossy`
 }

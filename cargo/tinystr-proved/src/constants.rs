@@ -12,26 +12,15 @@ impl<const N: usize> TinyAsciiStr<N> {
 
     /// `try_from_utf16` at compile time. At run time `try_from_utf16` is faster.
     pub const fn try_from_utf16_const(code_units: &[u16]) -> Result<Self, ParseError> {
-        let len = code_units.len();
-        if len > N {
-            return Err(ParseError::TooLong { max: N, len });
-        }
+        let count = code_units.len();
         let mut bytes = [0; N];
-        let mut has_nul = false;
         let mut at = 0;
-        while at < len {
-            let code = code_units[at];
-            if code > 127 {
-                return Err(ParseError::NonAscii);
-            }
-            if code != 0 && has_nul {
-                return Err(ParseError::ContainsNull);
-            }
-            has_nul |= code == 0;
-            bytes[at] = code as u8;
+        while at < count && at < N {
+            // each number above 127 as a byte above 127, which is the same fault
+            bytes[at] = if code_units[at] > 127 { 255 } else { code_units[at] as u8 };
             at += 1;
         }
-        if has_nul { Err(ParseError::ContainsNull) } else { Self::try_from_raw(bytes) }
+        if count <= N { Self::try_from_utf8(bytes.split_at(count).0) } else { Err(ParseError::TooLong { max: N, len: count }) }
     }
 
     /// `from_utf8_lossy` at compile time. At run time `from_utf8_lossy` is faster.

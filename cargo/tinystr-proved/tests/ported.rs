@@ -42,14 +42,14 @@ macro_rules! subtag {
         impl FromStr for $name {
             type Err = ParseError;
 
-            fn from_str(s: &str) -> Result<Self, ParseError> {
-                Self::try_from_utf8(s.as_bytes())
+            fn from_str(code: &str) -> Result<Self, ParseError> {
+                Self::try_from_utf8(code.as_bytes())
             }
         }
 
         impl fmt::Display for $name {
-            fn fmt(&self, f: &mut fmt::Formatter) -> fmt::Result {
-                f.write_str(self.as_str())
+            fn fmt(&self, out: &mut fmt::Formatter<'_>) -> fmt::Result {
+                out.write_str(self.as_str())
             }
         }
 

@@ -578,6 +578,76 @@ pub const fn read_padded<const N: usize>(raw: [u8; N]) -> Result<TinyAsciiStr<N>
     if is_padded(&raw) { Ok(TinyAsciiStr::from_padded(raw)) } else { Err(bytes::fault::<N>(&raw)) }
 }
 
+/// Writes functions out for a code unit `U`, whose own stand beside them.
+macro_rules! reading_in_pieces {
+    () => {
+        #[inline(always)]
+        pub const fn byte_or(unit: U, replacement: u8) -> u8 {
+            if is_character(unit) {
+                low_byte(unit)
+            } else {
+                replacement
+            }
+        }
+
+        #[inline(always)]
+        pub const fn read_piece<const K: usize>(
+            bytes: &mut [u8],
+            units: &[U],
+            replacement: u8,
+            at: usize,
+        ) -> bool {
+            let mut are_characters = true;
+            let mut i = at;
+            while i < at + K {
+                let unit = units[i];
+                are_characters &= is_character(unit);
+                bytes[i] = byte_or(unit, replacement);
+                i += 1;
+            }
+            are_characters
+        }
+
+        #[inline(always)]
+        pub const fn read_pair<const K: usize>(bytes: &mut [u8], units: &[U], replacement: u8) -> bool {
+            let are_characters = read_piece::<K>(bytes, units, replacement, 0);
+            are_characters & read_piece::<K>(bytes, units, replacement, units.len() - K)
+        }
+
+        #[inline(always)]
+        pub const fn read_many(bytes: &mut [u8], units: &[U], replacement: u8) -> bool {
+            let last = units.len() - 32;
+            let mut are_characters = true;
+            let mut at = 0;
+            while at < last {
+                are_characters &= read_piece::<32>(bytes, units, replacement, at);
+                at += 32;
+            }
+            are_characters & read_piece::<32>(bytes, units, replacement, last)
+        }
+
+        #[inline(always)]
+        pub const fn read_all(bytes: &mut [u8], units: &[U], replacement: u8) -> bool {
+            // The capacity is known at compile time, so no code is built for pieces that are longer.
+            let capacity = bytes.len();
+            let len = units.len();
+            if capacity >= 32 && len >= 32 {
+                read_many(bytes, units, replacement)
+            } else if capacity >= 16 && len >= 16 {
+                read_pair::<16>(bytes, units, replacement)
+            } else if capacity >= 8 && len >= 8 {
+                read_pair::<8>(bytes, units, replacement)
+            } else if capacity >= 4 && len >= 4 {
+                read_pair::<4>(bytes, units, replacement)
+            } else if len >= 2 {
+                read_pair::<2>(bytes, units, replacement)
+            } else {
+                len == 0 || read_pair::<1>(bytes, units, replacement)
+            }
+        }
+    };
+}
+
 /// The readers of bytes.
 pub mod bytes {
     use super::*;
@@ -721,70 +791,7 @@ pub mod bytes {
         }
     }
 
-    #[inline(always)]
-    pub const fn byte_or(unit: U, replacement: u8) -> u8 {
-        if is_character(unit) {
-            low_byte(unit)
-        } else {
-            replacement
-        }
-    }
-
-    #[inline(always)]
-    pub const fn read_piece<const K: usize>(
-        bytes: &mut [u8],
-        units: &[U],
-        replacement: u8,
-        at: usize,
-    ) -> bool {
-        let mut are_characters = true;
-        let mut i = at;
-        while i < at + K {
-            let unit = units[i];
-            are_characters &= is_character(unit);
-            bytes[i] = byte_or(unit, replacement);
-            i += 1;
-        }
-        are_characters
-    }
-
-    #[inline(always)]
-    pub const fn read_pair<const K: usize>(bytes: &mut [u8], units: &[U], replacement: u8) -> bool {
-        let are_characters = read_piece::<K>(bytes, units, replacement, 0);
-        are_characters & read_piece::<K>(bytes, units, replacement, units.len() - K)
-    }
-
-    #[inline(always)]
-    pub const fn read_many(bytes: &mut [u8], units: &[U], replacement: u8) -> bool {
-        let last = units.len() - 32;
-        let mut are_characters = true;
-        let mut at = 0;
-        while at < last {
-            are_characters &= read_piece::<32>(bytes, units, replacement, at);
-            at += 32;
-        }
-        are_characters & read_piece::<32>(bytes, units, replacement, last)
-    }
-
-    #[inline(always)]
-    pub const fn read_all(bytes: &mut [u8], units: &[U], replacement: u8) -> bool {
-        // The capacity is known at compile time, so no code is built for pieces that are longer.
-        let capacity = bytes.len();
-        let len = units.len();
-        if capacity >= 32 && len >= 32 {
-            read_many(bytes, units, replacement)
-        } else if capacity >= 16 && len >= 16 {
-            read_pair::<16>(bytes, units, replacement)
-        } else if capacity >= 8 && len >= 8 {
-            read_pair::<8>(bytes, units, replacement)
-        } else if capacity >= 4 && len >= 4 {
-            read_pair::<4>(bytes, units, replacement)
-        } else if len >= 2 {
-            read_pair::<2>(bytes, units, replacement)
-        } else {
-            len == 0 || read_pair::<1>(bytes, units, replacement)
-        }
-    }
+    reading_in_pieces! {}
 
     #[inline(always)]
     pub const fn put_low_bytes(bytes: &mut [u8], units: &[U]) {
@@ -908,70 +915,7 @@ pub mod numbers {
         (unit % 256) as u8
     }
 
-    #[inline(always)]
-    pub const fn byte_or(unit: U, replacement: u8) -> u8 {
-        if is_character(unit) {
-            low_byte(unit)
-        } else {
-            replacement
-        }
-    }
-
-    #[inline(always)]
-    pub const fn read_piece<const K: usize>(
-        bytes: &mut [u8],
-        units: &[U],
-        replacement: u8,
-        at: usize,
-    ) -> bool {
-        let mut are_characters = true;
-        let mut i = at;
-        while i < at + K {
-            let unit = units[i];
-            are_characters &= is_character(unit);
-            bytes[i] = byte_or(unit, replacement);
-            i += 1;
-        }
-        are_characters
-    }
-
-    #[inline(always)]
-    pub const fn read_pair<const K: usize>(bytes: &mut [u8], units: &[U], replacement: u8) -> bool {
-        let are_characters = read_piece::<K>(bytes, units, replacement, 0);
-        are_characters & read_piece::<K>(bytes, units, replacement, units.len() - K)
-    }
-
-    #[inline(always)]
-    pub const fn read_many(bytes: &mut [u8], units: &[U], replacement: u8) -> bool {
-        let last = units.len() - 32;
-        let mut are_characters = true;
-        let mut at = 0;
-        while at < last {
-            are_characters &= read_piece::<32>(bytes, units, replacement, at);
-            at += 32;
-        }
-        are_characters & read_piece::<32>(bytes, units, replacement, last)
-    }
-
-    #[inline(always)]
-    pub const fn read_all(bytes: &mut [u8], units: &[U], replacement: u8) -> bool {
-        // The capacity is known at compile time, so no code is built for pieces that are longer.
-        let capacity = bytes.len();
-        let len = units.len();
-        if capacity >= 32 && len >= 32 {
-            read_many(bytes, units, replacement)
-        } else if capacity >= 16 && len >= 16 {
-            read_pair::<16>(bytes, units, replacement)
-        } else if capacity >= 8 && len >= 8 {
-            read_pair::<8>(bytes, units, replacement)
-        } else if capacity >= 4 && len >= 4 {
-            read_pair::<4>(bytes, units, replacement)
-        } else if len >= 2 {
-            read_pair::<2>(bytes, units, replacement)
-        } else {
-            len == 0 || read_pair::<1>(bytes, units, replacement)
-        }
-    }
+    reading_in_pieces! {}
 
     #[inline(always)]
     pub const fn lossy_chunk<const N: usize>(units: &[U], replacement: u8) -> [u8; N] {
