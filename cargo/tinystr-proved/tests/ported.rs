@@ -1,5 +1,5 @@
 //! A program for the original in the style of icu_locale_core: subtag types by a macro, calls in constants, constants as patterns.
-//! It compiles with either crate.
+//! On 2026-11-30 it also compiled with the original.
 
 use std::borrow::Borrow;
 use std::collections::BTreeMap;
