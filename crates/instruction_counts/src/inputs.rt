@@ -74,8 +74,6 @@ impl Shape {
             Order::OneNotFirst => self.text_at(self.first_alike(random), 0),
             Order::Steps(step) => self.text_at(key.wrapping_mul(step) % count, 0),
             Order::Same => self.text_at(count / 2, 0),
-            Order::Alternating if key % 2 == 0 => self.text_at(0, 0),
-            Order::Alternating => self.text_at(count - 1, 0),
         }
     }
 }
@@ -91,8 +89,6 @@ pub enum Order {
     /// Each this number of records after the last, and from the first record again.
     Steps(u32),
     Same,
-    /// The first record and the last.
-    Alternating,
 }
 
 // Eight letters of a number, eight letters `m`, and eight letters of a second number, cut after `N` bytes. The letters ascend

@@ -43,7 +43,7 @@ fn counted_prefixes<const N: usize>(
 ) -> usize {
     let mut sum = 0usize;
     for prefix in prefixes {
-        sum = sum.wrapping_add(sorted.with_prefix(prefix).table().len());
+        sum = sum.wrapping_add(sorted.with_prefix(prefix).len());
     }
     sum
 }

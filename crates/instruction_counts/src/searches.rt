@@ -17,7 +17,6 @@ const ORDERS: &[(&str, Order)] = &[
     ("every fifth record", Order::Steps(5)),
     ("every fortieth record", Order::Steps(40)),
     ("one key", Order::Same),
-    ("two alternating keys", Order::Alternating),
 ];
 
 // Those of which one key is near the next.

@@ -5,8 +5,11 @@
 //! lines have the bytes of a record and the nanoseconds to build and to open one, and 0 for both sums.
 #![tactic(auto)]
 
+mod numbers;
+
 ghost use Rattle.std.specs.Prelude.{◌<◌, ◌^◌};
 
+use numbers::{KEYS, Numbers, ORDERS, Order, bytes_of};
 use std::alloc::{AllocError, Global};
 use std::env;
 use std::io::{self, ErrorKind};
@@ -15,43 +18,12 @@ use tinystr::TinyAsciiStr;
 use tinystr_hashed::{HashedTable, pack_hashed};
 use tinystr_packed::{SortedTable, Table, pack};
 
-const KEYS: u32 = 100_000;
-
 const ROUNDS: u32 = 9;
 
 const BUILDING_ROUNDS: u32 = 3;
 
 // A table of few records is built or opened several times in a round, of about this number of records in all.
 const RECORDS: usize = 100_000;
-
-// The number of equal keys in a run.
-const RUN: u32 = 1_000;
-
-/// The order of keys.
-#[derive(Clone, Copy)]
-enum Order {
-    Present,
-    Absent,
-    Ascending,
-    Uneven,
-    Each,
-    Descending,
-    Runs,
-    Zipf,
-    Alternating,
-}
-
-const ORDERS: [(&str, Order); 9] = [
-    ("random, there", Order::Present),
-    ("random, not there", Order::Absent),
-    ("ascending", Order::Ascending),
-    ("ascending, random gaps", Order::Uneven),
-    ("each record in order", Order::Each),
-    ("descending", Order::Descending),
-    ("in runs of 1,000", Order::Runs),
-    ("by Zipf", Order::Zipf),
-    ("two far apart, alternating", Order::Alternating),
-];
 
 /// A search for each of many keys. In a dependent one the next key comes from the record that was found last.
 #[derive(Clone, Copy)]
@@ -450,70 +422,14 @@ fn keys<const N: usize>(
     order: Order,
     count: u32,
 ) -> Result<Vec<TinyAsciiStr<N>>, AllocError> {
+    let mut numbers = Numbers::new(order, count);
     let mut keys = Vec::new(alloc);
-    let mut state = 88_172_645_463_325_252u64;
-    let mut run = 0u64;
-    for turn in 0..KEYS {
-        state = next(state);
-        if turn % RUN == 0 {
-            run = state;
-        }
-        keys.push(text::<N>(number(order, turn, state, run, count), count))?;
+    for _ in 0..KEYS {
+        keys.push(text::<N>(numbers.next(), count))?;
     }
     Ok(keys)
 }
 
-fn next(state: u64) -> u64 {
-    let state = state ^ (state << 13);
-    let state = state ^ (state >> 7);
-    state ^ (state << 17)
-}
-
-// The number of a key. The high bits of `state` choose a random record.
-fn number(order: Order, turn: u32, state: u64, run: u64, count: u32) -> u64 {
-    let count = u64::from(count).max(1);
-    let numbers = count.wrapping_mul(2);
-    let ascending = u64::from(turn).wrapping_mul(numbers) / u64::from(KEYS);
-    match order {
-        Order::Present => ((state >> 20) % count).wrapping_mul(2),
-        Order::Absent => ((state >> 20) % count).wrapping_mul(2).wrapping_add(1),
-        Order::Ascending => ascending,
-        Order::Uneven => ascending.wrapping_add((state >> 20) % (numbers / u64::from(KEYS)).max(1)),
-        Order::Each => (u64::from(turn) % count).wrapping_mul(2),
-        Order::Descending => numbers.wrapping_sub(1).wrapping_sub(ascending),
-        Order::Runs => (run >> 20) % numbers,
-        Order::Zipf => (rank(state, count).wrapping_mul(611_953) % count).wrapping_mul(2),
-        Order::Alternating => match turn % 2 {
-            0 => 2,
-            _ => numbers.wrapping_sub(4),
-        },
-    }
-}
-
-// Of one to `count` ranks, those from a power of two to the next are as likely as those to the one before.
-fn rank(state: u64, count: u64) -> u64 {
-    let powers = 64u32.saturating_sub(count.leading_zeros()).max(1);
-    let first = 1u64 << (state % u64::from(powers) % 64);
-    first.wrapping_add((state >> 20) % first)
-}
-
-// The text of a number below twice `count`: its first eight bytes ascend with the number, and spread over all such bytes. The
-// others are random letters.
 fn text<const N: usize>(number: u64, count: u32) -> TinyAsciiStr<N> {
-    let width = if N < 8 { N } else { 8 };
-    let digits = if N < 8 { 126 } else { 26 };
-    let first = if N < 8 { 1 } else { b'a' };
-    let all = if N < 8 { 2_000_376 } else { 208_827_064_576u64 };
-    let mut raw = [0u8; N];
-    let mut rest = number.wrapping_mul(all / u64::from(count).max(1) / 2);
-    for back in 0..width {
-        raw[width - 1 - back] = ((rest % digits) as u8).wrapping_add(first);
-        rest /= digits;
-    }
-    let mut state = number.wrapping_add(1);
-    for at in 8..N {
-        state = next(state);
-        raw[at] = ((state >> 20) % 26) as u8 + b'a';
-    }
-    TinyAsciiStr::try_from_raw(raw).unwrap_or_default()
+    TinyAsciiStr::try_from_raw(bytes_of(number, count)).unwrap_or_default()
 }

@@ -4,7 +4,10 @@ use Rattle.std.specs.Bool.{Decides, one_answer}
 use Rattle.std.specs.Result.{IsOk, IfOk, IfErr}
 use Rattle.std.specs.declared.result.Result.{Result}
 use Rattle.std.specs.declared.result.Result.TheVariants.{Ok, Err}
-use Rattle.tinystr_words.specs.Reading.{Fault}
+use Rattle.tinystr_words.specs.Reading.{Fault, fault_in}
+use Rattle.tinystr_words.specs.Text.{IsStrictText, is_strict_text}
+use Rattle.tinystr.specs.Reading.{IsStrictRead}
+use Rattle.tinystr_words.proofs.Reading.Decided.{is_strict_text-Decides, result_ok-strict_of}
 use Rattle.tinystr_words.specs.Reading.Fault.{too_long, contains_null, non_ascii}
 use Rattle.tinystr.specs.Error.{fault_of, parse_error_of}
 use Rattle.tinystr.specs.declared.error.ParseError.{ParseError}
@@ -34,6 +37,17 @@ read_is (Ok s) test t fault decides accepted text refusal =
 read_is (Err e) test t fault decides accepted text refusal =
     let other : test ≡ false = one_answer test false decides accepted in
     rw (other, ← refusal, parse_error_of-fault_of e) refl
+
+-- a strict reader's answer
+pub IsStrictRead-made : (units : List ℕ) (n : ℕ) (r : Result (List ℕ) ParseError) → (IsOk r ↔ IsStrictText units n) → IfOk r (λ t. t ≡ units) → IfErr r (λ e. fault_of e ≡ fault_in n units)
+    → IsStrictRead fault_of units n r
+IsStrictRead-made units n r accepted text fault = record {
+  accepted = accepted;
+  text = text;
+  fault = fault;
+  value = result_ok-strict_of r units n accepted text;
+  read = read_is r (is_strict_text units n) units (fault_in n units) (is_strict_text-Decides units n) accepted text fault;
+}
 
 -- for a pass that looks for the first fault of code units
 pub ruleset scan_steps = (nat_tests, get_or-map, length-map, first_fault-high, first_fault-late, first_fault-none, fault_in-long, fault_in-fits)

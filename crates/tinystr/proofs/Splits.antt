@@ -5,13 +5,13 @@ use lib.Count.{count_trailing_zeros}
 use Rattle.std.specs.List.{Contains, after_first, before_first, position, position_or_len, slice_split}
 use Rattle.std.proofs.lemmas.Bool.{cases_lt}
 use Rattle.std.proofs.lemmas.Bool.Decides.{nat_tests}
-use Rattle.std.proofs.lemmas.List.{length-take, take-take, get_or_default, places, take_rest}
+use Rattle.std.proofs.lemmas.List.{length-drop, length-map, length-take, take-take, get_or_default, places, take_rest}
 use Rattle.std.proofs.lemmas.List.Quantifiers.{position-Some}
 use Rattle.std.proofs.lemmas.Simd.{bitmask_splat, first_set_mask_l}
 use Rattle.std.proofs.lemmas.List.Sums.{fails_before_first, passes_at_first, position_or_len_is}
 use Rattle.tinystr_words.specs.Text.{IsPadded, IsPaddedText, IsText, pad, text_of}
 use Rattle.tinystr_words.proofs.Parts.Splits.{slice_split-found, slice_split-missed}
-use Rattle.tinystr_words.proofs.Parts.Found.{position-None, position-None-fails, position-at}
+use Rattle.tinystr_words.proofs.Parts.Found.{position-none_after, position-front, position-None, position-None-fails, position-at}
 use Rattle.tinystr_words.proofs.Texts.{IsPaddedText-made, IsPaddedText-drop, IsPaddedText-take, get_or-text_of, length-pad, length-text_of-le, text_of-drop, text_of-made, text_of-take}
 
 -- ---- a byte of a padded text
@@ -87,8 +87,6 @@ IsPadded-fewer l r q few is =
 pub position-inside : (p : ℕ → Bool) (t : List ℕ) (i : ℕ) → Some i ≡ position p t → i < length t
 position-inside p t i at = (position-Some p t i 0 (sym at)).0
 
-pub ruleset found_in_sixteen = (position-inside, length-take, length-text_of-le)
-
 -- ---- the text from a place on
 
 -- where a byte is NUL the text has ended
@@ -104,12 +102,21 @@ IsPadded-rest l k q = rw take_rest (IsPaddedText-drop l (length l) k q)
 pub text_of-rest : (l : List ℕ) (k : ℕ) → IsPadded l → text_of (take (length l - k) (drop k l)) ≡ drop k (text_of l)
 text_of-rest l k q = rw take_rest (text_of-drop l (length l) k q)
 
--- ---- the first part
+pub IsPadded-front : (l : List ℕ) (k : ℕ) → IsPadded l → IsPadded (take k l)
+IsPadded-front l k q = IsPaddedText-take l (length l) k q
 
--- up to the first separator
-pub slice_split-padded : (p : ℕ → Bool) (l part : List ℕ) (i : ℕ) → IsPadded l → position p (text_of l) ≡ Some i → part ≡ take i (text_of l)
-    → slice_split p (text_of l) ≡ part ∷ slice_split p (text_of (take (length l - (i + 1)) (drop (i + 1) l)))
-slice_split-padded p l part i q at is = rw (is, text_of-rest l (i + 1) q) (slice_split-found p (text_of l) i at)
+pub text_of-front : (l : List ℕ) (k : ℕ) → IsPadded l → text_of (take k l) ≡ take k (text_of l)
+text_of-front l k q = text_of-take l (length l) k q
+
+pub ruleset parts_of_padded = (length-drop, length-take, take_rest, IsPadded-front, text_of-front, IsPadded-rest, text_of-rest)
+
+pub ruleset first_part = (length-take, length-text_of-le, position-front, position-inside, slice_split-found, slice_split-missed, take_all, take-take)
+
+pub ruleset whole = (length-map, take_all)
+
+pub ruleset found_past = position-none_after
+
+-- ---- the first part
 
 -- all of a text without one
 pub slice_split-whole : (p : ℕ → Bool) (t part : List ℕ) → position p t ≡ None → part ≡ t → slice_split p t ≡ part ∷ []

@@ -1,13 +1,13 @@
 //! The type of a text of bounded length.
 
-ghost use Rattle.std.specs.Prelude.{◌≡◌, []};
-ghost use Rattle.tinystr_words.specs.Text.{IsPaddedText, text_of};
+ghost use Rattle.std.specs.Prelude.{◌≡◌, [], length};
+ghost use Rattle.tinystr_words.specs.Text.{IsPadded, IsPaddedText, text_of};
 ghost use Rattle.tinystr.specs.Reading.{IsStrictRead};
 ghost use Rattle.tinystr.specs.Error.{fault_of};
 
 mod concat;
 mod decimals;
-mod lanes;
+pub(crate) mod lanes;
 mod letters;
 mod order;
 mod print;
@@ -112,6 +112,17 @@ impl<const N: usize> TinyAsciiStr<N> {
         ensures { result ≡ text_of bytes.entry }
     {
         TinyAsciiStr { bytes }
+    }
+
+    // The text and then NULs.
+    #[tactic(auto, using(crate::proofs::Splits::parts_of_padded))]
+    #[inline(always)]
+    pub(crate) fn padded_bytes(&self) -> &[u8]
+        ensures len { length result.now ≡ N }
+        ensures padded { IsPadded result.now }
+        ensures text { text_of result.now ≡ self.now }
+    {
+        &self.bytes[..]
     }
 }
 

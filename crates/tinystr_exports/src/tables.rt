@@ -78,7 +78,7 @@ fn in_sorted<const N: usize>(
         FIND_TEXT => {
             answer_each!(answers, keys, key => of_place(sorted.find_text(&key.resize::<OTHER>())))
         }
-        PREFIX => answer_each!(answers, keys, key => sorted.with_prefix(key).table().len() as u64),
+        PREFIX => answer_each!(answers, keys, key => sorted.with_prefix(key).len() as u64),
         _ => answer_each!(answers, sorted.binary_search_each(keys), found => of_search(found)),
     }
     0

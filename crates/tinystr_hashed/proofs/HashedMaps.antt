@@ -4,10 +4,10 @@ use Rattle.std.specs.List.{zip}
 use Rattle.std.specs.Map.{keys_of, values_of}
 use Rattle.std.specs.Simd.{first_chunks}
 use Rattle.std.proofs.lemmas.Map.Entries.{length-keys_of, length-values_of}
-use Rattle.std.proofs.lemmas.Map.Made.{keys_of-zip}
+use Rattle.std.proofs.lemmas.Map.Made.{keys_of-zip, IsDistinct-from_AllPairs}
 use Rattle.std.proofs.lemmas.Slice.Zip.{seconds-zip}
 use Rattle.tinystr_words.proofs.Reading.Records.{AllStrict, length-first_chunks}
-use Rattle.tinystr_packed.proofs.PackedMaps.{All-first_chunks, Entries, flat_map-first_chunks, length-same}
+use Rattle.tinystr_packed.proofs.PackedMaps.{All-first_chunks, Entries, flat_map-first_chunks, length-same, get-zip_absent, get-zip, option_copied-item, same-Decides}
 use Rattle.tinystr_packed.proofs.PackedTexts.{packed, packed_injective}
 use Rattle.tinystr_hashed.specs.Map.{AreHashed}
 use Rattle.tinystr_hashed.specs.Reading.{IsHashed}
@@ -52,3 +52,7 @@ uneven-no_entries ks vs keys values n m some some_value hashed strict joined oth
     let ks_are = same_keys ks (keys_of es) keys n some hashed found.1.hashed in
     let vs_are = packed_injective m (values_of es) vs some_value found.1.strict_values strict (sym found.1.joined_values ∙ joined) in
     other (ap (λ (l : List (List ℕ)). length l) (sym vs_are) ∙ length-values_of es ∙ sym (length-keys_of es) ∙ ap (λ (l : List (List ℕ)). length l) ks_are)
+
+pub ruleset absent_keys = (get-zip_absent)
+
+pub ruleset lookups = (IsDistinct-from_AllPairs, keys_of-zip, get-zip, get-zip_absent, option_copied-item, same-Decides)

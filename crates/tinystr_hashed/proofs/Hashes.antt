@@ -5,7 +5,7 @@ use Rattle.std.specs.Simd.{first_chunks}
 use Rattle.std.proofs.lemmas.Bool.{lt-ltb}
 use Rattle.std.proofs.lemmas.Bool.Decides.{nat_tests}
 use Rattle.std.proofs.lemmas.Nat.{mul-mod_first}
-use Rattle.std.proofs.lemmas.List.{drop_min, drop-drop, take_all, take_min, take_more}
+use Rattle.std.proofs.lemmas.List.{drop_min, drop-drop, take_all, take_min, take_more, length-map}
 use Rattle.std.proofs.lemmas.List.Sums.{fold_push}
 use Rattle.tinystr_words.specs.Words.{word}
 use Rattle.tinystr_hashed.specs.Hashing.{folded, hash_on, hash_of, pilot_of, place_of_hash, place_of_slot, scaled, slot_of}
@@ -74,3 +74,11 @@ pub place_of_slot-past : (moves : List ℕ) (count slot : ℕ) → count ≤ slo
 place_of_slot-past moves count slot past =
     let test : nat_lt slot count ≡ false = grind (arith, nat_tests) in
     rw test refl
+
+pub ruleset factors = (slot_of-factor)
+
+pub ruleset pieces = (hash_on-numbers)
+
+pub ruleset hashes = (nat_tests, hash-rest)
+
+pub ruleset slots = (length-map, place-slot)

@@ -24,6 +24,7 @@ use Rattle.std.proofs.lemmas.Slice.Eq.{bytes_eq-Decides}
 use Rattle.tinystr_words.proofs.Parts.Found.{text_position-at, text_position-some}
 use Rattle.tinystr_packed.specs.Rising.{IsRising, IsSearched}
 use Rattle.tinystr_hashed.specs.Hashing.{ArePlaced, AreDistinct, AreOrdered}
+use Rattle.tinystr_hashed.proofs.Placed.{ArePackedRising-records}
 
 -- ---- no two texts are equal
 
@@ -98,3 +99,5 @@ found-at ts key (Some i) is = text_position-at key ts i (sym is)
 -- it is that of the key, and there is one exactly if the key is one of the texts
 pub found-exactly : (ts : List (List ℕ)) (key : List ℕ) (r : Option ℕ) → r ≡ position (bytes_eq key) ts → IfSome r (λ i. slice_get ts i ≡ Some key) × (IsSome r ↔ Contains ts key)
 found-exactly ts key r is = (found-at ts key r is, rw is (text_position-some key ts))
+
+pub ruleset halves = (position-searched, ArePackedRising-records)

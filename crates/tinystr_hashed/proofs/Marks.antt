@@ -1,5 +1,5 @@
 -- Texts that are looked up in a table, each found at an index that no other is found at.
-use Rattle.std.proofs.Common.{◌≡◌, ◌≢◌, ℕ, ◌<◌, ◌∙◌, List, [], ◌∷◌, ◌++◌, ◌↔◌, ◌⊎◌, Bool, IsTrue, ap, arith, get_or, inl, inr, length, replicate, slice_set, sym, take}
+use Rattle.std.proofs.Common.{◌≡◌, ◌≢◌, ℕ, ◌<◌, ◌∙◌, List, [], ◌∷◌, ◌++◌, ◌↔◌, Bool, IsTrue, ap, arith, get_or, inl, inr, length, replicate, slice_set, sym, take}
 use Rattle.std.specs.List.{All, Contains, IsDistinct, slice_get}
 use Rattle.std.specs.Set.{is_member}
 use Rattle.std.specs.Str.{bytes_eq}

@@ -10,7 +10,7 @@ use Rattle.std.proofs.lemmas.Bool.Decides.{Decides-and, Decides-below_and, Decid
 use Rattle.std.proofs.lemmas.List.{get_or-map, length-map}
 use Rattle.tinystr_words.specs.Packed.{IsPacked, is_packed}
 use Rattle.tinystr_words.specs.Text.{IsPaddedText, pad, text_of}
-use Rattle.std.proofs.Math.Nat.{suc-mul}
+use Rattle.std.proofs.Math.Nat.{suc-mul, le-mul_of_pos_right}
 use Rattle.tinystr_words.proofs.Reading.Records.{AllStrict, length-joined}
 use Rattle.tinystr_words.proofs.Reading.Decided.{is_packed-Decides}
 use Rattle.tinystr_packed.specs.Reading.{texts_of}
@@ -176,3 +176,7 @@ pub hashed_table_of-other : (bytes : List ℕ) (n : ℕ) → 0 < n → ¬ IsTabl
 hashed_table_of-other bytes n some other =
     let fails : is_hashed n bytes ≡ false = one_answer (is_hashed n bytes) false (is_hashed-Decides bytes n some) ((λ yes. cc), λ found. absurd (other found)) in
     rw fails refl
+
+pub ruleset products = (le-mul_of_pos_right)
+
+pub ruleset records_in_order = (le-mul_of_pos_right, nat_tests, AreOrdered-placed, ArePlaced-texts, first-out_of_order)

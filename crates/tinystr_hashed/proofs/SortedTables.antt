@@ -13,6 +13,7 @@ use Rattle.tinystr_hashed.specs.Packing.{ArePackedHashed}
 use Rattle.tinystr_hashed.specs.Reading.{IsHashed, pilots_of, place_by}
 use Rattle.tinystr_hashed.proofs.Lookups.{AreDistinct-rising}
 use Rattle.tinystr_hashed.proofs.Placed.{AreOrdered-rising}
+use Rattle.tinystr_packed.proofs.SortedRecords.{AreSorted-records}
 
 -- the header
 abbrev pub sorted_header : List ℕ
@@ -44,3 +45,7 @@ ArePackedHashed-sorted texts bytes records n h distinct is =
       same = h.same;
       distinct = distinct;
     }
+
+pub ruleset sorted_records = (AreSorted-records)
+
+pub ruleset sorted_packs = (ArePackedHashed-sorted, sorted_header)

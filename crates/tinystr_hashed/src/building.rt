@@ -256,6 +256,7 @@ fn number_of(len: usize) -> u32 {
 }
 
 // Puts each text at the place of its hash.
+#[tactic(auto, using(crate::proofs::Placed::products))]
 fn put_records<const N: usize>(
     records: &mut [[u8; N]],
     texts: &Texts<'_, '_, N>,

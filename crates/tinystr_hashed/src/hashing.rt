@@ -6,12 +6,12 @@ ghost use Rattle.tinystr_hashed.specs.Hashing as Spec;
 
 use tinystr_words::word::Word;
 
-// Odd numbers whose bits look random, which a seed, a hash and a slot are made with.
-const OF_SEEDS: u64 = 0x2545_f491_4f6c_dd1d;
+// Odd numbers whose bits look random.
+const SEED_MULTIPLIER: u64 = 0x2545_f491_4f6c_dd1d;
 
-const OF_HASHES: u64 = 0x9e37_79b9_7f4a_7c15;
+const HASH_MASK: u64 = 0x9e37_79b9_7f4a_7c15;
 
-const OF_SLOTS: u64 = 0xe703_7ed1_a0b4_28db;
+const SLOT_MULTIPLIER: u64 = 0xe703_7ed1_a0b4_28db;
 
 /// What places the records of a hashed table that has pilots.
 #[derive(Clone, Copy)]
@@ -62,6 +62,7 @@ impl<'a> Places<'a> {
     }
 
     // The same of the record's hash.
+    #[tactic(auto, using(crate::proofs::Hashes::slots))]
     #[inline(always)]
     fn slot_of_hash(&self, hash: u64, count: usize) -> Option<usize>
         requires { count < 2 ^ 63 }
@@ -110,10 +111,11 @@ impl<'a> Places<'a> {
 pub(crate) fn start_of(seed: u32) -> u64
     ensures { result ≡ Spec.start_of seed }
 {
-    u64::from(seed).wrapping_mul(OF_SEEDS)
+    u64::from(seed).wrapping_mul(SEED_MULTIPLIER)
 }
 
 /// The hash of a record.
+#[tactic(auto, using(crate::proofs::Hashes::hashes))]
 #[inline(always)]
 pub(crate) fn hash_of<const N: usize>(start: u64, raw: &[u8; N]) -> u64
     ensures { result ≡ Spec.hash_of start raw.now }
@@ -132,13 +134,14 @@ pub(crate) fn hash_of<const N: usize>(start: u64, raw: &[u8; N]) -> u64
 }
 
 // The hash after at most sixteen more bytes.
+#[tactic(auto, using(crate::proofs::Hashes::pieces))]
 #[inline(always)]
 fn hash_on(hash: u64, piece: &[u8]) -> u64
     requires { length piece.now ≤ 16 }
     ensures { result ≡ Spec.hash_on hash piece.now }
 {
     let (low, high) = piece.split_at(piece.len().min(8));
-    folded(hash ^ number(low), hash ^ (OF_HASHES ^ number(high)))
+    folded(hash ^ number(low), hash ^ (HASH_MASK ^ number(high)))
 }
 
 // The little-endian number of at most eight bytes.
@@ -177,6 +180,7 @@ pub(crate) fn scaled(hash: u64, count: usize) -> usize
 }
 
 /// The slot of a hash among `slots` slots, by its pilot.
+#[tactic(auto, using(crate::proofs::Hashes::factors))]
 #[inline(always)]
 pub(crate) fn slot_of(hash: u64, pilot: u8, slots: usize) -> usize
     ensures { result ≡ Spec.slot_of hash pilot slots }
@@ -189,7 +193,7 @@ pub(crate) fn slot_of(hash: u64, pilot: u8, slots: usize) -> usize
 pub(crate) fn slot_factor(hash: u64) -> u64
     ensures { result ≡ hash * 0xe703_7ed1_a0b4_28db % 2 ^ 64 }
 {
-    hash.wrapping_mul(OF_SLOTS)
+    hash.wrapping_mul(SLOT_MULTIPLIER)
 }
 
 /// The slot of a hash, by the factor of the hash.

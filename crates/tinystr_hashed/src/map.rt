@@ -1,7 +1,7 @@
 //! Maps whose keys are a hashed table, read in place.
 
 ghost use Rattle.std.specs.Prelude.{◌≡◌, ◌<◌, ◌^◌, ◌↔◌, [], List, ℕ, is_some, length, IsOk, IsTrue, IfOk, IfErr, IfSome, Some};
-ghost use Rattle.std.specs.Iterator.{YieldsFirstBy, item_count, UpTo, at_most};
+ghost use Rattle.std.specs.Iterator.{YieldsFirstBy, YieldsLastBy, item_count, UpTo, at_most};
 ghost use Rattle.std.specs.Iterator.SizeHint.{IsWithinCount};
 ghost use Rattle.std.specs.Map.{keys_of, values_of};
 ghost use Rattle.std.specs.Option.{option_copied};
@@ -11,6 +11,7 @@ ghost use Rattle.tinystr_hashed.specs.Hashing.{AreDistinct};
 ghost use Rattle.tinystr_hashed.specs.Map.{AreHashed, RefusesHashedMap, hashed_map_of};
 
 use crate::table::{HashedError, HashedTable};
+use std::iter::FusedIterator;
 use std::marker::Model;
 use tinystr::TinyAsciiStr;
 use tinystr_packed::Texts;
@@ -105,6 +106,7 @@ impl<'a, const N: usize, const M: usize> HashedMap<'a, N, M> {
     }
 
     /// The value of a key, or `None` if the map doesn't have the key. Each key takes a look-up of `HashedTable::position`.
+    #[tactic(auto, using(crate::proofs::HashedMaps::lookups))]
     pub fn get(&self, key: &TinyAsciiStr<N>) -> Option<&'a [u8; M]>
         ensures value { option_copied result ≡ Spec.get self.now key.now }
         ensures distinct { AreDistinct (keys_of self.now) }
@@ -116,6 +118,7 @@ impl<'a, const N: usize, const M: usize> HashedMap<'a, N, M> {
     }
 
     /// The value of a key of any capacity, or `None` if the map doesn't have the key. Both capacities must be below 2^63.
+    #[tactic(auto, using(crate::proofs::HashedMaps::absent_keys))]
     pub fn find_text<const K: usize>(&self, key: &TinyAsciiStr<K>) -> Option<&'a [u8; M]>
         requires texts { N < 2 ^ 63 }
         requires key { K < 2 ^ 63 }
@@ -157,7 +160,7 @@ impl<'a, const N: usize, const M: usize> HashedMap<'a, N, M> {
         ensures bound { length result < 2 ^ 64 }
     {
         Entries {
-            keys: self.keys.table().iter(),
+            keys: self.keys.iter(),
             values: self.values,
         }
     }
@@ -225,9 +228,24 @@ impl<'a, const N: usize, const M: usize> Iterator for Entries<'a, N, M> {
     }
 }
 
+impl<'a, const N: usize, const M: usize> DoubleEndedIterator for Entries<'a, N, M> {
+    ghost next_back_gives = { YieldsLastBy (λ entry. (entry.0, entry.1.now)) (λ rest. rest) };
+
+    #[tactic(auto, using(tinystr_packed::proofs::PackedMaps::last_entry))]
+    fn next_back(&mut self) -> Option<(TinyAsciiStr<N>, &'a [u8; M])> {
+        let key = self.keys.next_back()?;
+        let values = self.values;
+        let (value, rest) = values.split_last()?;
+        self.values = rest;
+        Some((key, value))
+    }
+}
+
 impl<'a, const N: usize, const M: usize> ExactSizeIterator for Entries<'a, N, M> {
     #[tactic(auto, using(tinystr_packed::proofs::PackedMaps::map_steps))]
     fn len(&self) -> usize {
         self.values.len()
     }
 }
+
+impl<'a, const N: usize, const M: usize> FusedIterator for Entries<'a, N, M> {}

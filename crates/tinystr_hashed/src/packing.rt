@@ -100,6 +100,7 @@ fn first_repeated<const N: usize>(texts: &[TinyAsciiStr<N>]) -> Option<TinyAscii
 }
 
 // The bytes of a table without pilots.
+#[tactic(auto, using(crate::proofs::SortedTables::sorted_packs))]
 fn pack_in_order<const N: usize>(
     alloc: Global,
     texts: &[TinyAsciiStr<N>],

@@ -142,6 +142,7 @@ fn put_in_order<const N: usize>(texts: &Table<'_, N>, out: &mut [u8], scratch: &
 }
 
 // The records of texts in order.
+#[tactic(auto, using(crate::proofs::SortedTables::sorted_records))]
 fn sorted_records<'a, const N: usize>(texts: &Table<'_, N>, scratch: &'a mut [u8]) -> &'a [u8]
     requires some { 0 < N }
     requires sized { N < 2 ^ 63 }
@@ -178,6 +179,7 @@ fn are_distinct<const N: usize>(texts: &Table<'_, N>, scratch: &mut [u8]) -> boo
 }
 
 // The index of the first text that is equal to one before it.
+#[tactic(auto, using(crate::proofs::Repeats::repeats))]
 fn first_repeat<const N: usize>(texts: &Table<'_, N>, scratch: &mut [u8]) -> usize
     requires some { 0 < N }
     requires sized { N < 2 ^ 63 }

@@ -14,7 +14,7 @@ use std::marker::Model;
 use tinystr::TinyAsciiStr;
 use tinystr::ule::UleError;
 use tinystr_packed::in_place::search;
-use tinystr_packed::{SortedTable, Table};
+use tinystr_packed::{SortedTable, Table, Texts};
 use tinystr_words::padded;
 
 /// The version of the bytes, which their first four are.
@@ -133,6 +133,21 @@ impl<'a, const N: usize> HashedTable<'a, N> {
         self.table.is_empty()
     }
 
+    /// The text at an index, counted from 0, in constant time, or `None` past the end.
+    pub fn get(&self, index: usize) -> Option<TinyAsciiStr<N>>
+        ensures { result ≡ slice_get self.now index }
+    {
+        self.table.get(index)
+    }
+
+    /// The texts, in the order of the table.
+    pub fn iter(&self) -> Texts<'a, N>
+        ensures texts { result ≡ self.now }
+        ensures bound { length result < 2 ^ 64 }
+    {
+        self.table.iter()
+    }
+
     /// The index of a text, or `None` if the table doesn't have it. Each key takes one hash, one pilot and one record, and some
     /// keys one move. If there are no pilots, a key is searched for by halves.
     #[inline(always)]
@@ -155,6 +170,7 @@ impl<'a, const N: usize> HashedTable<'a, N> {
     }
 
     // The index of a text in a table without pilots. It isn't inlined, since few tables are.
+    #[tactic(auto, using(crate::proofs::Lookups::halves))]
     #[cold]
     #[inline(never)]
     fn position_by_halves(&self, key: &TinyAsciiStr<N>) -> Option<usize>
@@ -261,6 +277,7 @@ fn position_moved<const N: usize>(
 }
 
 // The index of the first text that isn't at its place or, if there are no pilots, isn't above the one before it.
+#[tactic(auto, using(crate::proofs::Placed::records_in_order))]
 fn first_out_of_order<const N: usize>(table: &Table<'_, N>, places: &Places<'_>) -> Option<usize>
     requires positive { 0 < N }
     requires sized { N < 2 ^ 63 }

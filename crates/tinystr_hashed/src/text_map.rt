@@ -106,6 +106,7 @@ impl<'a, const N: usize, const M: usize> HashedTextMap<'a, N, M> {
     }
 
     /// The value of a key, or `None` if the map doesn't have the key. Each key takes a look-up of `HashedTable::position`.
+    #[tactic(auto, using(crate::proofs::HashedMaps::lookups))]
     pub fn get(&self, key: &TinyAsciiStr<N>) -> Option<TinyAsciiStr<M>>
         ensures value { result ≡ Spec.get self.now key.now }
         ensures distinct { AreDistinct (keys_of self.now) }
@@ -117,6 +118,7 @@ impl<'a, const N: usize, const M: usize> HashedTextMap<'a, N, M> {
     }
 
     /// The value of a key of any capacity, or `None` if the map doesn't have the key. Both capacities must be below 2^63.
+    #[tactic(auto, using(crate::proofs::HashedMaps::absent_keys))]
     pub fn find_text<const K: usize>(&self, key: &TinyAsciiStr<K>) -> Option<TinyAsciiStr<M>>
         requires texts { N < 2 ^ 63 }
         requires key { K < 2 ^ 63 }

@@ -99,18 +99,20 @@ fn digest_of(bytes: &[u8]) -> u64 {
     digest
 }
 
-// Numbers of texts, `key0` and so on, and the digests of their tables. So many as in the last row are parted by their top byte first.
-const NUMBERED: &[(u32, u64)] = &[
-    (170, 0xa65b_dc7b_853a_1e48),
-    (300, 0x4ed6_ce31_c520_1a90),
-    (1000, 0xc267_57d5_5984_0534),
-    (70_000, 0x7cdf_4e50_d377_37a9),
+// Numbers of texts, `key0` and so on, and the digests of their tables. For the first texts one search costs too much. So many as
+// in the last row are parted by their top byte first.
+const NUMBERED: &[(&str, u32, u64)] = &[
+    ("ig", 200, 0x2692_f392_b23d_b0de),
+    ("key", 170, 0xa65b_dc7b_853a_1e48),
+    ("key", 300, 0x4ed6_ce31_c520_1a90),
+    ("key", 1000, 0xc267_57d5_5984_0534),
+    ("key", 70_000, 0x7cdf_4e50_d377_37a9),
 ];
 
 #[test]
 fn the_order_of_the_texts_does_not_matter(rt: HostRuntime) -> Result<(), Fail> {
-    for (count, digest) in NUMBERED {
-        let mut texts = numbered(rt.alloc(), *count)?;
+    for (front, count, digest) in NUMBERED {
+        let mut texts = numbered(rt.alloc(), front, *count)?;
         assert!(rt; is_packed_alike(rt.alloc(), &texts, *digest), "{count}");
         texts.reverse();
         assert!(rt; is_packed_alike(rt.alloc(), &texts, *digest), "{count}");
@@ -119,8 +121,8 @@ fn the_order_of_the_texts_does_not_matter(rt: HostRuntime) -> Result<(), Fail> {
 }
 
 /// `key0`, `key1` and so on.
-fn numbered(alloc: Global, count: u32) -> Result<Vec<TinyAsciiStr<8>>, AllocError> {
-    let key = TinyAsciiStr::<3>::from_utf8_lossy(b"key", b'?');
+fn numbered(alloc: Global, front: &str, count: u32) -> Result<Vec<TinyAsciiStr<8>>, AllocError> {
+    let key = TinyAsciiStr::<3>::from_utf8_lossy(front.as_bytes(), b'?');
     let mut texts = Vec::new(alloc);
     for number in 0..count {
         let (Ok(number) | Err(number)) = TinyAsciiStr::<5>::new_unsigned_decimal(number);

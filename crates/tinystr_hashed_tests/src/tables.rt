@@ -219,7 +219,7 @@ fn has_texts<const N: usize>(table: &HashedTable<'_, N>, texts: &[&str]) -> bool
 fn is_text_at<const N: usize>(table: &HashedTable<'_, N>, index: usize, text: &str) -> bool
     requires { N < 2 ^ 63 }
 {
-    match table.table().get(index) {
+    match table.get(index) {
         Some(found) => found.as_str() == text,
         None => false,
     }
@@ -344,7 +344,7 @@ fn has_each_at_its_index<const N: usize>(table: &HashedTable<'_, N>) -> bool
     requires { N < 2 ^ 63 }
 {
     for index in 0..table.len() {
-        match table.table().get(index) {
+        match table.get(index) {
             Some(text) if table.position(&text) == Some(index) => {}
             _ => return false,
         }

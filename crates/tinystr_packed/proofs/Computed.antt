@@ -7,9 +7,8 @@ use Rattle.std.specs.declared.cmp.Ordering.{Ordering}
 use Rattle.std.specs.declared.cmp.Ordering.TheVariants.{Less}
 use Rattle.std.proofs.Math.Nat.{mul-div_cancel}
 use Rattle.std.proofs.lemmas.Bool.Decides.{Decides-and, Decides-eqb, Decides-like}
-use Rattle.std.proofs.lemmas.Map.Entries.{length-keys_of}
 use Rattle.tinystr_words.specs.Packed.{IsPacked, is_packed, records_of}
-use Rattle.tinystr_words.proofs.Reading.Records.{AllStrict, length-joined}
+use Rattle.tinystr_words.proofs.Reading.Records.{AllStrict}
 use Rattle.tinystr_words.proofs.Reading.Decided.{is_packed-Decides}
 use Rattle.tinystr_packed.specs.Map.{ArePacked}
 use Rattle.tinystr_packed.specs.Reading.{are_packed, map_of, sorted_of, table_of, texts_of}
@@ -98,9 +97,4 @@ map_of-other keys values n m some more other =
     let fails : are_packed n m keys values ≡ false = one_answer (are_packed n m keys values) false (are_packed-Decides n m keys values some more) ((λ yes. cc), λ found. absurd (other found)) in
     rw fails refl
 
--- ---- lengths
-
--- keys and values of entries have n bytes and m bytes for each
-pub lengths-ArePacked : (es : List (List ℕ × List ℕ)) (keys values : List ℕ) (n m : ℕ) → ArePacked es keys values n m → (length keys ≡ length es * n) × (length values ≡ length es * m)
-lengths-ArePacked es keys values n m h =
-    (rw (h.joined_keys, length-joined n (keys_of es) h.strict, length-keys_of es) refl, rw (length-ArePacked es keys values n m h, length-keys_of es) refl)
+pub ruleset sorted_tables = (sorted_of-other, sorted_of-rising)

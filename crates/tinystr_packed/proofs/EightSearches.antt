@@ -5,14 +5,15 @@ use Rattle.std.specs.declared.result.Result.{Result}
 use Rattle.std.specs.declared.result.Result.TheVariants.{Ok}
 use Rattle.std.proofs.lemmas.Bool.{cases_lt}
 use Rattle.std.proofs.lemmas.Bool.Decides.{nat_tests}
-use Rattle.std.proofs.lemmas.List.{at_drop_more, get_or-replicate, get_or-set_other, get_or-set_same, length-take, places}
+use Rattle.std.proofs.lemmas.List.{at_drop_more, get_or-replicate, get_or-set_other, get_or-set_same, length-take, places, get_or_default, length-set}
 use Rattle.tinystr_words.specs.Text.{IsPaddedText, IsStrictText, pad}
 use Rattle.tinystr_words.proofs.Texts.{get_or-pad, length-pad}
 use Rattle.tinystr_packed.specs.Private.Numbers.{number_at, pair_at}
 use Rattle.tinystr_packed.specs.Rising.{text_at}
 use Rattle.tinystr_packed.specs.Search.{search_result}
-use Rattle.tinystr_packed.specs.Private.EightSearches.{paired, AreAnswers, IsPairOfText, IsAnswer, AreNumbered, AreReady, AreWithin, AreAscending, IsPlaceWithin, ArePlacesWithin}
+use Rattle.tinystr_packed.specs.Private.EightSearches.{paired, IsPairOfText, AreNumbered, AreReady, AreWithin, AreAscending, IsPlaceWithin, ArePlacesWithin}
 use Rattle.tinystr_packed.proofs.RisingTexts.{ascii-padded}
+use Rattle.std.proofs.lemmas.List.Elements.{All-get_or}
 
 -- eight bytes of a text spell a number without its highest bit
 from_be_bytes-fits : (bs : List ℕ) → length bs ≡ 8 → ((i : ℕ) → get_or bs i 0 < 128) → from_be_bytes w64 bs < 9223372036854775808
@@ -87,18 +88,6 @@ ArePlacesWithin-start n s records w i j size end h = record {
 
 -- ---- answers for eight keys
 
--- two alternating answers, for two alternating keys
-pub AreAnswers-alternating : (n : ℕ) (records keys : List (List ℕ)) (r s : Result ℕ ℕ) → ((i : ℕ) → i < 6 → text_at keys (i + 2) ≡ text_at keys i) → IsAnswer n (text_at keys 0) records r → IsAnswer n (text_at keys 1) records s → AreAnswers n records keys (r ∷ s ∷ r ∷ s ∷ r ∷ s ∷ r ∷ s ∷ []) 8
-AreAnswers-alternating n records keys r s turns first second zero within = first
-AreAnswers-alternating n records keys r s turns first second (suc zero) within = second
-AreAnswers-alternating n records keys r s turns first second (suc (suc zero)) within = rw (turns 0 (omega arith)) first
-AreAnswers-alternating n records keys r s turns first second (suc (suc (suc zero))) within = rw (turns 1 (omega arith)) second
-AreAnswers-alternating n records keys r s turns first second (suc (suc (suc (suc zero)))) within = rw (turns 2 (omega arith) ∙ turns 0 (omega arith)) first
-AreAnswers-alternating n records keys r s turns first second (suc (suc (suc (suc (suc zero))))) within = rw (turns 3 (omega arith) ∙ turns 1 (omega arith)) second
-AreAnswers-alternating n records keys r s turns first second (suc (suc (suc (suc (suc (suc zero)))))) within = rw (turns 4 (omega arith) ∙ turns 2 (omega arith) ∙ turns 0 (omega arith)) first
-AreAnswers-alternating n records keys r s turns first second (suc (suc (suc (suc (suc (suc (suc zero))))))) within = rw (turns 5 (omega arith) ∙ turns 3 (omega arith) ∙ turns 1 (omega arith)) second
-AreAnswers-alternating n records keys r s turns first second (suc (suc (suc (suc (suc (suc (suc (suc i)))))))) within = absurd (omega arith)
-
 -- the answer that is ready for the next key
 pub AreReady-first : (texts keys : List (List ℕ)) (answers : List (Result ℕ ℕ)) (m n : ℕ) → 0 < n → AreReady texts keys answers m n → get_or answers (8 - n) (Ok 0) ≡ search_result texts (text_at keys m)
 AreReady-first texts keys answers m n some h =
@@ -109,3 +98,11 @@ AreReady-first texts keys answers m n some h =
 -- the first of the remaining answers
 pub search_result-next : (texts keys : List (List ℕ)) (m : ℕ) (r : Result ℕ ℕ) → m < length keys → r ≡ search_result texts (text_at keys m) → map (search_result texts) (drop m keys) ≡ r ∷ map (search_result texts) (drop (m + 1) keys)
 search_result-next texts keys m r inside is = at_drop_more (map (search_result texts)) keys m [] inside ∙ ap (λ (x : Result ℕ ℕ). x ∷ map (search_result texts) (drop (m + 1) keys)) (sym is)
+
+pub ruleset halves = (nat_tests, IsPlaceWithin-halved)
+
+pub ruleset ready = (AreReady-first, search_result-next)
+
+pub ruleset elements = (get_or_default, All-get_or)
+
+pub ruleset answers_so_far = (get_or_default, length-set, so_far-set)

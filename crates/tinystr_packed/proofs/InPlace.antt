@@ -1,19 +1,15 @@
 -- Bytes that were checked before, and their records.
-use Rattle.std.proofs.Common.{◌≡◌, ◌≢◌, ℕ, ◌<◌, ◌*◌, ◌/◌, List, [], ◌∷◌, length, map, refl, sym, ap, ◌∙◌, arith, All}
+use Rattle.std.proofs.Common.{◌≡◌, ◌≢◌, ℕ, ◌<◌, ◌/◌, List, [], length, map, refl, sym, ap, ◌∙◌, All}
 use Rattle.std.specs.List.{slice_get}
 use Rattle.std.specs.Simd.{first_chunks}
 use Rattle.std.specs.declared.option.Option.TheVariants.{Some, None}
-use Rattle.std.specs.declared.result.Result.TheVariants.{Err}
-use Rattle.std.proofs.lemmas.Bool.{false≢true}
 use Rattle.std.proofs.lemmas.List.{length-map}
 use Rattle.std.proofs.lemmas.Option.{slice_get-map, slice_get-get_or, slice_get_within, get_or_from_slice_get}
-use Rattle.std.proofs.Math.Nat.{suc-mul}
-use Rattle.tinystr_words.proofs.Reading.Records.{length-joined}
 use Rattle.tinystr_words.specs.Packed.{IsPacked}
 use Rattle.tinystr_words.specs.Text.{IsPaddedText, text_of, pad}
 use Rattle.tinystr_packed.proofs.PackedTexts.{AllPadded-chunks, texts_of-records}
 use Rattle.tinystr_packed.proofs.RisingTexts.{IsRecordOf-at}
-use Rattle.tinystr_packed.specs.Rising.{ArePackedRising, IsFirstNotBelow, IsSearched, text_at}
+use Rattle.tinystr_packed.specs.Rising.{ArePackedRising, text_at}
 
 -- the records of packed texts
 pub records_are : (bytes : List ℕ) (records texts : List (List ℕ)) (n : ℕ) → 0 < n → ArePackedRising texts bytes n → records ≡ first_chunks n (length bytes / n) bytes → length records ≡ length bytes / n

@@ -14,3 +14,5 @@ number_at-short raw short = ap (λ (l : List ℕ). from_be_bytes w64 (pad l 8)) 
 pub number_at-long : (raw : List ℕ) (i many number : ℕ) → many ≡ 8 → number ≡ from_be_bytes w64 (pad (take many (drop i raw)) 8) → number ≡ number_at i raw
 unfolding number_at
 number_at-long raw i many number eight is = is ∙ ap (λ (m : ℕ). from_be_bytes w64 (pad (take m (drop i raw)) 8)) eight
+
+pub ruleset numbers = (number_at-short, number_at-long)

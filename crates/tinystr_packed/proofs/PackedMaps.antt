@@ -1,5 +1,5 @@
 -- Maps whose keys and values are packed.
-use Rattle.std.proofs.Common.{◌≡◌, ◌≢◌, ℕ, suc, zero, ◌<◌, ◌*◌, List, [], ◌∷◌, length, take, drop, get_or, refl, sym, ap, ◌∙◌, arith, All, IsSome, IsTrue, Bool, ◌↔◌, is_some, Bor}
+use Rattle.std.proofs.Common.{◌≡◌, ◌≢◌, ℕ, suc, zero, ◌<◌, ◌*◌, List, [], ◌∷◌, ◌++◌, length, take, drop, get_or, refl, sym, ap, ◌∙◌, arith, All, IsSome, IsTrue, Bool, ◌↔◌, is_some, Bor}
 use Rattle.std.specs.BTreeMap.{is_at}
 use Rattle.std.specs.Bool.{Decides, one_answer}
 use Rattle.std.specs.Cmp.Lexicographic.{slice_cmp}
@@ -23,9 +23,9 @@ use Rattle.std.proofs.lemmas.Map.Views.{Contains-keys_from_lookup}
 use Rattle.std.proofs.lemmas.Option.{slice_get-get_or, slice_get-map, slice_get_past, get_or_from_slice_get, slice_get_within}
 use Rattle.std.proofs.lemmas.Slice.Eq.{bytes_eq-Decides}
 use Rattle.std.proofs.lemmas.Slice.Zip.{get_or-zip, length-zip, seconds-zip}
-use Rattle.tinystr_words.specs.Text.{IsStrictText, pad}
+use Rattle.tinystr_words.specs.Text.{IsStrictText}
 use Rattle.tinystr_words.proofs.Reading.Records.{AllStrict, length-first_chunks}
-use Rattle.tinystr_packed.proofs.PackedTexts.{packed, packed_injective}
+use Rattle.tinystr_packed.proofs.PackedTexts.{packed_injective}
 use Rattle.tinystr_packed.specs.Map.{ArePacked, get}
 use Rattle.tinystr_packed.specs.Rising.{ArePackedRising, IsRising}
 
@@ -96,6 +96,15 @@ pub option_copied-item : (xs : List (List ℕ)) (i : ℕ) (r : Option (Bor (List
 option_copied-item xs i None h = sym (slice_get_past xs i h.3)
 option_copied-item xs i (Some x) h = ap Some h.1 ∙ sym (slice_get-get_or xs i x.now h.3.0)
 
+-- the last key has the last value
+pub zip-last : (keys ks values vs : List (List ℕ)) (k v : List ℕ) → keys ≡ ks ++ k ∷ [] → values ≡ vs ++ v ∷ [] → length values ≡ length keys → zip keys values ≡ zip ks vs ++ (k, v) ∷ []
+zip-last keys ks values vs k v is_key is_value same = rw (is_key, is_value) (seam ks vs (omega (arith, length-append ks (k ∷ []), length-append vs (v ∷ []), ap length is_key, ap length is_value))) where
+  seam : (ks vs : List (List ℕ)) → length vs ≡ length ks → zip (ks ++ k ∷ []) (vs ++ v ∷ []) ≡ zip ks vs ++ (k, v) ∷ []
+  seam [] [] e = refl
+  seam [] (w ∷ vs) e = absurd (omega arith)
+  seam (l ∷ ks) [] e = absurd (omega arith)
+  seam (l ∷ ks) (w ∷ vs) e = ap (λ (es : Entries). (l, w) ∷ es) (seam ks vs (omega arith))
+
 -- keys and values that are packed
 pub ArePacked-new : (ks vs : List (List ℕ)) (keys values : List ℕ) (n m k : ℕ) → ArePackedRising ks keys n → length values ≡ k * m → k ≡ length ks → vs ≡ first_chunks m k values → ArePacked (zip ks vs) keys values n m
 ArePacked-new ks vs keys values n m k h long count is =
@@ -131,3 +140,9 @@ unmatched-no_entries ks keys values n m some h other found =
     other (rw (← same) (length-ArePacked found.0 keys values n m found.1))
 
 pub ruleset map_steps = (keys_of-zip, seconds-zip, length-zip, length-keys_of, length-values_of)
+
+pub ruleset last_entry = (zip-last, length-zip)
+
+pub ruleset lookups = (DifferentKeys-rising, get-zip, get-zip_absent)
+
+pub ruleset items = (option_copied-item)

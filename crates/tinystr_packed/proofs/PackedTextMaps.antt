@@ -1,11 +1,11 @@
 -- Maps whose keys and values are packed texts.
-use Rattle.std.proofs.Common.{◌≡◌, ◌≢◌, ℕ, ◌<◌, ◌*◌, List, length, refl, sym, ap, ◌∙◌}
+use Rattle.std.proofs.Common.{◌≡◌, ◌≢◌, ℕ, ◌<◌, List, length, sym, ap, ◌∙◌}
 use Rattle.std.specs.List.{zip}
 use Rattle.std.specs.Map.{keys_of, values_of}
 use Rattle.std.proofs.lemmas.Map.Entries.{length-keys_of, length-values_of}
 use Rattle.std.proofs.lemmas.Map.Made.{keys_of-zip}
 use Rattle.std.proofs.lemmas.Slice.Zip.{seconds-zip}
-use Rattle.tinystr_words.proofs.Reading.Records.{AllStrict, length-joined}
+use Rattle.tinystr_words.proofs.Reading.Records.{AllStrict}
 use Rattle.tinystr_packed.proofs.MapBytes.{same_entries}
 use Rattle.tinystr_packed.proofs.PackedTexts.{packed, packed_injective}
 use Rattle.tinystr_packed.specs.Rising.{ArePackedRising}
@@ -32,10 +32,3 @@ pub packed_texts_once : (es fs : List (List ℕ × List ℕ)) (keys values : Lis
 packed_texts_once es fs keys values n m some some_value h k =
     same_entries es fs (packed_injective n (keys_of es) (keys_of fs) some h.rising_keys.strict k.rising_keys.strict (sym h.rising_keys.joined ∙ k.rising_keys.joined))
     (packed_injective m (values_of es) (values_of fs) some_value h.strict_values k.strict_values (sym h.joined_values ∙ k.joined_values))
-
--- keys and texts of entries have n bytes and m bytes for each
-pub lengths-ArePackedTexts : (es : List (List ℕ × List ℕ)) (keys values : List ℕ) (n m : ℕ) → ArePackedTexts es keys values n m → (length keys ≡ length es * n) × (length values ≡ length es * m)
-lengths-ArePackedTexts es keys values n m h = (
-  rw (h.rising_keys.joined, length-joined n (keys_of es) h.rising_keys.strict, length-keys_of es) refl,
-  rw (h.joined_values, length-joined m (values_of es) h.strict_values, length-values_of es) refl,
-)

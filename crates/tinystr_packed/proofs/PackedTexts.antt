@@ -1,10 +1,10 @@
 -- Packed texts, and the records that hold them.
-use Rattle.std.proofs.Common.{◌≡◌, ℕ, ◌<◌, ◌+◌, ◌/◌, List, [], ◌∷◌, ◌++◌, length, map, take, drop, get_or, refl, sym, ap, ◌∙◌, All}
-use Rattle.std.specs.List.{flat_map}
+use Rattle.std.proofs.Common.{◌≡◌, ℕ, ◌<◌, ◌≤◌, ◌+◌, ◌-◌, ◌/◌, List, [], ◌∷◌, ◌++◌, length, map, take, drop, get_or, refl, sym, ap, ◌∙◌, All, Some, None, arith}
+use Rattle.std.specs.List.{flat_map, slice_get}
 use Rattle.std.specs.Simd.{first_chunks}
-use Rattle.std.proofs.lemmas.List.{append-nil, take_more, take_at, drop_at, take-map, drop-map}
+use Rattle.std.proofs.lemmas.List.{append-nil, nil_from_length, take_all, take_more, take_at, drop_at, take-map, drop-map}
 use Rattle.std.proofs.lemmas.Grind.{flat_map-append}
-use Rattle.std.proofs.lemmas.Option.{slice_get-map}
+use Rattle.std.proofs.lemmas.Option.{slice_get-map, slice_get_cases, slice_get_within, get_or_from_slice_get}
 use Rattle.std.proofs.lemmas.List.Elements.{All-more, All-head, All-tail, All-map, All-weaker}
 use Rattle.std.proofs.Math.Nat.{mul-div_cancel}
 use Rattle.tinystr_words.specs.Text.{IsStrictText, IsPaddedText, text_of, pad}
@@ -61,6 +61,17 @@ AllStrict-texts records n h =
 pub packed_injective : (n : ℕ) (ts ss : List (List ℕ)) → 0 < n → AllStrict n ts → AllStrict n ss → packed n ts ≡ packed n ss → ts ≡ ss
 packed_injective n ts ss some h k e =
     sym (texts_of-packed n ts some h) ∙ ap (λ (l : List ℕ). map text_of (first_chunks n (length l / n) l)) e ∙ texts_of-packed n ss some k
+
+-- the texts before the last one, and the last one
+pub last_text : (ts : List (List ℕ)) (i : ℕ) (x : List ℕ) → slice_get ts i ≡ Some x → length ts ≤ i + 1 → ts ≡ take i ts ++ x ∷ []
+last_text ts i x is end =
+    rw (take_all (i + 1) ts end, get_or_from_slice_get ts i x x is) at (take_more ts i x (slice_get_within ts i x is))
+
+-- texts without a first one, or without a last one
+pub no_texts : (ts : List (List ℕ)) (i : ℕ) → slice_get ts i ≡ None → i ≤ length ts - 1 → ts ≡ []
+no_texts ts i is end = grind (arith, slice_get_cases, nil_from_length)
+
+pub ruleset ends = (last_text, no_texts)
 
 pub ruleset table_steps = (packed-texts, AllPadded-chunks, AllStrict-texts)
 

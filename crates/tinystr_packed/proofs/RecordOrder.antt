@@ -15,7 +15,7 @@ use Rattle.tinystr_words.specs.Text.{pad}
 use Rattle.tinystr_packed.specs.Private.Numbers.{number_at, pair_at, IsRecord, AreRisingRecords, AreDistinguished, BeginAlike, AreOrderedBy}
 use Rattle.tinystr_packed.specs.Rising.{order, text_at}
 use Rattle.tinystr_packed.proofs.Numbers.{number_at-short, number_at-long}
-use Rattle.tinystr_packed.proofs.RisingTexts.{Less-from_is_lt}
+use Rattle.tinystr_packed.proofs.RisingTexts.{Less-from_is_lt, IsFirstNotBelowWithin-all}
 use Rattle.tinystr_words.proofs.Order.OfLists.{cmp_is_same}
 use Rattle.tinystr_words.proofs.Order.ByNumbers.{AllFit, AreBytes, AreBytes-drop, AreBytes-from_type, is_lt-nat_cmp, slice_cmp-first_eight, slice_cmp-numbers}
 use Rattle.tinystr_words.proofs.Pieces.Copying.{pad-full}
@@ -223,3 +223,7 @@ AreDistinguished-long_pair records key n i long fits up k alike = record {
   ordered = AreOrderedBy-pair records key n i (omega arith) up k alike;
   whole = λ short. absurd (omega arith);
 }
+
+pub ruleset orders = (nat_lt-slice_cmp)
+
+pub ruleset long_records = (AreDistinguished-long, AreDistinguished-long_pair, IsFirstNotBelowWithin-all)

@@ -25,6 +25,7 @@ use Rattle.tinystr_packed.specs.Rising.{order, text_at, IsRising, IsFirstNotBelo
 use Rattle.tinystr_packed.specs.Search.{search_result, value_at}
 use Rattle.tinystr_packed.proofs.PackedMaps.{DifferentKeys-rising, Entries, get-zip, get-zip_absent}
 use Rattle.tinystr_packed.proofs.RisingTexts.{IsFirstNotBelow-same, IsPlaceFor-missed, Less-from_is_lt, below_from_rising, not_above}
+use Rattle.std.proofs.lemmas.Map.Made.{keys_of-zip}
 
 -- a text that is below a key, or above it, is another
 other_text : (t key : List ℕ) → order t key ≢ Equal → bytes_eq key t ≡ false
@@ -179,3 +180,5 @@ value-zip ks vs es key (Err i) is same up missed =
 pub values-zip : (ks vs : List (List ℕ)) (es : Entries) (keys : List (List ℕ)) → zip ks vs ≡ es → length vs ≡ length ks → IsRising ks → map (value_at vs) (map (search_result ks) keys) ≡ map (get es) keys
 values-zip ks vs es [] is same up = refl
 values-zip ks vs es (key ∷ keys) is same up = rw (value-zip ks vs es key (search_result ks key) is same up refl, values-zip ks vs es keys is same up) refl
+
+pub ruleset values = (keys_of-zip, values-zip)

@@ -10,6 +10,7 @@ ghost use Rattle.tinystr_packed.specs.Search.{search_result};
 use crate::eight::{SingleBlocks, search_first_eight};
 use crate::search::{answer_at, binary_search, lower_bound_near};
 use std::cmp::Ordering;
+use std::iter::FusedIterator;
 use std::marker::Model;
 use tinystr::TinyAsciiStr;
 
@@ -135,6 +136,7 @@ impl<'a, 'k, const N: usize> Iterator for BinarySearchEach<'a, 'k, N> {
 
     ghost remaining = { item_count (λ rest. rest) };
 
+    #[tactic(auto, using(crate::proofs::EightSearches::ready))]
     #[inline]
     fn next(&mut self) -> Option<Result<usize, usize>> {
         if self.given == self.keys.len() {
@@ -181,3 +183,5 @@ impl<'a, 'k, const N: usize> ExactSizeIterator for BinarySearchEach<'a, 'k, N> {
         self.keys.len() - self.given
     }
 }
+
+impl<'a, 'k, const N: usize> FusedIterator for BinarySearchEach<'a, 'k, N> {}

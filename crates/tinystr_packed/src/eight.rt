@@ -1,7 +1,7 @@
 //! Eight searches at a time. A contract says what they return if each record is above the one before it, and of any other
 //! records that each place is inside them.
 
-ghost use Rattle.std.specs.Prelude.{◌≡◌, ◌<◌, ◌≤◌, ◌+◌, ◌-◌, ◌/◌, ℕ, All, IsTrue, cond, length, nat_eq, nat_lt, slice_index};
+ghost use Rattle.std.specs.Prelude.{◌≡◌, ◌<◌, ◌≤◌, ◌+◌, ◌-◌, ◌/◌, ℕ, All, IfSome, IsTrue, cond, length, nat_eq, nat_lt, slice_index};
 ghost use Rattle.std.specs.declared.cmp.Ordering.TheVariants.{Less};
 ghost use Rattle.tinystr_words.specs.Text.{IsPaddedText, IsStrictText, pad};
 ghost use Rattle.tinystr_packed.specs.Private.Numbers.{pair_at, AreRisingRecords, BeginAlike};
@@ -67,8 +67,8 @@ pub(crate) fn search_first_eight<const N: usize>(
     requires { 8 ≤ length keys.now }
     ensures { AreAnswers N records.now keys.now answers.new 8 }
 {
-    if are_alternating(keys) {
-        *answers = answers_of_two(records, keys);
+    if let Some(same) = answers_of_one(records, keys) {
+        *answers = same;
         return single_blocks;
     }
     if N > 16 && single_blocks.left > 0 {
@@ -97,14 +97,15 @@ pub(crate) fn answers_of_short<const N: usize>(
     requires short { N ≤ 16 }
     ensures { AreAnswers N records.now keys.now result 8 }
 {
-    if are_alternating(keys) {
-        return answers_of_two(records, keys);
+    if let Some(same) = answers_of_one(records, keys) {
+        return same;
     }
     let places = lower_bound_each_short(records, keys, near);
     answers_at(records, keys, &places)
 }
 
 // The answers of eight searches that end at these places.
+#[tactic(auto, using(crate::proofs::EightSearches::answers_so_far))]
 #[inline(always)]
 fn answers_at<const N: usize>(
     records: &[[u8; N]],
@@ -125,6 +126,7 @@ fn answers_at<const N: usize>(
 }
 
 /// The answers for eight keys, each of a search of its own.
+#[tactic(auto, using(crate::proofs::EightSearches::answers_so_far))]
 #[inline(always)]
 pub(crate) fn answers_one_by_one<const N: usize>(
     records: &[[u8; N]],
@@ -141,40 +143,25 @@ pub(crate) fn answers_one_by_one<const N: usize>(
     answers
 }
 
-// The answers for one key, or for two alternating keys, each of which is searched for once.
+// The answers if the first eight keys are one key, which is searched for once.
 #[inline(always)]
-fn answers_of_two<const N: usize>(
+fn answers_of_one<const N: usize>(
     records: &[[u8; N]],
     keys: &[TinyAsciiStr<N>],
-) -> [Result<usize, usize>; 8]
-    requires eight { 8 ≤ length keys.now }
-    requires alternating { (i : ℕ) → i < 6 → text_at keys.now (i + 2) ≡ text_at keys.now i }
-    ensures { AreAnswers N records.now keys.now result 8 }
-{
-    let first = binary_search(records, &keys[0]);
-    let second = if keys[1] == keys[0] {
-        first
-    } else {
-        binary_search(records, &keys[1])
-    };
-    [first, second, first, second, first, second, first, second]
-}
-
-// Whether the first eight are one key, or two alternating keys.
-#[inline(always)]
-fn are_alternating<const N: usize>(keys: &[TinyAsciiStr<N>]) -> bool
+) -> Option<[Result<usize, usize>; 8]>
     requires { 8 ≤ length keys.now }
-    ensures { IsTrue result → (i : ℕ) → i < 6 → text_at keys.now (i + 2) ≡ text_at keys.now i }
+    ensures { IfSome result (λ answers. AreAnswers N records.now keys.now answers 8) }
 {
-    for lane in 0..6usize {
-        if keys[lane + 2] != keys[lane] {
-            return false;
+    for lane in 1..8usize {
+        if keys[lane] != keys[0] {
+            return None;
         }
     }
-    true
+    Some([binary_search(records, &keys[0]); 8])
 }
 
 // 1 if the pair of the record at an index is below another, else 0.
+#[tactic(auto, using(crate::proofs::EightSearches::elements))]
 #[inline(always)]
 fn bit_below_at<const N: usize>(
     records: &[[u8; N]],
@@ -204,6 +191,7 @@ fn number_if(number: usize, bit: u64) -> usize
 
 // One step of a search: which half of a range remains, by whether its middle is below a pair. The length of the half is rounded
 // down. If the range has an even length, the half may begin with the middle, though that is below.
+#[tactic(auto, using(crate::proofs::EightSearches::halves))]
 #[inline(always)]
 fn halved<const N: usize>(
     records: &[[u8; N]],

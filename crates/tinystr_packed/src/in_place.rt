@@ -30,9 +30,9 @@ pub fn search<const N: usize>(bytes: &[u8], key: &TinyAsciiStr<N>) -> Result<usi
 /// each result is a place inside them, which may differ from that of `search`. `N` must be above 0.
 ///
 /// Among records of at most sixteen bytes the keys are searched for together, so that each search waits for memory while the
-/// others do, unless they are one key or two alternating keys. Keys in order are searched for first in the records after
-/// the index `near`, for example that of the last result. For packed records whose texts are strictly ascending, `near` changes
-/// only the time. For other bytes it may also change which place inside them is returned.
+/// others do, unless they are one key. Keys in order are searched for first in the records after the index `near`, for
+/// example that of the last result. For packed records whose texts are strictly ascending, `near` changes only the time. For
+/// other bytes it may also change which place inside them is returned.
 ///
 /// ```rust
 /// let keys = [tinystr!(3, "EUR")?; 8];
@@ -64,6 +64,7 @@ pub fn search_eight<const N: usize>(
 /// ```rust
 /// assert_eq!(rt; in_place::with_prefix(b"CADCHFCZKEUR", &tinystr!(3, "C")?), (0, 3));
 /// ```
+#[tactic(auto, using(crate::proofs::InPlace::records_are))]
 pub fn with_prefix<const N: usize>(bytes: &[u8], beginning: &TinyAsciiStr<N>) -> (usize, usize)
     requires { 0 < N }
     ensures bound { result.0 + result.1 ≤ length bytes.now / N }

@@ -32,6 +32,7 @@ pub fn map_once()
 {}
 
 /// The bytes of keys and texts determine their map of texts.
+#[tactic(auto, using(crate::proofs::ForCallers::text_map_once))]
 pub fn text_map_once()
     ensures { (entries others : List (List ℕ × List ℕ)) (keys values : List ℕ) (n m : ℕ) → 0 < n → 0 < m →
         ArePackedTexts entries keys values n m → ArePackedTexts others keys values n m → entries ≡ others }

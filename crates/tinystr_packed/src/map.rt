@@ -1,7 +1,7 @@
 //! Maps whose keys and values are packed, read in place.
 
 ghost use Rattle.std.specs.Prelude.{◌≡◌, ◌<◌, ◌^◌, ◌↔◌, [], List, ℕ, filter, is_some, length, map, nat_eq, IsOk, IsTrue, IfOk, IfErr, IfSome, Some};
-ghost use Rattle.std.specs.Iterator.{YieldsFirstBy, item_count, UpTo, at_most};
+ghost use Rattle.std.specs.Iterator.{YieldsFirstBy, YieldsLastBy, item_count, UpTo, at_most};
 ghost use Rattle.std.specs.Iterator.SizeHint.{IsWithinCount};
 ghost use Rattle.std.specs.List.{starts_with};
 ghost use Rattle.std.specs.Map.{keys_of, values_of};
@@ -15,6 +15,7 @@ use crate::each::BinarySearchEach;
 use crate::laws;
 use crate::sorted::{NotRising, SortedError, SortedTable};
 use crate::table::Texts;
+use std::iter::FusedIterator;
 use std::marker::Model;
 use std::ops::Range;
 use tinystr::TinyAsciiStr;
@@ -140,6 +141,7 @@ impl<'a, const N: usize, const M: usize> PackedMap<'a, N, M> {
     /// assert_eq!(rt; values.next(), Some(None));
     /// assert_eq!(rt; values.next(), None);
     /// ```
+    #[tactic(auto, using(crate::proofs::Searches::values))]
     pub fn get_each<'k>(&self, keys: &'k [TinyAsciiStr<N>]) -> GetEach<'a, 'k, N, M>
         ensures values { result ≡ map (Spec.get self.now) keys.now }
         ensures rising { IsRising (keys_of self.now) }
@@ -217,7 +219,7 @@ impl<'a, const N: usize, const M: usize> PackedMap<'a, N, M> {
         ensures bound { length result < 2 ^ 64 }
     {
         Entries {
-            keys: self.keys.table().iter(),
+            keys: self.keys.iter(),
             values: self.values,
         }
     }
@@ -242,6 +244,7 @@ impl<'a, const N: usize, const M: usize> Default for PackedMap<'a, N, M> {
 /// ```rust
 /// let places = PackedMap::<3, 1>::new(b"EURJPY", &[2, 0]).unwrap();
 /// assert_eq!(rt; places.iter().next(), Some((tinystr!(3, "EUR")?, &[2])));
+/// assert_eq!(rt; places.iter().next_back(), Some((tinystr!(3, "JPY")?, &[0])));
 /// ```
 #[derive(Clone, Drop)]
 pub struct Entries<'a, const N: usize, const M: usize> {
@@ -285,12 +288,27 @@ impl<'a, const N: usize, const M: usize> Iterator for Entries<'a, N, M> {
     }
 }
 
+impl<'a, const N: usize, const M: usize> DoubleEndedIterator for Entries<'a, N, M> {
+    ghost next_back_gives = { YieldsLastBy (λ entry. (entry.0, entry.1.now)) (λ rest. rest) };
+
+    #[tactic(auto, using(crate::proofs::PackedMaps::last_entry))]
+    fn next_back(&mut self) -> Option<(TinyAsciiStr<N>, &'a [u8; M])> {
+        let key = self.keys.next_back()?;
+        let values = self.values;
+        let (value, rest) = values.split_last()?;
+        self.values = rest;
+        Some((key, value))
+    }
+}
+
 impl<'a, const N: usize, const M: usize> ExactSizeIterator for Entries<'a, N, M> {
     #[tactic(auto, using(crate::proofs::PackedMaps::map_steps))]
     fn len(&self) -> usize {
         self.values.len()
     }
 }
+
+impl<'a, const N: usize, const M: usize> FusedIterator for Entries<'a, N, M> {}
 
 /// What `PackedMap::get` returns for each of many keys, in their order. A contract sees it as the list of the remaining
 /// values.
@@ -324,6 +342,7 @@ impl<'a, 'k, const N: usize, const M: usize> Iterator for GetEach<'a, 'k, N, M> 
 
     ghost remaining = { item_count (λ rest. rest) };
 
+    #[tactic(auto, using(crate::proofs::PackedMaps::items))]
     #[inline]
     fn next(&mut self) -> Option<Option<&'a [u8; M]>> {
         match self.answers.next()? {
@@ -346,3 +365,5 @@ impl<'a, 'k, const N: usize, const M: usize> ExactSizeIterator for GetEach<'a, '
         self.answers.len()
     }
 }
+
+impl<'a, 'k, const N: usize, const M: usize> FusedIterator for GetEach<'a, 'k, N, M> {}

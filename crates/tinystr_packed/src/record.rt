@@ -12,6 +12,7 @@ use tinystr_words::padded;
 
 /// Whether a record is below another, which must be equally long.
 // Speed: at most eight bytes are compared as one number, so that no branch is taken within a record.
+#[tactic(auto, using(crate::proofs::RecordOrder::orders))]
 #[inline(always)]
 pub(crate) fn is_below(left: &[u8], right: &[u8]) -> bool
     requires { length left.now ≡ length right.now }
@@ -51,6 +52,7 @@ pub(crate) fn are_same<const N: usize>(left: &[u8; N], right: &[u8; N]) -> bool
 
 /// The number of eight bytes of a record from `start` on, the first the most significant, or of all bytes of a record of at
 /// most eight.
+#[tactic(auto, using(crate::proofs::Numbers::numbers))]
 #[inline(always)]
 pub(crate) fn number_at<const N: usize>(raw: &[u8; N], start: usize) -> u64
     requires { start ≤ N - 8 }

@@ -141,6 +141,7 @@ fn lower_bound_short<const N: usize>(records: &[[u8; N]], key: &[u8; N]) -> usiz
 
 // The place among many records of more than sixteen bytes.
 // Speed: it isn't inlined, so that a search among few records doesn't save the registers that only this one uses.
+#[tactic(auto, using(crate::proofs::RecordOrder::long_records))]
 #[inline(never)]
 fn lower_bound_long<const N: usize>(records: &[[u8; N]], key: &[u8; N]) -> usize
     requires { 16 < N }
@@ -156,6 +157,7 @@ fn lower_bound_long<const N: usize>(records: &[[u8; N]], key: &[u8; N]) -> usize
 /// The place of a key that is above all records before an index, if the place is near: that index or, among long records or
 /// among many of more than eight bytes, one of a few after it.
 // Speed: these records are compared one after another, since a processor loads neighbours ahead.
+#[tactic(auto, using(crate::proofs::RisingTexts::below_from_rising))]
 #[inline(always)]
 pub(crate) fn lower_bound_near<const N: usize>(
     records: &[[u8; N]],

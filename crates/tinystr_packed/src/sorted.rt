@@ -12,7 +12,7 @@ use crate::each::BinarySearchEach;
 use crate::laws;
 use crate::prefix::count_with_prefix;
 use crate::search::{self, lower_bound};
-use crate::table::Table;
+use crate::table::{Table, Texts};
 use std::marker::Model;
 use std::ops::Range;
 use tinystr::TinyAsciiStr;
@@ -74,6 +74,7 @@ impl<'a, const N: usize> SortedTable<'a, N> {
     /// let table = Table::<3>::new(b"EURCHF").unwrap();
     /// assert_eq!(rt; SortedTable::new(table).err(), Some(NotRising { index: 1 }));
     /// ```
+    #[tactic(auto, using(crate::proofs::Computed::sorted_tables))]
     pub fn new(table: Table<'a, N>) -> Result<Self, NotRising>
         ensures rising { IsOk result ↔ IsRising table.entry }
         ensures texts { IfOk result (λ sorted. sorted ≡ table.entry) }
@@ -91,7 +92,7 @@ impl<'a, const N: usize> SortedTable<'a, N> {
     ///
     /// ```rust
     /// let codes = SortedTable::<3>::from_bytes(b"CHFEURJPY").unwrap();
-    /// assert_eq!(rt; codes.table().len(), 3);
+    /// assert_eq!(rt; codes.len(), 3);
     /// let fault = SortedTable::<3>::from_bytes(b"EURCHF").err();
     /// assert_eq!(rt; fault, Some(SortedError::Order(NotRising { index: 1 })));
     /// ```
@@ -120,6 +121,54 @@ impl<'a, const N: usize> SortedTable<'a, N> {
         &self.table
     }
 
+    /// The number of texts.
+    pub fn len(&self) -> usize
+        ensures { result ≡ length self.now }
+    {
+        self.table.len()
+    }
+
+    /// Whether the table has no texts.
+    pub fn is_empty(&self) -> bool
+        ensures { IsTrue result ↔ (self.now ≡ []) }
+    {
+        self.table.is_empty()
+    }
+
+    /// The text at an index, counted from 0, in constant time, or `None` past the end.
+    pub fn get(&self, index: usize) -> Option<TinyAsciiStr<N>>
+        ensures { result ≡ slice_get self.now index }
+    {
+        self.table.get(index)
+    }
+
+    /// The first text, which is the least, if there is one.
+    pub fn first(&self) -> Option<TinyAsciiStr<N>>
+        ensures { result ≡ slice_get self.now 0 }
+    {
+        self.table.first()
+    }
+
+    /// The last text, which is the greatest, if there is one.
+    pub fn last(&self) -> Option<TinyAsciiStr<N>>
+        ensures { result ≡ slice_get self.now (length self.now - 1) }
+    {
+        self.table.last()
+    }
+
+    /// The texts in order.
+    ///
+    /// ```rust
+    /// let codes = SortedTable::<3>::from_bytes(b"CHFEURJPY").unwrap();
+    /// assert_eq!(rt; codes.iter().rev().nth(1), Some(tinystr!(3, "EUR")?));
+    /// ```
+    pub fn iter(&self) -> Texts<'a, N>
+        ensures texts { result ≡ self.now }
+        ensures bound { length result < 2 ^ 64 }
+    {
+        self.table.iter()
+    }
+
     /// The index of a text, or as the error the index at which it belongs: all texts before that are below it, and all
     /// from that on are above it.
     pub fn binary_search(&self, key: &TinyAsciiStr<N>) -> Result<usize, usize>
@@ -136,8 +185,7 @@ impl<'a, const N: usize> SortedTable<'a, N> {
     ///
     /// A key that repeats, or whose place is next to the last one, needs no search. Other keys are searched for eight at a
     /// time, so that each search waits for memory while the others do. Eight keys in order are searched for first in the
-    /// records after the last place. Two alternating keys take two searches, and fewer than eight keys are searched for one by
-    /// one.
+    /// records after the last place, and fewer than eight keys are searched for one by one.
     ///
     /// ```rust
     /// let codes = SortedTable::new(Table::<3>::new(b"CHFEURJPYUSD").unwrap()).unwrap();
@@ -184,8 +232,8 @@ impl<'a, const N: usize> SortedTable<'a, N> {
     /// ```rust
     /// let codes = SortedTable::new(Table::<3>::new(b"CADCHFCZKEUR").unwrap()).unwrap();
     /// let found = codes.with_prefix(&tinystr!(3, "CH")?);
-    /// assert_eq!(rt; found.table().len(), 1);
-    /// assert_eq!(rt; found.table().first(), Some(tinystr!(3, "CHF")?));
+    /// assert_eq!(rt; found.len(), 1);
+    /// assert_eq!(rt; found.first(), Some(tinystr!(3, "CHF")?));
     /// ```
     pub fn with_prefix(&self, beginning: &TinyAsciiStr<N>) -> SortedTable<'a, N>
         ensures { result ≡ filter (λ t. starts_with nat_eq t beginning.now) self.now }

@@ -1,7 +1,7 @@
 //! Tables of packed records, and the iterator over their texts.
 
 ghost use Rattle.std.specs.Prelude.{◌≡◌, ◌<◌, ◌≤◌, ◌↔◌, ◌^◌, ◌-◌, [], length, map, take, drop, All, IsOk, IsNone, IfSome, IsTrue, IfOk, IfErr, Some, slice_get, slice_index_or};
-ghost use Rattle.std.specs.Iterator.{YieldsFirst, item_count, UpTo, at_most};
+ghost use Rattle.std.specs.Iterator.{YieldsFirst, YieldsLast, item_count, UpTo, at_most};
 ghost use Rattle.std.specs.Iterator.SizeHint.{IsWithinCount};
 ghost use Rattle.std.specs.List.{flat_map};
 ghost use Rattle.std.specs.Result.{result_ok};
@@ -12,6 +12,7 @@ ghost use Rattle.tinystr_packed.specs.Reading.{table_of};
 ghost use Rattle.tinystr_packed.specs.Rising.{IsRising, IsFirstFall};
 
 use crate::record::is_below;
+use std::iter::FusedIterator;
 use std::marker::Model;
 use std::ops::Range;
 use tinystr::TinyAsciiStr;
@@ -146,8 +147,9 @@ impl<'a, const N: usize> Table<'a, N> {
         ensures strict { All (λ t. IsStrictText t N) self.now }
         ensures bound { length result < 2 ^ 64 }
     {
+        let records = self.records;
         Texts {
-            records: self.records,
+            rest: Table { records },
         }
     }
 
@@ -196,22 +198,19 @@ impl<'a, const N: usize> Default for Table<'a, N> {
 ///
 /// ```rust
 /// let table = Table::<3>::new(b"EURGB\0").unwrap();
-/// assert_eq!(rt; table.iter().last(), Some(tinystr!(3, "GB")?));
+/// assert_eq!(rt; table.iter().rev().next(), Some(tinystr!(3, "GB")?));
 /// ```
 #[derive(Clone, Drop)]
 pub struct Texts<'a, const N: usize> {
-    records: &'a [[u8; N]],
+    rest: Table<'a, N>,
 }
 
 impl<'a, const N: usize> Model for Texts<'a, N> {
-    ghost use Rattle.std.specs.Prelude.{List, ℕ, All, map};
-    ghost use Rattle.tinystr_words.specs.Text.{IsPaddedText, text_of};
+    ghost use Rattle.std.specs.Prelude.{List, ℕ};
 
     ghost Value = { List (List ℕ) };
 
-    ghost view = { λ s. map text_of s.records.now };
-
-    ghost invariant = { λ s. All (λ raw. IsPaddedText raw N) s.records.now };
+    ghost view = { λ s. s.rest };
 }
 
 impl<'a, const N: usize> Iterator for Texts<'a, N> {
@@ -221,11 +220,11 @@ impl<'a, const N: usize> Iterator for Texts<'a, N> {
 
     ghost remaining = { item_count (λ rest. rest) };
 
+    #[tactic(auto, using(crate::proofs::PackedTexts::ends))]
     fn next(&mut self) -> Option<TinyAsciiStr<N>> {
-        let records = self.records;
-        let (raw, rest) = records.split_first()?;
-        self.records = rest;
-        Some(TinyAsciiStr::from_utf8_unchecked(*raw))
+        let text = self.rest.first()?;
+        self.rest = self.rest.slice(1..self.rest.len());
+        Some(text)
     }
 
     fn size_hint(&self) -> (usize, Option<usize>)
@@ -233,13 +232,26 @@ impl<'a, const N: usize> Iterator for Texts<'a, N> {
         ensures upper { IfSome result.1 (UpTo (at_most (length self.now))) }
         ensures exact { result ≡ (length self.now, Some (length self.now)) }
     {
-        let len = self.records.len();
+        let len = self.rest.len();
         (len, Some(len))
+    }
+}
+
+impl<'a, const N: usize> DoubleEndedIterator for Texts<'a, N> {
+    ghost next_back_gives = { YieldsLast (λ rest. rest) };
+
+    #[tactic(auto, using(crate::proofs::PackedTexts::ends))]
+    fn next_back(&mut self) -> Option<TinyAsciiStr<N>> {
+        let text = self.rest.last()?;
+        self.rest = self.rest.slice(0..self.rest.len() - 1);
+        Some(text)
     }
 }
 
 impl<'a, const N: usize> ExactSizeIterator for Texts<'a, N> {
     fn len(&self) -> usize {
-        self.records.len()
+        self.rest.len()
     }
 }
+
+impl<'a, const N: usize> FusedIterator for Texts<'a, N> {}

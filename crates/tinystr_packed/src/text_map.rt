@@ -1,7 +1,7 @@
 //! Maps whose keys and values are packed texts, read in place.
 
 ghost use Rattle.std.specs.Prelude.{◌≡◌, ◌<◌, ◌^◌, ◌↔◌, [], List, ℕ, filter, is_some, length, nat_eq, zip, IsOk, IsTrue, IfOk, IfErr, IfSome, Some};
-ghost use Rattle.std.specs.Iterator.{YieldsFirst, item_count, UpTo, at_most};
+ghost use Rattle.std.specs.Iterator.{YieldsFirst, YieldsLast, item_count, UpTo, at_most};
 ghost use Rattle.std.specs.Iterator.SizeHint.{IsWithinCount};
 ghost use Rattle.std.specs.List.{starts_with};
 ghost use Rattle.std.specs.Map.{keys_of, values_of};
@@ -14,6 +14,7 @@ ghost use Rattle.tinystr_packed.specs.TextMap.{ArePackedTexts, RefusesTextMap};
 use crate::laws;
 use crate::sorted::{SortedError, SortedTable};
 use crate::table::{Table, Texts};
+use std::iter::FusedIterator;
 use std::marker::Model;
 use std::ops::Range;
 use tinystr::TinyAsciiStr;
@@ -117,6 +118,7 @@ impl<'a, const N: usize, const M: usize> TextMap<'a, N, M> {
     }
 
     /// The value of a key, or `None` if the map doesn't have the key.
+    #[tactic(auto, using(crate::proofs::PackedMaps::lookups))]
     pub fn get(&self, key: &TinyAsciiStr<N>) -> Option<TinyAsciiStr<M>>
         ensures { result ≡ Spec.get self.now key.now }
     {
@@ -214,6 +216,7 @@ impl<'a, const N: usize, const M: usize> Default for TextMap<'a, N, M> {
 /// ```rust
 /// let currencies = TextMap::<2, 3>::new(b"CHJP", b"CHFJPY").unwrap();
 /// assert_eq!(rt; currencies.iter().next(), Some((tinystr!(2, "CH")?, tinystr!(3, "CHF")?)));
+/// assert_eq!(rt; currencies.iter().next_back(), Some((tinystr!(2, "JP")?, tinystr!(3, "JPY")?)));
 /// ```
 #[derive(Clone, Drop)]
 pub struct TextEntries<'a, const N: usize, const M: usize> {
@@ -276,9 +279,22 @@ impl<'a, const N: usize, const M: usize> Iterator for TextEntries<'a, N, M> {
     }
 }
 
+impl<'a, const N: usize, const M: usize> DoubleEndedIterator for TextEntries<'a, N, M> {
+    ghost next_back_gives = { YieldsLast (λ rest. rest) };
+
+    #[tactic(auto, using(crate::proofs::PackedMaps::last_entry))]
+    fn next_back(&mut self) -> Option<(TinyAsciiStr<N>, TinyAsciiStr<M>)> {
+        let key = self.keys.next_back()?;
+        let value = self.values.next_back()?;
+        Some((key, value))
+    }
+}
+
 impl<'a, const N: usize, const M: usize> ExactSizeIterator for TextEntries<'a, N, M> {
     #[tactic(auto, using(crate::proofs::PackedMaps::map_steps))]
     fn len(&self) -> usize {
         self.keys.len()
     }
 }
+
+impl<'a, const N: usize, const M: usize> FusedIterator for TextEntries<'a, N, M> {}

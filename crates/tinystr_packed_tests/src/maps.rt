@@ -58,8 +58,8 @@ fn have_no_others(map: &PackedMap<'_, 4, 3>, texts: &TextMap<'_, 4, 3>) -> bool 
         && !map.contains_key(&other)
         && !texts.contains_key(&other);
     let have_len = map.len() == 4 && texts.len() == 4 && !map.is_empty() && !texts.is_empty();
-    let have_parts = map.keys().table().len() == 4
-        && texts.keys().table().len() == 4
+    let have_parts = map.keys().len() == 4
+        && texts.keys().len() == 4
         && map.values().as_flattened() == VALUES
         && texts.values().len() == 4;
     let begun = map.with_prefix(&key("E"));

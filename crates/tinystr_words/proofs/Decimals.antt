@@ -139,6 +139,8 @@ number_of-append (d ∷ a) b =
 pub decimal-lt : (k n : ℕ) → n < 2 ^ 64 → length (decimal n) ≤ k → n < 10 ^ k
 decimal-lt k n fits short = rw (digits_value-decimal digits_model n fits) at (digits_value_short digits_model (decimal n) k (digits_decimal digits_model n fits) short)
 
+pub ruleset decimal_lengths = (length-decimal-le, decimal_nonempty, length-decimal-le_ten, decimal-lt)
+
 -- they are those of a number that has a 1 before them, without the 1
 pub decimal-last_digits : (k n : ℕ) → n < 2 ^ 32 → k < length (decimal n) → drop 1 (decimal (10 ^ k + n % 10 ^ k)) ≡ last k (decimal n)
 decimal-last_digits k n fits more =

@@ -362,6 +362,8 @@ zip2-kept_lanes n lanes count few long small some =
     ∙ byte_kept (get_or lanes i 0) (Each1-get_or (Fits w8) lanes i 0 (omega arith) small).fits (nat_lt (16 - count + i) 16)
     ∙ kept_at lanes n count i (omega arith))
 
+pub ruleset kept = zip2-kept_lanes
+
 -- the lanes of a text up to a place are a front of the text
 pub IsPadded-first_lanes : (bytes lanes : List ℕ) (n count : ℕ) → IsPaddedText bytes n → count ≤ n → lanes ≡ pad (take count bytes) n → IsPadded lanes × (text_of lanes ≡ take count (text_of bytes))
 IsPadded-first_lanes bytes lanes n count padded some is =

@@ -257,3 +257,5 @@ sel_l-units units bytes others r a fits loaded made =
 -- bytes that are padded are cut or padded again
 pub pad-pad : (t : List ℕ) (n w : ℕ) → length t ≤ n → length t ≤ w → pad (take n (pad t w)) n ≡ pad t n
 pad-pad t n w fits narrow = same_lists _ _ (search (rules, places)) (λ k d h. grind (arith, places))
+
+pub ruleset replaced = (length-map, pad-pad, pad-take_replicate)

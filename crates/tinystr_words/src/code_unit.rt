@@ -74,6 +74,7 @@ impl CodeUnit for u8 {
         u32::from_le_bytes(*units.first_chunk::<4>().unwrap())
     }
 
+    #[tactic(auto, using(crate::proofs::Pieces::Word::bytes_unchanged))]
     #[inline(always)]
     fn eight_low_bytes(units: &[u8]) -> [u8; 8] {
         let mut bytes = [0; 8];

@@ -10,6 +10,7 @@ ghost use Rattle.tinystr_words.specs.Words.{word};
 /// assert!(rt; decimal_fits(999, 3));
 /// assert!(rt; !decimal_fits(1000, 3));
 /// ```
+#[tactic(auto, using(crate::proofs::Decimals::decimal_lengths))]
 #[inline(always)]
 pub fn decimal_fits(number: u32, most: usize) -> bool
     ensures { IsTrue result ↔ (length (decimal number) ≤ most) }

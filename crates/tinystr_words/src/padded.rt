@@ -10,6 +10,7 @@ ghost use Rattle.tinystr_words.specs.Decimal.{last};
 ghost use Rattle.tinystr_words.specs.Questions.{ask_question, in_case};
 ghost use Rattle.tinystr_words.specs.Private.Padded.{IsWidthOf};
 
+mod bytewise;
 mod code_units;
 mod concatenation;
 mod copying;

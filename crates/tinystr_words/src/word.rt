@@ -127,6 +127,7 @@ impl Word<4> for u32 {
     }
 
     // Only NULs are above the text's last byte.
+    #[tactic(auto, using(crate::proofs::Words::Texts::text_length))]
     #[inline]
     fn text_len(self) -> usize {
         4 - u32::leading_zeros(self) as usize / 8

@@ -1,12 +1,12 @@
-//! The first sixteen bytes of a text, in a vector.
+//! The first sixteen bytes of a text, in a vector, and parts of padded bytes.
 
-ghost use Rattle.std.specs.Prelude.{◌≡◌, ◌≤◌, length, take};
+ghost use Rattle.std.specs.Prelude.{◌≡◌, ◌≤◌, ◌-◌, length, take, drop};
 ghost use Rattle.tinystr_words.specs.Text.{IsPadded, text_of};
 
 use crate::ascii::TinyAsciiStr;
 use std::simd::prelude::*;
 use tinystr_words::int_ops::Aligned16;
-use tinystr_words::padded::{first_lanes_of_sixteen, resize};
+use tinystr_words::padded::{first_lanes_of_sixteen, resize, resize_at_once};
 
 /// The first sixteen bytes of the text, and then NULs.
 #[inline(always)]
@@ -42,4 +42,39 @@ pub(crate) fn text_of_first_lanes<const N: usize>(lanes: u8x16, count: usize) ->
     ensures { result ≡ take count (text_of lanes) }
 {
     text_of_lanes(first_lanes_of_sixteen(lanes, count))
+}
+
+/// The text of padded bytes, truncated to `N`.
+#[inline(always)]
+pub(crate) fn text_of_bytes<const N: usize>(bytes: &[u8]) -> TinyAsciiStr<N>
+    requires { IsPadded bytes.now }
+    ensures { result ≡ take N (text_of bytes.now) }
+{
+    TinyAsciiStr::from_padded(resize_at_once(bytes))
+}
+
+/// The first of padded bytes.
+#[tactic(auto, using(crate::proofs::Splits::parts_of_padded))]
+#[inline(always)]
+pub(crate) fn front_of(bytes: &[u8], len: usize) -> &[u8]
+    requires padded { IsPadded bytes.now }
+    requires inside { len ≤ length bytes.now }
+    ensures len { length result.now ≡ len }
+    ensures padded { IsPadded result.now }
+    ensures text { text_of result.now ≡ take len (text_of bytes.now) }
+{
+    &bytes[..len]
+}
+
+/// Padded bytes from a place on.
+#[tactic(auto, using(crate::proofs::Splits::parts_of_padded))]
+#[inline(always)]
+pub(crate) fn rest_of(bytes: &[u8], start: usize) -> &[u8]
+    requires padded { IsPadded bytes.now }
+    requires inside { start ≤ length bytes.now }
+    ensures len { length result.now ≡ length bytes.now - start }
+    ensures padded { IsPadded result.now }
+    ensures text { text_of result.now ≡ drop start (text_of bytes.now) }
+{
+    &bytes[start..]
 }

@@ -1,11 +1,10 @@
 //! The readers: strict, of padded bytes, lossy, and of bytes that are known to be padded.
 
 ghost use Rattle.std.specs.Prelude.{◌≡◌, map, IsOk, IfOk, IfErr, ◌↔◌};
-ghost use Rattle.std.specs.Result.{result_ok};
-ghost use Rattle.tinystr_words.specs.Text.{text_of, IsTextByte, IsStrictText, IsPaddedText};
-ghost use Rattle.tinystr_words.specs.Reading.{fault_in, lossy, strict_of};
+ghost use Rattle.tinystr_words.specs.Text.{text_of, IsTextByte, IsPaddedText};
+ghost use Rattle.tinystr_words.specs.Reading.{fault_in, lossy};
 ghost use Rattle.tinystr.specs.Error.{fault_of};
-ghost use Rattle.tinystr.specs.Reading.{read_of, read_raw_of};
+ghost use Rattle.tinystr.specs.Reading.{IsStrictRead, read_raw_of};
 
 use crate::ascii::{TinyAsciiStr, strict};
 use crate::error::ParseError;
@@ -25,11 +24,7 @@ impl<const N: usize> TinyAsciiStr<N> {
     /// ```
     #[inline]
     pub fn try_from_str(s: &str) -> Result<Self, ParseError>
-        ensures accepted { IsOk result ↔ IsStrictText s.now N }
-        ensures text { IfOk result (λ t. t ≡ s.now) }
-        ensures fault { IfErr result (λ e. fault_of e ≡ fault_in N s.now) }
-        ensures value { result_ok result ≡ strict_of N s.now }
-        ensures read { result ≡ read_of N s.now }
+        ensures { IsStrictRead fault_of s.now N result }
     {
         Self::try_from_utf8(s.as_bytes())
     }
@@ -42,11 +37,7 @@ impl<const N: usize> TinyAsciiStr<N> {
     /// ```
     #[inline]
     pub fn try_from_utf8(code_units: &[u8]) -> Result<Self, ParseError>
-        ensures accepted { IsOk result ↔ IsStrictText code_units.now N }
-        ensures text { IfOk result (λ t. t ≡ code_units.now) }
-        ensures fault { IfErr result (λ e. fault_of e ≡ fault_in N code_units.now) }
-        ensures value { result_ok result ≡ strict_of N code_units.now }
-        ensures read { result ≡ read_of N code_units.now }
+        ensures { IsStrictRead fault_of code_units.now N result }
     {
         strict::read::<u8, N>(code_units)
     }
@@ -60,11 +51,7 @@ impl<const N: usize> TinyAsciiStr<N> {
     /// ```
     #[inline]
     pub fn try_from_utf16(code_units: &[u16]) -> Result<Self, ParseError>
-        ensures accepted { IsOk result ↔ IsStrictText code_units.now N }
-        ensures text { IfOk result (λ t. t ≡ code_units.now) }
-        ensures fault { IfErr result (λ e. fault_of e ≡ fault_in N code_units.now) }
-        ensures value { result_ok result ≡ strict_of N code_units.now }
-        ensures read { result ≡ read_of N code_units.now }
+        ensures { IsStrictRead fault_of code_units.now N result }
     {
         strict::read::<u16, N>(code_units)
     }

@@ -8,12 +8,13 @@ ghost use Rattle.tinystr_words.specs.Text.{IsPadded, text_of};
 ghost use Rattle.tinystr.specs.Private.Splitting.{parts_left};
 
 use crate::ascii::TinyAsciiStr;
-use crate::ascii::lanes::{first_sixteen, text_of_first_lanes, text_of_lanes};
+use crate::ascii::lanes::{
+    first_sixteen, front_of, rest_of, text_of_bytes, text_of_first_lanes, text_of_lanes,
+};
 use crate::laws;
 use std::marker::Model;
 use std::simd::prelude::*;
 use tinystr_words::int_ops::Aligned8;
-use tinystr_words::padded::resize_at_once;
 use tinystr_words::word::Word;
 
 /// An iterator over the parts of a text, in order. A contract sees it as the list of those that are left.
@@ -146,6 +147,7 @@ impl<'a, const N: usize> Iterator for Parts<'a, N> {
 
 // The first part of a text of at most eight bytes, and the text after its separator, if there is one. Both stay in
 // registers: to load a short remainder is slow.
+#[tactic(auto, using(crate::proofs::Splits::first_part))]
 #[inline(always)]
 fn split_first_of_eight(
     text: TinyAsciiStr<8>,
@@ -196,7 +198,7 @@ fn split_around(text: TinyAsciiStr<8>, at: usize) -> (TinyAsciiStr<8>, TinyAscii
 
 // The first part of padded bytes, and the bytes after its separator, if there is one. A part that ends in the first
 // sixteen bytes stays in a vector.
-#[tactic(auto, using(crate::proofs::Splits::found_in_sixteen))]
+#[tactic(auto, using(crate::proofs::Splits::first_part))]
 #[inline(always)]
 fn split_first<const N: usize>(bytes: &[u8], separator: u8) -> (TinyAsciiStr<N>, Option<&[u8]>)
     requires padded { IsPadded bytes.now }
@@ -207,13 +209,14 @@ fn split_first<const N: usize>(bytes: &[u8], separator: u8) -> (TinyAsciiStr<N>,
 {
     let lanes = first_sixteen(bytes);
     match find_in_sixteen(lanes, separator) {
-        Some(at) => (text_of_first_lanes(lanes, at), Some(&bytes[at + 1..])),
+        Some(at) => (text_of_first_lanes(lanes, at), Some(rest_of(bytes, at + 1))),
         None if bytes.len() <= 16 || bytes[16] == 0 => (text_of_lanes(lanes), None),
         None => split_first_by_copy(bytes, separator),
     }
 }
 
 // The same where the first sixteen bytes have no separator: the part is copied.
+#[tactic(auto, using(crate::proofs::Splits::first_part))]
 fn split_first_by_copy<const N: usize>(
     bytes: &[u8],
     separator: u8,
@@ -227,14 +230,15 @@ fn split_first_by_copy<const N: usize>(
 {
     match find_past_sixteen(bytes, separator) {
         Some(at) => (
-            TinyAsciiStr::from_padded(resize_at_once(&bytes[..at])),
-            Some(&bytes[at + 1..]),
+            text_of_bytes(front_of(bytes, at)),
+            Some(rest_of(bytes, at + 1)),
         ),
-        None => (TinyAsciiStr::from_padded(resize_at_once(bytes)), None),
+        None => (text_of_bytes(bytes), None),
     }
 }
 
 // The index of the first such byte in the text, sixteen bytes at a time. None of the first sixteen is it.
+#[tactic(auto, using(crate::proofs::Splits::found_past))]
 fn find_past_sixteen(bytes: &[u8], byte: u8) -> Option<usize>
     requires padded { IsPadded bytes.now }
     requires missed { position (λ b. b == byte) (take 16 (text_of bytes.now)) ≡ None }
@@ -242,7 +246,7 @@ fn find_past_sixteen(bytes: &[u8], byte: u8) -> Option<usize>
 {
     let mut start = 16;
     while start < bytes.len() {
-        if let Some(at) = find_in_sixteen(first_sixteen(&bytes[start..]), byte) {
+        if let Some(at) = find_in_sixteen(first_sixteen(rest_of(bytes, start)), byte) {
             return Some(start + at);
         }
         start += 16;

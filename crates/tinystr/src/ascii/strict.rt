@@ -6,13 +6,15 @@ ghost use Rattle.tinystr_words.specs.Reading.{first_fault, fault_in};
 ghost use Rattle.tinystr.specs.Error.{fault_of};
 
 use crate::ascii::TinyAsciiStr;
+use crate::ascii::lanes::text_of_bytes;
 use crate::error::ParseError;
 use tinystr_words::int_ops::{Aligned8, Aligned16};
-use tinystr_words::padded::{self, Width, resize_at_once, width_of};
+use tinystr_words::padded::{self, Width, width_of};
 use tinystr_words::{CodeUnit, are_characters};
 
 /// The text of the code units, or their fault. The value is made where its bytes are: an array in an `Option` or a
 /// `Result` of its own would be copied once more.
+#[tactic(auto, using(crate::proofs::Splits::whole))]
 #[inline(always)]
 pub(crate) fn read<U: CodeUnit, const N: usize>(units: &[U]) -> Result<TinyAsciiStr<N>, ParseError>
     ensures accepted { IsOk result ↔ IsStrictText (map U.number units.now) N }
@@ -27,13 +29,13 @@ pub(crate) fn read<U: CodeUnit, const N: usize>(units: &[U]) -> Result<TinyAscii
             // up to 8 code units: one register
             Width::Four | Width::Eight => {
                 if let Some(text) = Aligned8::try_from_text(units) {
-                    return Ok(TinyAsciiStr::from_padded(resize_at_once(&text.to_bytes())));
+                    return Ok(text_of_bytes(&text.to_bytes()));
                 }
             }
             // up to 16, at larger capacities too: more are read by pieces
             Width::Sixteen | Width::Many => {
                 if let Some(text) = Aligned16::try_from_text(units) {
-                    return Ok(TinyAsciiStr::from_padded(resize_at_once(&text.to_bytes())));
+                    return Ok(text_of_bytes(&text.to_bytes()));
                 }
             }
         }
@@ -42,6 +44,7 @@ pub(crate) fn read<U: CodeUnit, const N: usize>(units: &[U]) -> Result<TinyAscii
 }
 
 /// The text of bytes, or why they aren't padded. The value is made where its bytes are, as in `read`.
+#[tactic(auto, using(crate::proofs::Splits::whole))]
 #[inline(always)]
 pub(crate) fn read_padded<const N: usize>(raw: [u8; N]) -> Result<TinyAsciiStr<N>, ParseError>
     ensures accepted { IsOk result ↔ IsPaddedText raw.entry N }
@@ -52,7 +55,7 @@ pub(crate) fn read_padded<const N: usize>(raw: [u8; N]) -> Result<TinyAsciiStr<N
         // 9 to 16 bytes: those of the word, since the array would be copied in pieces that fit no register
         Width::Sixteen => {
             if let Some(text) = Aligned16::try_from_padded(&raw[..]) {
-                return Ok(TinyAsciiStr::from_padded(resize_at_once(&text.to_bytes())));
+                return Ok(text_of_bytes(&text.to_bytes()));
             }
         }
         // the array as it was given, in one register, or in memory

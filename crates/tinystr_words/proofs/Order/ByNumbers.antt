@@ -153,6 +153,8 @@ number-loaded bs w r fits bytes loaded swapped =
     let back : to_le_bytes w64 (word (pad bs 8)) ≡ pad bs 8 = le_bytes_8 (pad bs 8) (word (pad bs 8)) long (λ i. rw (get_or-pad bs 8 i) (AreBytes-from_type bs bytes i)) (from_le_bytes-word (pad bs 8) long) in
     swapped ∙ rw same (ap (λ (l : List ℕ). from_be_bytes w64 l) back)
 
+pub ruleset loaded = number-loaded
+
 -- ---- bytes compared by their numbers
 
 -- a comparison of numbers is below where the number is

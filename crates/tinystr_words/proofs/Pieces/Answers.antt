@@ -48,7 +48,7 @@ in_case-append Title q [] b (inr e) = rw e refl
 in_case-append Title q (d ∷ a) b x = ap (λ l. raise d ∷ l) (map-append lower a b)
 
 -- the later class of a question, tested on each byte, is its question for later words
-later-ask_question : (q : Question) (t : List ℕ) → ask (later_class q) (later_class q) t ≡ ask_question (later_question q) t
+pub later-ask_question : (q : Question) (t : List ℕ) → ask (later_class q) (later_class q) t ≡ ask_question (later_question q) t
 later-ask_question Titlecase t = refl
 later-ask_question AlphabeticTitlecase t = refl
 later-ask_question q t = refl

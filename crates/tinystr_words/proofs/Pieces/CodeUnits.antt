@@ -123,3 +123,5 @@ lossy-full number units r n full =
     let made = lossy (map number units) r n in
     let len : length made ≡ n = length-map (take n (map number units)) (lossy_byte r) ∙ length-take n (map number units) ∙ omega (arith, length-map units number) in
     lossy-front number units r n ∙ sym (pad-full made n (omega arith))
+
+pub ruleset lossy_pieces = (length-map, IsReadPiece-whole, lossy-all, lossy-full, lossy-front)

@@ -1,11 +1,15 @@
 -- Padded bytes in words of sixteen: their length, questions and changes.
-use Rattle.std.proofs.Common.{Bool, List, ap, arith, drop, false, length, refl, rules, sym, take, true, ℕ, ◌&&◌, ◌++◌, ◌+◌, ◌-◌, ◌∙◌, ◌≡◌, ◌≤◌}
+use Rattle.std.proofs.Common.{Bool, List, zero, suc, [], ◌∷◌, ◌==◌, ◌||◌, ap₂, ap, arith, drop, false, length, refl, rules, sym, take, true, ℕ, ◌&&◌, ◌++◌, ◌+◌, ◌-◌, ◌∙◌, ◌≡◌, ◌≤◌}
 use Rattle.std.proofs.lemmas.List.{places, same_lists, append_assoc, drop-drop, length-append, length-drop, length-take-le, take-append-drop, take_all}
-use Rattle.tinystr_words.specs.Text.{IsPadded, IsPaddedText, pad, text_of}
+use Rattle.std.specs.List.{list_all}
+use Rattle.std.proofs.lemmas.Bool.Decides.{nat_tests}
+use Rattle.std.proofs.lemmas.List.Folds.{list_all-append}
+use Rattle.std.proofs.lemmas.List.Elements.{All-head, All-tail}
+use Rattle.tinystr_words.specs.Text.{IsPadded, IsPaddedText, IsText, IsTextByte, pad, text_of}
 use Rattle.tinystr_words.specs.declared.question.Question.{Question}
-use Rattle.tinystr_words.specs.Questions.{ask_question, in_case, later_case, later_question}
-use Rattle.tinystr_words.proofs.Texts.{IsPaddedText-drop, IsPaddedText-made, IsPaddedText-take, length-text_of-le, take-pad, text_of-drop, text_of-made, text_of-take}
-use Rattle.tinystr_words.proofs.Pieces.Answers.{IsText-in_case, ask_question-pieces, in_case-padded, in_case-pieces, length-in_case}
+use Rattle.tinystr_words.specs.Questions.{ask_question, in_case, later_case, later_class, later_question}
+use Rattle.tinystr_words.proofs.Texts.{NULS, IsPaddedText-drop, IsPaddedText-made, IsPaddedText-take, length-text_of-le, take-pad, text_of-drop, text_of-made, text_of-take}
+use Rattle.tinystr_words.proofs.Pieces.Answers.{IsText-in_case, ask-same, ask_question-pieces, later-ask_question, in_case-padded, in_case-pieces, length-in_case}
 use Rattle.tinystr_words.specs.Private.Padded.{IsFirstWord}
 use Rattle.std.proofs.lemmas.Slice.{drop-put_mid, take-put_mid}
 use borrow.Rule.Slice.PartMut.{put_mid}
@@ -99,3 +103,36 @@ pub IsPadded-after_word : (bytes made : List ℕ) (start k : ℕ) → start + 16
 IsPadded-after_word bytes made start k fits size long p =
     rw (drop-put_mid start k bytes made (start + 16) (omega arith) (omega arith) long, ← drop-drop 16 start bytes)
     (IsPaddedText-drop (drop start bytes) (length (drop start bytes)) 16 p)
+
+-- ---- byte by byte
+
+-- a NUL, or a byte in the class of later bytes
+abbrev pub passes_later : Question → ℕ → Bool
+passes_later q b = (b == 0) || later_class q b
+
+list_all-passes_text : (q : Question) (t : List ℕ) → IsText t → list_all (passes_later q) t ≡ list_all (later_class q) t
+list_all-passes_text q [] x = refl
+list_all-passes_text q (b ∷ t) x =
+    let here : IsTextByte b = All-head IsTextByte b t x in
+    let others = list_all-passes_text q t (All-tail IsTextByte b t x) in
+    rw others (grind (arith, nat_tests))
+
+list_all-passes_nuls : (q : Question) (k : ℕ) → list_all (passes_later q) (NULS k) ≡ true
+list_all-passes_nuls q zero = refl
+list_all-passes_nuls q (suc k) = list_all-passes_nuls q k
+
+and-true : (r : Bool) → (r && true) ≡ r
+and-true true = refl
+and-true false = refl
+
+-- padded bytes pass where their text does
+pub list_all-passes : (q : Question) (l : List ℕ) → IsPadded l → list_all (passes_later q) l ≡ ask_question (later_question q) (text_of l)
+list_all-passes q l p =
+    let t = text_of l in
+    let k = length l - length t in
+    ap (list_all (passes_later q)) p.padded
+    ∙ list_all-append (passes_later q) t (NULS k)
+    ∙ ap₂ (λ a b. a && b) (list_all-passes_text q t p.text) (list_all-passes_nuls q k)
+    ∙ and-true (list_all (later_class q) t)
+    ∙ sym (ask-same (later_class q) t)
+    ∙ later-ask_question q t

@@ -70,6 +70,8 @@ map-mod_small f (x ∷ l) a = let h : f x < 256 = a.0 in ap₂ (λ y (m : List �
 pub map-mod_bytes : (l : List ℕ) → ((i : ℕ) → Fits w8 (get_or l i 0)) → map (λ u. u % 256) l ≡ l
 map-mod_bytes l f = rw (map-id l) at (map-mod_small (λ u. u) l (rw (map-id l) (IsBytes-from_Fits l f)))
 
+pub ruleset bytes_unchanged = map-mod_bytes
+
 -- and characters
 pub map-mod_text : {X : Type 0} (f : X → ℕ) (l : List X) → IsText (map f l) → map (λ u. f u % 256) l ≡ map f l
 map-mod_text f l h = map-mod_small f l (IsBytes-from_IsText (map f l) h)

@@ -50,6 +50,8 @@ length-text_in {n} {w} h =
     let fits = h.fits in
     omega arith
 
+pub ruleset text_length = length-text_in
+
 -- and by the place of the highest bit, above one more bit
 pub length-text_in-by_top : {w : ℕ} → HoldsText 8 w → w < 18446744073709551616 → (63 - count_leading_zeros 64 (2 * w + 1) + 7) / 8 ≡ length (text_in 8 w)
 length-text_in-by_top {w} h small =

@@ -152,6 +152,7 @@ fn lossy_chunk<U: CodeUnit, const N: usize>(units: &[U], replacement: u8) -> [u8
 }
 
 /// The first `N` code units, with the replacement for each that isn't a character, and then NULs.
+#[tactic(auto, using(crate::proofs::Pieces::CodeUnits::lossy_pieces))]
 #[inline(always)]
 pub fn lossy<U: CodeUnit, const N: usize>(units: &[U], replacement: u8) -> [u8; N]
     ensures { result ≡ pad (lossy (map U.number units.now) replacement N) N }

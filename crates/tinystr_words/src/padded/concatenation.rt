@@ -150,6 +150,7 @@ pub(crate) fn concat_in_memory<const N: usize, const M: usize, const Q: usize>(
 }
 
 // Copies the bytes of one and then of another, as far as they fit.
+#[tactic(auto, using(crate::proofs::Pieces::Copying::copied_both))]
 #[inline(always)]
 fn put_both(bytes: &mut [u8], first: &[u8], second: &[u8])
     ensures { bytes.new ≡ take (length bytes.old) (first.now ++ second.now) ++ drop (length (first.now ++ second.now)) bytes.old }

@@ -40,6 +40,7 @@ fn number_of_eight(bytes: &[u8; 8]) -> u64
 }
 
 /// The number of at most eight bytes, padded with NULs, the first the most significant.
+#[tactic(auto, using(crate::proofs::Order::ByNumbers::loaded))]
 #[inline(always)]
 pub fn number(bytes: &[u8]) -> u64
     requires { length bytes.now ≤ 8 }

@@ -12,6 +12,7 @@ use crate::word::{Word, lanes};
 use std::simd::prelude::*;
 
 /// At most sixteen bytes, with the replacement for each that isn't a character, and then NULs.
+#[tactic(auto, using(crate::proofs::Vectors::replaced))]
 #[inline(always)]
 pub(crate) fn lossy_word<const N: usize>(bytes: &[u8], replacement: u8) -> [u8; N]
     requires one_word { length bytes.now ≤ 16 }
@@ -33,6 +34,7 @@ fn lossy_lanes(bytes: &[u8], replacement: u8) -> u8x16
 }
 
 // `count` replacements, and then NULs.
+#[tactic(auto, using(crate::proofs::Vectors::replaced))]
 #[inline(always)]
 fn replacements(replacement: u8, count: usize) -> u8x16
     requires { count ≤ 16 }

@@ -1,10 +1,11 @@
-use Rattle.std.proofs.Common.{ℕ, ◌==◌, ◌≡◌, ◌≤◌, ◌+◌, ◌∙◌, Some, ap, arith, length, position, sym, take, take_all, rules}
+use Rattle.std.proofs.Common.{ℕ, ◌==◌, ◌≡◌, ◌≤◌, ◌∙◌, Some, ap, arith, length, position, sym, take, take_all, rules}
 use Rattle.std.proofs.lemmas.Bool.Decides.{nat_tests}
-use Rattle.std.proofs.lemmas.List.{length-drop, length-take, take-take, take_rest}
+use Rattle.std.proofs.lemmas.List.{length-take, take-take}
 use Rattle.tinystr_words.specs.Text.{text_of}
 use Rattle.tinystr_words.proofs.Parts.Found.{position-front}
+use Rattle.tinystr_words.proofs.Parts.Splits.{slice_split-found}
 use Rattle.tinystr_words.proofs.Texts.{length-text_of-le}
-use Rattle.tinystr.proofs.Splits.{IsPadded-rest, length-text_of-nul, position-inside, slice_split-padded, slice_split-whole}
+use Rattle.tinystr.proofs.Splits.{length-text_of-nul, position-inside, slice_split-whole}
 use Rattle.tinystr.proofs.ascii.splitting.split_first.Goals as goal
 use Rattle.tinystr.proofs.ascii.splitting.split_first.Goals.{then-bytes-le16, else-bytes-le16}
 
@@ -19,18 +20,12 @@ text_of_first_lanes-requires g c =
 
 pub returns-in-Some-clause-parts : goal.returns-in-Some-clause-parts
 returns-in-Some-clause-parts g c =
-    let bytes = c.args.bytes.now in
     let p = λ (b : ℕ). b == c.args.separator in
-    let t = text_of bytes in
+    let t = text_of c.args.bytes.now in
     let lanes = c.first_sixteen-lanes.ensures in
     let at : position p (take 16 t) ≡ Some c.in-Some.at = rw lanes.text at (sym c.in-Some.ensures) in
-    slice_split-padded p bytes c.text_of_first_lanes.result c.in-Some.at c.requires.padded (position-front p t 16 c.in-Some.at at) (c.text_of_first_lanes.ensures ∙ ap (take c.in-Some.at) lanes.text ∙ take-take c.in-Some.at 16 t (omega (arith, position-inside p (take 16 t) c.in-Some.at (sym at), length-take 16 t)))
-
-pub returns-in-Some-clause-rest : goal.returns-in-Some-clause-rest
-returns-in-Some-clause-rest g c =
-    let bytes = c.args.bytes.now in
-    let k = c.in-Some.at + 1 in
-    (IsPadded-rest bytes k c.requires.padded, rw take_rest (omega (arith, length-drop k bytes)))
+    let part = c.text_of_first_lanes.ensures ∙ ap (take c.in-Some.at) lanes.text ∙ take-take c.in-Some.at 16 t (omega (arith, position-inside p (take 16 t) c.in-Some.at (sym at), length-take 16 t)) in
+    rw (part, c.rest_of.ensures.text) (slice_split-found p t c.in-Some.at (position-front p t 16 c.in-Some.at at))
 
 pub returns-in-None-clause-parts : goal.returns-in-None-clause-parts
 returns-in-None-clause-parts g c =
