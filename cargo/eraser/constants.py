@@ -1,8 +1,8 @@
 """Functions that constants call: proved ones once more, in a hand-written frame that names them.
 
 A line '//= FILE: `NAMES`' of the frame is replaced by the functions of these names in a made file, and '//= FILE, ITEM: `NAMES`'
-by those of one item, with `free` before the names if they are no methods here. Each becomes a `pub const fn` without its comment,
-in what a `const fn` can do.
+by those of one item: with `free` before the names if they are no methods here, and with `held` if they are those of a word that
+holds the number. Each becomes a `pub const fn` without its comment, in what a `const fn` can do.
 """
 
 import re
@@ -14,14 +14,18 @@ from lib.rattle import Tokens
 # The frame, and the name by which its rules are listed.
 FRAME = "cargo/eraser/in_constants.rs"
 NAME = "tinystr_words/in_constants.rt"
-# What only constants' forms are left of: files, and functions of files.
+# What only constants' forms are left of: files, and items of files.
 MOVED = {
-    "ascii/strict.rs": ["read_padded"],
-    "words/padded.rs": ["len", "ask", "put_in_case", "concat"],
+    "ascii/strict.rs": ["fn read", "fn read_padded", "fn read_pieces", "fn find_fault", "fn fault"],
+    "words/code_unit.rs": ["impl CodeUnit for u16"],
+    "words/padded.rs": ["fn len", "fn ask", "fn put_in_case", "fn concat"],
+    "words/padded/bytewise.rs": [],
+    "words/padded/code_units.rs": [],
     "words/padded/concatenation.rs": [],
+    "words/padded/replacing.rs": [],
     "words/padded/words.rs": [],
 }
-MARK = re.compile(r"^( *)//= (?P<file>\S+\.rs)(?:, (?P<item>.*?))?: (?P<free>free )?`(?P<names>[\w ]+)`\n", re.M)
+MARK = re.compile(r"^( *)//= (?P<file>\S+\.rs)(?:, (?P<item>.*?))?: (?P<how>free |held )?`(?P<names>[\w ]+)`\n", re.M)
 HEAD = r"( *)(?:pub(?:\(crate\))? )?(?:const )?fn "
 # An item, and a function that has a body, with its attributes: each ends at the first brace as far in as its head.
 ITEM = r"^()%s \{\n(?:.*\n)*?\}\n"
@@ -43,7 +47,8 @@ def with_functions(frame: str, made: dict[str, str]) -> str:
         file = mark["file"]
         text = only(ITEM, mark["item"], made[file], file) if mark["item"] else made[file]
         found = (only(FUNCTION, name, text, file) for name in mark["names"].split())
-        return "\n".join(placed(without_self(it) if mark["free"] else it, mark[1]) for it in found)
+        change = {"free ": without_self, "held ": of_word, None: str}[mark["how"]]
+        return "\n".join(placed(change(it), mark[1]) for it in found)
 
     return MARK.sub(functions, frame)
 
@@ -53,7 +58,7 @@ def without_moved(made: dict[str, str]) -> dict[str, str]:
     left = {file: text for file, text in made.items() if MOVED.get(file) != []}
     for file, names in MOVED.items():
         for name in names:
-            left[file], count = without_item(left[file], rf"^(?:pub(?:\(crate\))? )?fn {name}\b")
+            left[file], count = without_item(left[file], rf"^(?:pub(?:\(crate\))? )?{name}\b")
             if count != 1:
                 raise Stopped(f"{file}: `{name}` is there {count} times, and not once")
     return left
@@ -70,6 +75,13 @@ def only(pattern: str, name: str, text: str, file: str) -> str:
 def without_self(method: str) -> str:
     """A method of a code unit as a function of one."""
     return re.sub(r"\bself\b", "unit", re.sub(r"(fn \w+)\(self\)", r"\1(unit: U)", method))
+
+
+def of_word(method: str) -> str:
+    """A method of a number as one of the word that holds it, which is what it takes and returns."""
+    head, body = method.split("{\n", 1)
+    head, body = re.sub(r"(?<=: |> )u\d+\b", "Self", head), re.sub(r"\b(self|other)\b", r"\1.0", body)
+    return head + "{\n" + (re.sub(r"\A( *)(.*)", r"\1Word(\2)", body) if head.endswith("-> Self ") else body)
 
 
 def placed(function: str, indent: str) -> str:

@@ -1,4 +1,4 @@
-"""The examples of doc comments as doc tests, and those of private modules as text."""
+"""The examples of doc comments as doc tests, and those of private modules, whose functions no doc test can call, as text."""
 
 import re
 
@@ -62,22 +62,15 @@ def uses(body: str) -> list[str]:
     return lines
 
 
-def with_doc_tests(text: str, file: str) -> str:
-    """The text with each example as a doc test, which begins with the names that it uses."""
+def with_examples(text: str, file: str, is_private: bool) -> str:
+    """The text with each example as a doc test, which begins with the names that it uses, or as text."""
 
-    def doc_test(found: re.Match) -> str:
+    def example(found: re.Match) -> str:
         indent, body = found[1], in_rust(found[2], file)
+        if is_private:
+            return f"{indent}/// ```text\n{body}{indent}/// ```\n"
         front = "".join(f"{indent}/// {line}\n" for line in uses(body))
         end = f"{indent}/// # Ok::<(), Box<dyn std::error::Error>>(())\n" if "?" in re.sub(r'"[^"]*"|b\'\?\'', "", body) else ""
         return f"{indent}/// ```\n{front}{indent}///\n{body}{end}{indent}/// ```\n"
 
-    return EXAMPLE.sub(doc_test, text)
-
-
-def with_shown_examples(text: str, file: str) -> str:
-    """The text of a private module, whose functions no doc test can call."""
-
-    def shown(found: re.Match) -> str:
-        return f"{found[1]}/// ```text\n{in_rust(found[2], file)}{found[1]}/// ```\n"
-
-    return EXAMPLE.sub(shown, text)
+    return EXAMPLE.sub(example, text)

@@ -35,18 +35,10 @@ def with_literals(text: str, file: str) -> str:
         inside = VALUE.fullmatch(tokens.joined(1, end - 1))
         if not inside:
             raise Stopped(f"{file}:{line_of(text, found.start())}: a text is made of more than `bytes`")
-        is_maker = (file, function_at(text, found.start(), file)) == MAKER
-        made = CHECKED if is_maker else f"TinyAsciiStr::{MAKER[1]}({inside[1] or 'bytes'})"
+        function = re.findall(r"\bfn (\w+)", code_of(text)[: found.start()])[-1]
+        made = CHECKED if (file, function) == MAKER else f"TinyAsciiStr::{MAKER[1]}({inside[1] or 'bytes'})"
         text = text[: found.start()] + made + tokens.joined(end, len(tokens))
     return text
-
-
-def function_at(text: str, at: int, file: str) -> str:
-    """The name of the function around a place."""
-    names = re.findall(r"\bfn (\w+)", code_of(text)[:at])
-    if not names:
-        raise Stopped(f"{file}:{line_of(text, at)}: a text is made in no function")
-    return names[-1]
 
 
 def read_by_call(code: str) -> str:

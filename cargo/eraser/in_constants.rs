@@ -3,6 +3,7 @@
 //! for each width, and for each code unit. Each has the contract that the function of its name has there.
 
 use crate::ascii::TinyAsciiStr;
+use crate::ascii::lanes::text_of_bytes;
 use crate::error::ParseError;
 use crate::in_words;
 use crate::simd::u64x2;
@@ -25,30 +26,19 @@ pub struct Aligned<T, const LEN: usize> {
 
 /// Writes functions out for each width: `T` is the word, `Number` what it holds, and `LEN` the number of its bytes.
 macro_rules! for_each_width {
+    (in $width:ident, $number:ty, $len:literal: $($functions:tt)*) => {
+        pub mod $width {
+            use super::*;
+            type T = Word<Number>;
+            type Number = $number;
+            const LEN: usize = $len;
+            $($functions)*
+        }
+    };
     ($($functions:tt)*) => {
-        pub mod four {
-            use super::*;
-            type T = Word<Number>;
-            type Number = u32;
-            const LEN: usize = 4;
-            $($functions)*
-        }
-
-        pub mod eight {
-            use super::*;
-            type T = Word<Number>;
-            type Number = u64;
-            const LEN: usize = 8;
-            $($functions)*
-        }
-
-        pub mod sixteen {
-            use super::*;
-            type T = Word<Number>;
-            type Number = u128;
-            const LEN: usize = 16;
-            $($functions)*
-        }
+        for_each_width! { in four, u32, 4: $($functions)* }
+        for_each_width! { in eight, u64, 8: $($functions)* }
+        for_each_width! { in sixteen, u128, 16: $($functions)* }
     };
 }
 
@@ -67,9 +57,9 @@ for_each_width! {
 }
 
 impl Word<u32> {
-    //= words/word.rs, impl Word<4> for u32: `from_le_bytes to_bytes_in_registers plus and or xor not`
+    //= words/word.rs, impl Word<4> for u32: held `from_le_bytes to_bytes_in_registers plus and or xor not`
 
-    //= words/word.rs, impl Word<4> for u32: `text_len high_bits_as_case_bits next_lanes equals`
+    //= words/word.rs, impl Word<4> for u32: held `text_len high_bits_as_case_bits next_lanes equals`
 
     //= words/word.rs, pub trait Word<const LEN: usize>: Copy: `to_bytes_in_memory`
 
@@ -80,9 +70,9 @@ impl Word<u32> {
 }
 
 impl Word<u64> {
-    //= words/word.rs, impl Word<8> for u64: `from_le_bytes to_bytes_in_registers plus and or xor not`
+    //= words/word.rs, impl Word<8> for u64: held `from_le_bytes to_bytes_in_registers plus and or xor not`
 
-    //= words/word.rs, impl Word<8> for u64: `text_len high_bits_as_case_bits next_lanes equals`
+    //= words/word.rs, impl Word<8> for u64: held `text_len high_bits_as_case_bits next_lanes equals`
 
     //= words/word.rs, pub trait Word<const LEN: usize>: Copy: `to_bytes_in_memory`
 
@@ -93,9 +83,9 @@ impl Word<u64> {
 }
 
 impl Word<u128> {
-    //= words/word.rs, impl Word<16> for u128: `from_le_bytes to_bytes_in_registers to_bytes_in_memory`
+    //= words/word.rs, impl Word<16> for u128: held `from_le_bytes to_bytes_in_registers to_bytes_in_memory`
 
-    //= words/word.rs, impl Word<16> for u128: `plus and or xor not high_bits_as_case_bits next_lanes equals`
+    //= words/word.rs, impl Word<16> for u128: held `plus and or xor not high_bits_as_case_bits next_lanes equals`
 
     #[inline(always)]
     pub const fn load(src: &[u8]) -> Self {
@@ -108,6 +98,13 @@ mod words {
     use super::*;
 
     //= words/padded/words.rs: `split_word ask put_in_case`
+}
+
+/// Past sixteen bytes, byte by byte.
+mod bytewise {
+    use super::*;
+
+    //= words/padded/bytewise.rs: `ask all_pass passes`
 }
 
 type Aligned4 = Aligned<Word<u32>, 4>;
@@ -135,31 +132,40 @@ pub const fn read_padded<const N: usize>(raw: [u8; N]) -> Result<TinyAsciiStr<N>
 }
 
 /// Writes functions out for a code unit `U`, whose own stand beside them.
-macro_rules! reading_in_pieces {
+macro_rules! readers {
     () => {
-        //= words/padded/code_units.rs: `byte_or read_piece read_pair read_many read_all`
+        //= words/code_unit.rs: `are_characters is_text_by_ends is_text`
+
+        /// The lowest bytes of code units, as a number.
+        pub struct Load<T>(T);
+
+        impl Load<u32> {
+            //= words/word.rs, impl Word<4> for u32: `load`
+        }
+
+        impl Load<u64> {
+            //= words/word.rs, impl Word<8> for u64: `load`
+        }
+
+        for_each_width! {
+            //= words/int_ops.rs: `try_from_text`
+        }
+
+        //= words/padded/code_units.rs: `byte_or read_piece read_pair read_many read_all low_bytes lossy_chunk lossy`
+
+        //= ascii/strict.rs: `read read_pieces find_fault fault`
     };
 }
 
 /// The readers of bytes.
 pub mod bytes {
     use super::*;
+    use crate::in_words::lossy_word;
     type U = u8;
 
-    //= words/code_unit.rs, impl CodeUnit for u8: free `code is_character low_byte as_bytes word_of_four eight_low_bytes`
+    //= words/code_unit.rs, impl CodeUnit for u8: free `code is_character low_byte as_bytes word_of_four`
 
-    //= words/code_unit.rs: `are_characters is_text_by_ends is_text`
-
-    /// The lowest bytes of code units, as a number.
-    pub struct Load<T>(T);
-
-    impl Load<u32> {
-        //= words/word.rs, impl Word<4> for u32: `load`
-    }
-
-    impl Load<u64> {
-        //= words/word.rs, impl Word<8> for u64: `load`
-    }
+    readers! {}
 
     impl Load<u128> {
         //= words/word.rs, impl Word<16> for u128: `load`
@@ -171,26 +177,22 @@ pub mod bytes {
     impl Late {
         //= words/word.rs, impl Word<16> for u128: `load`
     }
-
-    for_each_width! {
-        //= words/int_ops.rs: `try_from_text`
-    }
-
-    reading_in_pieces! {}
-
-    //= words/padded/code_units.rs: `put_low_bytes low_bytes`
-
-    //= ascii/strict.rs: `read read_pieces find_fault fault`
 }
 
-/// The lossy reader of 16-bit numbers, which has no vectors.
+/// The readers of 16-bit numbers.
 pub mod numbers {
     use super::*;
+    use crate::in_words::{load_sixteen, lossy_word, word_of_four};
     type U = u16;
 
-    //= words/code_unit.rs, impl CodeUnit for u16: free `is_character low_byte`
+    //= words/code_unit.rs, impl CodeUnit for u16: free `code is_character low_byte as_bytes`
 
-    reading_in_pieces! {}
+    readers! {}
 
-    //= words/padded/code_units.rs: `lossy_chunk lossy`
+    impl Load<u128> {
+        #[inline(always)]
+        pub const fn load(units: &[U]) -> u128 {
+            load_sixteen(units)
+        }
+    }
 }

@@ -1,4 +1,4 @@
-"""Items that Rust has no use for, and the derives of `thiserror` written out."""
+"""Items and derives that Rust has no use for."""
 
 import re
 
@@ -42,41 +42,12 @@ def without_item(text: str, head: str) -> tuple[str, int]:
     return text, count
 
 
-def with_derives(text: str, file: str) -> str:
-    """Takes off the derives that Rust doesn't have, and writes out what `thiserror`'s make."""
-    return with_error_texts(re.sub(r"#\[derive\(([^)]*)\)\]\n", rust_derives, text), file)
+def with_derives(text: str) -> str:
+    """Takes off the derives that Rust doesn't have, and the texts of `thiserror`'s."""
+    return re.sub(r"#\[derive\(([^)]*)\)\]\n", rust_derives, re.sub(r" *#\[error\(.*\)\]\n", "", text))
 
 
 def rust_derives(found: re.Match) -> str:
-    """The derives that Rust has too: there is no `Drop` to derive, and `Error` is written out."""
+    """The derives that Rust has too: there is no `Drop` to derive, and `errors.rs` has `Error`."""
     left = [derived for derived in found[1].split(", ") if derived not in ("Drop", "Error")]
     return f"#[derive({', '.join(left)})]\n" if left else ""
-
-
-ERROR_TEXT = re.compile(r' *#\[error\((".*?")\)\]\n( *)(\w+)( \{\n(?:.*\n)*?\2\})?')
-
-
-def with_error_texts(text: str, file: str) -> str:
-    """`thiserror`'s texts, as an implementation of `Display` and of `Error`."""
-    arms = []
-    for message, _, variant, fields in ERROR_TEXT.findall(text):
-        names = re.findall(r"^ *(\w+):", fields, re.M)
-        pattern = variant + (f" {{ {', '.join(names)} }}" if names else "")
-        written = f"write!(f, {message})" if names else f"f.write_str({message})"
-        arms.append(f"            Self::{pattern} => {written},\n")
-    if not arms:
-        return text
-    enums = re.findall(r"^pub enum (\w+)", text, re.M)
-    if len(enums) != 1:
-        raise Stopped(f"{file}: texts of errors, and not one enum that has them")
-    text = re.sub(r" *#\[error\(.*?\)\]\n", "", text)
-    return f"""{text}
-impl core::fmt::Display for {enums[0]} {{
-    fn fmt(&self, f: &mut core::fmt::Formatter<'_>) -> core::fmt::Result {{
-        match self {{
-{"".join(arms)}        }}
-    }}
-}}
-
-impl core::error::Error for {enums[0]} {{}}
-"""

@@ -1,7 +1,6 @@
 """The modules of the crates in the one that is made, and the heads of its functions."""
 
 import re
-from collections import Counter
 
 from eraser import Stopped
 from lib.rattle import with_code
@@ -22,42 +21,36 @@ EXPORTED = "tinystr_words/question.rt"
 # A private file of another crate, for the same reason: exported, its calls that make texts would have to be `unsafe`.
 PRIVATE_FILE = "tinystr/short_input.rt"
 
-# Functions whose bodies Rust can run at compile time, by file: each as often as it is there.
+# Files whose functions are all `const`.
+CONST_FILES = {"tinystr_words/padded/copying.rt"}
+
+OF_TABLES = ["len(", "is_empty(", "iter("]
+OF_MAPS = [*OF_TABLES, "keys(", "values("]
+# Public functions whose bodies Rust can run at compile time, by file: how each begins after its `fn`. An empty beginning is all.
 CONST = {
+    **{f"tinystr/ascii/{name}.rt": [""] for name in ("questions", "readers", "views")},
+    **dict.fromkeys([*CONST_FILES, "tinystr_words/question.rt"], [""]),
     "tinystr/ascii.rt": ["default() -> Self", "from_padded("],
     "tinystr/ascii/concat.rt": ["concat<"],
-    "tinystr/ascii/views.rt": ["len(", "is_empty(", "get_byte(", "as_utf8(", "as_str(", "all_bytes("],
-    "tinystr/ascii/readers.rt": ["try_from_str(", "try_from_utf8(", "try_from_raw(", "from_utf16_lossy(", "from_utf8_unchecked("],
+    "tinystr/ascii/lanes.rt": ["text_of_bytes<"],
     "tinystr/ascii/resize.rt": ["resize<"],
     "tinystr/forms.rt": ["to_bytes(&self) -> [u8; N]"],
     "tinystr/ule.rt": ["niche_bit_pattern("],
     "tinystr/unvalidated.rt": ["default() -> Self", "from_utf8_unchecked(", "to_unvalidated("],
     "subtags/lang_id.rt": ["to_text("],
     "subtags/subtag.rt": ["from_canonical(", "to_text("],
-    "tinystr_packed/map.rt": ["len(", "is_empty(", "iter(", "keys(", "values("],
-    "tinystr_packed/sorted.rt": ["table("],
-    "tinystr_packed/table.rt": ["len(", "is_empty(", "iter(", "records("],
-    "tinystr_packed/text_map.rt": ["len(", "is_empty(", "iter(", "keys(", "values(", "new(keys: &Table"],
-    "tinystr_hashed/map.rt": ["len(", "is_empty(", "iter(", "keys(", "values("],
-    "tinystr_hashed/table.rt": ["len(", "is_empty(", "table("],
-    "tinystr_hashed/text_map.rt": ["len(", "is_empty(", "iter(", "keys(", "values("],
-    "tinystr/ascii/questions.rt": [
-        "ask(",
-        "in_case(",
-        *(f"is_ascii_{word}(" for word in ("alphabetic", "alphanumeric", "numeric", "lowercase", "titlecase", "uppercase")),
-        *(f"is_ascii_alphabetic_{word}case(" for word in ("lower", "title", "upper")),
-        *(f"to_ascii_{word}case(" for word in ("lower", "title", "upper")),
-    ],
+    "tinystr_packed/map.rt": OF_MAPS,
+    "tinystr_packed/sorted.rt": [*OF_TABLES, "table("],
+    "tinystr_packed/table.rt": [*OF_TABLES, "records("],
+    "tinystr_packed/text_map.rt": [*OF_MAPS, "new(keys: &Table"],
+    "tinystr_hashed/map.rt": OF_MAPS,
+    "tinystr_hashed/table.rt": [*OF_TABLES, "table("],
+    "tinystr_hashed/text_map.rt": OF_MAPS,
     "tinystr_words/padded.rt": ["width_of("],
-    "tinystr_words/padded/copying.rt": ["put(", "resize<", "resize_at_once<", "append("],
-    "tinystr_words/question.rt": ["of_later_words(", "of_later_words("],
 }
 
-# Files whose functions are all `const`.
-CONST_FILES = {"tinystr_words/padded/copying.rt"}
-
 # The number of calls of the one `unsafe fn`, by file. The condition of each is proved, except in an example.
-UNSAFE_CALLS = {"tinystr/ascii/readers.rt": 1, "tinystr_packed/table.rt": 2}
+UNSAFE_CALLS = {"tinystr/ascii/readers.rt": 1, "tinystr_packed/table.rt": 1}
 UNSAFE_CALL = re.compile(r"(?<!Unvalidated)\bTinyAsciiStr::from_utf8_unchecked(\([^()]*\))")
 
 # (an array's type has a semicolon)
@@ -83,10 +76,10 @@ def path_of(crate: str) -> str:
 
 def with_signatures(text: str, file: str, is_private: bool) -> str:
     """Functions as Rust's callers have them: `const` and `unsafe` where they can or must be, and `#[must_use]`."""
-    for function, times in Counter(CONST.get(file, [])).items():
+    for function in CONST.get(file, []):
         text, count = re.subn(rf"(pub(?:\(crate\))? )((?:unsafe )?fn {re.escape(function)})", r"\1const \2", text)
-        if count != times:
-            raise Stopped(f"{file}: `pub fn {function}` is there {count} times, and not {times}")
+        if not count:
+            raise Stopped(f"{file}: there is no `pub fn {function}`")
     text, count = UNSAFE_CALL.subn(r"unsafe { TinyAsciiStr::from_utf8_unchecked\1 }", text)
     if count != UNSAFE_CALLS.get(file, 0):
         raise Stopped(f"{file}: {count} calls of `from_utf8_unchecked`, and not {UNSAFE_CALLS.get(file, 0)}")

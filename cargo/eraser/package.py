@@ -7,7 +7,7 @@ from pathlib import Path
 from eraser import Stopped, constants
 from eraser.allocation import without_allocation_errors
 from eraser.contracts import Contracts, with_folds
-from eraser.examples import with_doc_tests, with_shown_examples
+from eraser.examples import with_examples
 from eraser.fields import with_fields
 from eraser.ghosts import without_ghosts
 from eraser.items import with_derives, without_items
@@ -53,12 +53,10 @@ class Package:
         text = without_items(without_ghosts(text), file)
         text = self.contracts.place(text, file, not is_shown)
         text = with_folds(text) if is_shown else text
-        text = with_derives(text, file)
+        text = with_derives(text)
         text = with_fields(self.rules.apply(without_allocation_errors(with_paths(text, crate)), file), file)
         text = constants.as_const(text) if file in CONST_FILES else text
-        text = with_signatures(text, file, is_private)
-        text = with_shown_examples(text, file) if is_private else with_doc_tests(text, file)
-        return finished(text, file)
+        return finished(with_examples(with_signatures(text, file, is_private), file, is_private), file)
 
 
 def sources(crate: Path) -> Iterator[tuple[str, str]]:

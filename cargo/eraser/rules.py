@@ -31,7 +31,7 @@ EVERYWHERE = [
     Rule(r"use std::marker::\{Model, PhantomData\};", "use std::marker::PhantomData;", "`Model` is for the prover"),
     Rule(r"use std::marker::Model;\n", "", "`Model` is for the prover"),
     Rule(r"use std::convert::\{AsSlice, AsStr\};\n", "", "the kit's traits of views: `strings.rs` has Rust's"),
-    Rule(r"use thiserror::Error;\n", "", "its texts are written out"),
+    Rule(r"use thiserror::Error;\n", "", "`errors.rs` has its texts"),
     Rule(r"\bstd::simd::(?:prelude::)?", "crate::simd::", "vectors of stable Rust"),
     Rule(r"Copy \+ Drop\b", "Copy", "what is `Copy` has no `Drop`"),
     Rule(
@@ -50,17 +50,12 @@ EVERYWHERE = [
     Rule(r"\bstd::", "core::", "the crate is `no_std`"),
 ]
 
-WITH_MACRO = Rule("use std::alloc::{AllocError, Global};\n", "use alloc::vec;\nuse alloc::vec::Vec;\n", OF_ALLOCATOR)
-OF_FEATURE = "what allocates is feature `alloc`"
-NOT_PROVED_HERE = "in Rust nothing proves a condition at a call"
 AT_ROOT = "so that the documentation has it at its root"
 IN_CONSTANTS = "a `const fn` calls no trait, so it has neither an index by a range nor `min`"
 OF_CONSTANTS = "`in_constants.rs` calls it"
 WITHOUT_VECTORS = "a `const fn` calls no vector"
 OF_CONST_CALLS = "the same function as constants can call it"
 OF_WIDTHS = "in `in_constants.rs` each width has its own functions"
-# The words of the widths.
-WORDS = ("u32", "u64", "u128")
 TWIN_MAKES = "`constants.rs` or `identifiers.rs` makes one at compile time"
 # A constant is a pattern only if its type derives `PartialEq`.
 DERIVES = "#[derive(Clone, Copy, PartialEq, Eq, PartialOrd, Ord, Hash)]\n"
@@ -68,7 +63,6 @@ OF_KINDS = "Rust's derives for a subtag require these traits of its kind"
 HINTED = "the compiler is given a hint that the text is no error and not `None`, which share its bytes"
 BELOW_128 = "a type whose bytes are each below 128 has another value for `None`"
 OF_BYTES = "the derived equality of a text is that of its bytes, and the proved one is theirs"
-IN_WORDS = "without vectors a form in words of 64 bits takes fewer steps"
 NAMED_AS_STR = "`Deref` to `str` has this name, and the original's callers use that"
 
 
@@ -78,7 +72,7 @@ def at_root(*modules: str) -> list[Rule]:
 
 def of_feature(*modules: str) -> list[Rule]:
     heads = [head for module in modules for head in (f"mod {module};", f"pub use {module}::")]
-    return [Rule(head, f'#[cfg(feature = "alloc")]\n{head}', OF_FEATURE) for head in heads]
+    return [Rule(head, f'#[cfg(feature = "alloc")]\n{head}', "what allocates is feature `alloc`") for head in heads]
 
 
 IN_FILE = {
@@ -106,39 +100,37 @@ IN_FILE = {
             "as in the original, so that constants are patterns",
         ),
         Rule("    bytes: [u8; N],\n", "    bytes: AsciiBytes<N>,\n", BELOW_128),
-        Rule(
-            "use crate::error::ParseError;\n", "use crate::ascii_bytes::AsciiBytes;\nuse crate::error::ParseError;\n", BELOW_128
-        ),
+        Rule("use crate::error::", "use crate::ascii_bytes::AsciiBytes;\nuse crate::error::", BELOW_128),
     ],
     "tinystr/ascii/order.rt": [
-        Rule(
-            "use crate::ascii::TinyAsciiStr;\n",
-            "use crate::ascii::TinyAsciiStr;\nuse crate::ascii_bytes::AsciiBytes;\n",
-            OF_BYTES,
-        ),
+        Rule("TinyAsciiStr;\n", "TinyAsciiStr;\nuse crate::ascii_bytes::AsciiBytes;\n", OF_BYTES),
         Rule(" PartialEq for TinyAsciiStr<N> {", " PartialEq for AsciiBytes<N> {", OF_BYTES),
         Rule(" Eq for TinyAsciiStr<N> {", " Eq for AsciiBytes<N> {", OF_BYTES),
         Rule("padded::equals(&self.bytes, &other.bytes)", "padded::equals(self.as_array(), other.as_array())", OF_BYTES),
     ],
     "tinystr/ascii/readers.rt": [
-        Rule("use crate::words::{CodeUnit, padded};", "use crate::words::{in_constants, padded};", OF_CONST_CALLS),
+        Rule("use crate::ascii::{TinyAsciiStr, strict};", "use crate::ascii::TinyAsciiStr;", OF_CONST_CALLS),
+        Rule("use crate::words::{CodeUnit, padded};", "use crate::words::in_constants;", OF_CONST_CALLS),
         Rule("strict::read::<u8, N>(", "in_constants::bytes::read::<N>(", OF_CONST_CALLS),
         Rule("strict::read_padded(", "in_constants::read_padded(", OF_CONST_CALLS),
-        Rule(
-            "Self::read_lossy::<u8>(code_units, replacement)",
-            "TinyAsciiStr::from_padded(padded::lossy(code_units, replacement))",
-            OF_CONST_CALLS,
+        Rule("strict::read::<u16, N>(", "in_constants::numbers::read::<N>(", OF_CONST_CALLS),
+        *(
+            Rule(
+                f"Self::read_lossy::<{unit}>(code_units, replacement)",
+                f"TinyAsciiStr::from_padded(in_constants::{units}::lossy(code_units, replacement))",
+                OF_CONST_CALLS,
+            )
+            for unit, units in (("u8", "bytes"), ("u16", "numbers"))
         ),
         Rule(
-            "Self::read_lossy::<u16>(code_units, replacement)",
-            "TinyAsciiStr::from_padded(in_constants::numbers::lossy(code_units, replacement))",
-            OF_CONST_CALLS,
+            "it runs: the condition is\n    /// proved at the call.",
+            "it\n    /// runs.",
+            "in Rust nothing proves a condition at a call",
         ),
-        Rule("it runs: the condition is\n    /// proved at the call.", "it\n    /// runs.", NOT_PROVED_HERE),
     ],
     "tinystr/ascii/concat.rt": [
-        Rule("use crate::words::padded;", "use crate::words::in_constants;", OF_CONST_CALLS),
-        Rule("padded::concat(", "in_constants::concat(", OF_CONST_CALLS),
+        Rule("words::padded;", "words::in_constants;", OF_CONST_CALLS),
+        Rule("padded::", "in_constants::", OF_CONST_CALLS),
     ],
     "tinystr/forms.rt": [
         Rule(
@@ -153,11 +145,20 @@ IN_FILE = {
         Rule("bytes.to_json(rt.alloc())", "bytes.to_bytes()", "an example of the error without JSON"),
     ],
     "tinystr/ascii/questions.rt": [
-        Rule("use crate::words::{Case, Question, padded};", "use crate::words::{Case, Question, in_constants};", OF_CONST_CALLS),
-        Rule("padded::ask(", "in_constants::ask(", OF_CONST_CALLS),
-        Rule("padded::put_in_case(", "in_constants::put_in_case(", OF_CONST_CALLS),
+        Rule("padded}", "in_constants}", OF_CONST_CALLS),
+        Rule("padded::", "in_constants::", OF_CONST_CALLS, 2),
     ],
     "tinystr/ascii/strict.rt": [
+        Rule(
+            "use crate::ascii::TinyAsciiStr;\n"
+            "use crate::ascii::lanes::text_of_bytes;\n"
+            "use crate::error::ParseError;\n"
+            "use crate::words::int_ops::{Aligned8, Aligned16};\n"
+            "use crate::words::padded::{self, Width, width_of};\n"
+            "use crate::words::{CodeUnit, are_characters};\n",
+            "use crate::words::padded;\n",
+            OF_CONST_CALLS,
+        ),
         Rule("from_padded(padded::low_bytes(units))", "from_padded(padded::low_bytes(units)).hinted_in_result()", HINTED),
         Rule(
             "    Ok(TinyAsciiStr::from_padded(bytes))\n", "    Ok(TinyAsciiStr::from_padded(bytes).hinted_in_result())\n", HINTED
@@ -175,25 +176,14 @@ IN_FILE = {
         ),
         Rule("// proved: these bytes", "// SAFETY: proved: these bytes", "Rust's word for why a block is sound"),
     ],
-    "tinystr_packed/sorted.rt": [
-        Rule(
-            "SortedTable<'a, const N: usize> {\n    table:",
-            "SortedTable<'a, const N: usize> {\n    pub(crate) table:",
-            TWIN_MAKES,
-        ),
-    ],
+    "tinystr_packed/sorted.rt": [Rule("usize> {\n    table:", "usize> {\n    pub(crate) table:", TWIN_MAKES)],
     "tinystr_packed/table.rt": [
-        Rule(
-            "struct Table<'a, const N: usize> {\n    records:",
-            "struct Table<'a, const N: usize> {\n    pub(crate) records:",
-            TWIN_MAKES,
-        ),
+        Rule("usize> {\n    records:", "usize> {\n    pub(crate) records:", TWIN_MAKES),
         Rule(
             "        Some(TinyAsciiStr::from_utf8_unchecked(*raw))",
             "        // SAFETY: each record was read as a text and then NULs. This is proved.\n"
             "        Some(TinyAsciiStr::from_utf8_unchecked(*raw).hinted())",
             HINTED,
-            2,
         ),
     ],
     "tinystr/ascii/splitting.rt": [
@@ -201,15 +191,12 @@ IN_FILE = {
         Rule(
             "Some((self.take(at), self.suffix(at + 1)))", "Some((self.take(at).hinted(), self.suffix(at + 1).hinted()))", HINTED
         ),
-        Rule("pub fn find(", "pub fn find_byte(", NAMED_AS_STR),
-        Rule("text.find(byte)", "text.find_byte(byte)", NAMED_AS_STR),
+        Rule(" find(", " find_byte(", NAMED_AS_STR),
+        Rule(".find(", ".find_byte(", NAMED_AS_STR, 4),
+        Rule(" split(", " split_byte(", NAMED_AS_STR),
+        Rule(".split(", ".split_byte(", NAMED_AS_STR, 2),
+        Rule("split_once(", "split_once_byte(", NAMED_AS_STR, 3),
         Rule("text.get(0)", "text.get_byte(0)", NAMED_AS_STR),
-        Rule("tag.find(", "tag.find_byte(", NAMED_AS_STR, 2),
-        Rule("pub fn split(", "pub fn split_byte(", NAMED_AS_STR),
-        Rule("tag.split(", "tag.split_byte(", NAMED_AS_STR, 2),
-        Rule("pub fn split_once(", "pub fn split_once_byte(", NAMED_AS_STR),
-        Rule("tag.split_once(", "tag.split_once_byte(", NAMED_AS_STR, 2),
-        Rule("self.find(separator)", "self.find_byte(separator)", NAMED_AS_STR),
     ],
     "subtags/lib.rt": at_root("error", "lang_id", "language", "region", "script"),
     "subtags/places.rt": [
@@ -230,9 +217,7 @@ IN_FILE = {
         ),
     ],
     "tinystr_packed/lib.rt": of_feature("counting", "packing", "sorting"),
-    "tinystr_packed/counting.rt": [
-        Rule("use std::alloc::{AllocError, Global};\n", "", OF_ALLOCATOR),
-    ],
+    "tinystr_packed/counting.rt": [Rule("use std::alloc::{AllocError, Global};\n", "", OF_ALLOCATOR)],
     "tinystr_hashed/lib.rt": [
         *of_feature("packing", "packing_maps"),
         *(
@@ -245,12 +230,10 @@ IN_FILE = {
         ),
     ],
     "tinystr_hashed/packing.rt": [
-        WITH_MACRO,
+        Rule("use std::alloc::{AllocError, Global};\n", "use alloc::vec;\nuse alloc::vec::Vec;\n", OF_ALLOCATOR),
         Rule("    /// An allocation failed.\n    Memory,\n", "", WANT_OF_MEMORY),
     ],
-    "tinystr_words/decimal.rt": [
-        Rule("for i in 0..4u32", "for _ in 0..4u32", "the proof alone names the counter"),
-    ],
+    "tinystr_words/decimal.rt": [Rule("for i in 0..4u32", "for _ in 0..4u32", "the proof alone names the counter")],
     "tinystr_words/word.rt": [
         Rule("const HALF:", "pub(crate) const HALF:", OF_CONSTANTS),
         *(Rule(f"fn {name}(", f"pub(crate) const fn {name}(", OF_CONSTANTS) for name in ("halves", "joined", "whole")),
@@ -259,44 +242,21 @@ IN_FILE = {
     "tinystr_words/in_constants.rt": [
         Rule("<T: Word<LEN>, const LEN: usize>", "", OF_WIDTHS, 9),
         # words as a type
-        *(Rule(f"(self, other: {word})", "(self, other: Self)", OF_WIDTHS, 5) for word in WORDS),
-        *(Rule(f"Self) -> {word} {{", "Self) -> Self {", OF_WIDTHS, 4) for word in WORDS),
-        *(Rule(f"(self) -> {word} {{", "(self) -> Self {", OF_WIDTHS, 3) for word in WORDS),
-        *(
-            Rule(
-                f"]) -> {word} {{\n        {word}::from_le_bytes(*bytes)",
-                f"]) -> Self {{\n        Word({word}::from_le_bytes(*bytes))",
-                OF_WIDTHS,
-            )
-            for word in WORDS
-        ),
-        *(Rule(f"{word}::to_le_bytes(self)", f"{word}::to_le_bytes(self.0)", OF_WIDTHS) for word in WORDS[:2]),
-        *(Rule(f"        self {sign} other\n", f"        Word(self.0 {sign} other.0)\n", OF_WIDTHS, 2) for sign in "+&|^"),
         Rule("-> [u8; LEN] {\n        self.to_b", "-> [u8; size_of::<Self>()] {\n        self.to_b", OF_WIDTHS, 2),
-        Rule("        !self\n", "        Word(!self.0)\n", OF_WIDTHS, 2),
-        Rule("        self >> 8\n", "        Word(self.0 >> 8)\n", OF_WIDTHS, 3),
-        Rule("::leading_zeros(self)", "::leading_zeros(self.0)", OF_WIDTHS),
-        Rule("2 * self + 1", "2 * self.0 + 1", OF_WIDTHS),
         Rule("word: front + (back << (8 * len))", "word: Word(front.0 + (back.0 << (8 * len)))", OF_WIDTHS),
-        Rule("(self & Self::splat(0x80)) >> 2", "Word((self.0 & Self::splat(0x80).0) >> 2)", OF_WIDTHS, 2),
-        Rule("self == other", "self.0 == other.0", OF_WIDTHS, 3),
+        Rule("Self::splat(0x80)", "Self::splat(0x80).0", OF_WIDTHS, 3),
         # operators of vectors
         *(
-            Rule(
-                f"whole(halves(self) {sign} halves(other))", f"Word(whole(halves(self.0).{name}(halves(other.0))))", IN_CONSTANTS
-            )
+            Rule(f"halves(self.0) {sign} halves(other.0)", f"halves(self.0).{name}(halves(other.0))", IN_CONSTANTS)
             for sign, name in (("+", "add"), ("&", "bitand"), ("|", "bitor"), ("^", "bitxor"))
         ),
-        Rule("whole(!halves(self))", "Word(whole(halves(self.0).not()))", IN_CONSTANTS),
+        Rule("!halves(self.0)", "halves(self.0).not()", IN_CONSTANTS),
         Rule(
-            "whole((halves(self) & halves(Self::splat(0x80))) >> u64x2::splat(2))",
-            "Word(whole(halves(self.0).bitand(halves(Self::splat(0x80).0)).shr(u64x2::splat(2))))",
+            "(halves(self.0) & halves(Self::splat(0x80).0)) >> u64x2::splat(2)",
+            "halves(self.0).bitand(halves(Self::splat(0x80).0)).shr(u64x2::splat(2))",
             IN_CONSTANTS,
         ),
         # words of bytes
-        Rule("(self >> ", "(self.0 >> ", OF_WIDTHS, 4),
-        Rule("(self % ", "(self.0 % ", OF_WIDTHS, 2),
-        Rule("(self / ", "(self.0 / ", OF_WIDTHS),
         *(
             Rule(f"&Word::to_bytes_in_registers({half})", f"&Word({half}).to_bytes_in_registers()", OF_WIDTHS)
             for half in ("low", "high")
@@ -313,6 +273,23 @@ IN_FILE = {
         ),
         Rule("impl Late {\n        #[inline(always)]", "impl Late {\n        #[inline]", "as its comment says"),
         Rule("to_bytes(&self) -> [u8; LEN] {", "to_bytes(self) -> [u8; LEN] {", "in Rust what is `Copy` is taken by value"),
+        # past sixteen bytes
+        Rule(
+            "        Width::Sixteen | Width::Many => words::ask(bytes, question),\n",
+            "        Width::Many if N % 8 == 0 && !matches!(question, Question::Titlecase | Question::AlphabeticTitlecase) => {\n"
+            "            bytewise::ask(bytes, question)\n"
+            "        }\n"
+            "        Width::Sixteen | Width::Many => words::ask(bytes, question),\n",
+            "rustc makes vectors of it, and none of words",
+        ),
+        Rule(
+            "        let mut all = true;\n",
+            "        // else a loop over texts may become one over a byte of each, several times as slow\n"
+            "        core::hint::black_box(());\n"
+            "        let mut all = true;\n",
+            "LLVM makes vectors of the innermost loop that is left, so the caller's has to have what no vector does",
+        ),
+        Rule("passes(*byte, question)", "passes(byte, question)", IN_CONSTANTS),
         # past eight bytes, and 16-bit numbers
         Rule("words::len(bytes)", "in_words::text_len(bytes)", WITHOUT_VECTORS),
         Rule(
@@ -322,23 +299,16 @@ IN_FILE = {
             "Width::Eight | Width::Sixteen | Width::Many => in_words::is_padded(bytes),",
             WITHOUT_VECTORS,
         ),
+        Rule("Some(bytes) if N <= 8 =>", "Some(bytes) if N <= 16 =>", WITHOUT_VECTORS),
         Rule(
-            "        if units.len() >= N {\n"
-            "            // past 8 bytes the loop of a known length is faster\n"
-            "            let front = units.split_at(N).0;\n"
-            "            return match as_bytes(front) {\n"
-            "                Some(bytes) if N <= 8 => lossy_word(bytes, replacement),\n"
-            "                _ => lossy_chunk(front, replacement),\n"
-            "            };\n"
-            "        }\n"
-            "        if let Some(bytes) = as_bytes(units)\n"
-            "            && bytes.len() <= 16\n"
-            "        {\n"
-            "            return lossy_word(bytes, replacement);\n"
-            "        }\n",
-            "        if units.len() >= N {\n            return lossy_chunk(units.split_at(N).0, replacement);\n        }\n",
-            "numbers are no bytes",
+            "            if N >= 8 && as_bytes(units).is_none() {\n"
+            "                put_low_bytes(&mut bytes, units);\n"
+            "                return bytes;\n"
+            "            }\n",
+            "",
+            "numbers are read in pieces",
         ),
+        Rule("if units.len() == N {", "if as_bytes(units).is_some() && units.len() == N {", "the same"),
         Rule("fit_vectors(first_part.len(), second_part.len())", "N <= 16 && M <= 16", WITHOUT_VECTORS),
         Rule("concat_in_vectors(first_part, second_part)", "in_words::concat(first, len(first), second)", WITHOUT_VECTORS),
         # readers
@@ -363,18 +333,12 @@ IN_FILE = {
     ],
     "tinystr_words/padded.rt": [
         Rule("mod copying;", "pub mod copying;", OF_CONSTANTS),
-        *(Rule(f"mod {module};\n", "", OF_CONST_CALLS) for module in ("concatenation", "words")),
-        Rule("use concatenation::{concat_in_memory, concat_in_vectors, concat_in_word, fit_vectors};\n", "", OF_CONST_CALLS),
-    ],
-    "tinystr_words/padded/replacing.rt": [
-        Rule(
-            "    let are_characters = (given",
-            "    if IS_PORTABLE {\n"
-            "        return given.characters_or(replacements(replacement, bytes.len()));\n"
-            "    }\n"
-            "    let are_characters = (given",
-            IN_WORDS,
+        *(
+            Rule(f"mod {module};\n", "", OF_CONST_CALLS)
+            for module in ("bytewise", "code_units", "concatenation", "replacing", "words")
         ),
+        Rule("pub use code_units::{lossy, low_bytes, read_all};\n", "", OF_CONST_CALLS),
+        Rule("use concatenation::{concat_in_memory, concat_in_vectors, concat_in_word, fit_vectors};\n", "", OF_CONST_CALLS),
     ],
 }
 

@@ -1,44 +1,13 @@
-//! Twins of calls for constants. A proved call that calls a trait or a vector is no `const fn`, and `NAME_const` gives the
-//! same as `NAME` by a loop. At run time `NAME` is faster. The tests compare both.
+//! Tables and texts for constants. A proved call that calls a trait or a vector is no `const fn`, and `NAME_const` gives the same
+//! as `NAME` by a loop. At run time `NAME` is faster. The tests compare both.
 
 use crate::ascii::TinyAsciiStr;
-use crate::error::ParseError;
 use crate::packed::{NotRising, SortedError, SortedTable, Table};
 use crate::ule::UleError;
 
 impl<const N: usize> TinyAsciiStr<N> {
     /// The empty text.
     pub const EMPTY: Self = Self::default();
-
-    /// `try_from_utf16` at compile time. At run time `try_from_utf16` is faster.
-    pub const fn try_from_utf16_const(code_units: &[u16]) -> Result<Self, ParseError> {
-        let count = code_units.len();
-        let mut bytes = [0; N];
-        let mut at = 0;
-        while at < count && at < N {
-            // each number above 127 as a byte above 127, which is the same fault
-            bytes[at] = if code_units[at] > 127 { 255 } else { code_units[at] as u8 };
-            at += 1;
-        }
-        if count <= N { Self::try_from_utf8(bytes.split_at(count).0) } else { Err(ParseError::TooLong { max: N, len: count }) }
-    }
-
-    /// `from_utf8_lossy` at compile time. At run time `from_utf8_lossy` is faster.
-    ///
-    /// # Panics
-    ///
-    /// Where the replacement isn't from 1 to 127.
-    #[must_use]
-    pub const fn from_utf8_lossy_const(code_units: &[u8], replacement: u8) -> Self {
-        let mut units = [0; N];
-        let len = crate::ranges::least(code_units.len(), N);
-        let mut at = 0;
-        while at < len {
-            units[at] = code_units[at] as u16;
-            at += 1;
-        }
-        Self::from_utf16_lossy(units.split_at(len).0, replacement)
-    }
 }
 
 impl<'a, const N: usize> Table<'a, N> {

@@ -1,4 +1,4 @@
-//! The texts of the errors that the original doesn't have, and that each is an `Error` of std.
+//! The texts of the errors, and that each is an `Error` of std. Those of `ParseError` are the original's.
 
 use crate::error::ParseError;
 use crate::forms::{BytesReadError, FormWriteError};
@@ -9,6 +9,20 @@ use crate::packed::{MapError, NotRising, SortedError, TextMapError};
 use crate::ule::UleError;
 use core::error::Error;
 use core::fmt::{Display, Formatter, Result};
+
+impl Display for ParseError {
+    fn fmt(&self, f: &mut Formatter<'_>) -> Result {
+        match self {
+            ParseError::TooLong { max, len } => {
+                write!(f, "found string of larger length {len} when constructing string of length {max}")
+            }
+            ParseError::ContainsNull => f.write_str("tinystr types do not support strings with null bytes"),
+            ParseError::NonAscii => f.write_str("attempted to construct TinyAsciiStr from a non-ASCII string"),
+        }
+    }
+}
+
+impl Error for ParseError {}
 
 impl Display for BytesReadError {
     fn fmt(&self, f: &mut Formatter<'_>) -> Result {

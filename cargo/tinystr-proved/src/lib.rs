@@ -24,8 +24,6 @@
 //!
 //! Names, arguments and results are the same, but for these, which the README has in full:
 //!
-//! - `try_from_utf16` and `from_utf8_lossy` aren't `const`. Constants call their twins, such as
-//!   [`from_utf8_lossy_const`](TinyAsciiStr::from_utf8_lossy_const).
 //! - At capacity 0 `is_empty` returns true, where the original panics, and `new_unsigned_decimal(0)` returns an error.
 //! - Class predicates on letters in a case return true for the empty text at every capacity.
 //! - `Hash` writes the `N` bytes in one call.

@@ -24,13 +24,8 @@ pub const IS_PORTABLE: bool = cfg!(any(portable_lanes, not(all(target_arch = "x8
 #[derive(Clone, Copy, Debug)]
 pub struct Lanes<T, const L: usize>([T; L]);
 
-pub type u8x4 = Lanes<u8, 4>;
 pub type u8x8 = Lanes<u8, 8>;
 pub type u8x16 = Lanes<u8, 16>;
-pub type u16x4 = Lanes<u16, 4>;
-pub type u16x8 = Lanes<u16, 8>;
-pub type u32x1 = Lanes<u32, 1>;
-pub type u64x1 = Lanes<u64, 1>;
 pub type u64x2 = Lanes<u64, 2>;
 
 /// A truth for each of sixteen lanes: 255 or 0.
@@ -153,16 +148,6 @@ fn first_half(bytes: [u8; 16]) -> [u8; 8] {
 }
 
 impl u8x8 {
-    /// The lanes at these places, of which each caller knows when it is compiled which they are.
-    #[inline(always)]
-    pub fn swizzle(self, places: [usize; 4]) -> u8x4 {
-        if matches!(places, [0, 2, 4, 6]) {
-            let [a, b, c, d, ..] = machine::even(self.widened());
-            return Lanes([a, b, c, d]);
-        }
-        Lanes(places.map(|place| self.0[place]))
-    }
-
     /// Its bytes, and then zeros.
     #[inline(always)]
     fn widened(self) -> [u8; 16] {
@@ -194,15 +179,6 @@ impl u8x16 {
         Mask16(machine::less(self.0, other.0))
     }
 
-    /// The lanes at these places.
-    #[inline(always)]
-    pub fn swizzle(self, places: [usize; 8]) -> u8x8 {
-        if matches!(places, [0, 2, 4, 6, 8, 10, 12, 14]) {
-            return Lanes(machine::even(self.0));
-        }
-        Lanes(places.map(|place| self.0[place]))
-    }
-
     /// The lanes at these places of this vector followed by the other.
     #[inline(always)]
     pub fn shuffle(self, other: Self, places: [usize; 16]) -> Self {
@@ -210,12 +186,6 @@ impl u8x16 {
             return Lanes(machine::next(self.0, other.0));
         }
         Lanes(places.map(|place| if place < 16 { self.0[place] } else { other.0[place - 16] }))
-    }
-
-    /// Each lane from 1 to 127, and the other in the place of the rest.
-    #[inline(always)]
-    pub fn characters_or(self, other: Self) -> Self {
-        Lanes(portable::characters_or(self.0, other.0))
     }
 }
 
@@ -253,39 +223,10 @@ impl Mask16 {
     }
 }
 
-impl u16x4 {
-    #[inline(always)]
-    pub fn to_le_bytes(self) -> u8x8 {
-        let [a, b, c, d] = self.0.map(u64::from);
-        Lanes((a | b << 16 | c << 32 | d << 48).to_le_bytes())
-    }
-}
-
-impl u16x8 {
-    #[inline(always)]
-    pub fn to_le_bytes(self) -> u8x16 {
-        Lanes(machine::bytes_of(self.0))
-    }
-}
-
 impl u64x2 {
     #[inline(always)]
     pub fn to_le_bytes(self) -> u8x16 {
         let number = u128::from(self.0[0]) | u128::from(self.0[1]) << 64;
         Lanes(number.to_le_bytes())
-    }
-}
-
-impl u32x1 {
-    #[inline(always)]
-    pub fn from_le_bytes(bytes: u8x4) -> Self {
-        Lanes([u32::from_le_bytes(bytes.0)])
-    }
-}
-
-impl u64x1 {
-    #[inline(always)]
-    pub fn from_le_bytes(bytes: u8x8) -> Self {
-        Lanes([u64::from_le_bytes(bytes.0)])
     }
 }

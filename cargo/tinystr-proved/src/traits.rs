@@ -2,7 +2,7 @@
 //! what they hold, run through by a value or a reference, and say how much is left. And of subtags: they are copied, compared and
 //! hashed as their texts.
 
-use crate::ascii::{Parts, TinyAsciiStr};
+use crate::ascii::Parts;
 use crate::hashed::{self, HashedError, HashedMap, HashedTable, HashedTextMap};
 use crate::packed::{BinarySearchEach, Entries, GetEach, PackedMap, SortedError, SortedTable, Table, TextEntries, TextMap, Texts};
 use crate::ule::UleError;
@@ -90,14 +90,8 @@ run_through! {
     [const N: usize, const M: usize] HashedTextMap<'a, N, M>, TextEntries<'a, N, M>, |it| it.iter();
 }
 
-// After the last one each gives `None` again.
-impl<const N: usize> FusedIterator for Texts<'_, N> {}
+// After the last one it gives `None` again.
 impl<const N: usize> FusedIterator for Parts<'_, N> {}
-impl<const N: usize, const M: usize> FusedIterator for Entries<'_, N, M> {}
-impl<const N: usize, const M: usize> FusedIterator for hashed::Entries<'_, N, M> {}
-impl<const N: usize, const M: usize> FusedIterator for TextEntries<'_, N, M> {}
-impl<const N: usize> FusedIterator for BinarySearchEach<'_, '_, N> {}
-impl<const N: usize, const M: usize> FusedIterator for GetEach<'_, '_, N, M> {}
 
 // A table or a map is a slice or two.
 impl<const N: usize> Copy for Table<'_, N> {}
@@ -151,56 +145,4 @@ read_of_bytes! {
     Table, new, UleError;
     SortedTable, from_bytes, SortedError;
     HashedTable, from_bytes, HashedError;
-}
-
-impl<'a, const N: usize> SortedTable<'a, N> {
-    /// The number of texts.
-    #[must_use]
-    pub const fn len(&self) -> usize {
-        self.table().len()
-    }
-
-    /// Whether there are no texts.
-    #[must_use]
-    pub const fn is_empty(&self) -> bool {
-        self.table().is_empty()
-    }
-
-    /// The texts in order.
-    #[must_use]
-    pub const fn iter(&self) -> Texts<'a, N> {
-        self.table().iter()
-    }
-
-    /// The text at an index, counted from 0, or `None` past the end.
-    #[must_use]
-    pub fn get(&self, index: usize) -> Option<TinyAsciiStr<N>> {
-        self.table().get(index)
-    }
-
-    /// The first text, which is the least, if there is one.
-    #[must_use]
-    pub fn first(&self) -> Option<TinyAsciiStr<N>> {
-        self.table().first()
-    }
-
-    /// The last text, which is the greatest, if there is one.
-    #[must_use]
-    pub fn last(&self) -> Option<TinyAsciiStr<N>> {
-        self.table().last()
-    }
-}
-
-impl<'a, const N: usize> HashedTable<'a, N> {
-    /// The texts, in the order of the hash.
-    #[must_use]
-    pub const fn iter(&self) -> Texts<'a, N> {
-        self.table().iter()
-    }
-
-    /// The text at an index, counted from 0, or `None` past the end.
-    #[must_use]
-    pub fn get(&self, index: usize) -> Option<TinyAsciiStr<N>> {
-        self.table().get(index)
-    }
 }

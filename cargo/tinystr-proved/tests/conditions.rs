@@ -22,7 +22,6 @@ const PANICKING: &[(&str, fn())] = &[
     ("Table::new at 0", || ignore(Table::<0>::new(b""))),
     ("Table::new_const at 0", || ignore(Table::<0>::new_const(b""))),
     ("SortedTable::from_bytes_const at 0", || ignore(SortedTable::<0>::from_bytes_const(b""))),
-    ("from_utf8_lossy_const by 0", || ignore(TinyAsciiStr::<2>::from_utf8_lossy_const(b"a", 0))),
     ("SortedTable::from_bytes at 0", || ignore(SortedTable::<0>::from_bytes(b""))),
     ("text_at past the end", || ignore(table().text_at(2))),
     ("slice of a table past the end", || ignore(table().slice(1..3))),
@@ -97,18 +96,6 @@ fn a_call_whose_condition_does_not_hold_panics() {
 #[should_panic(expected = "replacement must be a non-null ASCII byte")]
 fn a_replacement_that_is_no_character_panics() {
     ignore(TinyAsciiStr::<8>::from_utf8_lossy(&[0xfe], 0x80));
-}
-
-#[test]
-#[should_panic(expected = "replacement must be a non-null ASCII byte")]
-fn nul_as_a_replacement_panics() {
-    ignore(TinyAsciiStr::<8>::from_utf8_lossy(&[0xfe], 0));
-}
-
-#[test]
-#[should_panic(expected = "replacement must be a non-null ASCII byte")]
-fn a_replacement_of_numbers_that_is_no_character_panics() {
-    ignore(TinyAsciiStr::<8>::from_utf16_lossy(&[0xfffe], 0xfe));
 }
 
 #[test]

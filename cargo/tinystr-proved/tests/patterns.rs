@@ -1,14 +1,12 @@
 //! Sizes of optional texts, constants of texts as patterns, and that a pattern fits where `==` is true.
 
 use tinystr::packed::{Table, in_place};
-use tinystr::{ParseError, TinyAsciiStr, TinyStr4, TinyStr8, TinyStr16, UnvalidatedTinyAsciiStr, tinystr};
+use tinystr::{TinyAsciiStr, tinystr};
 
 macro_rules! sizes {
     ($($n:literal)*) => {$(
-        assert_eq!(size_of::<TinyAsciiStr<$n>>(), $n);
-        assert_eq!(align_of::<TinyAsciiStr<$n>>(), 1);
+        assert_eq!((size_of::<TinyAsciiStr<$n>>(), align_of::<TinyAsciiStr<$n>>()), ($n, 1));
         assert_eq!(size_of::<Option<TinyAsciiStr<$n>>>(), $n, "of capacity {}", $n);
-        assert_eq!(size_of::<Option<Option<TinyAsciiStr<$n>>>>(), $n, "twice of capacity {}", $n);
         assert_eq!(size_of::<Result<Option<Option<TinyAsciiStr<$n>>>, ()>>(), $n, "three times of capacity {}", $n);
     )*};
 }
@@ -16,44 +14,16 @@ macro_rules! sizes {
 #[test]
 fn an_optional_text_is_as_large_as_the_text() {
     sizes!(1 2 3 4 5 6 7 8 9 10 11 12 13 14 15 16 24 32);
-    assert_eq!(size_of::<Option<TinyStr4>>(), size_of::<TinyStr4>());
-    assert_eq!(size_of::<Option<TinyStr8>>(), size_of::<TinyStr8>());
-    assert_eq!(size_of::<Option<TinyStr16>>(), size_of::<TinyStr16>());
     assert_eq!((size_of::<TinyAsciiStr<0>>(), size_of::<Option<TinyAsciiStr<0>>>()), (0, 1));
-}
-
-#[test]
-fn an_optional_unvalidated_value_is_larger() {
-    assert_eq!(size_of::<UnvalidatedTinyAsciiStr<8>>(), 8);
-    assert_eq!(size_of::<Option<UnvalidatedTinyAsciiStr<8>>>(), 9);
-    let value = UnvalidatedTinyAsciiStr::from_utf8_unchecked([0xff; 3]);
-    assert_eq!(Some(value).map(|it| it.try_into_tinystr()), Some(Err(ParseError::NonAscii)));
-}
-
-/// `None` is no text: all texts of two bytes, and the empty one.
-#[test]
-fn each_text_is_another_value_than_none() {
-    let mut texts = vec![Some(Some(TinyAsciiStr::<2>::EMPTY)), Some(None), None];
-    for a in 1..=127 {
-        texts.push(Some(Some(TinyAsciiStr::try_from_utf8(&[a]).unwrap())));
-        texts.extend((1..=127).map(|b| Some(Some(TinyAsciiStr::try_from_utf8(&[a, b]).unwrap()))));
-    }
-    let read = |it: &Option<Option<TinyAsciiStr<2>>>| it.map(|it| it.map(|it| it.as_utf8().to_vec()));
-    let mut found: Vec<_> = texts.iter().map(read).collect();
-    found.sort();
-    found.dedup();
-    assert_eq!(found.len(), 3 + 127 + 127 * 127);
 }
 
 const EUR: TinyAsciiStr<3> = tinystr!(3, "EUR");
 const USD: TinyAsciiStr<3> = tinystr!(3, "USD");
-const EU: TinyAsciiStr<3> = tinystr!(3, "EU");
 const NOTHING: TinyAsciiStr<0> = TinyAsciiStr::EMPTY;
 
 fn decimals(code: TinyAsciiStr<3>) -> Option<u8> {
     match code {
         EUR | USD => Some(2),
-        EU => Some(0),
         TinyAsciiStr::<3>::EMPTY => Some(9),
         _ => None,
     }
@@ -62,7 +32,7 @@ fn decimals(code: TinyAsciiStr<3>) -> Option<u8> {
 #[test]
 fn constants_are_patterns_of_a_match() {
     let of = |text: &str| decimals(text.parse().unwrap());
-    assert_eq!([of("EUR"), of("USD"), of("EU"), of("")], [Some(2), Some(2), Some(0), Some(9)]);
+    assert_eq!([of("EUR"), of("USD"), of("")], [Some(2), Some(2), Some(9)]);
     assert_eq!([of("EUS"), of("USR"), of("eur"), of("E"), of("UEU")], [None; 5]);
     assert!(matches!(TinyAsciiStr::<0>::EMPTY, NOTHING));
 }
@@ -86,21 +56,8 @@ fn constants_with_texts_in_them_are_patterns() {
         Price { unit: Some(_), .. } => "by a unit",
         _ => "else",
     };
-    assert_eq!(name(Price { cents: 0, ..FREE }), "free");
-    assert_eq!(name(Price { cents: 100, ..A_KILO }), "a kilo");
-    assert_eq!(name(Price { code: USD, ..A_KILO }), "dollars");
-    assert_eq!(name(Price { cents: 99, ..A_KILO }), "by a unit");
-    assert_eq!(name(Price { cents: 1, ..FREE }), "else");
-}
-
-#[test]
-fn constants_are_patterns_in_any_place() {
-    assert!(matches!(Some(EUR), Some(EUR | USD)) && !matches!(Some(EU), Some(EUR | USD)));
-    assert!(matches!((EUR, 2), (EUR, 1..=3)) && !matches!((USD, 2), (EUR, _)));
-    assert!(matches!([EU, EUR, USD], [EU, .., USD]) && !matches!([EU, EUR], [_, USD]));
-    assert!(matches!(&EUR, &EUR) && matches!(&&USD, &&USD));
-    let Some(EUR) = [EUR, USD].into_iter().next() else { panic!("EUR is the first") };
-    assert!("EUR".parse::<TinyAsciiStr<3>>().is_ok_and(|code| matches!(code, EUR)));
+    let prices = [FREE, A_KILO, Price { code: USD, ..A_KILO }, Price { cents: 99, ..A_KILO }, Price { cents: 1, ..FREE }];
+    assert_eq!(prices.map(name), ["free", "a kilo", "dollars", "by a unit", "else"]);
 }
 
 /// A pattern fits exactly where `==` is true: at a text itself, with another byte at each place, and cut at each.

@@ -85,7 +85,8 @@ const GB: Region = match Region::try_from_raw(*b"gb\0") {
 const TAG: TinyStr8 = joined(EN.to_tinystr().resize(), GB.to_tinystr());
 const TAG_LEN: usize = TAG.len();
 const LETTERS: [u8; TAG_LEN] = [b'a'; TAG_LEN];
-const LOSSY: TinyAsciiStr<4> = TinyAsciiStr::from_utf16_lossy(&[0x61, 0x20ac], b'?');
+const LOSSY: [TinyAsciiStr<4>; 2] = [TinyAsciiStr::from_utf16_lossy(&[0x61, 0x20ac], b'?'), TinyAsciiStr::from_utf8_lossy(b"a\xff", b'?')];
+const WIDE: Result<TinyAsciiStr<4>, ParseError> = TinyAsciiStr::try_from_utf16(&[0x61, 0x3f]);
 const AFTER_NULS: Result<TinyAsciiStr<4>, ParseError> = TinyAsciiStr::try_from_raw(*b"a\0b\0");
 static NAME: &str = TAG.as_str();
 static UNVALIDATED: UnvalidatedTinyAsciiStr<3> = EN.to_tinystr().to_unvalidated();
@@ -96,7 +97,7 @@ fn is_british(language: Language, region: Option<Region>) -> bool {
 
 #[test]
 fn the_program_runs() {
-    assert_eq!((NAME, TAG_LEN, LETTERS.len(), LOSSY.as_str()), ("en-GB", 5, 5, "a?"));
+    assert_eq!((NAME, TAG_LEN, LETTERS.len(), LOSSY.map(Ok)), ("en-GB", 5, 5, [WIDE; 2]));
     assert_eq!((AFTER_NULS, UNVALIDATED.try_into_tinystr()), (Err(ParseError::ContainsNull), Ok(EN.to_tinystr())));
     assert!(is_british("en".parse().unwrap(), "gb".parse().ok()) && !is_british(EN, None));
     assert_eq!("hant".parse::<Script>().unwrap().as_str(), "Hant");

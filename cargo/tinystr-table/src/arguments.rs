@@ -46,10 +46,10 @@ pub fn parse(mut given: impl Iterator<Item = OsString>) -> Result<Option<Call>, 
     while let Some(argument) = given.next() {
         match argument.to_str() {
             Some("-h" | "--help") => return Ok(None),
-            Some("--sorted") => kind = Some(Kind::Sorted),
-            Some("--hashed") => kind = Some(Kind::Hashed),
-            Some("-n") => capacity = Some(option("-n", given.next(), tables::capacity)?),
-            Some("--map") => map = Some(option("--map", given.next(), ValueType::named)?),
+            Some("--sorted") => set(&mut kind, Kind::Sorted, "KIND")?,
+            Some("--hashed") => set(&mut kind, Kind::Hashed, "KIND")?,
+            Some("-n") => set(&mut capacity, option("-n", given.next(), tables::capacity)?, "-n")?,
+            Some("--map") => set(&mut map, option("--map", given.next(), ValueType::named)?, "--map")?,
             Some("--") => rest.extend(given.by_ref()),
             Some(it) if it.starts_with('-') => return Err(format!("there is no option {it}")),
             _ => rest.push(argument),
@@ -77,6 +77,11 @@ pub fn parse(mut given: impl Iterator<Item = OsString>) -> Result<Option<Call>, 
     let kind = kind.ok_or("--sorted or --hashed is missing")?;
     let capacity = capacity.ok_or("-n is missing")?;
     Ok(Some(Call { command, kind, capacity, table, values }))
+}
+
+/// Sets what the command line may say only once.
+fn set<T>(place: &mut Option<T>, given: T, name: &str) -> Result<(), String> {
+    place.replace(given).map_or(Ok(()), |_| Err(format!("{name} is given twice")))
 }
 
 fn option<T>(name: &str, given: Option<OsString>, read: impl Fn(&str) -> Option<T>) -> Result<T, String> {

@@ -7,17 +7,6 @@ use tinystr::TinyAsciiStr;
 use tinystr::hashed::{pack_hashed, pack_hashed_map};
 use tinystr::packed::{pack_map, pack_sorted};
 
-/// Where Debian's iso-codes has ISO 4217.
-const CURRENCIES: &str = "/usr/share/iso-codes/json/iso_4217.json";
-
-/// The codes of ISO 4217 where they are installed, else some.
-fn currencies() -> Vec<String> {
-    match fs::read_to_string(CURRENCIES) {
-        Ok(json) => json.split("\"alpha_3\": \"").skip(1).map(|it| it[..3].to_string()).collect(),
-        Err(_) => ["USD", "CHF", "JPY", "EUR", "KWD"].map(String::from).to_vec(),
-    }
-}
-
 fn path(name: &str) -> String {
     format!("{}/{name}", env!("CARGO_TARGET_TMPDIR"))
 }
@@ -42,20 +31,32 @@ fn printed(line: &str) -> String {
     out
 }
 
+/// A command line fails with this status and message, after it has printed something.
+fn fails(line: &str, status: i32, out: &str, message: &str) {
+    assert_eq!(run(line), (status, out.into(), format!("tinystr-table: {message}\n")), "{line}");
+}
+
+#[test]
+fn an_option_that_is_given_twice_is_no_call() {
+    for (options, name) in [("--sorted --hashed", "KIND"), ("-n 3 -n 4", "-n"), ("--map u8 --map u16", "--map")] {
+        fails(&format!("check {options} table"), 2, "", &format!("{name} is given twice; see tinystr-table --help"));
+    }
+}
+
 #[test]
 fn tables_are_those_of_the_library() {
-    let codes = currencies();
-    let texts: Vec<TinyAsciiStr<3>> = codes.iter().map(|it| it.parse().unwrap()).collect();
+    let codes = ["USD", "CHF", "JPY", "EUR", "KWD"];
+    let texts = codes.map(|it| it.parse::<TinyAsciiStr<3>>().unwrap());
     let (input, table) = (file("codes.txt", &codes.join("\r\n")), path("codes.tbl"));
     for (kind, bytes) in [("--sorted", pack_sorted(&texts)), ("--hashed", pack_hashed(&texts).unwrap())] {
         assert_eq!(printed(&format!("pack {kind} -n 3 {input} {table}")), "");
         assert_eq!(fs::read(&table).unwrap(), bytes);
-        assert_eq!(printed(&format!("check {kind} -n 3 {table}")), format!("{table}: {} codes\n", codes.len()));
+        assert_eq!(printed(&format!("check {kind} -n 3 {table}")), format!("{table}: 5 codes\n"));
         let shown = printed(&format!("show {kind} -n 3 {table}"));
-        let records = bytes[bytes.len() - 3 * codes.len()..].chunks(3).map(|it| str::from_utf8(it).unwrap());
-        assert_eq!(shown.lines().collect::<Vec<_>>(), records.collect::<Vec<_>>());
+        assert_eq!(shown.replace('\n', "").as_bytes(), &bytes[bytes.len() - 3 * codes.len()..]);
         let index = shown.lines().position(|it| it == "EUR").unwrap();
         assert_eq!(printed(&format!("get {kind} -n 3 {table} EUR")), format!("EUR\t{index}\n"));
+        fails(&format!("get {kind} -n 3 {table} GBP EUR"), 1, &format!("EUR\t{index}\n"), "GBP isn't found");
     }
 }
 
@@ -68,12 +69,13 @@ fn maps_are_those_of_the_library() {
         let options = format!("{kind} -n 3 --map u16");
         printed(&format!("pack {options} {input} {keys} {values}"));
         assert_eq!((fs::read(&keys).unwrap(), fs::read(&values).unwrap()), packed);
-        let mut shown: Vec<String> = printed(&format!("show {options} {keys} {values}")).lines().map(String::from).collect();
-        shown.sort();
-        assert_eq!(shown, ["CLF\t513", "EUR\t2", "JPY\t0"]);
+        let shown = printed(&format!("show {options} {keys} {values}"));
+        let mut lines: Vec<&str> = shown.lines().collect();
+        lines.sort();
+        assert_eq!(lines, ["CLF\t513", "EUR\t2", "JPY\t0"]);
         assert_eq!(printed(&format!("get {options} {keys} {values} CLF JPY")), "CLF\t513\nJPY\t0\n");
-        let (status, _, message) = run(&format!("check {kind} -n 3 --map u8 {keys} {values}"));
-        assert_eq!((status, message), (1, format!("tinystr-table: {values}: 6 bytes aren't a value for each of 3 keys\n")));
+        let fault = format!("{values}: 6 bytes aren't a value for each of 3 keys");
+        fails(&format!("check {kind} -n 3 --map u8 {keys} {values}"), 1, "", &fault);
     }
 }
 
@@ -85,8 +87,8 @@ fn values_may_be_texts() {
     assert_eq!(fs::read(&values).unwrap(), b"CHFEURGB\0");
     assert_eq!(printed(&format!("show {options} {keys} {values}")), fs::read_to_string(input).unwrap());
     fs::write(&values, b"CHFEURG\0B").unwrap();
-    let (status, _, message) = run(&format!("check {options} {keys} {values}"));
-    assert_eq!((status, message), (1, format!("tinystr-table: {values}: record 2: a byte other than NUL follows a NUL\n")));
+    let fault = format!("{values}: record 2: a byte other than NUL follows a NUL");
+    fails(&format!("check {options} {keys} {values}"), 1, "", &fault);
 }
 
 #[test]
@@ -100,36 +102,25 @@ fn each_capacity_is_served() {
             assert_eq!(printed(&format!("show {kind} -n {n} {table}")), format!("{code}\n"));
         }
     }
-    assert_eq!(run(&format!("show --sorted -n 17 {table}")).0, 2);
+    fails(&format!("show --sorted -n 17 {table}"), 2, "", "-n can't be 17; see tinystr-table --help");
 }
 
 #[test]
-fn faults_name_their_line() {
+fn faults_name_their_line_or_their_file() {
     for (options, text, fault) in [
         ("--sorted", "EUR\nJPY\nEUR\n", "line 3: EUR is on line 1 too"),
         ("--hashed", "EUR\n\nJPY\n", "line 2: there is no code"),
         ("--hashed", "EUR\nEURO", "line 2: found string of larger length 4 when constructing string of length 3"),
-        ("--sorted", "EUR\nné", "line 2: attempted to construct TinyAsciiStr from a non-ASCII string"),
         ("--sorted --map u8", "EUR\t2\nJPY", "line 2: there is no tab"),
         ("--sorted --map u8", "EUR\t2\nJPY\t256", "line 2: the number has more than 8 bits"),
         ("--sorted --map u64", "EUR\t-1", "line 1: invalid digit found in string"),
     ] {
         let (input, table) = (file("faulty.txt", text), path("faulty.tbl"));
         let values = if options.contains("--map") { " /none" } else { "" };
-        let (status, out, message) = run(&format!("pack {options} -n 3 {input} {table}{values}"));
-        assert_eq!((status, out, message), (1, String::new(), format!("tinystr-table: {input}: {fault}\n")));
+        fails(&format!("pack {options} -n 3 {input} {table}{values}"), 1, "", &format!("{input}: {fault}"));
         assert!(!fs::exists(table).unwrap());
     }
-}
-
-#[test]
-fn faults_name_their_file() {
     let table = file("swapped.tbl", "JPYEUR");
-    let message = format!("tinystr-table: {table}: record 1 isn't above the one before it\n");
-    assert_eq!(run(&format!("get --sorted -n 3 {table} EUR")), (1, String::new(), message));
-    let message = "tinystr-table: /none: No such file or directory (os error 2)\n".to_string();
-    assert_eq!(run("show --sorted -n 3 /none"), (1, String::new(), message));
-    let table = file("euro.tbl", "EUR");
-    let message = "tinystr-table: JPY isn't found\n".to_string();
-    assert_eq!(run(&format!("get --sorted -n 3 {table} JPY EUR")), (1, "EUR\t0\n".into(), message));
+    fails(&format!("get --sorted -n 3 {table} EUR"), 1, "", &format!("{table}: record 1 isn't above the one before it"));
+    fails("show --sorted -n 3 /none", 1, "", "/none: No such file or directory (os error 2)");
 }

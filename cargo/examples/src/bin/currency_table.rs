@@ -35,11 +35,3 @@ fn main() {
         println!("{}", answer(&table, &it));
     }
 }
-
-#[test]
-fn codes_are_found_in_any_case() {
-    let table = [(tinystr!(3, "EUR"), ("Euro", 2))].into();
-    assert_eq!(answer(&table, "eUr"), "EUR: Euro, 2 decimal places");
-    assert_eq!(answer(&table, "xyz"), "XYZ: not in the table");
-    assert_eq!(answer(&table, "euros"), "euros: found string of larger length 5 when constructing string of length 3");
-}

@@ -22,10 +22,3 @@ fn main() {
         println!("{}", described(&tag));
     }
 }
-
-#[test]
-fn parts_are_in_their_case() {
-    assert_eq!(described("zh_hant_tw"), "zh_hant_tw is zh-Hant-TW: language zh, script Hant, region TW");
-    assert_eq!(described("es-419"), "es-419 is es-419: language es, region 419");
-    assert_eq!(described("e"), "e: invalid language");
-}

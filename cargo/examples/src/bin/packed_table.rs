@@ -36,14 +36,3 @@ fn main() -> Result<(), Box<dyn Error>> {
     println!("with b: {}", in_b.join(", "));
     Ok(())
 }
-
-#[test]
-fn bytes_are_opened_or_rejected() -> Result<(), Box<dyn Error>> {
-    let bytes = written()?;
-    assert_eq!(opened(&bytes)?.len(), 5);
-    let fault_of = |bytes: &[u8]| opened(bytes).err().map(|fault| fault.to_string());
-    assert_eq!(fault_of(&bytes[1..]), Some("59 bytes can't be divided into records".into()));
-    let swapped = [&bytes[12..24], &bytes[..12]].concat();
-    assert_eq!(fault_of(&swapped), Some("record 1 isn't above the one before it".into()));
-    Ok(())
-}

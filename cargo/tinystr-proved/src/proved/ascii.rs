@@ -3,7 +3,7 @@
 
 mod concat;
 mod decimals;
-mod lanes;
+pub(crate) mod lanes;
 mod letters;
 mod order;
 mod print;
@@ -107,6 +107,16 @@ impl<const N: usize> TinyAsciiStr<N> {
         debug_assert!(AsciiBytes::are_padded(&bytes), "the bytes aren't a text and then NULs");
         // SAFETY: a text and then NULs, so each byte is below 128. This is proved at each call.
         TinyAsciiStr { bytes: unsafe { AsciiBytes::new(bytes) } }
+    }
+
+    // The text and then NULs.
+    // Proved:
+    //     ensures len { length result.now ≡ N }
+    //     ensures padded { IsPadded result.now }
+    //     ensures text { text_of result.now ≡ self.now }
+    #[inline(always)]
+    pub(crate) fn padded_bytes(&self) -> &[u8] {
+        &self.bytes.as_array()[..]
     }
 }
 

@@ -27,15 +27,3 @@ pub enum ParseError {
     /// A code unit is above 127.
     NonAscii,
 }
-
-impl core::fmt::Display for ParseError {
-    fn fmt(&self, f: &mut core::fmt::Formatter<'_>) -> core::fmt::Result {
-        match self {
-            Self::TooLong { max, len } => write!(f, "found string of larger length {len} when constructing string of length {max}"),
-            Self::ContainsNull => f.write_str("tinystr types do not support strings with null bytes"),
-            Self::NonAscii => f.write_str("attempted to construct TinyAsciiStr from a non-ASCII string"),
-        }
-    }
-}
-
-impl core::error::Error for ParseError {}

@@ -61,22 +61,6 @@ pub fn bits(mask: [u8; 16]) -> u64 {
 }
 
 #[inline(always)]
-pub fn bytes_of(units: [u16; 8]) -> [u8; 16] {
-    // SAFETY: it is sixteen bytes. The low byte of a number is the first on x86-64.
-    unsafe { core::mem::transmute(units) }
-}
-
-#[inline(always)]
-pub fn even(a: [u8; 16]) -> [u8; 8] {
-    // SAFETY: the processor has SSE2, as `cfg` says where this module is named.
-    let low = unsafe { _mm_and_si128(vector(a), _mm_set1_epi16(0xff)) };
-    // each number of sixteen bits is below 256, and is packed as it is
-    // SAFETY: the processor has SSE2, as `cfg` says where this module is named.
-    let packed = unsafe { _mm_cvtsi128_si64(_mm_packus_epi16(low, low)) };
-    packed.to_le_bytes()
-}
-
-#[inline(always)]
 pub fn next(a: [u8; 16], b: [u8; 16]) -> [u8; 16] {
     // SAFETY: the processor has SSE2, as `cfg` says where this module is named.
     bytes(unsafe { _mm_or_si128(_mm_srli_si128::<1>(vector(a)), _mm_slli_si128::<15>(vector(b))) })

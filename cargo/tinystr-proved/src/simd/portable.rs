@@ -85,34 +85,9 @@ pub fn bits(mask: [u8; 16]) -> u64 {
     of_eight(low) | of_eight(high) << 8
 }
 
-/// The bytes of numbers, of each the low one first.
-#[inline(always)]
-pub fn bytes_of(units: [u16; 8]) -> [u8; 16] {
-    let [a, b, c, d, e, f, g, h] = units.map(u64::from);
-    bytes([a | b << 16 | c << 32 | d << 48, e | f << 16 | g << 32 | h << 48])
-}
-
-/// The bytes at even places.
-#[inline(always)]
-pub fn even(a: [u8; 16]) -> [u8; 8] {
-    let of_eight = |word: u64| {
-        let bytes = word & 0x00ff_00ff_00ff_00ff;
-        let pairs = (bytes | bytes >> 8) & 0x0000_ffff_0000_ffff;
-        (pairs | pairs >> 16) & 0xffff_ffff
-    };
-    let [low, high] = words(a);
-    (of_eight(low) | of_eight(high) << 32).to_le_bytes()
-}
-
 /// The bytes from the second on, and after them the first of the others.
 #[inline(always)]
 pub fn next(a: [u8; 16], b: [u8; 16]) -> [u8; 16] {
     let ([low, high], [following, _]) = (words(a), words(b));
     bytes([low >> 8 | high << 56, high >> 8 | following << 56])
-}
-
-/// In each lane the first byte where it is from 1 to 127, else the other.
-#[inline(always)]
-pub fn characters_or(a: [u8; 16], b: [u8; 16]) -> [u8; 16] {
-    zip(a, b, |a, b| b ^ (a ^ b) & truths(nonzero_low_bits(a) & !a))
 }

@@ -2,10 +2,12 @@
 //! Parts of a text, by index.
 
 use crate::ascii::TinyAsciiStr;
-use crate::ascii::lanes::{first_sixteen, text_of_first_lanes, text_of_lanes};
+use crate::ascii::lanes::{
+    first_sixteen, front_of, rest_of, text_of_bytes, text_of_first_lanes, text_of_lanes,
+};
 use core::ops::Range;
 use crate::simd::*;
-use crate::words::padded::{first_lanes_of_eight, resize, resize_at_once};
+use crate::words::padded::{first_lanes_of_eight, resize};
 
 impl<const N: usize> TinyAsciiStr<N> {
     /// The bytes of the text at a range of indices, as a text of capacity `M`: those that exist, and at most the first
@@ -69,15 +71,15 @@ impl<const N: usize> TinyAsciiStr<N> {
     //     ensures { result ≡ take M (drop start self.now) }
     #[inline(always)]
     pub(crate) fn suffix<const M: usize>(&self, start: usize) -> TinyAsciiStr<M> {
-        let bytes = &self.bytes.as_array()[..];
+        let bytes = self.padded_bytes();
         if M <= N && start <= N - M {
-            return TinyAsciiStr::from_padded(resize_at_once(&bytes[start..start + M]));
+            return text_of_bytes(front_of(rest_of(bytes, start), M));
         }
-        let rest = &bytes[start.min(N)..];
+        let rest = rest_of(bytes, start.min(N));
         if rest.len() <= 16 || rest[16] == 0 {
             return text_of_lanes(first_sixteen(rest));
         }
-        TinyAsciiStr::from_padded(resize_at_once(rest))
+        text_of_bytes(rest)
     }
 
     // The first bytes. Up to sixteen stay in a vector.
@@ -88,7 +90,7 @@ impl<const N: usize> TinyAsciiStr<N> {
         if len >= N {
             return self;
         }
-        let bytes = &self.bytes.as_array()[..];
+        let bytes = self.padded_bytes();
         if N <= 8 {
             let lanes = first_lanes_of_eight(u8x8::from_array(resize(bytes)), len);
             return TinyAsciiStr::from_padded(resize(&lanes.to_array()[..]));
@@ -96,6 +98,6 @@ impl<const N: usize> TinyAsciiStr<N> {
         if len <= 16 {
             return text_of_first_lanes(first_sixteen(bytes), len);
         }
-        TinyAsciiStr::from_padded(resize_at_once(&bytes[..len]))
+        text_of_bytes(front_of(bytes, len))
     }
 }

@@ -2,10 +2,11 @@
 //! A byte found in a text, and texts split at it.
 
 use crate::ascii::TinyAsciiStr;
-use crate::ascii::lanes::{first_sixteen, text_of_first_lanes, text_of_lanes};
+use crate::ascii::lanes::{
+    first_sixteen, front_of, rest_of, text_of_bytes, text_of_first_lanes, text_of_lanes,
+};
 use crate::simd::*;
 use crate::words::int_ops::Aligned8;
-use crate::words::padded::resize_at_once;
 use crate::words::word::Word;
 
 /// An iterator over the parts of a text, in order.
@@ -209,7 +210,7 @@ fn split_around(text: TinyAsciiStr<8>, at: usize) -> (TinyAsciiStr<8>, TinyAscii
 fn split_first<const N: usize>(bytes: &[u8], separator: u8) -> (TinyAsciiStr<N>, Option<&[u8]>) {
     let lanes = first_sixteen(bytes);
     match find_in_sixteen(lanes, separator) {
-        Some(at) => (text_of_first_lanes(lanes, at), Some(&bytes[at + 1..])),
+        Some(at) => (text_of_first_lanes(lanes, at), Some(rest_of(bytes, at + 1))),
         None if bytes.len() <= 16 || bytes[16] == 0 => (text_of_lanes(lanes), None),
         None => split_first_by_copy(bytes, separator),
     }
@@ -228,10 +229,10 @@ fn split_first_by_copy<const N: usize>(
 ) -> (TinyAsciiStr<N>, Option<&[u8]>) {
     match find_past_sixteen(bytes, separator) {
         Some(at) => (
-            TinyAsciiStr::from_padded(resize_at_once(&bytes[..at])),
-            Some(&bytes[at + 1..]),
+            text_of_bytes(front_of(bytes, at)),
+            Some(rest_of(bytes, at + 1)),
         ),
-        None => (TinyAsciiStr::from_padded(resize_at_once(bytes)), None),
+        None => (text_of_bytes(bytes), None),
     }
 }
 
@@ -243,7 +244,7 @@ fn split_first_by_copy<const N: usize>(
 fn find_past_sixteen(bytes: &[u8], byte: u8) -> Option<usize> {
     let mut start = 16;
     while start < bytes.len() {
-        if let Some(at) = find_in_sixteen(first_sixteen(&bytes[start..]), byte) {
+        if let Some(at) = find_in_sixteen(first_sixteen(rest_of(bytes, start)), byte) {
             return Some(start + at);
         }
         start += 16;

@@ -3,12 +3,12 @@
 
 use crate::words::word::Word;
 
-// Odd numbers whose bits look random, which a seed, a hash and a slot are made with.
-const OF_SEEDS: u64 = 0x2545_f491_4f6c_dd1d;
+// Odd numbers whose bits look random.
+const SEED_MULTIPLIER: u64 = 0x2545_f491_4f6c_dd1d;
 
-const OF_HASHES: u64 = 0x9e37_79b9_7f4a_7c15;
+const HASH_MASK: u64 = 0x9e37_79b9_7f4a_7c15;
 
-const OF_SLOTS: u64 = 0xe703_7ed1_a0b4_28db;
+const SLOT_MULTIPLIER: u64 = 0xe703_7ed1_a0b4_28db;
 
 /// What places the records of a hashed table that has pilots.
 #[derive(Clone, Copy)]
@@ -125,7 +125,7 @@ impl<'a> Places<'a> {
 /// ```
 #[inline(always)]
 pub(crate) fn start_of(seed: u32) -> u64 {
-    u64::from(seed).wrapping_mul(OF_SEEDS)
+    u64::from(seed).wrapping_mul(SEED_MULTIPLIER)
 }
 
 /// The hash of a record.
@@ -157,7 +157,7 @@ pub(crate) fn hash_of<const N: usize>(start: u64, raw: &[u8; N]) -> u64 {
 #[inline(always)]
 fn hash_on(hash: u64, piece: &[u8]) -> u64 {
     let (low, high) = piece.split_at(piece.len().min(8));
-    folded(hash ^ number(low), hash ^ (OF_HASHES ^ number(high)))
+    folded(hash ^ number(low), hash ^ (HASH_MASK ^ number(high)))
 }
 
 // The little-endian number of at most eight bytes.
@@ -224,7 +224,7 @@ pub(crate) fn slot_of(hash: u64, pilot: u8, slots: usize) -> usize {
 /// ```
 #[inline(always)]
 pub(crate) fn slot_factor(hash: u64) -> u64 {
-    hash.wrapping_mul(OF_SLOTS)
+    hash.wrapping_mul(SLOT_MULTIPLIER)
 }
 
 /// The slot of a hash, by the factor of the hash.

@@ -2,6 +2,7 @@
 //! Maps whose keys are a hashed table, read in place.
 
 use crate::hashed::table::{HashedError, HashedTable};
+use core::iter::FusedIterator;
 use crate::TinyAsciiStr;
 use crate::packed::Texts;
 
@@ -213,7 +214,7 @@ impl<'a, const N: usize, const M: usize> HashedMap<'a, N, M> {
     #[must_use]
     pub const fn iter(&self) -> Entries<'a, N, M> {
         Entries {
-            keys: self.keys.table().iter(),
+            keys: self.keys.iter(),
             values: self.values,
         }
     }
@@ -271,8 +272,20 @@ impl<'a, const N: usize, const M: usize> Iterator for Entries<'a, N, M> {
     }
 }
 
+impl<'a, const N: usize, const M: usize> DoubleEndedIterator for Entries<'a, N, M> {
+    fn next_back(&mut self) -> Option<(TinyAsciiStr<N>, &'a [u8; M])> {
+        let key = self.keys.next_back()?;
+        let values = self.values;
+        let (value, rest) = values.split_last()?;
+        self.values = rest;
+        Some((key, value))
+    }
+}
+
 impl<'a, const N: usize, const M: usize> ExactSizeIterator for Entries<'a, N, M> {
     fn len(&self) -> usize {
         self.values.len()
     }
 }
+
+impl<'a, const N: usize, const M: usize> FusedIterator for Entries<'a, N, M> {}

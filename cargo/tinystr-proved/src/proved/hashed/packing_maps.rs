@@ -44,7 +44,7 @@ pub fn pack_hashed_map<const N: usize, const M: usize>(
     let keys = packed_keys(map)?;
     let hashed = HashedTable::<N>::from_bytes(keys.as_slice()).unwrap();
     let mut values = Vec::with_capacity(hashed.len().saturating_mul(M));
-    for key in hashed.table().iter() {
+    for key in hashed.iter() {
         values.extend_from_slice(&map[&key]);
     }
     Ok((keys, values))
@@ -87,7 +87,7 @@ pub fn pack_hashed_text_map<const N: usize, const M: usize>(
     let keys = packed_keys(map)?;
     let hashed = HashedTable::<N>::from_bytes(keys.as_slice()).unwrap();
     let mut values = Vec::with_capacity(hashed.len().saturating_mul(M));
-    for key in hashed.table().iter() {
+    for key in hashed.iter() {
         let value = &map[&key];
         values.extend_from_slice(value.all_bytes());
     }

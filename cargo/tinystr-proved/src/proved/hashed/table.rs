@@ -5,7 +5,7 @@ use crate::hashed::hashing::{Places, short_number, start_of};
 use crate::TinyAsciiStr;
 use crate::ule::UleError;
 use crate::packed::in_place::search;
-use crate::packed::{SortedTable, Table};
+use crate::packed::{SortedTable, Table, Texts};
 use crate::words::padded;
 
 /// The version of the bytes, which their first four are.
@@ -145,6 +145,35 @@ impl<'a, const N: usize> HashedTable<'a, N> {
     #[must_use]
     pub const fn is_empty(&self) -> bool {
         self.table.is_empty()
+    }
+
+    /// The text at an index, counted from 0, in constant time, or `None` past the end.
+    ///
+    /// # [Contract](crate::definitions)
+    /// <details>
+    ///
+    /// ```text
+    /// ensures { result ≡ slice_get self.now index }
+    /// ```
+    /// </details>
+    #[must_use]
+    pub fn get(&self, index: usize) -> Option<TinyAsciiStr<N>> {
+        self.table.get(index)
+    }
+
+    /// The texts, in the order of the table.
+    ///
+    /// # [Contract](crate::definitions)
+    /// <details>
+    ///
+    /// ```text
+    /// ensures texts { result ≡ self.now }
+    /// ensures bound { length result < 2 ^ 64 }
+    /// ```
+    /// </details>
+    #[must_use]
+    pub const fn iter(&self) -> Texts<'a, N> {
+        self.table.iter()
     }
 
     /// The index of a text, or `None` if the table doesn't have it. Each key takes one hash, one pilot and one record, and some

@@ -4,6 +4,7 @@
 use crate::packed::eight::{SingleBlocks, search_first_eight};
 use crate::packed::search::{answer_at, binary_search, lower_bound_near};
 use core::cmp::Ordering;
+use core::iter::FusedIterator;
 use crate::TinyAsciiStr;
 
 /// What `SortedTable::binary_search` returns for each of many keys, in their order.
@@ -157,3 +158,5 @@ impl<'a, 'k, const N: usize> ExactSizeIterator for BinarySearchEach<'a, 'k, N> {
         self.keys.len() - self.given
     }
 }
+
+impl<'a, 'k, const N: usize> FusedIterator for BinarySearchEach<'a, 'k, N> {}

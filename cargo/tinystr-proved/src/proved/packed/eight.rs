@@ -65,8 +65,8 @@ pub(crate) fn search_first_eight<const N: usize>(
     single_blocks: SingleBlocks,
     answers: &mut [Result<usize, usize>; 8],
 ) -> SingleBlocks {
-    if are_alternating(keys) {
-        *answers = answers_of_two(records, keys);
+    if let Some(same) = answers_of_one(records, keys) {
+        *answers = same;
         return single_blocks;
     }
     if N > 16 && single_blocks.left > 0 {
@@ -99,8 +99,8 @@ pub(crate) fn answers_of_short<const N: usize>(
     keys: &[TinyAsciiStr<N>],
     near: usize,
 ) -> [Result<usize, usize>; 8] {
-    if are_alternating(keys) {
-        return answers_of_two(records, keys);
+    if let Some(same) = answers_of_one(records, keys) {
+        return same;
     }
     let places = lower_bound_each_short(records, keys, near);
     answers_at(records, keys, &places)
@@ -146,37 +146,21 @@ pub(crate) fn answers_one_by_one<const N: usize>(
     answers
 }
 
-// The answers for one key, or for two alternating keys, each of which is searched for once.
-// Proved:
-//     requires eight { 8 ≤ length keys.now }
-//     requires alternating { (i : ℕ) → i < 6 → text_at keys.now (i + 2) ≡ text_at keys.now i }
-//     ensures { AreAnswers N records.now keys.now result 8 }
-#[inline(always)]
-fn answers_of_two<const N: usize>(
-    records: &[[u8; N]],
-    keys: &[TinyAsciiStr<N>],
-) -> [Result<usize, usize>; 8] {
-    let first = binary_search(records, &keys[0]);
-    let second = if keys[1] == keys[0] {
-        first
-    } else {
-        binary_search(records, &keys[1])
-    };
-    [first, second, first, second, first, second, first, second]
-}
-
-// Whether the first eight are one key, or two alternating keys.
+// The answers if the first eight keys are one key, which is searched for once.
 // Proved:
 //     requires { 8 ≤ length keys.now }
-//     ensures { IsTrue result → (i : ℕ) → i < 6 → text_at keys.now (i + 2) ≡ text_at keys.now i }
+//     ensures { IfSome result (λ answers. AreAnswers N records.now keys.now answers 8) }
 #[inline(always)]
-fn are_alternating<const N: usize>(keys: &[TinyAsciiStr<N>]) -> bool {
-    for lane in 0..6usize {
-        if keys[lane + 2] != keys[lane] {
-            return false;
+fn answers_of_one<const N: usize>(
+    records: &[[u8; N]],
+    keys: &[TinyAsciiStr<N>],
+) -> Option<[Result<usize, usize>; 8]> {
+    for lane in 1..8usize {
+        if keys[lane] != keys[0] {
+            return None;
         }
     }
-    true
+    Some([binary_search(records, &keys[0]); 8])
 }
 
 // 1 if the pair of the record at an index is below another, else 0.

@@ -41,9 +41,9 @@ pub fn search<const N: usize>(bytes: &[u8], key: &TinyAsciiStr<N>) -> Result<usi
 /// each result is a place inside them, which may differ from that of `search`. `N` must be above 0.
 ///
 /// Among records of at most sixteen bytes the keys are searched for together, so that each search waits for memory while the
-/// others do, unless they are one key or two alternating keys. Keys in order are searched for first in the records after
-/// the index `near`, for example that of the last result. For packed records whose texts are strictly ascending, `near` changes
-/// only the time. For other bytes it may also change which place inside them is returned.
+/// others do, unless they are one key. Keys in order are searched for first in the records after the index `near`, for
+/// example that of the last result. For packed records whose texts are strictly ascending, `near` changes only the time. For
+/// other bytes it may also change which place inside them is returned.
 ///
 /// ```
 /// use tinystr::tinystr;

@@ -4,6 +4,7 @@
 use crate::packed::each::BinarySearchEach;
 use crate::packed::sorted::{NotRising, SortedError, SortedTable};
 use crate::packed::table::Texts;
+use core::iter::FusedIterator;
 use core::ops::Range;
 use crate::TinyAsciiStr;
 use crate::ule::UleError;
@@ -294,7 +295,7 @@ impl<'a, const N: usize, const M: usize> PackedMap<'a, N, M> {
     #[must_use]
     pub const fn iter(&self) -> Entries<'a, N, M> {
         Entries {
-            keys: self.keys.table().iter(),
+            keys: self.keys.iter(),
             values: self.values,
         }
     }
@@ -319,6 +320,7 @@ impl<'a, const N: usize, const M: usize> Default for PackedMap<'a, N, M> {
 ///
 /// let places = PackedMap::<3, 1>::new(b"EURJPY", &[2, 0]).unwrap();
 /// assert_eq!(places.iter().next(), Some((tinystr!(3, "EUR"), &[2])));
+/// assert_eq!(places.iter().next_back(), Some((tinystr!(3, "JPY"), &[0])));
 /// ```
 ///
 /// # [Contract](crate::definitions)
@@ -351,11 +353,23 @@ impl<'a, const N: usize, const M: usize> Iterator for Entries<'a, N, M> {
     }
 }
 
+impl<'a, const N: usize, const M: usize> DoubleEndedIterator for Entries<'a, N, M> {
+    fn next_back(&mut self) -> Option<(TinyAsciiStr<N>, &'a [u8; M])> {
+        let key = self.keys.next_back()?;
+        let values = self.values;
+        let (value, rest) = values.split_last()?;
+        self.values = rest;
+        Some((key, value))
+    }
+}
+
 impl<'a, const N: usize, const M: usize> ExactSizeIterator for Entries<'a, N, M> {
     fn len(&self) -> usize {
         self.values.len()
     }
 }
+
+impl<'a, const N: usize, const M: usize> FusedIterator for Entries<'a, N, M> {}
 
 /// What `PackedMap::get` returns for each of many keys, in their order.
 ///
@@ -402,3 +416,5 @@ impl<'a, 'k, const N: usize, const M: usize> ExactSizeIterator for GetEach<'a, '
         self.answers.len()
     }
 }
+
+impl<'a, 'k, const N: usize, const M: usize> FusedIterator for GetEach<'a, 'k, N, M> {}

@@ -4,7 +4,7 @@
 use crate::packed::each::BinarySearchEach;
 use crate::packed::prefix::count_with_prefix;
 use crate::packed::search::{self, lower_bound};
-use crate::packed::table::Table;
+use crate::packed::table::{Table, Texts};
 use core::ops::Range;
 use crate::TinyAsciiStr;
 use crate::ule::UleError;
@@ -93,7 +93,7 @@ impl<'a, const N: usize> SortedTable<'a, N> {
     /// use tinystr::packed::{NotRising, SortedError, SortedTable};
     ///
     /// let codes = SortedTable::<3>::from_bytes(b"CHFEURJPY").unwrap();
-    /// assert_eq!(codes.table().len(), 3);
+    /// assert_eq!(codes.len(), 3);
     /// let fault = SortedTable::<3>::from_bytes(b"EURCHF").err();
     /// assert_eq!(fault, Some(SortedError::Order(NotRising { index: 1 })));
     /// ```
@@ -140,6 +140,99 @@ impl<'a, const N: usize> SortedTable<'a, N> {
         &self.table
     }
 
+    /// The number of texts.
+    ///
+    /// # [Contract](crate::definitions)
+    /// <details>
+    ///
+    /// ```text
+    /// ensures { result ≡ length self.now }
+    /// ```
+    /// </details>
+    #[must_use]
+    pub const fn len(&self) -> usize {
+        self.table.len()
+    }
+
+    /// Whether the table has no texts.
+    ///
+    /// # [Contract](crate::definitions)
+    /// <details>
+    ///
+    /// ```text
+    /// ensures { IsTrue result ↔ (self.now ≡ []) }
+    /// ```
+    /// </details>
+    #[must_use]
+    pub const fn is_empty(&self) -> bool {
+        self.table.is_empty()
+    }
+
+    /// The text at an index, counted from 0, in constant time, or `None` past the end.
+    ///
+    /// # [Contract](crate::definitions)
+    /// <details>
+    ///
+    /// ```text
+    /// ensures { result ≡ slice_get self.now index }
+    /// ```
+    /// </details>
+    #[must_use]
+    pub fn get(&self, index: usize) -> Option<TinyAsciiStr<N>> {
+        self.table.get(index)
+    }
+
+    /// The first text, which is the least, if there is one.
+    ///
+    /// # [Contract](crate::definitions)
+    /// <details>
+    ///
+    /// ```text
+    /// ensures { result ≡ slice_get self.now 0 }
+    /// ```
+    /// </details>
+    #[must_use]
+    pub fn first(&self) -> Option<TinyAsciiStr<N>> {
+        self.table.first()
+    }
+
+    /// The last text, which is the greatest, if there is one.
+    ///
+    /// # [Contract](crate::definitions)
+    /// <details>
+    ///
+    /// ```text
+    /// ensures { result ≡ slice_get self.now (length self.now - 1) }
+    /// ```
+    /// </details>
+    #[must_use]
+    pub fn last(&self) -> Option<TinyAsciiStr<N>> {
+        self.table.last()
+    }
+
+    /// The texts in order.
+    ///
+    /// ```
+    /// use tinystr::tinystr;
+    /// use tinystr::packed::SortedTable;
+    ///
+    /// let codes = SortedTable::<3>::from_bytes(b"CHFEURJPY").unwrap();
+    /// assert_eq!(codes.iter().rev().nth(1), Some(tinystr!(3, "EUR")));
+    /// ```
+    ///
+    /// # [Contract](crate::definitions)
+    /// <details>
+    ///
+    /// ```text
+    /// ensures texts { result ≡ self.now }
+    /// ensures bound { length result < 2 ^ 64 }
+    /// ```
+    /// </details>
+    #[must_use]
+    pub const fn iter(&self) -> Texts<'a, N> {
+        self.table.iter()
+    }
+
     /// The index of a text, or as the error the index at which it belongs: all texts before that are below it, and all
     /// from that on are above it.
     ///
@@ -162,8 +255,7 @@ impl<'a, const N: usize> SortedTable<'a, N> {
     ///
     /// A key that repeats, or whose place is next to the last one, needs no search. Other keys are searched for eight at a
     /// time, so that each search waits for memory while the others do. Eight keys in order are searched for first in the
-    /// records after the last place. Two alternating keys take two searches, and fewer than eight keys are searched for one by
-    /// one.
+    /// records after the last place, and fewer than eight keys are searched for one by one.
     ///
     /// ```
     /// use tinystr::tinystr;
@@ -245,8 +337,8 @@ impl<'a, const N: usize> SortedTable<'a, N> {
     ///
     /// let codes = SortedTable::new(Table::<3>::new(b"CADCHFCZKEUR").unwrap()).unwrap();
     /// let found = codes.with_prefix(&tinystr!(3, "CH"));
-    /// assert_eq!(found.table().len(), 1);
-    /// assert_eq!(found.table().first(), Some(tinystr!(3, "CHF")));
+    /// assert_eq!(found.len(), 1);
+    /// assert_eq!(found.first(), Some(tinystr!(3, "CHF")));
     /// ```
     ///
     /// # [Contract](crate::definitions)

@@ -2,6 +2,7 @@
 //! Tables of packed records, and the iterator over their texts.
 
 use crate::packed::record::is_below;
+use core::iter::FusedIterator;
 use core::ops::Range;
 use crate::TinyAsciiStr;
 use crate::ule::UleError;
@@ -215,8 +216,9 @@ impl<'a, const N: usize> Table<'a, N> {
     /// </details>
     #[must_use]
     pub const fn iter(&self) -> Texts<'a, N> {
+        let records = self.records;
         Texts {
-            records: self.records,
+            rest: Table { records },
         }
     }
 
@@ -275,7 +277,7 @@ impl<'a, const N: usize> Default for Table<'a, N> {
 /// use tinystr::packed::Table;
 ///
 /// let table = Table::<3>::new(b"EURGB\0").unwrap();
-/// assert_eq!(table.iter().last(), Some(tinystr!(3, "GB")));
+/// assert_eq!(table.iter().rev().next(), Some(tinystr!(3, "GB")));
 /// ```
 ///
 /// # [Contract](crate::definitions)
@@ -283,18 +285,16 @@ impl<'a, const N: usize> Default for Table<'a, N> {
 /// A contract sees it as the list of the remaining ones.
 #[derive(Clone)]
 pub struct Texts<'a, const N: usize> {
-    records: &'a [[u8; N]],
+    rest: Table<'a, N>,
 }
 
 impl<'a, const N: usize> Iterator for Texts<'a, N> {
     type Item = TinyAsciiStr<N>;
 
     fn next(&mut self) -> Option<TinyAsciiStr<N>> {
-        let records = self.records;
-        let (raw, rest) = records.split_first()?;
-        self.records = rest;
-        // SAFETY: each record was read as a text and then NULs. This is proved.
-        Some(unsafe { TinyAsciiStr::from_utf8_unchecked(*raw) }.hinted())
+        let text = self.rest.first()?;
+        self.rest = self.rest.slice(1..self.rest.len());
+        Some(text)
     }
 
     // Proved:
@@ -302,13 +302,23 @@ impl<'a, const N: usize> Iterator for Texts<'a, N> {
     //     ensures upper { IfSome result.1 (UpTo (at_most (length self.now))) }
     //     ensures exact { result ≡ (length self.now, Some (length self.now)) }
     fn size_hint(&self) -> (usize, Option<usize>) {
-        let len = self.records.len();
+        let len = self.rest.len();
         (len, Some(len))
+    }
+}
+
+impl<'a, const N: usize> DoubleEndedIterator for Texts<'a, N> {
+    fn next_back(&mut self) -> Option<TinyAsciiStr<N>> {
+        let text = self.rest.last()?;
+        self.rest = self.rest.slice(0..self.rest.len() - 1);
+        Some(text)
     }
 }
 
 impl<'a, const N: usize> ExactSizeIterator for Texts<'a, N> {
     fn len(&self) -> usize {
-        self.records.len()
+        self.rest.len()
     }
 }
+
+impl<'a, const N: usize> FusedIterator for Texts<'a, N> {}

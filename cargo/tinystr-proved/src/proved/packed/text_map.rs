@@ -3,6 +3,7 @@
 
 use crate::packed::sorted::{SortedError, SortedTable};
 use crate::packed::table::{Table, Texts};
+use core::iter::FusedIterator;
 use core::ops::Range;
 use crate::TinyAsciiStr;
 use crate::ule::UleError;
@@ -283,6 +284,7 @@ impl<'a, const N: usize, const M: usize> Default for TextMap<'a, N, M> {
 ///
 /// let currencies = TextMap::<2, 3>::new(b"CHJP", b"CHFJPY").unwrap();
 /// assert_eq!(currencies.iter().next(), Some((tinystr!(2, "CH"), tinystr!(3, "CHF"))));
+/// assert_eq!(currencies.iter().next_back(), Some((tinystr!(2, "JP"), tinystr!(3, "JPY"))));
 /// ```
 ///
 /// # [Contract](crate::definitions)
@@ -348,8 +350,18 @@ impl<'a, const N: usize, const M: usize> Iterator for TextEntries<'a, N, M> {
     }
 }
 
+impl<'a, const N: usize, const M: usize> DoubleEndedIterator for TextEntries<'a, N, M> {
+    fn next_back(&mut self) -> Option<(TinyAsciiStr<N>, TinyAsciiStr<M>)> {
+        let key = self.keys.next_back()?;
+        let value = self.values.next_back()?;
+        Some((key, value))
+    }
+}
+
 impl<'a, const N: usize, const M: usize> ExactSizeIterator for TextEntries<'a, N, M> {
     fn len(&self) -> usize {
         self.keys.len()
     }
 }
+
+impl<'a, const N: usize, const M: usize> FusedIterator for TextEntries<'a, N, M> {}

@@ -105,43 +105,6 @@ impl CodeUnit for u8 {
     }
 }
 
-impl CodeUnit for u16 {
-    #[inline(always)]
-    fn code(self) -> u16 {
-        self
-    }
-
-    #[inline(always)]
-    fn is_character(self) -> bool {
-        self.wrapping_sub(1) < u16::from(CHARACTERS)
-    }
-
-    #[inline(always)]
-    fn low_byte(self) -> u8 {
-        (self % 256) as u8
-    }
-
-    #[inline(always)]
-    fn as_bytes(_: &[u16]) -> Option<&[u8]> {
-        None
-    }
-
-    // Every other byte of a vector. From an array the compiler would take each byte by itself.
-    #[inline(always)]
-    fn word_of_four(units: &[u16]) -> u32 {
-        let bytes = u16x4::from_slice(units).to_le_bytes();
-        u32x1::from_le_bytes(bytes.swizzle([0, 2, 4, 6])).to_array()[0]
-    }
-
-    // Through a number, since the compiler would copy bytes of a vector into the array one by one.
-    #[inline(always)]
-    fn eight_low_bytes(units: &[u16]) -> [u8; 8] {
-        let bytes = u16x8::from_slice(units).to_le_bytes();
-        let word = u64x1::from_le_bytes(bytes.swizzle([0, 2, 4, 6, 8, 10, 12, 14])).to_array()[0];
-        word.to_le_bytes()
-    }
-}
-
 /// Whether all code units are characters. There is no early exit, so that the compiler can test a known number of them
 /// in one step.
 ///

@@ -4,6 +4,7 @@
 //! for each width, and for each code unit. Each has the contract that the function of its name has there.
 
 use crate::ascii::TinyAsciiStr;
+use crate::ascii::lanes::text_of_bytes;
 use crate::error::ParseError;
 use crate::in_words;
 use crate::simd::u64x2;
@@ -26,30 +27,19 @@ pub struct Aligned<T, const LEN: usize> {
 
 /// Writes functions out for each width: `T` is the word, `Number` what it holds, and `LEN` the number of its bytes.
 macro_rules! for_each_width {
+    (in $width:ident, $number:ty, $len:literal: $($functions:tt)*) => {
+        pub mod $width {
+            use super::*;
+            type T = Word<Number>;
+            type Number = $number;
+            const LEN: usize = $len;
+            $($functions)*
+        }
+    };
     ($($functions:tt)*) => {
-        pub mod four {
-            use super::*;
-            type T = Word<Number>;
-            type Number = u32;
-            const LEN: usize = 4;
-            $($functions)*
-        }
-
-        pub mod eight {
-            use super::*;
-            type T = Word<Number>;
-            type Number = u64;
-            const LEN: usize = 8;
-            $($functions)*
-        }
-
-        pub mod sixteen {
-            use super::*;
-            type T = Word<Number>;
-            type Number = u128;
-            const LEN: usize = 16;
-            $($functions)*
-        }
+        for_each_width! { in four, u32, 4: $($functions)* }
+        for_each_width! { in eight, u64, 8: $($functions)* }
+        for_each_width! { in sixteen, u128, 16: $($functions)* }
     };
 }
 
@@ -450,6 +440,53 @@ mod words {
     }
 }
 
+/// Past sixteen bytes, byte by byte.
+mod bytewise {
+    use super::*;
+
+    #[inline(always)]
+    pub const fn ask(bytes: &[u8], question: Question) -> bool {
+        let mut rest = bytes;
+        while rest.len() > 16 {
+            let (front, back) = rest.split_at(16);
+            if !all_pass(front, question) {
+                return false;
+            }
+            rest = back;
+        }
+        all_pass(rest, question)
+    }
+
+    #[inline(always)]
+    pub const fn all_pass(bytes: &[u8], question: Question) -> bool {
+        // else a loop over texts may become one over a byte of each, several times as slow
+        core::hint::black_box(());
+        let mut all = true;
+        let mut rest = bytes;
+        while let &[byte, ref after @ ..] = rest {
+            rest = after;
+            all &= passes(byte, question);
+        }
+        all
+    }
+
+    #[inline(always)]
+    pub const fn passes(byte: u8, question: Question) -> bool {
+        let is_nul = byte == 0;
+        match question {
+            Question::Alphabetic => is_nul | byte.is_ascii_alphabetic(),
+            Question::Alphanumeric => is_nul | byte.is_ascii_alphanumeric(),
+            Question::Numeric => is_nul | byte.is_ascii_digit(),
+            Question::Lowercase | Question::Titlecase => !byte.is_ascii_uppercase(),
+            Question::Uppercase => !byte.is_ascii_lowercase(),
+            Question::AlphabeticLowercase | Question::AlphabeticTitlecase => {
+                is_nul | byte.is_ascii_lowercase()
+            }
+            Question::AlphabeticUppercase => is_nul | byte.is_ascii_uppercase(),
+        }
+    }
+}
+
 type Aligned4 = Aligned<Word<u32>, 4>;
 pub type Aligned8 = Aligned<Word<u64>, 8>;
 type Aligned16 = Aligned<Word<u128>, 16>;
@@ -502,6 +539,9 @@ pub const fn ask<const N: usize>(bytes: &[u8; N], question: Question) -> bool {
     match width_of(N) {
         Width::Four => Aligned4::from_ascii_bytes(bytes).ask(question),
         Width::Eight => Aligned8::from_ascii_bytes(bytes).ask(question),
+        Width::Many if N % 8 == 0 && !matches!(question, Question::Titlecase | Question::AlphabeticTitlecase) => {
+            bytewise::ask(bytes, question)
+        }
         Width::Sixteen | Width::Many => words::ask(bytes, question),
     }
 }
@@ -579,8 +619,85 @@ pub const fn read_padded<const N: usize>(raw: [u8; N]) -> Result<TinyAsciiStr<N>
 }
 
 /// Writes functions out for a code unit `U`, whose own stand beside them.
-macro_rules! reading_in_pieces {
+macro_rules! readers {
     () => {
+        #[inline(always)]
+        pub const fn are_characters(units: &[U]) -> bool {
+            let mut are_characters = true;
+            let mut rest = units;
+            while let &[unit, ref after @ ..] = rest {
+                rest = after;
+                are_characters &= is_character(unit);
+            }
+            are_characters
+        }
+
+        #[inline(always)]
+        pub const fn is_text_by_ends(units: &[U], count: usize) -> bool {
+            are_characters(units.split_at(count).0) & are_characters(units.split_at(units.len() - count).1)
+        }
+
+        #[inline(always)]
+        pub const fn is_text(units: &[U]) -> bool {
+            let len = units.len();
+            if len > 8 {
+                is_text_by_ends(units, 8)
+            } else if len >= 4 {
+                is_text_by_ends(units, 4)
+            } else if len >= 2 {
+                is_text_by_ends(units, 2)
+            } else {
+                len == 0 || is_text_by_ends(units, 1)
+            }
+        }
+
+        /// The lowest bytes of code units, as a number.
+        pub struct Load<T>(T);
+
+        impl Load<u32> {
+            #[inline(always)]
+            pub const fn load(src: &[U]) -> u32 {
+                let len = src.len();
+                if len == 0 {
+                    return 0;
+                }
+                if len >= 4 {
+                    return word_of_four(src);
+                }
+                let middle = len / 2;
+                let last = len - 1;
+                low_byte(src[0]) as u32
+                    | (low_byte(src[middle]) as u32) << (8 * middle)
+                    | (low_byte(src[last]) as u32) << (8 * last)
+            }
+        }
+
+        impl Load<u64> {
+            #[inline(always)]
+            pub const fn load(src: &[U]) -> u64 {
+                let len = src.len();
+                if len < 4 {
+                    return Load::<u32>::load(src) as u64;
+                }
+                let low = Load::<u32>::load(src.split_at(4).0);
+                let high = Load::<u32>::load(src.split_at(len - 4).1);
+                low as u64 + ((high as u64 >> (8 * (8 - len))) << 32)
+            }
+        }
+
+        for_each_width! {
+            #[inline(always)]
+            pub const fn try_from_text(units: &[U]) -> Option<Aligned<T, LEN>> {
+                if is_text(units) {
+                    Some(Aligned {
+                        word: Word(Load::<Number>::load(units)),
+                    })
+                } else {
+                    None
+                }
+            }
+        }
+
         #[inline(always)]
         pub const fn byte_or(unit: U, replacement: u8) -> u8 {
             if is_character(unit) {
@@ -645,12 +762,127 @@ macro_rules! reading_in_pieces {
                 len == 0 || read_pair::<1>(bytes, units, replacement)
             }
         }
+
+        #[inline(always)]
+        pub const fn low_bytes<const N: usize>(units: &[U]) -> [u8; N] {
+            let mut bytes = [0; N];
+            let mut i = 0;
+            while i < N {
+                bytes[i] = low_byte(units[i]);
+                i += 1;
+            }
+            bytes
+        }
+
+        #[inline(always)]
+        pub const fn lossy_chunk<const N: usize>(units: &[U], replacement: u8) -> [u8; N] {
+            let mut bytes = [0; N];
+            read_piece::<N>(&mut bytes, units, replacement, 0);
+            bytes
+        }
+
+        #[inline(always)]
+        pub const fn lossy<const N: usize>(units: &[U], replacement: u8) -> [u8; N] {
+            if units.len() >= N {
+                // past 8 bytes the loop of a known length is faster
+                let front = units.split_at(N).0;
+                return match as_bytes(front) {
+                    Some(bytes) if N <= 16 => lossy_word(bytes, replacement),
+                    _ => lossy_chunk(front, replacement),
+                };
+            }
+            if let Some(bytes) = as_bytes(units)
+                && bytes.len() <= 16
+            {
+                return lossy_word(bytes, replacement);
+            }
+            let mut bytes = [0; N];
+            read_all(&mut bytes, units, replacement);
+            bytes
+        }
+
+        #[inline(always)]
+        pub const fn read<const N: usize>(units: &[U]) -> Result<TinyAsciiStr<N>, ParseError> {
+            if N > 16 && units.len() > 16 {
+                return read_pieces(units);
+            }
+            if units.len() <= N {
+                match width_of(N) {
+                    // up to 8 code units: one register
+                    Width::Four | Width::Eight => {
+                        if let Some(text) = eight::try_from_text(units) {
+                            return Ok(text_of_bytes(&text.to_bytes()));
+                        }
+                    }
+                    // up to 16, at larger capacities too: more are read by pieces
+                    Width::Sixteen | Width::Many => {
+                        if let Some(text) = sixteen::try_from_text(units) {
+                            return Ok(text_of_bytes(&text.to_bytes()));
+                        }
+                    }
+                }
+            }
+            Err(fault::<N>(units))
+        }
+
+        #[inline(always)]
+        pub const fn read_pieces<const N: usize>(units: &[U]) -> Result<TinyAsciiStr<N>, ParseError> {
+            if units.len() > N {
+                return Err(fault::<N>(units));
+            }
+            if as_bytes(units).is_some() && units.len() == N {
+                if !are_characters(units) {
+                    return Err(fault::<N>(units));
+                }
+                return Ok(TinyAsciiStr::from_padded(low_bytes(units)).hinted_in_result());
+            }
+            // no replacement is seen: bytes that aren't all characters are dropped
+            let mut bytes = [0; N];
+            if !read_all(&mut bytes, units, 0) {
+                return Err(fault::<N>(units));
+            }
+            Ok(TinyAsciiStr::from_padded(bytes).hinted_in_result())
+        }
+
+        #[inline]
+    pub const fn find_fault(units: &[U]) -> Option<ParseError> {
+            let mut is_after_nul = false;
+            let mut rest = units;
+            while let &[unit, ref after @ ..] = rest {
+                rest = after;
+                let code = code(unit);
+                if code > 127 {
+                    return Some(ParseError::NonAscii);
+                }
+                if code == 0 {
+                    is_after_nul = true;
+                } else if is_after_nul {
+                    return Some(ParseError::ContainsNull);
+                }
+            }
+            None
+        }
+
+        #[inline(always)]
+        pub const fn fault<const N: usize>(units: &[U]) -> ParseError {
+            if units.len() > N {
+                return ParseError::TooLong {
+                    max: N,
+                    len: units.len(),
+                };
+            }
+            match find_fault(units) {
+            Some(fault) => fault,
+            None => ParseError::ContainsNull,
+        }
+        }
     };
 }
 
 /// The readers of bytes.
 pub mod bytes {
     use super::*;
+    use crate::in_words::lossy_word;
     type U = u8;
 
     #[inline(always)]
@@ -678,76 +910,7 @@ pub mod bytes {
         u32::from_le_bytes(*units.first_chunk::<4>().unwrap())
     }
 
-    #[inline(always)]
-    pub const fn eight_low_bytes(units: &[u8]) -> [u8; 8] {
-        let mut bytes = [0; 8];
-        bytes.copy_from_slice(units);
-        bytes
-    }
-
-    #[inline(always)]
-    pub const fn are_characters(units: &[U]) -> bool {
-        let mut are_characters = true;
-        let mut rest = units;
-        while let &[unit, ref after @ ..] = rest {
-            rest = after;
-            are_characters &= is_character(unit);
-        }
-        are_characters
-    }
-
-    #[inline(always)]
-    pub const fn is_text_by_ends(units: &[U], count: usize) -> bool {
-        are_characters(units.split_at(count).0) & are_characters(units.split_at(units.len() - count).1)
-    }
-
-    #[inline(always)]
-    pub const fn is_text(units: &[U]) -> bool {
-        let len = units.len();
-        if len > 8 {
-            is_text_by_ends(units, 8)
-        } else if len >= 4 {
-            is_text_by_ends(units, 4)
-        } else if len >= 2 {
-            is_text_by_ends(units, 2)
-        } else {
-            len == 0 || is_text_by_ends(units, 1)
-        }
-    }
-
-    /// The lowest bytes of code units, as a number.
-    pub struct Load<T>(T);
-
-    impl Load<u32> {
-        #[inline(always)]
-        pub const fn load(src: &[U]) -> u32 {
-            let len = src.len();
-            if len == 0 {
-                return 0;
-            }
-            if len >= 4 {
-                return word_of_four(src);
-            }
-            let middle = len / 2;
-            let last = len - 1;
-            low_byte(src[0]) as u32
-                | (low_byte(src[middle]) as u32) << (8 * middle)
-                | (low_byte(src[last]) as u32) << (8 * last)
-        }
-    }
-
-    impl Load<u64> {
-        #[inline(always)]
-        pub const fn load(src: &[U]) -> u64 {
-            let len = src.len();
-            if len < 4 {
-                return Load::<u32>::load(src) as u64;
-            }
-            let low = Load::<u32>::load(src.split_at(4).0);
-            let high = Load::<u32>::load(src.split_at(len - 4).1);
-            low as u64 + ((high as u64 >> (8 * (8 - len))) << 32)
-        }
-    }
+    readers! {}
 
     impl Load<u128> {
         #[inline(always)]
@@ -777,133 +940,18 @@ pub mod bytes {
             joined(low, high >> (8 * (16 - len)))
         }
     }
-
-    for_each_width! {
-        #[inline(always)]
-        pub const fn try_from_text(units: &[U]) -> Option<Aligned<T, LEN>> {
-            if is_text(units) {
-                Some(Aligned {
-                    word: Word(Load::<Number>::load(units)),
-                })
-            } else {
-                None
-            }
-        }
-    }
-
-    reading_in_pieces! {}
-
-    #[inline(always)]
-    pub const fn put_low_bytes(bytes: &mut [u8], units: &[U]) {
-        let len = units.len();
-        let mut start = 0;
-        let mut end = 7;
-        while end < len {
-            let eight = eight_low_bytes(units.split_at(start + 8).0.split_at(start).1);
-            bytes.split_at_mut(end).0.split_at_mut(start).1.copy_from_slice(eight.split_at(end - start).0);
-            start = end;
-            end += 8;
-        }
-        let eight = eight_low_bytes(units.split_at(len - 8).1);
-        bytes.split_at_mut(len).0.split_at_mut(start).1.copy_from_slice(eight.split_at(8 - (len - start)).1);
-    }
-
-    #[inline(always)]
-    pub const fn low_bytes<const N: usize>(units: &[U]) -> [u8; N] {
-        let mut bytes = [0; N];
-        if N >= 8 && as_bytes(units).is_none() {
-            put_low_bytes(&mut bytes, units);
-            return bytes;
-        }
-        let mut i = 0;
-        while i < N {
-            bytes[i] = low_byte(units[i]);
-            i += 1;
-        }
-        bytes
-    }
-
-    #[inline(always)]
-    pub const fn read<const N: usize>(units: &[U]) -> Result<TinyAsciiStr<N>, ParseError> {
-        if N > 16 && units.len() > 16 {
-            return read_pieces(units);
-        }
-        if units.len() <= N {
-            match width_of(N) {
-                // up to 8 code units: one register
-                Width::Four | Width::Eight => {
-                    if let Some(text) = eight::try_from_text(units) {
-                        return Ok(TinyAsciiStr::from_padded(resize_at_once(&text.to_bytes())));
-                    }
-                }
-                // up to 16, at larger capacities too: more are read by pieces
-                Width::Sixteen | Width::Many => {
-                    if let Some(text) = sixteen::try_from_text(units) {
-                        return Ok(TinyAsciiStr::from_padded(resize_at_once(&text.to_bytes())));
-                    }
-                }
-            }
-        }
-        Err(fault::<N>(units))
-    }
-
-    #[inline(always)]
-    pub const fn read_pieces<const N: usize>(units: &[U]) -> Result<TinyAsciiStr<N>, ParseError> {
-        if units.len() > N {
-            return Err(fault::<N>(units));
-        }
-        if units.len() == N {
-            if !are_characters(units) {
-                return Err(fault::<N>(units));
-            }
-            return Ok(TinyAsciiStr::from_padded(low_bytes(units)).hinted_in_result());
-        }
-        // no replacement is seen: bytes that aren't all characters are dropped
-        let mut bytes = [0; N];
-        if !read_all(&mut bytes, units, 0) {
-            return Err(fault::<N>(units));
-        }
-        Ok(TinyAsciiStr::from_padded(bytes).hinted_in_result())
-    }
-
-    #[inline]
-    pub const fn find_fault(units: &[U]) -> Option<ParseError> {
-        let mut is_after_nul = false;
-        let mut rest = units;
-        while let &[unit, ref after @ ..] = rest {
-            rest = after;
-            let code = code(unit);
-            if code > 127 {
-                return Some(ParseError::NonAscii);
-            }
-            if code == 0 {
-                is_after_nul = true;
-            } else if is_after_nul {
-                return Some(ParseError::ContainsNull);
-            }
-        }
-        None
-    }
-
-    #[inline(always)]
-    pub const fn fault<const N: usize>(units: &[U]) -> ParseError {
-        if units.len() > N {
-            return ParseError::TooLong {
-                max: N,
-                len: units.len(),
-            };
-        }
-        match find_fault(units) {
-            Some(fault) => fault,
-            None => ParseError::ContainsNull,
-        }
-    }
 }
 
-/// The lossy reader of 16-bit numbers, which has no vectors.
+/// The readers of 16-bit numbers.
 pub mod numbers {
     use super::*;
+    use crate::in_words::{load_sixteen, lossy_word, word_of_four};
     type U = u16;
+
+    #[inline(always)]
+    pub const fn code(unit: U) -> u16 {
+        unit
+    }
 
     #[inline(always)]
     pub const fn is_character(unit: U) -> bool {
@@ -915,22 +963,17 @@ pub mod numbers {
         (unit % 256) as u8
     }
 
-    reading_in_pieces! {}
-
     #[inline(always)]
-    pub const fn lossy_chunk<const N: usize>(units: &[U], replacement: u8) -> [u8; N] {
-        let mut bytes = [0; N];
-        read_piece::<N>(&mut bytes, units, replacement, 0);
-        bytes
+    pub const fn as_bytes(_: &[u16]) -> Option<&[u8]> {
+        None
     }
 
-    #[inline(always)]
-    pub const fn lossy<const N: usize>(units: &[U], replacement: u8) -> [u8; N] {
-        if units.len() >= N {
-            return lossy_chunk(units.split_at(N).0, replacement);
+    readers! {}
+
+    impl Load<u128> {
+        #[inline(always)]
+        pub const fn load(units: &[U]) -> u128 {
+            load_sixteen(units)
         }
-        let mut bytes = [0; N];
-        read_all(&mut bytes, units, replacement);
-        bytes
     }
 }

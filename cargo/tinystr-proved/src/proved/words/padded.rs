@@ -3,18 +3,15 @@
 //! `int_ops`: the narrowest that holds them, as `width_of` returns it, except where a comment gives the reason for a wider
 //! one. Past 16 bytes it uses the module below that is named for what it does.
 
-mod code_units;
 pub mod copying;
 mod equality;
 mod first_lanes;
 mod order;
 mod padding;
-mod replacing;
 
 use crate::words::decimal::decimal_fits;
 use crate::words::int_ops::{Aligned4, Aligned8, Aligned16};
 use crate::words::question::{Case, Question};
-pub use code_units::{lossy, low_bytes, read_all};
 pub use copying::{resize, resize_at_once};
 pub use first_lanes::{first_lanes_of_eight, first_lanes_of_sixteen};
 pub use order::{compare, number};
