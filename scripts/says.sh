@@ -43,17 +43,6 @@ adds() {
     fi
 }
 
-# counts NAME COMMAND..: adds the results of a command, and prints its output where something failed
-counts() {
-    local name=$1 last status=0 before=$failed
-    shift
-    "$@" > "$scratch/said" 2>&1 || status=$?
-    last=$(tail -n 1 "$scratch/said")
-    adds "$name" "$last" "$status"
-    [ "$failed" -eq "$before" ] || cat "$scratch/said"
-    echo "$name: $last"
-}
-
 # Ends the check: it fails where a result is no, and where there is no result.
 close() {
     is_closed=yes

@@ -1,7 +1,6 @@
 //! Batches of texts, the inputs of the calls.
 
-use crate::random::Random;
-use std::ops::RangeInclusive;
+use crate::inputs::Random;
 use theirs::original::COUNT;
 use theirs::original::questions::Question;
 
@@ -20,21 +19,21 @@ pub struct Batch {
 impl Batch {
     /// Each text fills its array.
     pub fn full(random: &mut Random, capacity: usize) -> Batch {
-        let made = Batch::of_lengths(random, capacity, capacity..=capacity);
+        let made = Batch::of_lengths(random, capacity, capacity);
         Batch { numbers: (0..COUNT).map(|_| random.next() as u32 | 1 << 31).collect(), ..made }
     }
 
     /// Each text has any of the lengths from `least` on.
     pub fn mixed(random: &mut Random, capacity: usize, least: usize) -> Batch {
-        let made = Batch::of_lengths(random, capacity, least..=capacity);
+        let made = Batch::of_lengths(random, capacity, least);
         Batch { numbers: (0..COUNT).map(|_| (random.next() as u32) >> random.below(32)).collect(), ..made }
     }
 
-    fn of_lengths(random: &mut Random, capacity: usize, lengths: RangeInclusive<usize>) -> Batch {
+    fn of_lengths(random: &mut Random, capacity: usize, least: usize) -> Batch {
         let raw_starts = (0..=COUNT).map(|i| (i * capacity) as u32).collect();
         let mut made = Batch { capacity, texts: vec![], others: vec![], raw_starts, units: vec![], wide: vec![], starts: vec![0], numbers: vec![] };
         for _ in 0..COUNT {
-            let len = any_of(random, &lengths);
+            let len = least + random.below(capacity - least + 1);
             made.push(random, len);
         }
         made.wide = made.units.iter().map(|&unit| unit.into()).collect();
@@ -56,32 +55,13 @@ impl Batch {
     }
 }
 
-/// A random length of a range. If it has only one length, no random number is used.
-fn any_of(random: &mut Random, lengths: &RangeInclusive<usize>) -> usize {
-    match lengths.end() - lengths.start() {
-        0 => *lengths.start(),
-        more => lengths.start() + random.below(more + 1),
-    }
-}
-
-/// A batch of padded texts that pass a question.
-pub fn passing(question: &Question, random: &mut Random, capacity: usize, lengths: RangeInclusive<usize>) -> Vec<u8> {
+/// A batch of padded texts that pass a question, or that fail it at their first byte.
+pub fn texts(question: &Question, passes: bool, random: &mut Random, capacity: usize, least: usize) -> Vec<u8> {
     let mut texts = vec![0; COUNT * capacity];
     for padded in texts.chunks_exact_mut(capacity) {
-        let len = any_of(random, &lengths);
-        for (i, byte) in padded[..len].iter_mut().enumerate() {
-            let class = if i == 0 { question.first } else { question.later };
-            *byte = class[random.below(class.len())];
-        }
-    }
-    texts
-}
-
-/// The same, but each fails at its first byte.
-pub fn failing(question: &Question, random: &mut Random, capacity: usize, lengths: RangeInclusive<usize>) -> Vec<u8> {
-    let mut texts = passing(question, random, capacity, lengths);
-    for padded in texts.chunks_exact_mut(capacity) {
-        padded[0] = question.failing;
+        let len = least + random.below(capacity - least + 1);
+        padded[..len].fill_with(|| question.later[random.below(question.later.len())]);
+        padded[0] = if passes { question.first[random.below(question.first.len())] } else { question.failing };
     }
     texts
 }

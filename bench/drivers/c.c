@@ -1,7 +1,7 @@
 /* c FOLDER: nanoseconds a call from C, the least of 400 rounds. The folder has locale names (one a line, of at most 17 bytes), and
  * for `languages` and `currencies` strictly ascending packed records of 3 bytes, NAME.sorted, and a hashed table of the same
- * codes, NAME.hashed. Each call is compared with what a C programmer has: a function written by hand, ICU where this is built with
- * -DICU, gperf's function of the currencies with -DGPERF, bsearch and memcmp. The results are compared before anything is timed. */
+ * codes, NAME.hashed. Each call is compared with what a C programmer has: a function written by hand, ICU, gperf's function of the
+ * currencies, bsearch and memcmp. The results are compared before anything is timed. */
 #define _POSIX_C_SOURCE 199309L
 #include <stdio.h>
 #include <stdlib.h>
@@ -9,9 +9,7 @@
 #include <time.h>
 #include <tinystr.h>
 #include <unistd.h>
-#ifdef ICU
 #include <unicode/uloc.h>
-#endif
 
 enum { MOST_NAMES = 600, MOST_RECORDS = 1 << 14, CAPACITY = 3, KEYS = 1000 };
 static char names[MOST_NAMES][TINYSTR_LANGID_ROOM];
@@ -100,10 +98,9 @@ static size_t by_probing(const uint8_t *key) {
     return slots[slot].index;
 }
 
-#ifdef GPERF
+/* gperf's function. */
 struct code { const char *name; int index; };
 const struct code *code_by_gperf(const char *text, size_t len);
-#endif
 
 /* Prints a line: a table, a call, a column without a name, whose call it is, and the nanoseconds of each of the `count` results
  * of `calls` calls. */
@@ -211,6 +208,7 @@ static void time_searches(const char *name) {
 int main(int argc, char **argv) {
     char out[64];
     uint8_t text[TINYSTR_LANGID_ROOM];
+    UErrorCode status;
     size_t k;
     if (argc < 2 || chdir(argv[1])) return 2;
     read_names("names");
@@ -222,18 +220,12 @@ int main(int argc, char **argv) {
     printf(", %zu currencies\n", record_count);
     TIME("tinystr_langid", "here", name_count, tinystr_langid((uint8_t *)names[i], lens[i], text, sizeof text).value);
     TIME("tinystr_langid", "by hand", name_count, by_hand(names[i], lens[i], out, sizeof out));
-#ifdef ICU
-    {
-        UErrorCode status;
-        TIME("tinystr_langid", "ICU's uloc_canonicalize", name_count, (status = U_ZERO_ERROR, uloc_canonicalize(names[i], out, sizeof out, &status)));
-    }
-#endif
+    TIME("tinystr_langid", "ICU's uloc_canonicalize", name_count,
+         (status = U_ZERO_ERROR, uloc_canonicalize(names[i], out, sizeof out, &status)));
     time_searches("currencies");
-#ifdef GPERF
     for (k = 0; k < record_count; k++)
         if (code_by_gperf(texts[k], CAPACITY)->index != (int)k) return 3;
     TIME("tinystr_hashed_search, currencies", "gperf", record_count, code_by_gperf(texts[i * 7919 % record_count], CAPACITY)->index);
-#endif
     read_set("languages");
     time_searches("languages");
 #define KEY(i) (keys + CAPACITY * (i))

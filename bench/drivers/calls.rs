@@ -2,6 +2,9 @@
 //! compared with the Rust crate's.
 
 mod batch;
+#[allow(dead_code)]
+#[path = "../../diff/drivers/inputs.rs"]
+mod inputs;
 #[cfg(inlined)]
 mod inlined;
 mod measure;
@@ -10,17 +13,15 @@ mod measure;
 #[cfg(not(inlined))]
 #[path = "../../diff/drivers/ours.rs"]
 mod ours;
-#[path = "../../diff/drivers/random.rs"]
-mod random;
 
 use batch::Batch;
 #[cfg(inlined)]
 use made::original as ours;
+use inputs::Random;
 use measure::{Contender, HERE, Row, THERE};
-use random::Random;
 use std::hint::black_box;
 use theirs::original::numbers::*;
-use theirs::original::questions::{QUESTIONS, Question};
+use theirs::original::questions::QUESTIONS;
 use theirs::original::{self, COUNT};
 
 const CAPACITIES: &[usize] = if cfg!(inlined) { &[3, 4, 8, 12, 16, 24, 32, 64] } else { &[4, 8, 12, 16, 24, 32, 64] };
@@ -103,13 +104,13 @@ impl Bench {
         self.take_of("Hash", n, 2 * COUNT, both!(compare(n, EQUALITY_OF_HASHES)(&given.texts, &given.others) -> (marks)));
     }
 
-    fn take_questions(&self, random: &mut Random, texts_of: fn(&Question, &mut Random, usize) -> Vec<u8>, expected: u8) {
+    fn take_questions(&self, random: &mut Random, passes: bool, is_full: bool) {
         for &n in CAPACITIES {
             for question in QUESTIONS {
-                let texts = texts_of(question, random, n);
+                let texts = batch::texts(question, passes, random, n, if is_full { n } else { 1 });
                 let mut answers = vec![0; COUNT];
                 assert!(original::ask(n, question.number, 1, &texts, &mut answers));
-                assert!(answers.iter().all(|&answer| answer == expected), "{} at {n}", question.call);
+                assert!(answers.iter().all(|&answer| answer == u8::from(passes)), "{} at {n}", question.call);
                 self.take(question.call, n, both!(ask(n, question.number)(&texts) -> (marks)));
             }
         }
@@ -185,11 +186,11 @@ fn main() {
     bench.table = "Mixed lists, each read once in a round";
     bench.take_lists(random);
     bench.table = "Questions, full texts that pass";
-    bench.take_questions(random, |question, random, n| batch::passing(question, random, n, n..=n), 1);
+    bench.take_questions(random, true, true);
     bench.table = "Questions, mixed texts that pass";
-    bench.take_questions(random, |question, random, n| batch::passing(question, random, n, 1..=n), 1);
+    bench.take_questions(random, true, false);
     bench.table = "Questions, full texts that fail at their first byte";
-    bench.take_questions(random, |question, random, n| batch::failing(question, random, n, n..=n), 0);
+    bench.take_questions(random, false, true);
     #[cfg(inlined)]
     inlined::take_all(&mut bench, random);
 }

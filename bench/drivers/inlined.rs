@@ -3,11 +3,11 @@
 
 use crate::batch::Batch;
 use crate::measure::{Answers, HERE, Row, THERE};
-use crate::random::Random;
+use crate::inputs::Random;
 use crate::{Bench, CAPACITIES};
-use ::theirs::single::{self as theirs, CALLS};
-use made::{count_found, single as ours};
+use made::count_found;
 use std::collections::{BTreeSet, HashSet};
+use theirs::CALLS;
 
 const RECORDS: [usize; 2] = [10_000, 400_000];
 const KEYS: usize = 1 << 16;
@@ -28,7 +28,7 @@ fn take_single(bench: &Bench, given: &Batch) {
     let n = given.capacity;
     for (number, call) in CALLS.iter().enumerate() {
         bench.take(call, n, &[
-            (HERE, &|rounds, answers| ours::single(n, number, rounds, &given.texts, &mut answers.marks)),
+            (HERE, &|rounds, answers| made::single(n, number, rounds, &given.texts, &mut answers.marks)),
             (THERE, &|rounds, answers| theirs::single(n, number, rounds, &given.texts, &mut answers.marks)),
         ]);
     }

@@ -2,6 +2,10 @@
 //! like the kit's, in one with std's own hasher, and in a `BTreeSet`. It prints a line for each time, with that program's. The
 //! argument is a file with what that program printed, of one table.
 
+#[path = "../../crates/many_keys/src/numbers.rt"]
+mod numbers;
+
+use numbers::{KEYS, Numbers, ORDERS, Order, bytes_of};
 use std::alloc::{GlobalAlloc, Layout, System};
 use std::collections::{BTreeSet, HashSet};
 use std::hash::{BuildHasher, BuildHasherDefault, Hasher};
@@ -9,8 +13,6 @@ use std::hint::black_box;
 use std::sync::atomic::{AtomicUsize, Ordering::Relaxed};
 use std::time::Instant;
 
-const KEYS: u64 = 100_000;
-const RUN: u64 = 1_000;
 const ROUNDS: usize = 9;
 const BUILDING_ROUNDS: usize = 3;
 
@@ -21,7 +23,6 @@ const RECORDS: usize = 100_000;
 const BYTES: &str = "bytes a record";
 const BUILD: &str = "build, a record";
 const OPEN: &str = "open, a record";
-const PRESENT: &str = "random, there";
 const DEPENDENT: &str = "random, there, dependent";
 
 // A `HashSet` with a hasher like the kit's, and with std's own.
@@ -86,59 +87,10 @@ fn short(bytes: &[u8]) -> u64 {
     }
 }
 
-fn next(state: u64) -> u64 {
-    let state = state ^ (state << 13);
-    let state = state ^ (state >> 7);
-    state ^ (state << 17)
-}
-
-/// The number of a key, as the program has it.
-fn number(order: &str, turn: u64, state: u64, run: u64, count: u64) -> u64 {
-    let ascending = turn * 2 * count / KEYS;
-    match order {
-        PRESENT | DEPENDENT => (state >> 20) % count * 2,
-        "random, not there" => (state >> 20) % count * 2 + 1,
-        "ascending" => ascending,
-        "ascending, random gaps" => ascending + (state >> 20) % (2 * count / KEYS).max(1),
-        "each record in order" => turn % count * 2,
-        "descending" => 2 * count - 1 - ascending,
-        "in runs of 1,000" => (run >> 20) % (2 * count),
-        "by Zipf" => {
-            let first = 1 << (state % u64::from(64 - count.leading_zeros()));
-            (first + (state >> 20) % first) * 611_953 % count * 2
-        }
-        "two far apart, alternating" => [2, 2 * count - 4][turn as usize % 2],
-        _ => panic!("no order {order}"),
-    }
-}
-
-fn keys<const N: usize>(order: &str, count: u64) -> Vec<[u8; N]> {
-    let (mut state, mut run) = (88_172_645_463_325_252, 0);
-    let key = |turn| {
-        state = next(state);
-        if turn % RUN == 0 {
-            run = state;
-        }
-        text(number(order, turn, state, run, count), count)
-    };
-    (0..KEYS).map(key).collect()
-}
-
-/// The bytes of a number's text, as the program has them.
-fn text<const N: usize>(number: u64, count: u64) -> [u8; N] {
-    let (width, digits, first, all) = if N < 8 { (N, 126, 1, 2_000_376) } else { (8, 26, b'a', 208_827_064_576) };
-    let mut raw = [0; N];
-    let mut rest = number * (all / count / 2);
-    for byte in raw[..width].iter_mut().rev() {
-        *byte = (rest % digits) as u8 + first;
-        rest /= digits;
-    }
-    let mut state = number + 1;
-    for byte in &mut raw[width..] {
-        state = next(state);
-        *byte = ((state >> 20) % 26) as u8 + b'a';
-    }
-    raw
+fn keys<const N: usize>(order: &str, count: u32) -> Vec<[u8; N]> {
+    let order = ORDERS.iter().find(|(name, _)| *name == order).map_or(Order::Present, |(_, order)| *order);
+    let mut numbers = Numbers::new(order, count);
+    (0..KEYS).map(|_| bytes_of(numbers.next(), count)).collect()
 }
 
 /// The nanoseconds for a key or a record in the least of some rounds, and what these give.
@@ -187,9 +139,9 @@ fn built<T>(count: usize, make: impl Fn() -> T) -> (T, f64, f64) {
 type Row<'a> = [&'a str; 6];
 
 fn print_table<const N: usize>(table: &str, rows: &[Row]) {
-    let count: u64 = rows[0][1].parse().unwrap();
+    let count: u32 = rows[0][1].parse().unwrap();
     let print = |order: &str, whose: &str, number: f64| println!("{table}|{order}|{count}|{whose}|{number:.3}");
-    let sorted: Vec<[u8; N]> = (0..count).map(|index| text(2 * index, count)).collect();
+    let sorted: Vec<[u8; N]> = (0..count).map(|index| bytes_of(2 * u64::from(index), count)).collect();
     let (fast, fast_bytes, fast_nanos) = built(sorted.len(), || sorted.iter().copied().collect::<HashSet<_, BuildHasherDefault<Folding>>>());
     let (of_std, std_bytes, std_nanos) = built(sorted.len(), || sorted.iter().copied().collect::<HashSet<_>>());
     let (in_tree, tree_bytes, _) = built(sorted.len(), || sorted.iter().copied().collect::<BTreeSet<_>>());

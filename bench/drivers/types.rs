@@ -1,6 +1,7 @@
 //! Times a value and a key of two to eight letters: this crate's type, and what one would use instead. The argument of a timed call
 //! is made before; all types have to give the same sum of the results.
 
+use arrayvec::ArrayString;
 use std::collections::{BTreeMap, HashMap};
 use std::hash::Hash;
 use std::hint::black_box;
@@ -67,11 +68,12 @@ fn timed<'a, T: Clone + Ord + Hash>(present: &'a [String], absent: &'a [String],
 
 fn main() {
     let (present, absent) = (words(b'a'), words(b'A'));
-    let mut all = vec![("here", timed(&present, &absent, |word| word.parse::<TinyAsciiStr<8>>().unwrap()))];
-    #[cfg(has_arrayvec)]
-    all.push(("ArrayString", timed(&present, &absent, |word| arrayvec::ArrayString::<8>::from(word).unwrap())));
-    all.push(("String", timed(&present, &absent, str::to_string)));
-    all.push(("&str", timed(&present, &absent, |word| word)));
+    let all = [
+        ("here", timed(&present, &absent, |word| word.parse::<TinyAsciiStr<8>>().unwrap())),
+        ("ArrayString", timed(&present, &absent, |word| ArrayString::<8>::from(word).unwrap())),
+        ("String", timed(&present, &absent, str::to_string)),
+        ("&str", timed(&present, &absent, |word| word)),
+    ];
     for call in 0..all[0].1.len() {
         for (whose, times) in &all {
             let (name, number, sum) = times[call];

@@ -54,19 +54,17 @@ def machine(all_results: dict[str, Results]) -> str:
 
 
 def types(results: Results) -> str:
-    """A section that the page has only once its measurements are taken."""
-    head = "## Beside `String`, `&str` and `ArrayString`\n\nFrom Cargo, texts of 2 to 8 letters, also as keys of Rust's maps:"
-    cells = [cell for cell in results.times if not cell[1].endswith(("insert", "absent key"))]
-    return f"{head}\n\n{fenced(crate_table(results, cells))}\n"
+    return crate_table(results, [cell for cell in results.times if not cell[1].endswith(("insert", "absent key"))])
 
 
 def fenced(text: str) -> str:
     return f"```text\n{text}\n```\n"
 
 
-# How each block is made, and from which files of results. Those of the first kind are Markdown, and the others text.
-SECTIONS = {"headline": (headline, "cargo", "cargo-v2", "jobs", "c"), "types": (types, "types")}
-TABLES = {
+# How each block is made, and from which files of results. The first is Markdown, and the others text.
+BLOCKS = {
+    "headline": (headline, "cargo", "cargo-v2", "jobs", "c"),
+    "types": (types, "types"),
     "means": (means_table, "cargo", "cargo-v2"),
     "slower from Cargo": (slower_table, "cargo", "cargo-v2"),
     "slower from Rattle": (slower_table, "calls"),
@@ -83,14 +81,12 @@ TABLES = {
 
 
 def block(name: str, all_results: dict[str, Results]) -> str:
-    """What a block has between its marks; nothing where its measurements aren't taken yet."""
+    """What a block has between its marks."""
     if name == "machine":
         return fenced(machine(all_results))
-    make, *files = SECTIONS.get(name) or TABLES[name]
-    if not all(file in all_results for file in files):
-        return ""
+    make, *files = BLOCKS[name]
     made = make(*(all_results[file] for file in files))
-    return made if name in SECTIONS else fenced(made)
+    return made if name == "headline" else fenced(made)
 
 
 def filled(page: Path, all_results: dict[str, Results], titles: dict[str, str]) -> str:

@@ -168,7 +168,7 @@ static void tables(void) {
     }
 }
 
-/* Hashed tables without pilots, whose records are in order; calls.py has others. */
+/* Hashed tables without pilots, whose records are in order; diff/c has others. */
 #define HEADER "\1\0\0\0" "\0\0\0\0" "\0\0\0\0" "\0\0\0\0"
 static void hashed(void) {
     static const char table[] = HEADER "CHFEURGB\0";
@@ -228,28 +228,16 @@ static void rejected_hashed_packs(void) {
     CHECK(is(tinystr_hashed_pack(NULL, 0, 3, out, 80, scratch, 512), TINYSTR_OK, 16));
 }
 
-static tinystr_result each(const void *keys, size_t keys_len, tinystr_result *out, size_t out_len) {
-    return tinystr_sorted_search_each("CADCHFEURGB\0JPY", 15, 3, keys, keys_len, out, out_len);
-}
-
-/* Keys by eights, and more; an `out` that is longer, and one that is too short; and keys that aren't records. */
+/* Many keys, an `out` that is too short, and keys that aren't records. Nothing is written after the results. */
 static void many_keys(void) {
-    static const char keys[] = "JPYEURUSDCADGB\0GBP\0\0\0EUREURCHFZ\0\0";
-    static const size_t found[] = {4, 2, 5, 0, 3, 4, 0, 2, 2, 1, 5};
-    enum { KEYS = sizeof found / sizeof *found };
-    tinystr_result out[KEYS + 1];
-    size_t k;
-    for (k = 0; k < KEYS + 1; k++) out[k].value = 77, out[k].code = 77, out[k].detail = 77;
-    CHECK(is(each(keys, 3 * KEYS, out, KEYS - 1), TINYSTR_NO_ROOM, KEYS));
-    CHECK(is(each(keys, 3 * KEYS - 1, out, KEYS), TINYSTR_BAD_LENGTH, 3 * KEYS - 1));
-    CHECK(is(each("EURE\0RZ\0\0", 9, out, KEYS), TINYSTR_NUL, 1));
-    CHECK(is(each("EURJPYE\xff" "R", 9, out, KEYS), TINYSTR_NON_ASCII, 2));
-    for (k = 0; k < KEYS + 1; k++) CHECK(is_filled(out[k]));
-    CHECK(is(each(keys, 3 * KEYS, out, KEYS + 1), TINYSTR_OK, KEYS) && is_filled(out[KEYS]));
-    for (k = 0; k < KEYS; k++) {
-        int is_none = k == 2 || k == 5 || k == 6 || k == 10;
-        CHECK(is(out[k], is_none ? TINYSTR_NOT_FOUND : TINYSTR_OK, found[k]));
-    }
+    static const char table[] = "CADCHFEUR", keys[] = "EURUSDCAD";
+    tinystr_result out[] = {{77, 77, 77}, {77, 77, 77}, {77, 77, 77}, {77, 77, 77}};
+    CHECK(is(tinystr_sorted_search_each(table, 9, 3, keys, 9, out, 2), TINYSTR_NO_ROOM, 3) && is_filled(out[0]));
+    CHECK(is(tinystr_sorted_search_each(table, 9, 3, keys, 8, out, 3), TINYSTR_BAD_LENGTH, 8) && is_filled(out[0]));
+    CHECK(is(tinystr_sorted_search_each(table, 9, 3, "EURE\0R", 6, out, 3), TINYSTR_NUL, 1) && is_filled(out[0]));
+    CHECK(is(tinystr_sorted_search_each(table, 9, 3, "E\xff" "R", 3, out, 3), TINYSTR_NON_ASCII, 0) && is_filled(out[0]));
+    CHECK(is(tinystr_sorted_search_each(table, 9, 3, keys, 9, out, 4), TINYSTR_OK, 3) && is_filled(out[3]));
+    CHECK(is(out[0], TINYSTR_OK, 2) && is(out[1], TINYSTR_NOT_FOUND, 3) && is(out[2], TINYSTR_OK, 0));
 }
 
 /* NULL with no bytes, as each pointer. */

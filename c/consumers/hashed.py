@@ -1,10 +1,9 @@
-"""hashed.py CAPACITY [--digest] < TEXTS: the hashed table of these texts, one a line, or its digest and its size. It shares no
-code with the library: it follows "The bytes" and "What `pack_hashed` writes" in crates/tinystr_hashed/CALLING.md."""
+"""hashed.py CAPACITY < TEXTS: the digest (FNV-1a) and the size of the hashed table of these texts, one a line. It shares no code
+with the library: it follows "The bytes" and "What `pack_hashed` writes" in crates/tinystr_hashed/CALLING.md."""
 import functools
 import struct
 import sys
 
-OK, NUL, NON_ASCII, BAD_LENGTH, BAD_HEADER, BAD_VERSION, BAD_INDEX, MISPLACED = 0, 2, 3, 8, 12, 13, 14, 15
 # for each attempt: how many texts there are for 16 pilots, and how many for a move
 ATTEMPTS = [*zip([36] * 3 + [32] * 3 + [24] * 2 + [16] * 2 + [8] * 2, [64] * 3 + [32] * 3 + [16] * 6)]
 
@@ -30,6 +29,7 @@ def place_of(seed, pilots, moves, count, record):
 def attempt(records, seed, pilot_count, move_count):
     """The table of some records, which differ, by this seed and so many pilots and moves; None where the search fails."""
     count, pilots, groups, owners, held, stack, took = len(records), bytearray(pilot_count), {}, {}, {}, [], []
+    left = 32 * count + 256 * min(count, 32)
     for found in (hash_of(seed, record) for record in records):
         groups.setdefault(found * pilot_count // 2**64, []).append(found)
 
@@ -42,7 +42,14 @@ def attempt(records, seed, pilot_count, move_count):
                 yield sum(len(groups[loser]) ** 2 for loser in losers), tried, pilot, slots, sorted(set(losers))
 
     def takes(group, turn=0):
-        if choice := min(choices(group, turn), default=None) if turn else next(choices(group, turn), None):
+        nonlocal left
+        size = len(groups[group])
+        left -= 255 * size**2 if turn else 0
+        if left <= 0:
+            return None
+        choice = min(choices(group, turn), default=None) if turn else next(choices(group, turn), None)
+        left -= 0 if turn else size * (choice[2] if choice else 255)
+        if choice:
             _, _, pilots[group], held[group], losers = choice
             for slot in [slot for loser in losers for slot in held[loser]]:
                 del owners[slot]
@@ -51,14 +58,16 @@ def attempt(records, seed, pilot_count, move_count):
         return choice
 
     stack += [group for group in sorted(groups, key=lambda group: (-len(groups[group]), group)) if not takes(group)][::-1]
-    if max(map(len, groups.values())) > 32 or len(stack) > count // 8 + 32:
+    if max(map(len, groups.values())) > 32:
         return None
-    while stack:
+    while stack and left > 0:
         group = stack.pop()
         if not takes(group):
-            if len(took) == count // 8 + 32 or not takes(group, len(took) + 1):
+            if not takes(group, len(took) + 1):
                 return None
             took.append(group)
+    if left <= 0:
+        return None
     free = (place for place in range(count) if place not in owners)
     moves = [next(free) if slot in owners else 0 for slot in range(count, count + move_count)]
     start = struct.pack(f"<4I{pilot_count}s{move_count}I", 1, pilot_count, move_count, seed, pilots, *moves)
@@ -81,30 +90,6 @@ def digest(data):
     return functools.reduce(lambda found, byte: (found ^ byte) * 0x100_0000_01B3 % 2**64, data, 0xCBF2_9CE4_8422_2325)
 
 
-def records_of(data, capacity):
-    _, pilots, moves = struct.unpack_from("<3I", data)
-    return [data[at:][:capacity] for at in range(16 + pilots + 4 * moves, len(data), capacity)]
-
-
-def checked(data, capacity):
-    """The code and the value that tinystr_hashed_check returns of bytes."""
-    version, pilot_count, move_count, seed = struct.unpack("<4I", data[:16].ljust(16))
-    size, after = pilot_count + 4 * move_count, len(data) - 16
-    faults = (after < 0, BAD_HEADER, len(data)), (version != 1, BAD_VERSION, version), (after < size, BAD_INDEX, size)
-    for fault, *answer in *faults, ((after - size) % capacity, BAD_LENGTH, after - size):
-        if fault:
-            return tuple(answer)
-    pilots, *moves = struct.unpack_from(f"<{pilot_count}s{move_count}I", data, 16)
-    records = records_of(data, capacity)
-    for index, record in enumerate(records):
-        if rest := record.lstrip(bytes(range(1, 128))).lstrip(b"\0"):
-            return NON_ASCII if rest[0] > 127 else NUL, index
-    for index, record in enumerate(records):
-        if place_of(seed, pilots, moves, len(records), record) != index if pilots else index and record <= records[index - 1]:
-            return MISPLACED, index
-    return OK, len(records)
-
-
 if __name__ == "__main__":
     table = packed([line.removesuffix(b"\n") for line in sys.stdin.buffer], int(sys.argv[1]))
-    sys.stdout.buffer.write(b"%#018x %d\n" % (digest(table), len(table)) if "--digest" in sys.argv else table)
+    print(f"{digest(table):#018x} {len(table)}")

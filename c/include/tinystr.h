@@ -31,8 +31,8 @@
  *
  * NULs after a text
  *   A key, a prefix, and the text of tinystr_ask and tinystr_change_case may have any number of NULs after them, which don't
- *   count: the field `char code[4]` that holds "GB\0\0" can be passed with its length 4. tinystr_read, tinystr_langid and
- *   tinystr_langid_parts read strings, in which each NUL is a fault.
+ *   count: the field `char code[4]` that holds "GB\0\0" can be passed with its length 4. In what tinystr_read, tinystr_langid and
+ *   tinystr_langid_parts read they are a fault: tinystr_read returns NUL if there is no other.
  *
  * Words
  *   text          bytes from 1 to 127, none or more

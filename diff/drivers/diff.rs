@@ -1,7 +1,6 @@
 //! Compares what two sides write for each call: the static library (or, under `--cfg made`, the crate that is made for Cargo)
 //! and the crate with the name `tinystr`. That is the original, from which three answers depart as `departures` says; or,
-//! under `--cfg added`, the crate for Cargo, whose tables and identifiers are compared too, and where nothing may depart. Under
-//! `--cfg few` it makes a few million calls at few capacities.
+//! under `--cfg added`, the crate for Cargo, whose tables and identifiers are compared too, and where nothing may depart.
 
 #[cfg(added)]
 mod added;
@@ -13,7 +12,6 @@ mod original;
 #[allow(dead_code)]
 #[cfg(not(made))]
 mod ours;
-mod random;
 
 #[cfg(added)]
 use added::libraries;
@@ -22,19 +20,14 @@ use original::{batch, numbers};
 #[cfg(made)]
 use made as ours;
 
-use inputs::{escaped, hostile, padded, text, texts};
+use inputs::{Random, escaped, hostile, padded, text, texts};
 use original::COUNT;
 use original::numbers::*;
 use original::questions::QUESTIONS;
-use random::Random;
 use std::collections::BTreeMap;
 use std::fmt::Debug;
 
-/// What docs/SPEED.md says, and the fewest under `--cfg few`.
-const LEAST_CALLS: u64 = 33_000_000;
-const LEAST_OF_FEW: u64 = 1_000_000;
-
-const FEW: [usize; 13] = [0, 1, 3, 4, 5, 8, 9, 12, 16, 17, 24, 32, 64];
+const CUT: [usize; 13] = [0, 1, 3, 4, 5, 8, 9, 12, 16, 17, 24, 32, 64];
 const TARGETS: [usize; 14] = [0, 1, 3, 4, 7, 8, 12, 16, 17, 24, 32, 48, 64, 128];
 /// What `ask` answers beside the questions.
 const OTHERS: [(usize, &str); 3] = [(LEN, "len"), (IS_EMPTY, "is_empty"), (LAST_OF_STR, "the last byte of as_str")];
@@ -46,13 +39,8 @@ const FORMS: [&str; 4] = ["`{}`", "`{:-^9.5}`", "`{:?}`", "`{:?}` of the unvalid
 const OF_TEXTS: [usize; 3] = [DISPLAY, PADDED, DEBUG];
 const OF_ANY_BYTES: [usize; 1] = [UNVALIDATED_DEBUG];
 
-fn capacities() -> Vec<usize> {
-    if cfg!(few) { FEW.to_vec() } else { (0..=40).chain([64]).collect() }
-}
-
-/// Those of some capacities that are compared.
-fn of(some: &[usize]) -> Vec<usize> {
-    capacities().into_iter().filter(|n| some.contains(n)).collect()
+fn capacities() -> impl Iterator<Item = usize> {
+    (0..=40).chain([64])
 }
 
 /// The number of calls, and of those that differ by name.
@@ -194,7 +182,7 @@ fn departures() {
     assert_eq!(cuts, [[1], [0]], "the cut of 0 at capacity 0");
     // the questions on letters in a case, of the empty text, where the original is false at some capacities
     let mut is_false = false;
-    for (n, question) in capacities().into_iter().flat_map(|n| OF_CASED_LETTERS.map(|question| (n, question))) {
+    for (n, question) in capacities().flat_map(|n| OF_CASED_LETTERS.map(|question| (n, question))) {
         let mut answers = [[9], [9]];
         assert!(ours::ask(n, question, 1, &vec![0; n], &mut answers[0]) && original::ask(n, question, 1, &vec![0; n], &mut answers[1]));
         assert_eq!(answers[0], [1], "question {question} of the empty text at {n}");
@@ -220,7 +208,7 @@ mod of_tables {
 
     fn identifiers(count: &mut Count, random: &mut Random) {
         let mut read = 0;
-        for _ in 0..if cfg!(few) { 100 } else { 3000 } {
+        for _ in 0..3000 {
             let lists: Vec<Vec<u8>> = (0..COUNT).map(|_| identifier(random)).collect();
             let (units, starts) = joined(&lists);
             alike!(count, COUNT, "LangId::try_from_utf8", &|i| format!("{:?}", lists[i]), added::lang_ids(1, &units, &starts),
@@ -240,7 +228,7 @@ mod of_tables {
     }
 
     fn tables<const N: usize>(count: &mut Count, random: &mut Random) {
-        for _ in 0..if cfg!(few) { 50 } else { 1000 } {
+        for _ in 0..1000 {
             let records = records(random, N);
             let keys: Vec<Vec<u8>> = (0..KEYS).map(|_| key(random, &records, N)).collect();
             let key_bytes = padded(&keys, N);
@@ -268,19 +256,19 @@ mod of_tables {
     }
 }
 
-/// All lists of at most two bytes, and all texts of at most two characters; of pairs only some, if there are to be few.
+/// All lists of at most two bytes, and all texts of at most two characters.
 fn compare_short(count: &mut Count) {
     let mut short: Vec<Vec<u8>> = vec![vec![]];
     short.extend((0..=255).map(|a| vec![a]));
-    short.extend((0..=65535u16).step_by(if cfg!(few) { 41 } else { 1 }).map(|ab| ab.to_be_bytes().to_vec()));
-    for n in of(&[0, 1, 2, 3, 4, 8, 9]) {
+    short.extend((0..=65535u16).map(|ab| ab.to_be_bytes().to_vec()));
+    for n in [0, 1, 2, 3, 4, 8, 9] {
         read8(count, n, &short);
     }
-    for n in of(&[2, 9]) {
+    for n in [2, 9] {
         print(count, n, &OF_ANY_BYTES, &short);
     }
     short.retain(|list| list.iter().all(|b| (1..128).contains(b)));
-    for n in of(&[2, 3, 4, 7, 8, 9, 16, 17, 24]) {
+    for n in [2, 3, 4, 7, 8, 9, 16, 17, 24] {
         ask(count, n, &short);
         print(count, n, &OF_TEXTS, &short);
     }
@@ -344,9 +332,8 @@ fn compare_decimals(count: &mut Count, random: &mut Random) {
     for n in capacities() {
         decimals(count, n, &numbers);
     }
-    for n in of(&[1, 3, 4, 8, 9, 10, 11, 12, 16, 64]) {
-        let many = if cfg!(few) { 4_000 } else { 100_000 };
-        let many: Vec<u32> = (0..many).map(|_| (random.next() as u32) >> random.below(32)).collect();
+    for n in [1, 3, 4, 8, 9, 10, 11, 12, 16, 64] {
+        let many: Vec<u32> = (0..100_000).map(|_| (random.next() as u32) >> random.below(32)).collect();
         decimals(count, n, &many);
     }
 }
@@ -354,8 +341,8 @@ fn compare_decimals(count: &mut Count, random: &mut Random) {
 /// Pairs, of which many share a beginning.
 fn compare_pairs(count: &mut Count, random: &mut Random) {
     let most = [(0, 1), (1, 128), (3, 300), (4, 600), (8, 2000), (12, 600), (16, 600), (17, 300), (24, 300), (40, 300), (64, 300)];
-    for (n, how_many) in most.into_iter().filter(|(n, _)| capacities().contains(n)) {
-        let mut list = texts(random, n, if cfg!(few) { how_many.min(120) } else { how_many });
+    for (n, how_many) in most {
+        let mut list = texts(random, n, how_many);
         for i in 1..list.len() {
             if random.one_in(2) {
                 let kept = random.below(list[i - 1].len() + 1);
@@ -379,22 +366,20 @@ fn main() {
     }
     compare_short(&mut count);
     for n in capacities() {
-        compare_positions(&mut count, n, if cfg!(few) { b"Q" } else { b"qQ7" });
+        compare_positions(&mut count, n, b"qQ7");
         compare_lists(&mut count, &mut random, n);
     }
-    if !cfg!(few) {
-        for n in [1, 4] {
-            read16(&mut count, n, &(0..=65535).map(|unit| vec![unit]).collect::<Vec<_>>());
-        }
+    for n in [1, 4] {
+        read16(&mut count, n, &(0..=65535).map(|unit| vec![unit]).collect::<Vec<_>>());
     }
     compare_decimals(&mut count, &mut random);
-    for n in FEW {
+    for n in CUT {
         let (first, second) = (texts(&mut random, n, COUNT), texts(&mut random, n, COUNT));
         cut(&mut count, n, &first, &second);
     }
     compare_pairs(&mut count, &mut random);
 
     println!("{} calls compared, which differ: {:?}", count.calls, count.differed);
-    assert!(count.calls >= if cfg!(few) { LEAST_OF_FEW } else { LEAST_CALLS }, "fewer calls were compared than there should be");
+    assert!(count.calls >= 33_000_000, "fewer calls were compared than docs/SPEED.md says");
     std::process::exit(i32::from(!count.differed.is_empty()));
 }

@@ -1,8 +1,20 @@
 //! Generated texts, identifiers, records and keys: valid ones, what is nearly valid, and any bytes.
 
-use crate::random::Random;
+/// Numbers by shifts and exclusive ors (xorshift), the same in each run from one start.
+pub struct Random(pub u64);
 
 impl Random {
+    pub fn next(&mut self) -> u64 {
+        self.0 ^= self.0 << 13;
+        self.0 ^= self.0 >> 7;
+        self.0 ^= self.0 << 17;
+        self.0 >> 11
+    }
+
+    pub fn below(&mut self, bound: usize) -> usize {
+        (self.next() % bound as u64) as usize
+    }
+
     pub fn one_in(&mut self, bound: usize) -> bool {
         self.below(bound) == 0
     }

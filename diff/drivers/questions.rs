@@ -17,29 +17,18 @@ const LETTERS: &[u8] = b"abcdefghijklmnopqrstuvwxyzABCDEFGHIJKLMNOPQRSTUVWXYZ";
 const DIGITS: &[u8] = b"0123456789";
 const LETTERS_AND_DIGITS: &[u8] = b"abcdefghijklmnopqrstuvwxyzABCDEFGHIJKLMNOPQRSTUVWXYZ0123456789";
 
-/// `$with!` of a line for each question: the fields of `Question`, by the method's name.
-macro_rules! each_question {
-    ($with:ident) => {
-        $with! {
-            is_ascii_alphabetic(ALPHABETIC, LETTERS, LETTERS, b'-')
-            is_ascii_alphanumeric(ALPHANUMERIC, LETTERS_AND_DIGITS, LETTERS_AND_DIGITS, b'-')
-            is_ascii_numeric(NUMERIC, DIGITS, DIGITS, b'-')
-            is_ascii_lowercase(LOWERCASE, LOWER, LOWER, b'A')
-            is_ascii_titlecase(TITLECASE, UPPER, LOWER, b'a')
-            is_ascii_uppercase(UPPERCASE, UPPER, UPPER, b'a')
-            is_ascii_alphabetic_lowercase(ALPHABETIC_LOWERCASE, LOWER, LOWER, b'A')
-            is_ascii_alphabetic_titlecase(ALPHABETIC_TITLECASE, UPPER, LOWER, b'a')
-            is_ascii_alphabetic_uppercase(ALPHABETIC_UPPERCASE, UPPER, UPPER, b'a')
-        }
-    };
+const fn question(call: &'static str, number: usize, first: &'static [u8], later: &'static [u8], failing: u8) -> Question {
+    Question { call, number, first, later, failing }
 }
 
-macro_rules! table {
-    ($($call:ident($number:ident, $first:ident, $later:ident, $failing:literal))*) => {
-        pub const QUESTIONS: &[Question] = &[
-            $(Question { call: stringify!($call), number: numbers::$number, first: $first, later: $later, failing: $failing }),*
-        ];
-    };
-}
-
-each_question!(table);
+pub const QUESTIONS: &[Question] = &[
+    question("is_ascii_alphabetic", numbers::ALPHABETIC, LETTERS, LETTERS, b'-'),
+    question("is_ascii_alphanumeric", numbers::ALPHANUMERIC, LETTERS_AND_DIGITS, LETTERS_AND_DIGITS, b'-'),
+    question("is_ascii_numeric", numbers::NUMERIC, DIGITS, DIGITS, b'-'),
+    question("is_ascii_lowercase", numbers::LOWERCASE, LOWER, LOWER, b'A'),
+    question("is_ascii_titlecase", numbers::TITLECASE, UPPER, LOWER, b'a'),
+    question("is_ascii_uppercase", numbers::UPPERCASE, UPPER, UPPER, b'a'),
+    question("is_ascii_alphabetic_lowercase", numbers::ALPHABETIC_LOWERCASE, LOWER, LOWER, b'A'),
+    question("is_ascii_alphabetic_titlecase", numbers::ALPHABETIC_TITLECASE, UPPER, LOWER, b'a'),
+    question("is_ascii_alphabetic_uppercase", numbers::ALPHABETIC_UPPERCASE, UPPER, UPPER, b'a'),
+];

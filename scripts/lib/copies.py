@@ -28,13 +28,3 @@ def copy_lists(folder: Path, names: set[str]) -> None:
     lines = (TOP / "crates.txt").read_text(encoding="utf-8").splitlines()
     kept = [f"{line}\n" for line in lines if re.match(r"\w*", line)[0] in names]
     (folder / "crates.txt").write_text("".join(kept), encoding="utf-8")
-
-
-def add_crate(folder: Path, name: str, uses: list[str], file: str, text: str) -> Path:
-    """Adds a crate of one file to a copy, and returns its folder."""
-    crate = folder / "crates" / name
-    (crate / "src").mkdir(parents=True, exist_ok=True)
-    (crate / "src" / file).write_text(text, encoding="utf-8")
-    with open(folder / "crates.txt", "a", encoding="utf-8") as crates:
-        crates.write(f"{name}: {' '.join(uses)}\n")
-    return crate

@@ -62,16 +62,8 @@ class Page:
         return found[number - 1] if number <= len(found) else ""
 
     def links(self) -> list[str]:
-        """The targets of the page's links, in order, a definition of a link among them."""
-        found = re.findall(r"\]\(\s*([^)\s]+)|^\[[^\]]+\]: +(\S+)", "\n".join(self.lines), re.M)
-        return [target or defined for target, defined in found]
-
-    def undefined_labels(self) -> list[str]:
-        """The labels of links, as of [text][label], that the page doesn't define."""
-        text = re.sub(r"`[^`]*`", "", "\n".join(self.prose))
-        defined = {label.lower() for label in re.findall(r"^\[([^\]]+)\]: +\S", text, re.M)}
-        used = [label or words for words, label in re.findall(r"\[([^\[\]]+)\]\[([^\[\]]*)\]", text)]
-        return [label for label in used if label.lower() not in defined]
+        """The targets of the page's links, in order."""
+        return re.findall(r"\]\(\s*([^)\s]+)", "\n".join(self.lines))
 
 
 def main() -> bool:

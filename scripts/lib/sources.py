@@ -1,4 +1,5 @@
-"""Reads crates.txt, the texts of a crate, and the items of a source that a wrong body can change. It prints nothing."""
+"""Reads crates.txt, the texts of a crate, the items of a source that a wrong body can change, and what a source, a definition
+or a proof declares. It prints nothing."""
 
 import functools
 import re
@@ -10,6 +11,9 @@ from lib import rattle
 from lib.rattle import items_of, line_start
 
 TOP = Path(__file__).resolve().parents[2]
+CRATES = TOP / "crates"
+# The libraries that have a CALLING.md, from the lowest up.
+LIBRARIES = ("tinystr_words", "tinystr", "subtags", "tinystr_packed", "tinystr_hashed")
 LAWS = "src/laws.rt"
 ARM = re.compile(r" +(?:\| )?(?:Width|Question|Case|Command|TextCall|Self)::\w+.*=>")
 
@@ -69,7 +73,7 @@ def items_among(found: list[rattle.Item], file: str, block: str) -> Iterator[Ite
 
 def texts_of(crate: str) -> dict[str, str]:
     """The texts of a crate that a check reads, by their paths in its folder."""
-    folder = TOP / "crates" / crate
+    folder = CRATES / crate
     files = [path for part in ("src", "specs", "proofs") for path in sorted((folder / part).rglob("*")) if path.is_file()]
     return {str(path.relative_to(folder)): path.read_text(encoding="utf-8") for path in files}
 
@@ -113,3 +117,45 @@ def arms(texts: dict[str, str]) -> list[tuple[str, int, tuple[int, int], str]]:
                 found.append((file, number + 1, (at, at + len("\n".join(lines[number : last + 1]))), line.strip()))
             at += len(line) + 1
     return found
+
+
+def text_of(path: Path) -> str:
+    return path.read_text(encoding="utf-8")
+
+
+def source_files(library: str) -> list[Path]:
+    return sorted((CRATES / library / "src").rglob("*.rt"))
+
+
+def can_be_named(item: rattle.Item) -> bool:
+    """Whether callers can name an item of a public module."""
+    is_of_kind = item.kind in ("struct", "enum", "trait", "type", "fn")
+    return item.kind in ("impl", "macro_rules") or is_of_kind and item.is_public
+
+
+def public_declarations(library: str) -> Iterator[tuple[Path, rattle.Item]]:
+    """The items that callers can name, each with its file: of a public module and the modules in it, or reexported by name."""
+    folder = CRATES / library / "src"
+    root = [item for item in items_of(text_of(folder / "lib.rt")) if "#[doc(hidden)]" not in item.lines_above]
+    uses = [match for item in root if (match := re.match(r"pub use (\w+)::\{?(.*?)\}?;", item.head))]
+    reexported = {match[1]: match[2].split(", ") for match in uses}
+    for module in [item for item in root if item.kind == "mod" and not item.body]:
+        file = folder / f"{module.name}.rt"
+        if module.is_public:
+            yield from ((file, item) for item in items_of(text_of(file)) if can_be_named(item))
+            for submodule in sorted((folder / module.name).glob("*.rt")):
+                is_public = f"pub mod {submodule.stem};" in text_of(file).splitlines()
+                found = [
+                    item for item in items_of(text_of(submodule)) if (can_be_named(item) if is_public else item.kind == "impl")
+                ]
+                yield from ((submodule, item) for item in found)
+        elif module.name in reexported:
+            yield from ((file, item) for item in items_of(text_of(file)) if item.name in reexported[module.name])
+
+
+def code_lines(path: Path) -> Iterator[tuple[int, str]]:
+    """The lines of a file that aren't comments, with their numbers."""
+    comment = "--" if path.suffix == ".antt" else "//"
+    for number, line in enumerate(text_of(path).splitlines(), 1):
+        if not line.lstrip().startswith(comment):
+            yield number, line
