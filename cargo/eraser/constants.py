@@ -11,6 +11,16 @@ from eraser import Stopped
 from eraser.items import without_item
 from lib.rattle import Tokens
 
+# The calls that have a twin for constants, by file: how each begins. What a twin calls has a twin too.
+TWINS = {
+    "tinystr_packed/sorted.rt": "from_bytes",
+    "tinystr_packed/map.rt": "new(keys: &'a [u8]",
+    "tinystr_packed/text_map.rt": "new(keys: &'a [u8]",
+    "tinystr_hashed/table.rt": "from_bytes",
+    "tinystr_hashed/map.rt": "new(keys: &'a [u8]",
+    "tinystr_hashed/text_map.rt": "new(keys: &'a [u8]",
+}
+CALL = re.compile(r"\b((?:Table|SortedTable|HashedTable)::(?:new|from_bytes))\(")
 # The frame, and the name by which its rules are listed.
 FRAME = "cargo/eraser/in_constants.rs"
 NAME = "tinystr_words/in_constants.rt"
@@ -29,7 +39,7 @@ MARK = re.compile(r"^( *)//= (?P<file>\S+\.rs)(?:, (?P<item>.*?))?: (?P<how>free
 HEAD = r"( *)(?:pub(?:\(crate\))? )?(?:const )?fn "
 # An item, and a function that has a body, with its attributes: each ends at the first brace as far in as its head.
 ITEM = r"^()%s \{\n(?:.*\n)*?\}\n"
-FUNCTION = rf"(?:^ *#\[.*\]\n)*^{HEAD}%s\b.*[^;]\n(?:.*\n)*?\1\}}\n"
+FUNCTION = rf"(?:^ *#\[.*\]\n)*^{HEAD}%s(?!\w).*[^;]\n(?:.*\n)*?\1\}}\n"
 # The frame names the code unit by a type `U`, and its trait's functions are free.
 OF_UNITS = [
     (r"<U: CodeUnit>", ""),
@@ -62,6 +72,19 @@ def without_moved(made: dict[str, str]) -> dict[str, str]:
             if count != 1:
                 raise Stopped(f"{file}: `{name}` is there {count} times, and not once")
     return left
+
+
+def with_twin(text: str, file: str) -> str:
+    """The text with the twin of a call that a constant can't call, after that."""
+    if file not in TWINS:
+        return text
+    call = only(FUNCTION, TWINS[file], text, file)
+    name = re.search(r"fn (\w+)", call)[1]
+    panics = re.findall(r"(?m)^ *///\n */// # Panics\n(?:.*\n){2}", text[: text.index(call)])[-1]
+    head = f"    /// `{name}` at compile time. At run time `{name}` is faster.\n"
+    twin = call.replace(f"pub fn {name}", f"pub const fn {name}_const").replace("first_out_of", "crate::constants::first_out_of")
+    twin = CALL.sub(r"\1_const(", twin)
+    return text.replace(call, f"{call}\n{head}{panics}{twin}")
 
 
 def only(pattern: str, name: str, text: str, file: str) -> str:
@@ -104,7 +127,7 @@ OVER_SLICE = re.compile(r"^( *)for (\w+) in (\w+) \{\n", re.M)
 def as_const(text: str) -> str:
     """The text without what a `const fn` can't call: traits, so an index by a range, `for`, `min` and `from`."""
     text = OVER_RANGE.sub(r"\1let mut \2 = \3;\n\1while \2 < \4 {\n\5\1    \2 += 1;\n\1}\n", text)
-    text = OVER_SLICE.sub(r"\1let mut rest = \3;\n\1while let &[\2, ref after @ ..] = rest {\n\1    rest = after;\n", text)
+    text = OVER_SLICE.sub(r"\1let mut left = \3;\n\1while let &[\2, ref after @ ..] = left {\n\1    left = after;\n", text)
     text = LEAST.sub(r"crate::ranges::least(\1, \2)", text)
     return without_from(PART.sub(part, text))
 
@@ -127,7 +150,7 @@ def without_from(text: str) -> str:
         number, after = rest.joined(1, end - 1), rest.joined(end, len(rest))
         # a name, an element or a call takes no brackets
         cast = f"{number if ' ' not in re.sub(CALLED, '', number) else f'({number})'} as {found['type']}"
-        # before a `<` the type would seem to have parameters
-        cast = f"({cast})" if after.startswith(" <") else cast
+        # a method is called on the number, and before a `<` the type would seem to have parameters
+        cast = f"({cast})" if after.startswith((".", " <")) else cast
         text = text[: found.start()] + cast + after
     return text

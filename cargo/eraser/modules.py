@@ -21,8 +21,9 @@ EXPORTED = "tinystr_words/question.rt"
 # A private file of another crate, for the same reason: exported, its calls that make texts would have to be `unsafe`.
 PRIVATE_FILE = "tinystr/short_input.rt"
 
-# Files whose functions are all `const`.
+# Files whose functions are all `const`, and those of which some are, in what a `const fn` can do.
 CONST_FILES = {"tinystr_words/padded/copying.rt"}
+AS_CONST = {*CONST_FILES, "tinystr_hashed/hashing.rt", "tinystr_hashed/table.rt"}
 
 OF_TABLES = ["len(", "is_empty(", "iter("]
 OF_MAPS = [*OF_TABLES, "keys(", "values("]
@@ -44,7 +45,7 @@ CONST = {
     "tinystr_packed/table.rt": [*OF_TABLES, "records("],
     "tinystr_packed/text_map.rt": [*OF_MAPS, "new(keys: &Table"],
     "tinystr_hashed/map.rt": OF_MAPS,
-    "tinystr_hashed/table.rt": [*OF_TABLES, "table("],
+    "tinystr_hashed/table.rt": [*OF_TABLES, "table(", "of("],
     "tinystr_hashed/text_map.rt": OF_MAPS,
     "tinystr_words/padded.rt": ["width_of("],
 }

@@ -11,7 +11,7 @@ from eraser.examples import with_examples
 from eraser.fields import with_fields
 from eraser.ghosts import without_ghosts
 from eraser.items import with_derives, without_items
-from eraser.modules import CONST_FILES, EXPORTED, MODULES, PRIVATE, PRIVATE_FILE, with_paths, with_signatures
+from eraser.modules import AS_CONST, EXPORTED, MODULES, PRIVATE, PRIVATE_FILE, with_paths, with_signatures
 from eraser.rules import EVERYWHERE, IN_FILE, Rules
 from lib.rattle import unmatched_bracket
 
@@ -55,8 +55,9 @@ class Package:
         text = with_folds(text) if is_shown else text
         text = with_derives(text)
         text = with_fields(self.rules.apply(without_allocation_errors(with_paths(text, crate)), file), file)
-        text = constants.as_const(text) if file in CONST_FILES else text
-        return finished(with_examples(with_signatures(text, file, is_private), file, is_private), file)
+        text = constants.as_const(text) if file in AS_CONST else text
+        text = with_examples(with_signatures(text, file, is_private), file, is_private)
+        return finished(constants.with_twin(text, file), file)
 
 
 def sources(crate: Path) -> Iterator[tuple[str, str]]:

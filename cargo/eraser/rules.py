@@ -219,6 +219,7 @@ IN_FILE = {
     "tinystr_packed/lib.rt": of_feature("counting", "packing", "sorting"),
     "tinystr_packed/counting.rt": [Rule("use std::alloc::{AllocError, Global};\n", "", OF_ALLOCATOR)],
     "tinystr_hashed/lib.rt": [
+        Rule("mod hashing;", "pub(crate) mod hashing;", OF_CONSTANTS),
         *of_feature("packing", "packing_maps"),
         *(
             Rule(
@@ -227,6 +228,14 @@ IN_FILE = {
                 "what allocates calls more of it",
             )
             for module in ("building", "placing")
+        ),
+    ],
+    "tinystr_hashed/hashing.rt": [
+        Rule("use crate::words::word::Word;", "use crate::words::in_constants::bytes::Load;", OF_CONST_CALLS),
+        *(Rule(f"Word::<{width // 8}>::load(", f"Load::<u{width}>::load(", OF_CONST_CALLS) for width in (32, 64)),
+        *(
+            Rule(f"fn {name}", f"const fn {name}", OF_CONST_CALLS)
+            for name in ("start_of(", "hash_of<", "hash_on(", "number(", "short_number(", "folded(", "scaled(", "slot_of(", "slot_factor(", "slot_by(")
         ),
     ],
     "tinystr_hashed/packing.rt": [

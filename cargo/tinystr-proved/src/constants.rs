@@ -2,7 +2,8 @@
 //! as `NAME` by a loop. At run time `NAME` is faster. The tests compare both.
 
 use crate::ascii::TinyAsciiStr;
-use crate::packed::{NotRising, SortedError, SortedTable, Table};
+use crate::hashed::hashing::{Places, hash_of, scaled, short_number, slot_of};
+use crate::packed::{NotRising, SortedTable, Table};
 use crate::ule::UleError;
 
 impl<const N: usize> TinyAsciiStr<N> {
@@ -34,36 +35,53 @@ impl<'a, const N: usize> Table<'a, N> {
 }
 
 impl<'a, const N: usize> SortedTable<'a, N> {
-    /// `from_bytes` at compile time. At run time `from_bytes` is faster.
-    ///
-    /// ```
-    /// use tinystr::packed::SortedTable;
-    /// use tinystr::tinystr;
-    ///
-    /// const CODES: SortedTable<'static, 3> = match SortedTable::from_bytes_const(b"CHFEURJPY") {
-    ///     Ok(table) => table,
-    ///     Err(_) => panic!(),
-    /// };
-    /// assert_eq!(CODES.binary_search(&tinystr!(3, "EUR")), Ok(1));
-    /// ```
-    ///
-    /// # Panics
-    ///
-    /// Where `N` is 0.
-    pub const fn from_bytes_const(bytes: &'a [u8]) -> Result<Self, SortedError> {
-        let table = match Table::new_const(bytes) {
-            Ok(table) => table,
-            Err(fault) => return Err(SortedError::Records(fault)),
-        };
-        let mut index = 1;
-        while index < table.len() {
-            if !is_below(&table.records[index - 1], &table.records[index]) {
-                return Err(SortedError::Order(NotRising { index }));
-            }
-            index += 1;
+    /// `new` at compile time. At run time `new` is faster.
+    pub const fn new_const(table: Table<'a, N>) -> Result<Self, NotRising> {
+        match first_not_above(table.records) {
+            None => Ok(SortedTable { table }),
+            Some(index) => Err(NotRising { index }),
         }
-        Ok(SortedTable { table })
     }
+}
+
+/// What `hashed::table::first_out_of_order` returns.
+pub(crate) const fn first_out_of_order<const N: usize>(table: &Table<'_, N>, places: &Places<'_>) -> Option<usize> {
+    if places.pilots.is_empty() {
+        return first_not_above(table.records);
+    }
+    let mut index = 0;
+    while index < table.len() {
+        if place(places, &table.records[index], table.len()) != index {
+            return Some(index);
+        }
+        index += 1;
+    }
+    None
+}
+
+/// What `Places::place` returns if there are pilots.
+const fn place<const N: usize>(places: &Places<'_>, raw: &[u8; N], count: usize) -> usize {
+    let hash = hash_of(places.start, raw);
+    let pilot = places.pilots[scaled(hash, places.pilots.len())];
+    let slot = slot_of(hash, pilot, count + places.moves.len());
+    if slot < count {
+        slot
+    } else if slot - count < places.moves.len() {
+        short_number(&places.moves[slot - count]) as usize
+    } else {
+        count
+    }
+}
+
+const fn first_not_above<const N: usize>(records: &[[u8; N]]) -> Option<usize> {
+    let mut index = 1;
+    while index < records.len() {
+        if !is_below(&records[index - 1], &records[index]) {
+            return Some(index);
+        }
+        index += 1;
+    }
+    None
 }
 
 const fn is_below<const N: usize>(left: &[u8; N], right: &[u8; N]) -> bool {

@@ -99,9 +99,23 @@ fn constants_are_what_runs() {
     are_what_runs(const { facts_of_all::<24>() });
 }
 
+macro_rules! agree {
+    ($type:ty, $twin:ident, $call:ident, $($bytes:expr),+) => {
+        assert_eq!(<$type>::$twin($($bytes),+), <$type>::$call($($bytes),+), "{:?}", [$($bytes),+])
+    };
+}
+
 fn tables_agree<const N: usize>(bytes: &[u8]) {
-    assert_eq!(Table::<N>::new_const(bytes), Table::new(bytes), "{bytes:?}");
-    assert_eq!(SortedTable::<N>::from_bytes_const(bytes), SortedTable::from_bytes(bytes), "{bytes:?}");
+    let hashed = &[b"\x01\0\0\0\0\0\0\0\0\0\0\0\0\0\0\0", bytes].concat()[..];
+    agree!(Table<N>, new_const, new, bytes);
+    agree!(SortedTable<N>, from_bytes_const, from_bytes, bytes);
+    agree!(HashedTable<N>, from_bytes_const, from_bytes, hashed);
+    for values in [&b""[..], b"b\0", b"b\0a", b"\0b", b"bba\0"] {
+        agree!(PackedMap<N, 2>, new_const, new, bytes, values);
+        agree!(TextMap<N, 2>, new_const, new, bytes, values);
+        agree!(HashedMap<N, 2>, new_const, new, hashed, values);
+        agree!(HashedTextMap<N, 2>, new_const, new, hashed, values);
+    }
 }
 
 /// All lists of at most two bytes, and of longer ones each that has one of four bytes at each place.
@@ -121,13 +135,35 @@ fn tables_of_constants_agree() {
     }
 }
 
+/// A hashed table of 38 texts, with pilots and moves: each bit of it is flipped.
+#[cfg(feature = "alloc")]
+#[test]
+fn hashed_tables_of_constants_agree() {
+    let texts: Vec<TinyAsciiStr<17>> = (0..38).map(|number| format!("ht{number}").parse().unwrap()).collect();
+    let short: Vec<TinyAsciiStr<8>> = texts.iter().map(|text| text.resize()).collect();
+    let mut bytes = tinystr::hashed::pack_hashed(&short).unwrap();
+    for bit in 0..8 * bytes.len() {
+        bytes[bit / 8] ^= 1 << (bit % 8);
+        agree!(HashedTable<8>, from_bytes_const, from_bytes, &bytes);
+        bytes[bit / 8] ^= 1 << (bit % 8);
+    }
+    agree!(HashedTable<8>, from_bytes_const, from_bytes, &bytes);
+    let long = tinystr::hashed::pack_hashed(&texts).unwrap();
+    agree!(HashedTable<17>, from_bytes_const, from_bytes, &long);
+}
+
 static NAMES: Result<Table<'static, 4>, UleError> = Table::new_const(b"EuroYen\0");
 const DESCENDING: Result<SortedTable<'static, 3>, SortedError> = SortedTable::from_bytes_const(b"EURCHF");
+static DIGITS: HashedMap<'static, 3, 1> = match HashedMap::new_const(b"\x01\0\0\0\0\0\0\0\0\0\0\0\0\0\0\0EURJPY", &[2, 0]) {
+    Ok(map) => map,
+    Err(_) => panic!(),
+};
 
 #[test]
 fn tables_are_constants() {
     assert_eq!(NAMES.unwrap().get(1), Some(tinystr!(4, "Yen")));
     assert_eq!(DESCENDING.err(), Some(SortedError::Order(NotRising { index: 1 })));
+    assert_eq!(DIGITS.get(&tinystr!(3, "JPY")), Some(&[0]));
 }
 
 /// The message of a literal that is no text isn't a format.

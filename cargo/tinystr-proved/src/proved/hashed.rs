@@ -4,7 +4,7 @@
 
 #[cfg_attr(not(feature = "alloc"), allow(dead_code))]
 mod building;
-mod hashing;
+pub(crate) mod hashing;
 pub mod in_place;
 mod map;
 #[cfg(feature = "alloc")]

@@ -88,6 +88,33 @@ impl<'a, const N: usize, const M: usize> HashedMap<'a, N, M> {
         })
     }
 
+    /// `new` at compile time. At run time `new` is faster.
+    ///
+    /// # Panics
+    ///
+    /// Where `N` is 0 or `M` is 0.
+    pub const fn new_const(keys: &'a [u8], values: &'a [u8]) -> Result<Self, HashedMapError> {
+        assert!(N > 0, "a record has at least one byte");
+        assert!(M > 0, "a value has at least one byte");
+        let keys = match HashedTable::from_bytes_const(keys) {
+            Ok(keys) => keys,
+            Err(fault) => return Err(HashedMapError::Keys(fault)),
+        };
+        let count = keys.len();
+        let len = values.len();
+        if len % M != 0 || len / M != count {
+            return Err(HashedMapError::Values { keys: count, len });
+        }
+        // where there is no value, an array of `M` bytes may have no size
+        if values.is_empty() {
+            return Ok(HashedMap { keys, values: &[] });
+        }
+        Ok(HashedMap {
+            keys,
+            values: values.as_chunks().0,
+        })
+    }
+
     /// The number of entries.
     ///
     /// # [Contract](crate::definitions)

@@ -119,6 +119,32 @@ impl<'a, const N: usize> HashedTable<'a, N> {
         }
     }
 
+    /// `from_bytes` at compile time. At run time `from_bytes` is faster.
+    ///
+    /// # Panics
+    ///
+    /// Where `N` is 0.
+    pub const fn from_bytes_const(bytes: &'a [u8]) -> Result<Self, HashedError> {
+        assert!(N > 0, "a record has at least one byte");
+        let parts = match Parts::of(bytes) {
+            Ok(parts) => parts,
+            Err(fault) => return Err(fault),
+        };
+        let table = match Table::new_const(parts.records) {
+            Ok(table) => table,
+            Err(fault) => return Err(HashedError::Records(fault)),
+        };
+        let places = parts.places;
+        // where there is no record, an array of `N` bytes may have no size
+        if table.is_empty() {
+            return Ok(HashedTable { table, places });
+        }
+        match crate::constants::first_out_of_order(&table, &places) {
+            None => Ok(HashedTable { table, places }),
+            Some(index) => Err(HashedError::Place { index }),
+        }
+    }
+
     /// The number of texts.
     ///
     /// # [Contract](crate::definitions)
@@ -371,19 +397,19 @@ impl<'a> Parts<'a> {
     /// ensures fault { IfErr result (λ e. (n : ℕ) → RefusesHashed e bytes.now n) }
     /// ```
     #[inline(always)]
-    pub(crate) fn of(bytes: &'a [u8]) -> Result<Self, HashedError> {
+    pub(crate) const fn of(bytes: &'a [u8]) -> Result<Self, HashedError> {
         if bytes.len() < 16 {
             return Err(HashedError::Header { len: bytes.len() });
         }
-        let version = short_number(&bytes[..4]);
+        let version = short_number(bytes.split_at(4).0);
         if version != VERSION {
             return Err(HashedError::Version { version });
         }
-        let pilot_count = short_number(&bytes[4..8]) as usize;
-        let move_count = short_number(&bytes[8..12]) as usize;
-        let start = start_of(short_number(&bytes[12..16]));
+        let pilot_count = short_number(bytes.split_at(8).0.split_at(4).1) as usize;
+        let move_count = short_number(bytes.split_at(12).0.split_at(8).1) as usize;
+        let start = start_of(short_number(bytes.split_at(16).0.split_at(12).1));
         let size = pilot_count + 4 * move_count;
-        let rest = &bytes[16..];
+        let rest = bytes.split_at(16).1;
         if rest.len() < size {
             return Err(HashedError::Index {
                 size,

@@ -91,6 +91,33 @@ impl<'a, const N: usize, const M: usize> HashedTextMap<'a, N, M> {
         Ok(HashedTextMap { keys, values })
     }
 
+    /// `new` at compile time. At run time `new` is faster.
+    ///
+    /// # Panics
+    ///
+    /// Where `N` is 0 or `M` is 0.
+    pub const fn new_const(keys: &'a [u8], values: &'a [u8]) -> Result<Self, HashedTextMapError> {
+        assert!(N > 0, "a record has at least one byte");
+        assert!(M > 0, "a value has at least one byte");
+        let keys = match HashedTable::from_bytes_const(keys) {
+            Ok(keys) => keys,
+            Err(fault) => return Err(HashedTextMapError::Keys(fault)),
+        };
+        let values = match Table::new_const(values) {
+            Ok(values) => values,
+            Err(fault) => return Err(HashedTextMapError::Values(fault)),
+        };
+        let count = keys.len();
+        let len = values.len();
+        if len != count {
+            return Err(HashedTextMapError::Count {
+                keys: count,
+                values: len,
+            });
+        }
+        Ok(HashedTextMap { keys, values })
+    }
+
     /// The number of entries.
     ///
     /// # [Contract](crate::definitions)

@@ -125,6 +125,23 @@ impl<'a, const N: usize> SortedTable<'a, N> {
         }
     }
 
+    /// `from_bytes` at compile time. At run time `from_bytes` is faster.
+    ///
+    /// # Panics
+    ///
+    /// Where `N` is 0.
+    pub const fn from_bytes_const(bytes: &'a [u8]) -> Result<Self, SortedError> {
+        assert!(N > 0, "a record has at least one byte");
+        let table = match Table::new_const(bytes) {
+            Ok(table) => table,
+            Err(fault) => return Err(SortedError::Records(fault)),
+        };
+        match SortedTable::new_const(table) {
+            Ok(sorted) => Ok(sorted),
+            Err(fault) => Err(SortedError::Order(fault)),
+        }
+    }
+
     /// The table itself.
     ///
     /// # [Contract](crate::definitions)

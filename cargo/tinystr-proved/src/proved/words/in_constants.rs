@@ -462,9 +462,9 @@ mod bytewise {
         // else a loop over texts may become one over a byte of each, several times as slow
         core::hint::black_box(());
         let mut all = true;
-        let mut rest = bytes;
-        while let &[byte, ref after @ ..] = rest {
-            rest = after;
+        let mut left = bytes;
+        while let &[byte, ref after @ ..] = left {
+            left = after;
             all &= passes(byte, question);
         }
         all
@@ -624,9 +624,9 @@ macro_rules! readers {
         #[inline(always)]
         pub const fn are_characters(units: &[U]) -> bool {
             let mut are_characters = true;
-            let mut rest = units;
-            while let &[unit, ref after @ ..] = rest {
-                rest = after;
+            let mut left = units;
+            while let &[unit, ref after @ ..] = left {
+                left = after;
                 are_characters &= is_character(unit);
             }
             are_characters
@@ -847,9 +847,9 @@ macro_rules! readers {
         #[inline]
     pub const fn find_fault(units: &[U]) -> Option<ParseError> {
             let mut is_after_nul = false;
-            let mut rest = units;
-            while let &[unit, ref after @ ..] = rest {
-                rest = after;
+            let mut left = units;
+            while let &[unit, ref after @ ..] = left {
+                left = after;
                 let code = code(unit);
                 if code > 127 {
                     return Some(ParseError::NonAscii);
