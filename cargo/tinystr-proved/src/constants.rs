@@ -64,13 +64,7 @@ const fn place<const N: usize>(places: &Places<'_>, raw: &[u8; N], count: usize)
     let hash = hash_of(places.start, raw);
     let pilot = places.pilots[scaled(hash, places.pilots.len())];
     let slot = slot_of(hash, pilot, count + places.moves.len());
-    if slot < count {
-        slot
-    } else if slot - count < places.moves.len() {
-        short_number(&places.moves[slot - count]) as usize
-    } else {
-        count
-    }
+    if slot < count { slot } else { short_number(&places.moves[slot - count]) as usize }
 }
 
 const fn first_not_above<const N: usize>(records: &[[u8; N]]) -> Option<usize> {
