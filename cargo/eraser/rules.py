@@ -235,7 +235,18 @@ IN_FILE = {
         *(Rule(f"Word::<{width // 8}>::load(", f"Load::<u{width}>::load(", OF_CONST_CALLS) for width in (32, 64)),
         *(
             Rule(f"fn {name}", f"const fn {name}", OF_CONST_CALLS)
-            for name in ("start_of(", "hash_of<", "hash_on(", "number(", "short_number(", "folded(", "scaled(", "slot_of(", "slot_factor(", "slot_by(")
+            for name in (
+                "start_of(",
+                "hash_of<",
+                "hash_on(",
+                "number(",
+                "short_number(",
+                "folded(",
+                "scaled(",
+                "slot_of(",
+                "slot_factor(",
+                "slot_by(",
+            )
         ),
     ],
     "tinystr_hashed/packing.rt": [
@@ -283,14 +294,6 @@ IN_FILE = {
         Rule("impl Late {\n        #[inline(always)]", "impl Late {\n        #[inline]", "as its comment says"),
         Rule("to_bytes(&self) -> [u8; LEN] {", "to_bytes(self) -> [u8; LEN] {", "in Rust what is `Copy` is taken by value"),
         # past sixteen bytes
-        Rule(
-            "        Width::Sixteen | Width::Many => words::ask(bytes, question),\n",
-            "        Width::Many if N % 8 == 0 && !matches!(question, Question::Titlecase | Question::AlphabeticTitlecase) => {\n"
-            "            bytewise::ask(bytes, question)\n"
-            "        }\n"
-            "        Width::Sixteen | Width::Many => words::ask(bytes, question),\n",
-            "rustc makes vectors of it, and none of words",
-        ),
         Rule(
             "        let mut all = true;\n",
             "        // else a loop over texts may become one over a byte of each, several times as slow\n"

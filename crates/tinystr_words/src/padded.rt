@@ -130,7 +130,10 @@ pub fn equals<const N: usize>(left: &[u8; N], right: &[u8; N]) -> bool
 fn has_one_class(question: Question) -> bool
     ensures { IsTrue result ↔ (later_question question ≡ question) }
 {
-    !matches!(question, Question::Titlecase | Question::AlphabeticTitlecase)
+    !matches!(
+        question,
+        Question::Titlecase | Question::AlphabeticTitlecase
+    )
 }
 
 /// The answer to a question about the text.

@@ -1,5 +1,4 @@
-//! A question asked of each byte, in loops of sixteen without a branch: the crate for Cargo calls this in constants, where rustc
-//! makes vectors of such loops.
+//! A question asked of each byte, in loops of sixteen without a branch, of which compilers make vectors.
 
 ghost use Rattle.std.specs.Prelude.{◌≡◌, ◌==◌, ◌||◌};
 ghost use Rattle.tinystr_words.specs.Text.{IsPadded, text_of};

@@ -535,13 +535,20 @@ pub const fn len<const N: usize>(bytes: &[u8; N]) -> usize {
 }
 
 #[inline(always)]
+pub const fn has_one_class(question: Question) -> bool {
+    !matches!(
+        question,
+        Question::Titlecase | Question::AlphabeticTitlecase
+    )
+}
+
+#[inline(always)]
 pub const fn ask<const N: usize>(bytes: &[u8; N], question: Question) -> bool {
     match width_of(N) {
         Width::Four => Aligned4::from_ascii_bytes(bytes).ask(question),
         Width::Eight => Aligned8::from_ascii_bytes(bytes).ask(question),
-        Width::Many if N % 8 == 0 && !matches!(question, Question::Titlecase | Question::AlphabeticTitlecase) => {
-            bytewise::ask(bytes, question)
-        }
+        // each byte, of which the compiler makes vectors
+        Width::Many if N % 8 == 0 && has_one_class(question) => bytewise::ask(bytes, question),
         Width::Sixteen | Width::Many => words::ask(bytes, question),
     }
 }
