@@ -622,7 +622,20 @@ pub const fn put_both(bytes: &mut [u8], first: &[u8], second: &[u8]) {
 /// What `strict::read_padded` returns.
 #[inline(always)]
 pub const fn read_padded<const N: usize>(raw: [u8; N]) -> Result<TinyAsciiStr<N>, ParseError> {
-    if is_padded(&raw) { Ok(TinyAsciiStr::from_padded(raw)) } else { Err(bytes::fault::<N>(&raw)) }
+    if is_padded(&raw) {
+        Ok(TinyAsciiStr::from_padded(raw))
+    } else if N <= 8 {
+        Err(bytes::fault::<N>(&raw))
+    } else {
+        Err(fault_by_value(raw))
+    }
+}
+
+/// The fault of an array. It is passed by value, since a reference would store it even if it has none.
+#[cold]
+#[inline(never)]
+const fn fault_by_value<const N: usize>(raw: [u8; N]) -> ParseError {
+    bytes::fault::<N>(&raw)
 }
 
 /// Writes functions out for a code unit `U`, whose own stand beside them.
