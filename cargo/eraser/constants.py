@@ -28,7 +28,7 @@ NAME = "tinystr_words/in_constants.rt"
 MOVED = {
     "ascii/strict.rs": ["fn read", "fn read_padded", "fn read_pieces", "fn find_fault", "fn fault"],
     "words/code_unit.rs": ["impl CodeUnit for u16"],
-    "words/padded.rs": ["fn len", "fn has_one_class", "fn ask", "fn put_in_case", "fn concat"],
+    "words/padded.rs": ["fn len", "fn ask", "fn put_in_case", "fn concat"],
     "words/padded/bytewise.rs": [],
     "words/padded/code_units.rs": [],
     "words/padded/concatenation.rs": [],

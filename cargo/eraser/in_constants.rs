@@ -104,7 +104,7 @@ mod words {
 mod bytewise {
     use super::*;
 
-    //= words/padded/bytewise.rs: `ask all_pass passes`
+    //= words/padded/bytewise.rs: `ask ask_apart ask_each all_pass passes`
 }
 
 type Aligned4 = Aligned<Word<u32>, 4>;
@@ -121,7 +121,7 @@ impl Aligned8 {
     //= words/int_ops.rs, impl Aligned<u64, 8>: `concat`
 }
 
-//= words/padded.rs: `is_padded len has_one_class ask put_in_case concat`
+//= words/padded.rs: `is_padded len ask put_in_case concat`
 
 //= words/padded/concatenation.rs: `concat_in_word concat_in_memory put_both`
 

@@ -7,7 +7,7 @@ ghost use Rattle.std.specs.Fmt.{decimal};
 ghost use Rattle.std.specs.Str.{bytes_eq};
 ghost use Rattle.tinystr_words.specs.Text.{IsPaddedText, text_of, pad};
 ghost use Rattle.tinystr_words.specs.Decimal.{last};
-ghost use Rattle.tinystr_words.specs.Questions.{ask_question, in_case, later_question};
+ghost use Rattle.tinystr_words.specs.Questions.{ask_question, in_case};
 ghost use Rattle.tinystr_words.specs.Private.Padded.{IsWidthOf};
 
 mod bytewise;
@@ -125,17 +125,6 @@ pub fn equals<const N: usize>(left: &[u8; N], right: &[u8; N]) -> bool
     }
 }
 
-// Whether a question has the same class for all bytes.
-#[inline(always)]
-fn has_one_class(question: Question) -> bool
-    ensures { IsTrue result ↔ (later_question question ≡ question) }
-{
-    !matches!(
-        question,
-        Question::Titlecase | Question::AlphabeticTitlecase
-    )
-}
-
 /// The answer to a question about the text.
 #[inline(always)]
 pub fn ask<const N: usize>(bytes: &[u8; N], question: Question) -> bool
@@ -146,7 +135,7 @@ pub fn ask<const N: usize>(bytes: &[u8; N], question: Question) -> bool
         Width::Four => Aligned4::from_ascii_bytes(bytes).ask(question),
         Width::Eight => Aligned8::from_ascii_bytes(bytes).ask(question),
         // each byte, of which the compiler makes vectors
-        Width::Many if N % 8 == 0 && has_one_class(question) => bytewise::ask(bytes, question),
+        Width::Many if N % 8 == 0 => bytewise::ask(bytes, question),
         Width::Sixteen | Width::Many => words::ask(bytes, question),
     }
 }

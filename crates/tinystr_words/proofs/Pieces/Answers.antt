@@ -53,11 +53,16 @@ later-ask_question Titlecase t = refl
 later-ask_question AlphabeticTitlecase t = refl
 later-ask_question q t = refl
 
+-- classes from those of the first q + 1 bytes and of the others
+pub ask-pieces : (first others : ℕ → Bool) (q : ℕ) (t : List ℕ) → ask first others t ≡ (ask first others (take (suc q) t) && ask others others (drop (suc q) t))
+ask-pieces first others q t =
+    ap (ask first others) (sym (take-append-drop (suc q) t))
+    ∙ ask-append first others q (take (suc q) t) (drop (suc q) t) (IsCut-at q t)
+
 -- an answer from those of the first q + 1 bytes and of the others
 pub ask_question-pieces : (question : Question) (q : ℕ) (t : List ℕ) → ask_question question t ≡ (ask_question question (take (suc q) t) && ask_question (later_question question) (drop (suc q) t))
 ask_question-pieces question q t =
-    ap (λ (l : List ℕ). ask_question question l) (sym (take-append-drop (suc q) t))
-    ∙ ask-append (first_class question) (later_class question) q (take (suc q) t) (drop (suc q) t) (IsCut-at q t)
+    ask-pieces (first_class question) (later_class question) q t
     ∙ ap (λ r. ask_question question (take (suc q) t) && r) (later-ask_question question (drop (suc q) t))
 
 -- a changed text from its changed pieces

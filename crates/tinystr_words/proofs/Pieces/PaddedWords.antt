@@ -1,15 +1,16 @@
 -- Padded bytes in words of sixteen: their length, questions and changes.
-use Rattle.std.proofs.Common.{Bool, List, zero, suc, [], ◌∷◌, ◌==◌, ◌||◌, ap₂, ap, arith, drop, false, length, refl, rules, sym, take, true, ℕ, ◌&&◌, ◌++◌, ◌+◌, ◌-◌, ◌∙◌, ◌≡◌, ◌≤◌}
+use Rattle.std.proofs.Common.{Bool, List, cond, not, zero, suc, [], ◌∷◌, ◌==◌, ◌||◌, ap₂, ap, arith, drop, false, length, refl, rules, slice_index_or, slice_set, sym, take, true, ℕ, ◌&&◌, ◌++◌, ◌+◌, ◌-◌, ◌∙◌, ◌≡◌, ◌≤◌}
 use Rattle.std.proofs.lemmas.List.{places, same_lists, append_assoc, drop-drop, length-append, length-drop, length-take-le, take-append-drop, take_all}
 use Rattle.std.specs.List.{list_all}
 use Rattle.std.proofs.lemmas.Bool.Decides.{nat_tests}
 use Rattle.std.proofs.lemmas.List.Folds.{list_all-append}
 use Rattle.std.proofs.lemmas.List.Elements.{All-head, All-tail}
+use Rattle.tinystr_words.specs.Classes.{ask}
 use Rattle.tinystr_words.specs.Text.{IsPadded, IsPaddedText, IsText, IsTextByte, pad, text_of}
 use Rattle.tinystr_words.specs.declared.question.Question.{Question}
 use Rattle.tinystr_words.specs.Questions.{ask_question, in_case, later_case, later_class, later_question}
 use Rattle.tinystr_words.proofs.Texts.{NULS, IsPaddedText-drop, IsPaddedText-made, IsPaddedText-take, length-text_of-le, take-pad, text_of-drop, text_of-made, text_of-take}
-use Rattle.tinystr_words.proofs.Pieces.Answers.{IsText-in_case, ask-same, ask_question-pieces, later-ask_question, in_case-padded, in_case-pieces, length-in_case}
+use Rattle.tinystr_words.proofs.Pieces.Answers.{IsText-in_case, ask-pieces, ask-same, ask_question-pieces, in_case-padded, in_case-pieces, length-in_case}
 use Rattle.tinystr_words.specs.Private.Padded.{IsFirstWord}
 use Rattle.std.proofs.lemmas.Slice.{drop-put_mid, take-put_mid}
 use borrow.Rule.Slice.PartMut.{put_mid}
@@ -35,6 +36,10 @@ len_step l w y n all sum c e left =
     let back = ap (λ (b : List ℕ). length b) c.others_text in
     let whole = ap (λ (b : List ℕ). length b) (take-append-drop 16 (text_of l)) in
     omega (arith, front, back, whole, length-append (take 16 (text_of l)) (drop 16 (text_of l)))
+
+-- the first word's answer and that of the others are the text's
+pub ask-first_word : (l w y : List ℕ) (first others : ℕ → Bool) → IsFirstWord l w y → ask first others (text_of l) ≡ (ask first others w && ask others others (text_of y))
+ask-first_word l w y first others c = rw (c.word_text, c.others_text) (ask-pieces first others 15 (text_of l))
 
 -- an answer is that of the first word and that of the others
 pub ask_question-first_word : (l w y : List ℕ) (q : Question) → IsFirstWord l w y → ask_question q (text_of l) ≡ (ask_question q w && ask_question (later_question q) (text_of y))
@@ -126,8 +131,8 @@ and-true true = refl
 and-true false = refl
 
 -- padded bytes pass where their text does
-pub list_all-passes : (q : Question) (l : List ℕ) → IsPadded l → list_all (passes_later q) l ≡ ask_question (later_question q) (text_of l)
-list_all-passes q l p =
+pub padded_passes : (q : Question) (l : List ℕ) → IsPadded l → list_all (passes_later q) l ≡ ask (later_class q) (later_class q) (text_of l)
+padded_passes q l p =
     let t = text_of l in
     let k = length l - length t in
     ap (list_all (passes_later q)) p.padded
@@ -135,4 +140,41 @@ list_all-passes q l p =
     ∙ ap₂ (λ a b. a && b) (list_all-passes_text q t p.text) (list_all-passes_nuls q k)
     ∙ and-true (list_all (later_class q) t)
     ∙ sym (ask-same (later_class q) t)
-    ∙ later-ask_question q t
+
+-- pieces pass where all do
+pub list_all-pieces : (q : Question) (k : ℕ) (l : List ℕ) → list_all (passes_later q) l ≡ (list_all (passes_later q) (take k l) && list_all (passes_later q) (drop k l))
+list_all-pieces q k l =
+    ap (list_all (passes_later q)) (sym (take-append-drop k l)) ∙ list_all-append (passes_later q) (take k l) (drop k l)
+
+-- NUL in place of the first byte passes
+nul_first : (q : Question) (l : List ℕ) → list_all (passes_later q) (slice_set l 0 0) ≡ list_all (passes_later q) (drop 1 l)
+nul_first q [] = refl
+nul_first q (b ∷ t) = refl
+
+one_byte : (first others : ℕ → Bool) (b : ℕ) (is_nul : Bool) → ask first others (take (cond (not is_nul) 1 0) (b ∷ [])) ≡ (is_nul || first b)
+one_byte first others b true = refl
+one_byte first others b false = and-true (first b)
+
+ask-first_byte : (first others : ℕ → Bool) (l : List ℕ) → ask first others (text_of (take 1 l)) ≡ (slice_index_or l 0 0 == 0 || first (slice_index_or l 0 0))
+ask-first_byte first others [] = refl
+ask-first_byte first others (b ∷ t) = one_byte first others b (b == 0)
+
+front-apart : (first others : Question) (l : List ℕ) → IsPadded l →
+    ask (later_class first) (later_class others) (text_of l) ≡ (passes_later first (slice_index_or l 0 0) && list_all (passes_later others) (slice_set l 0 0))
+front-apart first others l p =
+    let n = length l in
+    let f = later_class first in
+    let g = later_class others in
+    let here = ap (ask f g) (sym (text_of-take l n 1 p)) ∙ ask-first_byte f g l in
+    let after = ap (ask g g) (sym (text_of-drop l n 1 p)) ∙ sym (padded_passes others (drop 1 l) (IsPaddedText-drop l n 1 p)) ∙ sym (nul_first others l) in
+    ask-pieces f g 0 (text_of l) ∙ ap₂ (λ a b. a && b) here after
+
+-- an answer from those of the first byte, of the front with NUL in its place, and of the bytes after the front
+pub ask-apart : (first others : Question) (l x y made : List ℕ) → IsPadded l → x ≡ take 16 l → y ≡ drop 16 l → length y + 16 ≡ length l → made ≡ x →
+    ask (later_class first) (later_class others) (text_of l)
+    ≡ ((passes_later first (slice_index_or x 0 0) && list_all (passes_later others) (slice_set made 0 0)) && ask (later_class others) (later_class others) (text_of y))
+ask-apart first others l x y made p front back long same =
+    let g = later_class others in
+    let padded : IsPadded x = rw front (IsPaddedText-take l (length l) 16 p) in
+    rw same (ask-first_word l (text_of x) y (later_class first) g (IsFirstWord-split l x y (text_of x) p front back long refl)
+    ∙ ap (λ r. r && ask g g (text_of y)) (front-apart first others x padded))

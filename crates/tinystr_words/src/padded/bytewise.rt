@@ -1,17 +1,59 @@
 //! A question asked of each byte, in loops of sixteen without a branch, of which compilers make vectors.
 
-ghost use Rattle.std.specs.Prelude.{◌≡◌, ◌==◌, ◌||◌};
+ghost use Rattle.std.specs.Prelude.{◌≡◌, ◌≤◌, ◌==◌, ◌||◌, length};
+ghost use Rattle.std.specs.List.{list_all};
 ghost use Rattle.tinystr_words.specs.Text.{IsPadded, text_of};
-ghost use Rattle.tinystr_words.specs.Questions.{ask_question, later_class, later_question};
+ghost use Rattle.tinystr_words.specs.Classes.{ask};
+ghost use Rattle.tinystr_words.specs.Questions.{ask_question, later_class};
 
 use crate::question::Question;
 
-/// As `words::ask`, for a question that has the same class for all bytes.
+/// As `words::ask`, for sixteen bytes or more.
 #[inline(always)]
 pub(crate) fn ask(bytes: &[u8], question: Question) -> bool
+    requires long { 16 ≤ length bytes.now }
     requires padded { IsPadded bytes.now }
-    requires of_all { later_question question ≡ question }
     ensures { result ≡ ask_question question (text_of bytes.now) }
+{
+    // constants, so that no loop tests which question it is
+    match question {
+        Question::Alphabetic => ask_each(bytes, Question::Alphabetic),
+        Question::Alphanumeric => ask_each(bytes, Question::Alphanumeric),
+        Question::Numeric => ask_each(bytes, Question::Numeric),
+        Question::Lowercase => ask_each(bytes, Question::Lowercase),
+        Question::Titlecase => ask_apart(bytes, Question::Uppercase, Question::Lowercase),
+        Question::Uppercase => ask_each(bytes, Question::Uppercase),
+        Question::AlphabeticLowercase => ask_each(bytes, Question::AlphabeticLowercase),
+        Question::AlphabeticTitlecase => ask_apart(
+            bytes,
+            Question::AlphabeticUppercase,
+            Question::AlphabeticLowercase,
+        ),
+        Question::AlphabeticUppercase => ask_each(bytes, Question::AlphabeticUppercase),
+    }
+}
+
+// Whether the first byte passes one question, and each other byte another.
+#[inline(always)]
+fn ask_apart(bytes: &[u8], first: Question, others: Question) -> bool
+    requires long { 16 ≤ length bytes.now }
+    requires padded { IsPadded bytes.now }
+    ensures { result ≡ ask (later_class first) (later_class others) (text_of bytes.now) }
+{
+    let (front, back) = bytes.split_at(16);
+    let mut after_first = [0; 16];
+    after_first.copy_from_slice(front);
+    after_first[0] = 0; // passes
+    let front_passes = passes(front[0], first) & all_pass(&after_first, others);
+    front_passes && ask_each(back, others)
+}
+
+// Whether each byte passes the same question.
+#[inline(always)]
+#[tactic(auto, using(crate::proofs::Pieces::PaddedWords::padded_passes))]
+fn ask_each(bytes: &[u8], question: Question) -> bool
+    requires { IsPadded bytes.now }
+    ensures { result ≡ ask (later_class question) (later_class question) (text_of bytes.now) }
 {
     let mut rest = bytes;
     while rest.len() > 16 {
@@ -24,11 +66,10 @@ pub(crate) fn ask(bytes: &[u8], question: Question) -> bool
     all_pass(rest, question)
 }
 
-// Whether each byte passes.
+// Whether each byte is NUL, or passes.
 #[inline(always)]
 fn all_pass(bytes: &[u8], question: Question) -> bool
-    requires { IsPadded bytes.now }
-    ensures { result ≡ ask_question (later_question question) (text_of bytes.now) }
+    ensures { result ≡ list_all (λ b. (b == 0) || later_class question b) bytes.now }
 {
     let mut all = true;
     for byte in bytes {

@@ -446,6 +446,36 @@ mod bytewise {
 
     #[inline(always)]
     pub const fn ask(bytes: &[u8], question: Question) -> bool {
+        // constants, so that no loop tests which question it is
+        match question {
+            Question::Alphabetic => ask_each(bytes, Question::Alphabetic),
+            Question::Alphanumeric => ask_each(bytes, Question::Alphanumeric),
+            Question::Numeric => ask_each(bytes, Question::Numeric),
+            Question::Lowercase => ask_each(bytes, Question::Lowercase),
+            Question::Titlecase => ask_apart(bytes, Question::Uppercase, Question::Lowercase),
+            Question::Uppercase => ask_each(bytes, Question::Uppercase),
+            Question::AlphabeticLowercase => ask_each(bytes, Question::AlphabeticLowercase),
+            Question::AlphabeticTitlecase => ask_apart(
+                bytes,
+                Question::AlphabeticUppercase,
+                Question::AlphabeticLowercase,
+            ),
+            Question::AlphabeticUppercase => ask_each(bytes, Question::AlphabeticUppercase),
+        }
+    }
+
+    #[inline(always)]
+    pub const fn ask_apart(bytes: &[u8], first: Question, others: Question) -> bool {
+        let (front, back) = bytes.split_at(16);
+        let mut after_first = [0; 16];
+        after_first.copy_from_slice(front);
+        after_first[0] = 0; // passes
+        let front_passes = passes(front[0], first) & all_pass(&after_first, others);
+        front_passes && ask_each(back, others)
+    }
+
+    #[inline(always)]
+    pub const fn ask_each(bytes: &[u8], question: Question) -> bool {
         let mut rest = bytes;
         while rest.len() > 16 {
             let (front, back) = rest.split_at(16);
@@ -535,20 +565,12 @@ pub const fn len<const N: usize>(bytes: &[u8; N]) -> usize {
 }
 
 #[inline(always)]
-pub const fn has_one_class(question: Question) -> bool {
-    !matches!(
-        question,
-        Question::Titlecase | Question::AlphabeticTitlecase
-    )
-}
-
-#[inline(always)]
 pub const fn ask<const N: usize>(bytes: &[u8; N], question: Question) -> bool {
     match width_of(N) {
         Width::Four => Aligned4::from_ascii_bytes(bytes).ask(question),
         Width::Eight => Aligned8::from_ascii_bytes(bytes).ask(question),
         // each byte, of which the compiler makes vectors
-        Width::Many if N % 8 == 0 && has_one_class(question) => bytewise::ask(bytes, question),
+        Width::Many if N % 8 == 0 => bytewise::ask(bytes, question),
         Width::Sixteen | Width::Many => words::ask(bytes, question),
     }
 }

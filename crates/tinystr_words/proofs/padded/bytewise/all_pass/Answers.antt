@@ -2,7 +2,7 @@ use Rattle.std.proofs.Common.{◌&&◌, ap, ap₂, sym, ◌∙◌}
 use Rattle.std.specs.List.{list_all}
 use Rattle.std.proofs.lemmas.List.Folds.{list_all_more}
 use Rattle.std.proofs.lemmas.List.{take_all}
-use Rattle.tinystr_words.proofs.Pieces.PaddedWords.{passes_later, list_all-passes}
+use Rattle.tinystr_words.proofs.Pieces.PaddedWords.{passes_later}
 use Rattle.tinystr_words.proofs.padded.bytewise.all_pass.Goals as goal
 
 pub loop-byte-preserved : goal.loop-byte-preserved
@@ -12,7 +12,4 @@ loop-byte-preserved c =
     ∙ sym (list_all_more passes c.args.bytes.now c.loop-byte.byte-index 0 c.loop-byte-test.true)
 
 pub returns : goal.returns
-returns c =
-    c.loop-byte.invariant
-    ∙ ap (list_all (passes_later c.args.question)) (take_all c.loop-byte.byte-index c.args.bytes.now c.loop-byte-test.false)
-    ∙ list_all-passes c.args.question c.args.bytes.now c.requires
+returns c = c.loop-byte.invariant ∙ ap (list_all (passes_later c.args.question)) (take_all c.loop-byte.byte-index c.args.bytes.now c.loop-byte-test.false)
