@@ -104,7 +104,7 @@ mod words {
 mod bytewise {
     use super::*;
 
-    //= words/padded/bytewise.rs: `ask ask_apart ask_each all_pass passes`
+    //= words/padded/bytewise.rs: `ask_bytes ask_apart ask_each all_pass passes`
 }
 
 type Aligned4 = Aligned<Word<u32>, 4>;

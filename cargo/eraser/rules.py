@@ -349,7 +349,13 @@ IN_FILE = {
             Rule(f"mod {module};\n", "", OF_CONST_CALLS)
             for module in ("bytewise", "code_units", "concatenation", "replacing", "words")
         ),
-        Rule("pub use code_units::{lossy, low_bytes, read_all};\n", "", OF_CONST_CALLS),
+        Rule("pub use bytewise::ask_bytes;\npub use code_units::{lossy, low_bytes, read_all};\n", "", OF_CONST_CALLS),
+        Rule(
+            "        Width::Sixteen | Width::Many => words::ask(bytes, question),\n",
+            "        Width::Many if N % 8 == 0 => bytewise::ask_bytes(bytes, question),\n"
+            "        Width::Sixteen | Width::Many => words::ask(bytes, question),\n",
+            "rustc makes vectors of loops over bytes",
+        ),
         Rule("use concatenation::{concat_in_memory, concat_in_vectors, concat_in_word, fit_vectors};\n", "", OF_CONST_CALLS),
     ],
 }

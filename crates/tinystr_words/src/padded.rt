@@ -24,6 +24,7 @@ mod words;
 use crate::decimal::decimal_fits;
 use crate::int_ops::{Aligned4, Aligned8, Aligned16};
 use crate::question::{Case, Question};
+pub use bytewise::ask_bytes;
 pub use code_units::{lossy, low_bytes, read_all};
 use concatenation::{concat_in_memory, concat_in_vectors, concat_in_word, fit_vectors};
 pub use copying::{resize, resize_at_once};
@@ -134,8 +135,6 @@ pub fn ask<const N: usize>(bytes: &[u8; N], question: Question) -> bool
     match width_of(N) {
         Width::Four => Aligned4::from_ascii_bytes(bytes).ask(question),
         Width::Eight => Aligned8::from_ascii_bytes(bytes).ask(question),
-        // each byte, of which the compiler makes vectors
-        Width::Many if N % 8 == 0 => bytewise::ask(bytes, question),
         Width::Sixteen | Width::Many => words::ask(bytes, question),
     }
 }

@@ -8,9 +8,9 @@ ghost use Rattle.tinystr_words.specs.Questions.{ask_question, later_class};
 
 use crate::question::Question;
 
-/// As `words::ask`, for sixteen bytes or more.
+/// The answer to a question about the text, as `ask` gives it, by loops over sixteen bytes or more.
 #[inline(always)]
-pub(crate) fn ask(bytes: &[u8], question: Question) -> bool
+pub fn ask_bytes(bytes: &[u8], question: Question) -> bool
     requires long { 16 ≤ length bytes.now }
     requires padded { IsPadded bytes.now }
     ensures { result ≡ ask_question question (text_of bytes.now) }

@@ -445,7 +445,7 @@ mod bytewise {
     use super::*;
 
     #[inline(always)]
-    pub const fn ask(bytes: &[u8], question: Question) -> bool {
+    pub const fn ask_bytes(bytes: &[u8], question: Question) -> bool {
         // constants, so that no loop tests which question it is
         match question {
             Question::Alphabetic => ask_each(bytes, Question::Alphabetic),
@@ -569,8 +569,7 @@ pub const fn ask<const N: usize>(bytes: &[u8; N], question: Question) -> bool {
     match width_of(N) {
         Width::Four => Aligned4::from_ascii_bytes(bytes).ask(question),
         Width::Eight => Aligned8::from_ascii_bytes(bytes).ask(question),
-        // each byte, of which the compiler makes vectors
-        Width::Many if N % 8 == 0 => bytewise::ask(bytes, question),
+        Width::Many if N % 8 == 0 => bytewise::ask_bytes(bytes, question),
         Width::Sixteen | Width::Many => words::ask(bytes, question),
     }
 }
