@@ -14,7 +14,7 @@ use Rattle.tinystr_words.specs.declared.question.Question.{Question}
 use Rattle.tinystr_words.specs.declared.question.Question.TheVariants.{Titlecase, AlphabeticTitlecase}
 use Rattle.tinystr_words.specs.declared.question.Case.{Case}
 use Rattle.tinystr_words.specs.declared.question.Case.TheVariants.{Lower, Title, Upper}
-use Rattle.tinystr_words.specs.Questions.{ask_question, first_class, later_class, later_question, in_case, later_case}
+use Rattle.tinystr_words.specs.Questions.{ask_question, later_class, later_question, in_case, later_case}
 use Rattle.tinystr_words.proofs.Texts.{NULS}
 
 -- ---- two lists joined, the first of q + 1 items or the second of none
@@ -53,17 +53,11 @@ later-ask_question Titlecase t = refl
 later-ask_question AlphabeticTitlecase t = refl
 later-ask_question q t = refl
 
--- classes from those of the first q + 1 bytes and of the others
+-- an answer by two classes, from those of the first q + 1 bytes and of the others
 pub ask-pieces : (first others : ℕ → Bool) (q : ℕ) (t : List ℕ) → ask first others t ≡ (ask first others (take (suc q) t) && ask others others (drop (suc q) t))
 ask-pieces first others q t =
     ap (ask first others) (sym (take-append-drop (suc q) t))
     ∙ ask-append first others q (take (suc q) t) (drop (suc q) t) (IsCut-at q t)
-
--- an answer from those of the first q + 1 bytes and of the others
-pub ask_question-pieces : (question : Question) (q : ℕ) (t : List ℕ) → ask_question question t ≡ (ask_question question (take (suc q) t) && ask_question (later_question question) (drop (suc q) t))
-ask_question-pieces question q t =
-    ask-pieces (first_class question) (later_class question) q t
-    ∙ ap (λ r. ask_question question (take (suc q) t) && r) (later-ask_question question (drop (suc q) t))
 
 -- a changed text from its changed pieces
 pub in_case-pieces : (c : Case) (q : ℕ) (l : List ℕ) → in_case c l ≡ in_case c (take (suc q) l) ++ in_case (later_case c) (drop (suc q) l)

@@ -8,9 +8,9 @@ use Rattle.std.proofs.lemmas.List.Elements.{All-head, All-tail}
 use Rattle.tinystr_words.specs.Classes.{ask}
 use Rattle.tinystr_words.specs.Text.{IsPadded, IsPaddedText, IsText, IsTextByte, pad, text_of}
 use Rattle.tinystr_words.specs.declared.question.Question.{Question}
-use Rattle.tinystr_words.specs.Questions.{ask_question, in_case, later_case, later_class, later_question}
+use Rattle.tinystr_words.specs.Questions.{ask_question, first_class, in_case, later_case, later_class, later_question}
 use Rattle.tinystr_words.proofs.Texts.{NULS, IsPaddedText-drop, IsPaddedText-made, IsPaddedText-take, length-text_of-le, take-pad, text_of-drop, text_of-made, text_of-take}
-use Rattle.tinystr_words.proofs.Pieces.Answers.{IsText-in_case, ask-pieces, ask-same, ask_question-pieces, in_case-padded, in_case-pieces, length-in_case}
+use Rattle.tinystr_words.proofs.Pieces.Answers.{IsText-in_case, ask-pieces, ask-same, later-ask_question, in_case-padded, in_case-pieces, length-in_case}
 use Rattle.tinystr_words.specs.Private.Padded.{IsFirstWord}
 use Rattle.std.proofs.lemmas.Slice.{drop-put_mid, take-put_mid}
 use borrow.Rule.Slice.PartMut.{put_mid}
@@ -43,7 +43,8 @@ ask-first_word l w y first others c = rw (c.word_text, c.others_text) (ask-piece
 
 -- an answer is that of the first word and that of the others
 pub ask_question-first_word : (l w y : List ℕ) (q : Question) → IsFirstWord l w y → ask_question q (text_of l) ≡ (ask_question q w && ask_question (later_question q) (text_of y))
-ask_question-first_word l w y q c = rw (c.word_text, c.others_text) (ask_question-pieces q 15 (text_of l))
+ask_question-first_word l w y q c =
+    ask-first_word l w y (first_class q) (later_class q) c ∙ ap (λ r. ask_question q w && r) (later-ask_question q (text_of y))
 
 -- where one word fails, the whole text does
 pub ask_question-word_fails : (l w y : List ℕ) (q : Question) (r all : Bool) → IsFirstWord l w y → r ≡ ask_question q w → r ≡ false → ask_question q (text_of l) ≡ all → false ≡ all

@@ -1,4 +1,5 @@
-//! A question asked of each byte, in loops of sixteen without a branch, of which compilers make vectors.
+//! A question asked of each byte, in loops of sixteen without a branch, of which rustc makes vectors. The crate for Cargo takes
+//! it past sixteen bytes; `padded::ask` doesn't, since words are faster in the kit's build.
 
 ghost use Rattle.std.specs.Prelude.{◌≡◌, ◌≤◌, ◌==◌, ◌||◌, length};
 ghost use Rattle.std.specs.List.{list_all};
@@ -43,7 +44,7 @@ fn ask_apart(bytes: &[u8], first: Question, others: Question) -> bool
     let (front, back) = bytes.split_at(16);
     let mut after_first = [0; 16];
     after_first.copy_from_slice(front);
-    after_first[0] = 0; // passes
+    after_first[0] = 0; // NUL passes
     let front_passes = passes(front[0], first) & all_pass(&after_first, others);
     front_passes && ask_each(back, others)
 }

@@ -469,7 +469,7 @@ mod bytewise {
         let (front, back) = bytes.split_at(16);
         let mut after_first = [0; 16];
         after_first.copy_from_slice(front);
-        after_first[0] = 0; // passes
+        after_first[0] = 0; // NUL passes
         let front_passes = passes(front[0], first) & all_pass(&after_first, others);
         front_passes && ask_each(back, others)
     }
