@@ -7,18 +7,14 @@ holds the number. Each becomes a `pub const fn` without its comment, in what a `
 
 import re
 
-from eraser import Stopped
-from eraser.items import without_item
+from eraser import Stopped, substituted
+from eraser.omissions import without_items
 from lib.rattle import Tokens
 
 # The calls that have a twin for constants, by file: how each begins. What a twin calls has a twin too.
 TWINS = {
-    "tinystr_packed/sorted.rt": "from_bytes",
-    "tinystr_packed/map.rt": "new(keys: &'a [u8]",
-    "tinystr_packed/text_map.rt": "new(keys: &'a [u8]",
-    "tinystr_hashed/table.rt": "from_bytes",
-    "tinystr_hashed/map.rt": "new(keys: &'a [u8]",
-    "tinystr_hashed/text_map.rt": "new(keys: &'a [u8]",
+    **dict.fromkeys(["tinystr_packed/sorted.rt", "tinystr_hashed/table.rt"], "from_bytes"),
+    **{f"tinystr_{kind}/{map}.rt": "new(keys: &'a [u8]" for kind in ("packed", "hashed") for map in ("map", "text_map")},
 }
 CALL = re.compile(r"\b((?:Table|SortedTable|HashedTable)::(?:new|from_bytes))\(")
 # The frame, and the name by which its rules are listed.
@@ -29,11 +25,7 @@ MOVED = {
     "ascii/strict.rs": ["fn read", "fn read_padded", "fn read_pieces", "fn find_fault", "fn fault"],
     "words/code_unit.rs": ["impl CodeUnit for u16"],
     "words/padded.rs": ["fn len", "fn ask", "fn put_in_case", "fn concat"],
-    "words/padded/bytewise.rs": [],
-    "words/padded/code_units.rs": [],
-    "words/padded/concatenation.rs": [],
-    "words/padded/replacing.rs": [],
-    "words/padded/words.rs": [],
+    **{f"words/padded/{name}.rs": [] for name in ("bytewise", "code_units", "concatenation", "replacing", "words")},
 }
 MARK = re.compile(r"^( *)//= (?P<file>\S+\.rs)(?:, (?P<item>.*?))?: (?P<how>free |held )?`(?P<names>[\w ]+)`\n", re.M)
 HEAD = r"( *)(?:pub(?:\(crate\))? )?(?:const )?fn "
@@ -66,12 +58,7 @@ def with_functions(frame: str, made: dict[str, str]) -> str:
 def without_moved(made: dict[str, str]) -> dict[str, str]:
     """The made files without what the frame has in their place."""
     left = {file: text for file, text in made.items() if MOVED.get(file) != []}
-    for file, names in MOVED.items():
-        for name in names:
-            left[file], count = without_item(left[file], rf"^(?:pub(?:\(crate\))? )?{name}\b")
-            if count != 1:
-                raise Stopped(f"{file}: `{name}` is there {count} times, and not once")
-    return left
+    return left | {file: without_items(left[file], file, names) for file, names in MOVED.items() if names}
 
 
 def with_twin(text: str, file: str) -> str:
@@ -110,15 +97,13 @@ def of_word(method: str) -> str:
 def placed(function: str, indent: str) -> str:
     """A function as a constant can call it, where the line is that names it."""
     own = re.match(" *", function)[0]
-    for old, new in OF_UNITS:
-        function = re.sub(old, new, function)
-    text = re.sub(f"^{HEAD}", r"\1pub const fn ", as_const(function), count=1, flags=re.M)
+    function = as_const(substituted(function, OF_UNITS))
+    text = re.sub(f"^{HEAD}", r"\1pub const fn ", function, count=1, flags=re.M)
     return re.sub(f"^{own}(?=.)", indent, text, flags=re.M)
 
 
 PART = re.compile(r"(?P<lent>&mut |&)?\b(?P<of>\w+)\[(?P<start>[^\[\]]*?)\.\.(?P<end>[^\[\]]*)\]")
 FROM = re.compile(r"\b(?P<type>u\d+)::from\(")
-CALLED = re.compile(r"\(.*\)\Z")
 LEAST = re.compile(r"(\b\w[\w.]*(?:\(\))?)\.min\(([\w.]+(?:\(\))?)\)")
 OVER_RANGE = re.compile(r"^( *)for (\w+) in (\w+)\.\.(.+) \{\n((?:.*\n)*?)\1\}\n", re.M)
 OVER_SLICE = re.compile(r"^( *)for (\w+) in (\w+) \{\n", re.M)
@@ -148,8 +133,8 @@ def without_from(text: str) -> str:
         rest = Tokens(text[found.end() - 1 :])
         end = rest.after_bracket(0)
         number, after = rest.joined(1, end - 1), rest.joined(end, len(rest))
-        # a name, an element or a call takes no brackets
-        cast = f"{number if ' ' not in re.sub(CALLED, '', number) else f'({number})'} as {found['type']}"
+        # what has no operator takes no brackets
+        cast = f"{number if ' ' not in number else f'({number})'} as {found['type']}"
         # a method is called on the number, and before a `<` the type would seem to have parameters
         cast = f"({cast})" if after.startswith((".", " <")) else cast
         text = text[: found.start()] + cast + after

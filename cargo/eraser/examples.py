@@ -2,7 +2,7 @@
 
 import re
 
-from eraser import Stopped
+from eraser import substituted
 
 EXAMPLE = re.compile(r"^( *)/// ```rust\n((?: *///(?! ```).*\n)+) */// ```\n", re.M)
 
@@ -42,31 +42,22 @@ IN_RUST = [
 ]
 
 
-def in_rust(body: str, file: str) -> str:
-    for old, new in IN_RUST:
-        body = re.sub(old, new, body)
-    if left := re.search(r"\brt\b.*", body):
-        raise Stopped(f"{file}: an example has no form in Rust: {left[0]}")
-    return body
-
-
 def uses(body: str) -> list[str]:
     """The lines that an example needs for its names."""
-    code = re.sub(r'"(?:\\.|[^"\\])*"', "", body)
     lines = []
     for module, names in NAMES.items():
         wanted = ((name, SHOWN_BY.get((module, name), rf"(?<![\w:.]){name}\b")) for name in names.split())
-        found = sorted(name for name, pattern in wanted if re.search(pattern, code))
+        found = sorted(name for name, pattern in wanted if re.search(pattern, body))
         if found:
             lines.append(f"use {module}::{found[0]};" if len(found) == 1 else f"use {module}::{{{', '.join(found)}}};")
     return lines
 
 
-def with_examples(text: str, file: str, is_private: bool) -> str:
+def with_examples(text: str, is_private: bool) -> str:
     """The text with each example as a doc test, which begins with the names that it uses, or as text."""
 
     def example(found: re.Match) -> str:
-        indent, body = found[1], in_rust(found[2], file)
+        indent, body = found[1], substituted(found[2], IN_RUST)
         if is_private:
             return f"{indent}/// ```text\n{body}{indent}/// ```\n"
         front = "".join(f"{indent}/// {line}\n" for line in uses(body))

@@ -2,7 +2,7 @@
 
 import re
 
-from eraser import Stopped
+from eraser import Stopped, substituted
 from lib.rattle import with_code
 
 # The module of each crate, in order. That of the type is the root.
@@ -21,16 +21,17 @@ EXPORTED = "tinystr_words/question.rt"
 # A private file of another crate, for the same reason: exported, its calls that make texts would have to be `unsafe`.
 PRIVATE_FILE = "tinystr/short_input.rt"
 
-# Files whose functions are all `const`, and those of which some are, in what a `const fn` can do.
-CONST_FILES = {"tinystr_words/padded/copying.rt"}
-AS_CONST = {*CONST_FILES, "tinystr_hashed/hashing.rt", "tinystr_hashed/table.rt"}
+# Files whose functions are written in what a `const fn` can do.
+AS_CONST = {"tinystr_words/padded/copying.rt", "tinystr_hashed/hashing.rt", "tinystr_hashed/table.rt"}
 
 OF_TABLES = ["len(", "is_empty(", "iter("]
 OF_MAPS = [*OF_TABLES, "keys(", "values("]
-# Public functions whose bodies Rust can run at compile time, by file: how each begins after its `fn`. An empty beginning is all.
+OF_HASHES = "start_of hash_of hash_on number short_number folded scaled slot_of slot_factor slot_by".split()
+# Functions whose bodies Rust can run at compile time, by file: how each begins after its `fn`. An empty beginning is all. Each is
+# public or, if it is private, of no type.
 CONST = {
     **{f"tinystr/ascii/{name}.rt": [""] for name in ("questions", "readers", "views")},
-    **dict.fromkeys([*CONST_FILES, "tinystr_words/question.rt"], [""]),
+    **dict.fromkeys(["tinystr_words/padded/copying.rt", "tinystr_words/question.rt"], [""]),
     "tinystr/ascii.rt": ["default() -> Self", "from_padded("],
     "tinystr/ascii/concat.rt": ["concat<"],
     "tinystr/ascii/lanes.rt": ["text_of_bytes<"],
@@ -47,28 +48,19 @@ CONST = {
     "tinystr_hashed/map.rt": OF_MAPS,
     "tinystr_hashed/table.rt": [*OF_TABLES, "table(", "of("],
     "tinystr_hashed/text_map.rt": OF_MAPS,
+    "tinystr_hashed/hashing.rt": OF_HASHES,
     "tinystr_words/padded.rt": ["width_of("],
 }
 
-# The number of calls of the one `unsafe fn`, by file. The condition of each is proved, except in an example.
-UNSAFE_CALLS = {"tinystr/ascii/readers.rt": 1, "tinystr_packed/table.rt": 1}
-UNSAFE_CALL = re.compile(r"(?<!Unvalidated)\bTinyAsciiStr::from_utf8_unchecked(\([^()]*\))")
-
-# (an array's type has a semicolon)
+# A function whose result isn't a `Result`, which is `#[must_use]` already. An array's type has a semicolon.
 SIGNATURE = r"(?:[^{};\[]|\[[^\]]*\])"
-FUNCTION = re.compile(rf"^( *)pub (?:const )?(?:unsafe )?fn \w+{SIGNATURE}*? -> (?P<result>{SIGNATURE}*?) \{{", re.M)
+FUNCTION = re.compile(rf"^( *)pub (?:const )?(?:unsafe )?fn \w+{SIGNATURE}*? -> (?!\[?Result<){SIGNATURE}*? \{{", re.M)
 
 
 def with_paths(text: str, crate: str) -> str:
     """The text whose code has `crate::` and the other crates' names as modules of the one crate."""
-
-    def changed(code: str) -> str:
-        code = re.sub(r"\bcrate::", path_of(crate), code)
-        for other in MODULES:
-            code = re.sub(rf"(?<![\w:]){other}::", path_of(other), code)
-        return code
-
-    return with_code(text, changed)
+    pairs = [(r"\bcrate::", path_of(crate)), *((rf"(?<![\w:]){other}::", path_of(other)) for other in MODULES)]
+    return with_code(text, lambda code: substituted(code, pairs))
 
 
 def path_of(crate: str) -> str:
@@ -76,18 +68,9 @@ def path_of(crate: str) -> str:
 
 
 def with_signatures(text: str, file: str, is_private: bool) -> str:
-    """Functions as Rust's callers have them: `const` and `unsafe` where they can or must be, and `#[must_use]`."""
+    """Functions as Rust's callers have them: `const` where they can be, and `#[must_use]`."""
     for function in CONST.get(file, []):
-        text, count = re.subn(rf"(pub(?:\(crate\))? )((?:unsafe )?fn {re.escape(function)})", r"\1const \2", text)
+        text, count = re.subn(rf"(pub(?:\(crate\))? |^)((?:unsafe )?fn {re.escape(function)})", r"\1const \2", text, flags=re.M)
         if not count:
-            raise Stopped(f"{file}: there is no `pub fn {function}`")
-    text, count = UNSAFE_CALL.subn(r"unsafe { TinyAsciiStr::from_utf8_unchecked\1 }", text)
-    if count != UNSAFE_CALLS.get(file, 0):
-        raise Stopped(f"{file}: {count} calls of `from_utf8_unchecked`, and not {UNSAFE_CALLS.get(file, 0)}")
-    return text if is_private else FUNCTION.sub(must_use, text)
-
-
-def must_use(found: re.Match) -> str:
-    """The function with `#[must_use]`, where the type of its result doesn't have that already."""
-    is_enough = found["result"].startswith(("Result<", "[Result<")) or "&mut " in found[0]
-    return found[0] if is_enough else f"{found[1]}#[must_use]\n{found[0]}"
+            raise Stopped(f"{file}: there is no `fn {function}`")
+    return text if is_private else FUNCTION.sub(r"\1#[must_use]\n\g<0>", text)

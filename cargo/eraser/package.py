@@ -4,95 +4,76 @@ import re
 from collections.abc import Iterator
 from pathlib import Path
 
-from eraser import Stopped, constants
-from eraser.allocation import without_allocation_errors
-from eraser.contracts import Contracts, with_folds
+from eraser import Stopped, constants, substituted
+from eraser.contracts import Contracts, with_folds, without_ghosts
 from eraser.examples import with_examples
-from eraser.fields import with_fields
-from eraser.ghosts import without_ghosts
-from eraser.items import with_derives, without_items
 from eraser.modules import AS_CONST, EXPORTED, MODULES, PRIVATE, PRIVATE_FILE, with_paths, with_signatures
-from eraser.rules import EVERYWHERE, IN_FILE, Rules
+from eraser.omissions import LEFT_OUT, without_allocation_errors, without_items, without_kit_traits
+from eraser.rules import EVERYWHERE, IN_FILE, Rules, with_fields
 from lib.rattle import unmatched_bracket
 
 # Sources that are left out, each with the reason.
-LEFT_OUT = {
+FILES_LEFT_OUT = {
     "tinystr/forms/json.rt": "feature `serde` has its place",
     "tinystr/macros.rt": "`constants.rs` has `tinystr!` as a constant",
     **{f"{crate}/laws.rt": "laws are for proofs" for crate in MODULES},
 }
 
 
-class Package:
+def files_of_package(top: Path) -> dict[str, str]:
     """The generated files, by their paths in `src/proved/`."""
+    contracts, rules = Contracts(), Rules(IN_FILE, EVERYWHERE)
+    found = {file: text for crate in MODULES for file, text in sources(top / "crates" / crate)}
+    for file in FILES_LEFT_OUT.keys() - found.keys():
+        raise Stopped(f"{file} is left out, and isn't there")
+    made = {place_of(file): rust_of(text, file, contracts, rules) for file, text in found.items() if file not in FILES_LEFT_OUT}
+    contracts.finish()
+    frame = constants.with_functions((top / constants.FRAME).read_text(encoding="utf-8"), made)
+    text = rules.apply(frame, constants.NAME)
+    rules.finish()
+    text = generated_from(f"{constants.FRAME} and crates/tinystr_words", text)
+    return constants.without_moved(made) | {"words/in_constants.rs": text}
 
-    def __init__(self, top: Path) -> None:
-        self.top = top
-        self.contracts = Contracts()
-        self.rules = Rules(IN_FILE, EVERYWHERE)
 
-    def files(self) -> dict[str, str]:
-        found = [(crate, *it) for crate in MODULES for it in sources(self.top / "crates" / crate)]
-        for file in LEFT_OUT.keys() - {file for _, file, _ in found}:
-            raise Stopped(f"{file} is left out, and isn't there")
-        made = {place_of(file): self.rust_of(text, crate, file) for crate, file, text in found if file not in LEFT_OUT}
-        self.contracts.finish()
-        frame = constants.with_functions((self.top / constants.FRAME).read_text(encoding="utf-8"), made)
-        text = self.rules.apply(frame, constants.NAME)
-        made = constants.without_moved(made)
-        made["words/in_constants.rs"] = generated_from(f"{constants.FRAME} and crates/tinystr_words", text)
-        self.rules.finish()
-        return made
-
-    def rust_of(self, text: str, crate: str, file: str) -> str:
-        """A source as Rust."""
-        is_private = crate in PRIVATE or file == PRIVATE_FILE
-        is_shown = not is_private or file == EXPORTED
-        if line := unmatched_bracket(text):
-            raise Stopped(f"{file}:{line}: a bracket has no partner")
-        text = without_items(without_ghosts(text), file)
-        text = self.contracts.place(text, file, not is_shown)
-        text = with_folds(text) if is_shown else text
-        text = with_derives(text)
-        text = with_fields(self.rules.apply(without_allocation_errors(with_paths(text, crate)), file), file)
-        text = constants.as_const(text) if file in AS_CONST else text
-        text = with_examples(with_signatures(text, file, is_private), file, is_private)
-        return finished(constants.with_twin(text, file), file)
+def rust_of(text: str, file: str, contracts: Contracts, rules: Rules) -> str:
+    """A source as Rust."""
+    crate = file.partition("/")[0]
+    is_private = crate in PRIVATE or file == PRIVATE_FILE
+    is_shown = not is_private or file == EXPORTED
+    text = without_items(without_ghosts(text), file, LEFT_OUT.get(file, []))
+    text = contracts.place(text, file, not is_shown)
+    text = with_folds(text) if is_shown else text
+    text = without_allocation_errors(with_paths(without_kit_traits(text), crate))
+    text = with_fields(rules.apply(text, file), file)
+    text = constants.as_const(text) if file in AS_CONST else text
+    text = with_examples(with_signatures(text, file, is_private), is_private)
+    return finished(constants.with_twin(text, file), file)
 
 
 def sources(crate: Path) -> Iterator[tuple[str, str]]:
     """The sources of a crate, each as CRATE/FILE with its text."""
     for path in sorted((crate / "src").rglob("*.rt")):
-        yield f"{crate.name}/{path.relative_to(crate / 'src')}", path.read_text(encoding="utf-8")
+        file, text = f"{crate.name}/{path.relative_to(crate / 'src')}", path.read_text(encoding="utf-8")
+        if line := unmatched_bracket(text):
+            raise Stopped(f"{file}:{line}: a bracket has no partner")
+        yield file, text
 
 
 def place_of(file: str) -> str:
     """The path in `src/proved/` of the Rust of a source."""
     crate, _, inner = file.partition("/")
-    inner = Path(inner).with_suffix(".rs")
-    module = MODULES[crate]
-    if module and str(inner) == "lib.rs":
-        return f"{module}.rs"
-    return str(Path(module) / inner)
+    return str(Path(MODULES[crate], inner).with_suffix(".rs")).replace("/lib.rs", ".rs")
 
 
 def finished(text: str, file: str) -> str:
-    """The text of a source, tidied and with its first line. The package's `lib.rs` includes that of its root, and has its
-    documentation."""
+    """The text of a source without the empty lines around omitted items, and with its first line. The package's `lib.rs`
+    includes that of its root, and has its documentation."""
     crate, _, inner = file.partition("/")
     if inner == "lib.rt" and not MODULES.get(crate):
         text = re.sub(r"\A(?://!.*\n)+", "", text)
-    return generated_from(f"crates/{crate}/src/{inner}", tidy(text))
+    text = substituted(text, [(r"\n{3,}", "\n\n"), (r"\{\n\n+", "{\n"), (r"\n\n+( *\})", r"\n\1")])
+    return generated_from(f"crates/{crate}/src/{inner}", text.strip("\n") + "\n")
 
 
 def generated_from(source: str, text: str) -> str:
     return f"// Generated by cargo/erase from {source}.\n{text}"
-
-
-def tidy(text: str) -> str:
-    """Without the empty lines around omitted items."""
-    text = re.sub(r"[ \t]+\n", "\n", text)
-    text = re.sub(r"\n{3,}", "\n\n", text)
-    text = re.sub(r"\{\n\n+", "{\n", text)
-    text = re.sub(r"\n\n+( *\})", r"\n\1", text)
-    return text.strip("\n") + "\n"

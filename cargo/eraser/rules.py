@@ -7,7 +7,8 @@ says.
 import re
 from dataclasses import dataclass
 
-from eraser import Stopped
+from eraser import Stopped, substituted
+from lib.rattle import with_code
 
 
 @dataclass(frozen=True)
@@ -20,6 +21,8 @@ class Rule:
 
 OF_ALLOCATOR = "Rust's vectors and maps name no allocator"
 WANT_OF_MEMORY = "want of memory ends a program in Rust, and is no error"
+# Modules that are left out, and those whose functions constants call in `in_constants.rs`.
+GONE = "laws|macros|json|bytewise|code_units|concatenation|replacing"
 
 EVERYWHERE = [
     Rule(
@@ -29,17 +32,12 @@ EVERYWHERE = [
     ),
     Rule(r"(use std::fmt::\{.*), Write\};", r"\1};", "and so it is not named"),
     Rule(r"use std::marker::\{Model, PhantomData\};", "use std::marker::PhantomData;", "`Model` is for the prover"),
-    Rule(r"use std::marker::Model;\n", "", "`Model` is for the prover"),
-    Rule(r"use std::convert::\{AsSlice, AsStr\};\n", "", "the kit's traits of views: `strings.rs` has Rust's"),
+    Rule(r"use std::(?:marker::Model|convert::\{AsSlice, AsStr\});\n", "", "the kit's traits of views: `strings.rs` has Rust's"),
     Rule(r"use thiserror::Error;\n", "", "`errors.rs` has its texts"),
     Rule(r"\bstd::simd::(?:prelude::)?", "crate::simd::", "vectors of stable Rust"),
     Rule(r"Copy \+ Drop\b", "Copy", "what is `Copy` has no `Drop`"),
-    Rule(
-        r"^(?:use crate::(?:\w+::)?laws;| *(?:\w+::)*laws::\w+\([\w., &]*\);)\n",
-        "",
-        "a law's call brings a fact into a proof, and does nothing",
-    ),
-    Rule(r"^pub mod (?:laws|macros);\n", "", "files that are left out"),
+    Rule(r"^ *(?:\w+::)*laws::\w+\([\w., &]*\);\n", "", "a law's call brings a fact into a proof, and does nothing"),
+    Rule(rf"^(?:pub )?(?:mod |use (?:crate::(?:\w+::)?)?)(?:{GONE})\b.*;\n", "", "modules that are left out"),
     Rule(r"^use std::alloc::(?:\{AllocError, )?Global\}?;\n", "use alloc::vec::Vec;\n", OF_ALLOCATOR),
     Rule(r"^use std::collections::", "use alloc::collections::", OF_ALLOCATOR),
     Rule(r"^    alloc: Global,\n", "", OF_ALLOCATOR),
@@ -50,7 +48,6 @@ EVERYWHERE = [
     Rule(r"\bstd::", "core::", "the crate is `no_std`"),
 ]
 
-AT_ROOT = "so that the documentation has it at its root"
 IN_CONSTANTS = "a `const fn` calls no trait, so it has neither an index by a range nor `min`"
 OF_CONSTANTS = "`in_constants.rs` calls it"
 WITHOUT_VECTORS = "a `const fn` calls no vector"
@@ -59,15 +56,22 @@ OF_WIDTHS = "in `in_constants.rs` each width has its own functions"
 TWIN_MAKES = "`constants.rs` or `identifiers.rs` makes one at compile time"
 # A constant is a pattern only if its type derives `PartialEq`.
 DERIVES = "#[derive(Clone, Copy, PartialEq, Eq, PartialOrd, Ord, Hash)]\n"
+UNUSED = '#[cfg_attr(not(feature = "alloc"), allow(dead_code))]\n'
 OF_KINDS = "Rust's derives for a subtag require these traits of its kind"
 HINTED = "the compiler is given a hint that the text is no error and not `None`, which share its bytes"
 BELOW_128 = "a type whose bytes are each below 128 has another value for `None`"
+CHECKED = """        debug_assert!(AsciiBytes::are_padded(&bytes), "the bytes aren't a text and then NULs");
+        // SAFETY: a text and then NULs, so each byte is below 128. This is proved at each call.
+        TinyAsciiStr { bytes: unsafe { AsciiBytes::new(bytes) } }
+"""
 OF_BYTES = "the derived equality of a text is that of its bytes, and the proved one is theirs"
+NOT_PROVED = "in Rust nothing proves a condition at a call"
+UNCHECKED = r'TinyAsciiStr::from_utf8_unchecked(*b"GB\0")'
 NAMED_AS_STR = "`Deref` to `str` has this name, and the original's callers use that"
 
 
 def at_root(*modules: str) -> list[Rule]:
-    return [Rule(f"pub use {module}::", f"#[doc(inline)]\npub use {module}::", AT_ROOT) for module in modules]
+    return [Rule(f"pub use {module}::", f"#[doc(inline)]\npub use {module}::", "documented at the root") for module in modules]
 
 
 def of_feature(*modules: str) -> list[Rule]:
@@ -99,6 +103,7 @@ IN_FILE = {
             "#[derive(Clone, Copy, PartialEq, Eq)]\n#[repr(transparent)]\npub struct TinyAsciiStr",
             "as in the original, so that constants are patterns",
         ),
+        Rule("        TinyAsciiStr { bytes }\n", CHECKED, BELOW_128),
         Rule("    bytes: [u8; N],\n", "    bytes: AsciiBytes<N>,\n", BELOW_128),
         Rule("use crate::error::", "use crate::ascii_bytes::AsciiBytes;\nuse crate::error::", BELOW_128),
     ],
@@ -122,11 +127,8 @@ IN_FILE = {
             )
             for unit, units in (("u8", "bytes"), ("u16", "numbers"))
         ),
-        Rule(
-            "it runs: the condition is\n    /// proved at the call.",
-            "it\n    /// runs.",
-            "in Rust nothing proves a condition at a call",
-        ),
+        Rule(UNCHECKED, f"unsafe {{ {UNCHECKED} }}", NOT_PROVED),
+        Rule("it runs: the condition is\n    /// proved at the call.", "it\n    /// runs.", NOT_PROVED),
     ],
     "tinystr/ascii/concat.rt": [
         Rule("words::padded;", "words::in_constants;", OF_CONST_CALLS),
@@ -138,7 +140,6 @@ IN_FILE = {
             "//! Texts as `N` bytes, and back.",
             "JSON is left out",
         ),
-        Rule("mod json;\n", "", "JSON is left out"),
         Rule("use std::alloc::AllocError;\n", "", WANT_OF_MEMORY),
         Rule("    /// The allocation of the JSON string failed.\n    Memory(AllocError),\n", "", WANT_OF_MEMORY),
         Rule(" It is never `Memory`.", "", WANT_OF_MEMORY),
@@ -160,13 +161,10 @@ IN_FILE = {
             OF_CONST_CALLS,
         ),
         Rule("from_padded(padded::low_bytes(units))", "from_padded(padded::low_bytes(units)).hinted_in_result()", HINTED),
-        Rule(
-            "    Ok(TinyAsciiStr::from_padded(bytes))\n", "    Ok(TinyAsciiStr::from_padded(bytes).hinted_in_result())\n", HINTED
-        ),
+        Rule("from_padded(bytes)", "from_padded(bytes).hinted_in_result()", HINTED),
     ],
     "tinystr/ascii/views.rt": [
-        Rule("pub fn get(", "pub fn get_byte(", NAMED_AS_STR),
-        Rule(".get(", ".get_byte(", NAMED_AS_STR, 2),
+        Rule("get(", "get_byte(", NAMED_AS_STR, 3),
         Rule("use crate::words::padded;", "use crate::words::in_constants;", OF_CONST_CALLS),
         Rule("padded::len(", "in_constants::len(", OF_CONST_CALLS),
         Rule(
@@ -182,19 +180,15 @@ IN_FILE = {
         Rule(
             "        Some(TinyAsciiStr::from_utf8_unchecked(*raw))",
             "        // SAFETY: each record was read as a text and then NULs. This is proved.\n"
-            "        Some(TinyAsciiStr::from_utf8_unchecked(*raw).hinted())",
+            "        Some(unsafe { TinyAsciiStr::from_utf8_unchecked(*raw) }.hinted())",
             HINTED,
         ),
     ],
     "tinystr/ascii/splitting.rt": [
-        Rule("Some((before.resize(), after.resize()))", "Some((before.resize().hinted(), after.resize().hinted()))", HINTED),
-        Rule(
-            "Some((self.take(at), self.suffix(at + 1)))", "Some((self.take(at).hinted(), self.suffix(at + 1).hinted()))", HINTED
-        ),
-        Rule(" find(", " find_byte(", NAMED_AS_STR),
-        Rule(".find(", ".find_byte(", NAMED_AS_STR, 4),
-        Rule(" split(", " split_byte(", NAMED_AS_STR),
-        Rule(".split(", ".split_byte(", NAMED_AS_STR, 2),
+        Rule("before.resize(), after.resize()", "before.resize().hinted(), after.resize().hinted()", HINTED),
+        Rule("self.take(at), self.suffix(at + 1)", "self.take(at).hinted(), self.suffix(at + 1).hinted()", HINTED),
+        Rule("find(", "find_byte(", NAMED_AS_STR, 5),
+        Rule("split(", "split_byte(", NAMED_AS_STR, 3),
         Rule("split_once(", "split_once_byte(", NAMED_AS_STR, 3),
         Rule("text.get(0)", "text.get_byte(0)", NAMED_AS_STR),
     ],
@@ -221,33 +215,11 @@ IN_FILE = {
     "tinystr_hashed/lib.rt": [
         Rule("mod hashing;", "pub(crate) mod hashing;", OF_CONSTANTS),
         *of_feature("packing", "packing_maps"),
-        *(
-            Rule(
-                f"mod {module};",
-                f'#[cfg_attr(not(feature = "alloc"), allow(dead_code))]\nmod {module};',
-                "what allocates calls more of it",
-            )
-            for module in ("building", "placing")
-        ),
+        *(Rule(f"mod {it};", f"{UNUSED}mod {it};", "what allocates calls more of it") for it in ("building", "placing")),
     ],
     "tinystr_hashed/hashing.rt": [
         Rule("use crate::words::word::Word;", "use crate::words::in_constants::bytes::Load;", OF_CONST_CALLS),
         *(Rule(f"Word::<{width // 8}>::load(", f"Load::<u{width}>::load(", OF_CONST_CALLS) for width in (32, 64)),
-        *(
-            Rule(f"fn {name}", f"const fn {name}", OF_CONST_CALLS)
-            for name in (
-                "start_of(",
-                "hash_of<",
-                "hash_on(",
-                "number(",
-                "short_number(",
-                "folded(",
-                "scaled(",
-                "slot_of(",
-                "slot_factor(",
-                "slot_by(",
-            )
-        ),
     ],
     "tinystr_hashed/packing.rt": [
         Rule("use std::alloc::{AllocError, Global};\n", "use alloc::vec;\nuse alloc::vec::Vec;\n", OF_ALLOCATOR),
@@ -324,11 +296,7 @@ IN_FILE = {
         Rule("fit_vectors(first_part.len(), second_part.len())", "N <= 16 && M <= 16", WITHOUT_VECTORS),
         Rule("concat_in_vectors(first_part, second_part)", "in_words::concat(first, len(first), second)", WITHOUT_VECTORS),
         # readers
-        Rule(
-            "    pub const fn find_fault",
-            "    #[inline]\n    pub const fn find_fault",
-            "callers can inline a generic function, and this one only so",
-        ),
+        Rule("pub const fn find_fault", "#[inline]\n    pub const fn find_fault", "not generic, so callers inline it only so"),
         Rule("try_from_text(units: &[U]) -> Option<Self>", "try_from_text(units: &[U]) -> Option<Aligned<T, LEN>>", OF_WIDTHS),
         Rule("word: T::load(units)", "word: Word(Load::<Number>::load(units))", OF_WIDTHS),
         *(
@@ -345,20 +313,29 @@ IN_FILE = {
     ],
     "tinystr_words/padded.rt": [
         Rule("mod copying;", "pub mod copying;", OF_CONSTANTS),
-        *(
-            Rule(f"mod {module};\n", "", OF_CONST_CALLS)
-            for module in ("bytewise", "code_units", "concatenation", "replacing", "words")
-        ),
-        Rule("pub use bytewise::ask_bytes;\npub use code_units::{lossy, low_bytes, read_all};\n", "", OF_CONST_CALLS),
+        Rule("mod words;\n", "", OF_CONST_CALLS),
         Rule(
             "        Width::Sixteen | Width::Many => words::ask(bytes, question),\n",
             "        Width::Many if N % 8 == 0 => bytewise::ask_bytes(bytes, question),\n"
             "        Width::Sixteen | Width::Many => words::ask(bytes, question),\n",
             "rustc makes vectors of loops over bytes",
         ),
-        Rule("use concatenation::{concat_in_memory, concat_in_vectors, concat_in_word, fit_vectors};\n", "", OF_CONST_CALLS),
     ],
 }
+
+# Where a text is made and its field is read, in the files that the field is private to.
+FILES_OF_FIELD = re.compile(r"tinystr/ascii(?:/.+)?\.rt")
+OF_FIELD = [
+    (r"\bTinyAsciiStr \{\s*(?:bytes: )?([^{}]*?),?\s*\}", r"TinyAsciiStr::from_padded(\1)"),
+    (r"&(\w+)\.bytes\b(?![\[.(])", r"\1.bytes.as_array()"),
+    (r"\b(\w+)\.bytes\b(?=\[|\.(?!as_array\(\)))", r"\1.bytes.as_array()"),
+    (r"\b(\w+)\.bytes\b(?![.(])", r"*\1.bytes.as_array()"),
+]
+
+
+def with_fields(text: str, file: str) -> str:
+    """The text of a file, in which one function makes all texts, and the bytes are read by a call."""
+    return with_code(text, lambda code: substituted(code, OF_FIELD)) if FILES_OF_FIELD.fullmatch(file) else text
 
 
 class Rules:
