@@ -15,16 +15,14 @@ trap end EXIT
 
 # says NAME COMMAND..: counts whether the command succeeds, and prints the end of its output where it doesn't
 says() {
-    local name=$1 said=no
-    shift
-    if "$@" > "$scratch/said" 2>&1; then
-        said=yes
+    if "${@:2}" > "$scratch/said" 2>&1; then
         passed=$((passed + 1))
+        echo "$1: yes"
     else
         failed=$((failed + 1))
         tail -n 40 "$scratch/said"
+        echo "$1: no"
     fi
-    echo "$name: $said"
 }
 
 # adds NAME LINE STATUS: adds the results of a part, by its last line; a part that passed nothing, or whose status isn't 0,

@@ -5,8 +5,7 @@ import argparse
 
 def parser_of(document: str) -> argparse.ArgumentParser:
     """A parser of arguments whose help is the document of a command as it is written."""
-    how = argparse.RawDescriptionHelpFormatter
-    return argparse.ArgumentParser(description=document, formatter_class=how, allow_abbrev=False)
+    return argparse.ArgumentParser(description=document, formatter_class=argparse.RawDescriptionHelpFormatter, allow_abbrev=False)
 
 
 def wants_writing(document: str) -> bool:

@@ -14,12 +14,10 @@ def copy_all(folder: Path) -> None:
     """Copies what `rt` reads of all crates, without the results of proofs."""
     shutil.copy(TOP / "HANDLES", folder / "HANDLES")
     shutil.copy(TOP / "crates.txt", folder / "crates.txt")
-    for crate in sorted(path for path in (TOP / "crates").iterdir() if path.is_dir()):
-        to = folder / "crates" / crate.name
-        to.mkdir(parents=True, exist_ok=True)
-        for part in READ_BY_RT:
-            if (crate / part).is_dir():
-                shutil.copytree(crate / part, to / part, symlinks=True, copy_function=shutil.copy, dirs_exist_ok=True)
+    for part in (TOP / "crates").glob("*/*"):
+        if part.name in READ_BY_RT:
+            to = folder / part.relative_to(TOP)
+            shutil.copytree(part, to, symlinks=True, copy_function=shutil.copy, dirs_exist_ok=True)
 
 
 def copy_lists(folder: Path, names: set[str]) -> None:

@@ -2,7 +2,11 @@
 for checks in bash."""
 
 import sys
+from collections.abc import Iterator
+from contextlib import contextmanager
 from typing import NoReturn
+
+from lib.commands import parser_of
 
 
 class Tally:
@@ -21,18 +25,23 @@ class Tally:
         if not is_so:
             print(complaint)
 
-    def complains(self, complaint: object) -> None:
-        """Counts a failure for a complaint, and a pass where there is none."""
-        self.says(complaint, not complaint)
-
     def close(self) -> NoReturn:
         """Ends the check: it fails where a result failed, and where there is no result."""
         print(f"{self.passed} passed, {self.failed} failed")
         sys.exit(self.failed > 0 or not self.passed)
 
 
+@contextmanager
+def checking(document: str) -> Iterator[Tally]:
+    """The results of a check that takes no arguments; the check ends with them."""
+    parser_of(document).parse_args()
+    tally = Tally()
+    yield tally
+    tally.close()
+
+
 def stop(complaint: object) -> NoReturn:
     """Ends a check that can't continue."""
     tally = Tally()
-    tally.complains(complaint)
+    tally.says(complaint, False)
     tally.close()
