@@ -5,6 +5,7 @@ use theirs::original::COUNT;
 use theirs::original::questions::Question;
 
 /// Texts of lowercase letters at a capacity.
+#[derive(Default)]
 pub struct Batch {
     pub capacity: usize,
     pub texts: Vec<u8>,
@@ -29,29 +30,25 @@ impl Batch {
         Batch { numbers: (0..COUNT).map(|_| (random.next() as u32) >> random.below(32)).collect(), ..made }
     }
 
+    /// Every other pair is equal, and the others differ at one place.
     fn of_lengths(random: &mut Random, capacity: usize, least: usize) -> Batch {
         let raw_starts = (0..=COUNT).map(|i| (i * capacity) as u32).collect();
-        let mut made = Batch { capacity, texts: vec![], others: vec![], raw_starts, units: vec![], wide: vec![], starts: vec![0], numbers: vec![] };
+        let mut made = Batch { capacity, raw_starts, starts: vec![0], ..Batch::default() };
         for _ in 0..COUNT {
             let len = least + random.below(capacity - least + 1);
-            made.push(random, len);
+            let mut text: Vec<u8> = (0..len).map(|_| b'a' + random.below(26) as u8).collect();
+            made.units.extend(&text);
+            made.starts.push(made.units.len() as u32);
+            text.resize(capacity, 0);
+            made.texts.extend(&text);
+            if len > 0 && random.below(2) == 0 {
+                let place = random.below(len);
+                text[place] = b'a' + random.below(26) as u8;
+            }
+            made.others.extend(&text);
         }
         made.wide = made.units.iter().map(|&unit| unit.into()).collect();
         made
-    }
-
-    /// Every other pair is equal, and the others differ at one place.
-    fn push(&mut self, random: &mut Random, len: usize) {
-        let mut text: Vec<u8> = (0..len).map(|_| b'a' + random.below(26) as u8).collect();
-        self.units.extend(&text);
-        self.starts.push(self.units.len() as u32);
-        text.resize(self.capacity, 0);
-        self.texts.extend(&text);
-        if len > 0 && random.below(2) == 0 {
-            let place = random.below(len);
-            text[place] = b'a' + random.below(26) as u8;
-        }
-        self.others.extend(&text);
     }
 }
 
@@ -60,8 +57,8 @@ pub fn texts(question: &Question, passes: bool, random: &mut Random, capacity: u
     let mut texts = vec![0; COUNT * capacity];
     for padded in texts.chunks_exact_mut(capacity) {
         let len = least + random.below(capacity - least + 1);
-        padded[..len].fill_with(|| question.later[random.below(question.later.len())]);
-        padded[0] = if passes { question.first[random.below(question.first.len())] } else { question.failing };
+        padded[..len].fill_with(|| random.of(question.later));
+        padded[0] = if passes { random.of(question.first) } else { question.failing };
     }
     texts
 }

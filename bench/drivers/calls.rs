@@ -34,90 +34,82 @@ const RECORDS: usize = 1_000_000;
 /// The number of lists that are read once in a round, so that no branch predictor learns their lengths.
 const BATCHES: usize = 32;
 
-/// A crate's call on a batch, with its arguments before and after the rounds, and the fields that it writes.
-macro_rules! contender {
-    ($whose:expr, $from:ident $name:ident ($($before:expr),*) ($($after:expr),*) ($($made:ident),*)) => {
-        ($whose, &|rounds, answers| $from::$name($($before,)* rounds, $($after,)* $(&mut answers.$made),*))
-    };
-}
-
-/// The call of this crate and that of the original.
+/// The call of this crate and that of the original on a batch, with the arguments before and after the rounds, and the fields that
+/// they write.
 macro_rules! both {
-    ($name:ident $before:tt $after:tt -> $made:tt) => {
-        &[contender!(HERE, ours $name $before $after $made), contender!(THERE, original $name $before $after $made)]
+    ($name:ident ($($before:expr),*) ($($after:expr),*) -> ($($made:ident),*)) => {
+        &[
+            (HERE, &|rounds, answers| ours::$name($($before,)* rounds, $($after,)* $(&mut answers.$made),*)),
+            (THERE, &|rounds, answers| original::$name($($before,)* rounds, $($after,)* $(&mut answers.$made),*)),
+        ]
     };
 }
 
-/// The table whose rows are being measured, and the part of a name that selects calls.
+/// The part of a name that selects calls.
 struct Bench {
     only: String,
-    table: &'static str,
 }
 
 impl Bench {
     /// Times calls of `values` values.
-    fn take_of(&self, call: &str, n: usize, values: usize, contenders: &[Contender]) {
+    fn take_of(&self, table: &str, call: &str, n: usize, values: usize, contenders: &[Contender]) {
         if call.contains(&self.only) {
-            Row { table: self.table, call, column: n.to_string(), values, rounds: ROUNDS }.take(contenders);
+            Row { table, call, column: n.to_string(), values, rounds: ROUNDS }.take(contenders);
         }
     }
 
-    fn take(&self, call: &str, n: usize, contenders: &[Contender]) {
-        self.take_of(call, n, COUNT, contenders);
+    fn take(&self, table: &str, call: &str, n: usize, contenders: &[Contender]) {
+        self.take_of(table, call, n, COUNT, contenders);
     }
 
-    fn take_batch(&self, given: &Batch) {
+    fn take_batch(&self, table: &str, given: &Batch) {
         let n = given.capacity;
         // (no call has a capacity of 6)
         let to = if n == 3 { 7 } else { 2 * n };
-        macro_rules! take {
-            ($call:literal, $name:ident $before:tt $after:tt -> $made:tt) => {
-                self.take($call, n, both!($name $before $after -> $made))
-            };
-        }
-        take!("try_from_utf8", read8(n, READ)(&given.units, &given.starts) -> (texts, codes));
-        take!("try_from_utf16", read16(n, READ)(&given.wide, &given.starts) -> (texts, codes));
-        take!("try_from_raw", read8(n, RAW)(&given.texts, &given.raw_starts) -> (texts, codes));
-        take!("from_utf8_lossy", read8(n, LOSSY)(&given.units, &given.starts) -> (texts, codes));
-        take!("cmp", compare(n, ORDER)(&given.texts, &given.others) -> (marks));
-        take!("==", compare(n, EQUALITY)(&given.texts, &given.others) -> (marks));
-        take!("len", ask(n, LEN)(&given.texts) -> (marks));
-        take!("is_ascii_alphabetic", ask(n, ALPHABETIC)(&given.texts) -> (marks));
-        take!("is_ascii_alphanumeric", ask(n, ALPHANUMERIC)(&given.texts) -> (marks));
-        take!("is_ascii_lowercase", ask(n, LOWERCASE)(&given.texts) -> (marks));
-        take!("to_ascii_lowercase", change(n, LOWER)(&given.texts) -> (texts));
-        take!("to_ascii_titlecase", change(n, TITLE)(&given.texts) -> (texts));
-        take!("to_ascii_uppercase", change(n, UPPER)(&given.texts) -> (texts));
-        take!("new_unsigned_decimal", decimal(n)(&given.numbers) -> (texts, marks));
-        take!("resize to 2N", resize(n, to)(&given.texts) -> (texts));
-        take!("resize to 4", resize(n, 4)(&given.texts) -> (texts));
-        take!("concat to 2N", concat(n, to)(&given.texts, &given.others) -> (texts));
-        take!("concat to N", concat(n, n)(&given.texts, &given.others) -> (texts));
+        self.take(table, "try_from_utf8", n, both!(read8(n, READ)(&given.units, &given.starts) -> (texts, codes)));
+        self.take(table, "try_from_utf16", n, both!(read16(n, READ)(&given.wide, &given.starts) -> (texts, codes)));
+        self.take(table, "try_from_raw", n, both!(read8(n, RAW)(&given.texts, &given.raw_starts) -> (texts, codes)));
+        self.take(table, "from_utf8_lossy", n, both!(read8(n, LOSSY)(&given.units, &given.starts) -> (texts, codes)));
+        self.take(table, "cmp", n, both!(compare(n, ORDER)(&given.texts, &given.others) -> (marks)));
+        self.take(table, "==", n, both!(compare(n, EQUALITY)(&given.texts, &given.others) -> (marks)));
+        self.take(table, "len", n, both!(ask(n, LEN)(&given.texts) -> (marks)));
+        self.take(table, "is_ascii_alphabetic", n, both!(ask(n, ALPHABETIC)(&given.texts) -> (marks)));
+        self.take(table, "is_ascii_alphanumeric", n, both!(ask(n, ALPHANUMERIC)(&given.texts) -> (marks)));
+        self.take(table, "is_ascii_lowercase", n, both!(ask(n, LOWERCASE)(&given.texts) -> (marks)));
+        self.take(table, "to_ascii_lowercase", n, both!(change(n, LOWER)(&given.texts) -> (texts)));
+        self.take(table, "to_ascii_titlecase", n, both!(change(n, TITLE)(&given.texts) -> (texts)));
+        self.take(table, "to_ascii_uppercase", n, both!(change(n, UPPER)(&given.texts) -> (texts)));
+        self.take(table, "new_unsigned_decimal", n, both!(decimal(n)(&given.numbers) -> (texts, marks)));
+        self.take(table, "resize to 2N", n, both!(resize(n, to)(&given.texts) -> (texts)));
+        self.take(table, "resize to 4", n, both!(resize(n, 4)(&given.texts) -> (texts)));
+        self.take(table, "concat to 2N", n, both!(concat(n, to)(&given.texts, &given.others) -> (texts)));
+        self.take(table, "concat to N", n, both!(concat(n, n)(&given.texts, &given.others) -> (texts)));
     }
 
     /// Hashes of pairs are compared, so each value costs two of them.
-    fn take_others(&self, given: &Batch) {
+    fn take_others(&self, table: &str, given: &Batch) {
         let n = given.capacity;
-        self.take("is_empty", n, both!(ask(n, IS_EMPTY)(&given.texts) -> (marks)));
-        self.take("as_str, its last byte", n, both!(ask(n, LAST_OF_STR)(&given.texts) -> (marks)));
-        self.take("Display", n, both!(display(n)(&given.texts) -> (texts)));
-        self.take_of("Hash", n, 2 * COUNT, both!(compare(n, EQUALITY_OF_HASHES)(&given.texts, &given.others) -> (marks)));
+        self.take(table, "is_empty", n, both!(ask(n, IS_EMPTY)(&given.texts) -> (marks)));
+        self.take(table, "as_str, its last byte", n, both!(ask(n, LAST_OF_STR)(&given.texts) -> (marks)));
+        self.take(table, "Display", n, both!(display(n)(&given.texts) -> (texts)));
+        self.take_of(table, "Hash", n, 2 * COUNT, both!(compare(n, EQUALITY_OF_HASHES)(&given.texts, &given.others) -> (marks)));
     }
 
-    fn take_questions(&self, random: &mut Random, passes: bool, is_full: bool) {
+    fn take_questions(&self, table: &str, random: &mut Random, passes: bool, is_full: bool) {
         for &n in CAPACITIES {
             for question in QUESTIONS {
                 let texts = batch::texts(question, passes, random, n, if is_full { n } else { 1 });
                 let mut answers = vec![0; COUNT];
                 assert!(original::ask(n, question.number, 1, &texts, &mut answers));
                 assert!(answers.iter().all(|&answer| answer == u8::from(passes)), "{} at {n}", question.call);
-                self.take(question.call, n, both!(ask(n, question.number)(&texts) -> (marks)));
+                self.take(table, question.call, n, both!(ask(n, question.number)(&texts) -> (marks)));
             }
         }
     }
 
     /// Reads lists, each once in a round. Texts are written only while results are compared.
     fn take_lists(&self, random: &mut Random) {
+        let table = "Mixed lists, each read once in a round";
         for &n in CAPACITIES {
             let batches: Vec<Batch> = (0..BATCHES).map(|_| Batch::mixed(random, n, 1)).collect();
             let readers = [("try_from_utf8", READ), ("from_utf8_lossy", LOSSY), ("try_from_raw", RAW)];
@@ -127,7 +119,7 @@ impl Bench {
                     _ => (&given.units, &given.starts),
                 });
                 let lists: Vec<_> = lists.collect();
-                let row = Row { table: self.table, call, column: n.to_string(), values: BATCHES * COUNT, rounds: 1 };
+                let row = Row { table, call, column: n.to_string(), values: BATCHES * COUNT, rounds: 1 };
                 lists.iter().for_each(|(units, starts)| row.compare(both!(read8(n, reader)(units, starts) -> (texts, codes))));
                 macro_rules! all {
                     ($from:ident) => {
@@ -139,15 +131,13 @@ impl Bench {
         }
     }
 
-    fn take_read_bytes(&self, random: &mut Random) {
+    /// Times `read_bytes`, and `validate_bytes` of records that fill the capacity, or have any length.
+    fn take_packed(&self, random: &mut Random) {
+        let table = "Bytes before others, and packed records";
         for n in PACKED_CAPACITIES {
             let given = Batch::mixed(random, n, 1);
-            self.take("read_bytes", n, both!(read_bytes(n)(&given.texts) -> (texts)));
+            self.take(table, "read_bytes", n, both!(read_bytes(n)(&given.texts) -> (texts)));
         }
-    }
-
-    /// Times `validate_bytes` of records that fill the capacity, or have any length.
-    fn take_records(&self, random: &mut Random) {
         for call in ["validate_bytes, full", "validate_bytes, mixed"] {
             for n in PACKED_CAPACITIES.into_iter().filter(|_| call.contains(&self.only)) {
                 let mut bytes = vec![0; RECORDS * n];
@@ -160,7 +150,7 @@ impl Bench {
                         &|rounds, answers| (0..rounds).all(|_| $from::records(n, black_box(&bytes), &mut answers.codes))
                     };
                 }
-                let row = Row { table: self.table, call, column: n.to_string(), values: RECORDS, rounds: 1 };
+                let row = Row { table, call, column: n.to_string(), values: RECORDS, rounds: 1 };
                 row.take(&[(HERE, records!(ours)), (THERE, records!(original))]);
             }
         }
@@ -168,29 +158,19 @@ impl Bench {
 }
 
 fn main() {
-    let mut bench = Bench { only: std::env::args().nth(1).unwrap_or_default(), table: "" };
+    let bench = &Bench { only: std::env::args().nth(1).unwrap_or_default() };
     let random = &mut Random(88172645463325252);
     for &n in CAPACITIES {
-        bench.table = "Full texts";
-        bench.take_batch(&Batch::full(random, n));
-        bench.table = "Mixed texts";
-        bench.take_batch(&Batch::mixed(random, n, 1));
-        bench.table = "Other calls, full texts";
-        bench.take_others(&Batch::full(random, n));
-        bench.table = "Other calls, mixed texts and empty ones";
-        bench.take_others(&Batch::mixed(random, n, 0));
+        bench.take_batch("Full texts", &Batch::full(random, n));
+        bench.take_batch("Mixed texts", &Batch::mixed(random, n, 1));
+        bench.take_others("Other calls, full texts", &Batch::full(random, n));
+        bench.take_others("Other calls, mixed texts and empty ones", &Batch::mixed(random, n, 0));
     }
-    bench.table = "Bytes before others, and packed records";
-    bench.take_read_bytes(random);
-    bench.take_records(random);
-    bench.table = "Mixed lists, each read once in a round";
+    bench.take_packed(random);
     bench.take_lists(random);
-    bench.table = "Questions, full texts that pass";
-    bench.take_questions(random, true, true);
-    bench.table = "Questions, mixed texts that pass";
-    bench.take_questions(random, true, false);
-    bench.table = "Questions, full texts that fail at their first byte";
-    bench.take_questions(random, false, true);
+    bench.take_questions("Questions, full texts that pass", random, true, true);
+    bench.take_questions("Questions, mixed texts that pass", random, true, false);
+    bench.take_questions("Questions, full texts that fail at their first byte", random, false, true);
     #[cfg(inlined)]
-    inlined::take_all(&mut bench, random);
+    inlined::take_all(bench, random);
 }

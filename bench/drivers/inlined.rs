@@ -9,25 +9,22 @@ use made::count_found;
 use std::collections::{BTreeSet, HashSet};
 use theirs::CALLS;
 
-const RECORDS: [usize; 2] = [10_000, 400_000];
 const KEYS: usize = 1 << 16;
 
-pub fn take_all(bench: &mut Bench, random: &mut Random) {
+pub fn take_all(bench: &Bench, random: &mut Random) {
     for &n in CAPACITIES {
-        bench.table = "Full texts, one at a time";
-        take_single(bench, &Batch::full(random, n));
-        bench.table = "Mixed texts, one at a time";
-        take_single(bench, &Batch::mixed(random, n, 1));
+        take_single(bench, "Full texts, one at a time", &Batch::full(random, n));
+        take_single(bench, "Mixed texts, one at a time", &Batch::mixed(random, n, 1));
     }
-    for records in RECORDS {
+    for records in [10_000, 400_000] {
         take_searches(bench, random, records);
     }
 }
 
-fn take_single(bench: &Bench, given: &Batch) {
+fn take_single(bench: &Bench, table: &str, given: &Batch) {
     let n = given.capacity;
     for (number, call) in CALLS.iter().enumerate() {
-        bench.take(call, n, &[
+        bench.take(table, call, n, &[
             (HERE, &|rounds, answers| made::single(n, number, rounds, &given.texts, &mut answers.marks)),
             (THERE, &|rounds, answers| theirs::single(n, number, rounds, &given.texts, &mut answers.marks)),
         ]);

@@ -37,12 +37,9 @@ pub struct Row<'a> {
 impl Row<'_> {
     /// Ends the program where the contenders' results differ.
     pub fn compare(&self, contenders: &[Contender]) {
-        let answers = contenders.iter().map(|(_, call)| {
-            let mut answers = Answers::new();
-            (call(1, &mut answers), answers)
-        });
-        let answers: Vec<(bool, Answers)> = answers.collect();
-        let are_alike = answers.iter().all(|other| other.0 && other.1 == answers[0].1);
+        let mut answers: Vec<Answers> = contenders.iter().map(|_| Answers::new()).collect();
+        let are_known = contenders.iter().zip(&mut answers).all(|((_, call), answers)| call(1, answers));
+        let are_alike = are_known && answers.iter().all(|other| *other == answers[0]);
         assert!(are_alike, "{}, {} at {}: the answers differ", self.table, self.call, self.column);
     }
 

@@ -3,6 +3,7 @@
 
 // printing in other forms, and some others, aren't timed
 #[allow(dead_code)]
+#[macro_use]
 #[path = "../../diff/drivers/original.rs"]
 pub mod original;
 
@@ -51,13 +52,5 @@ fn batch<const N: usize>(call: usize, rounds: usize, texts: &[u8], answers: &mut
 
 /// The sum of a call's results for all texts.
 pub fn single(capacity: usize, call: usize, rounds: usize, texts: &[u8], answers: &mut [u8]) -> bool {
-    macro_rules! at {
-        ($($n:literal)*) => {
-            match capacity {
-                $($n => batch::<$n>(call, rounds, texts, answers),)*
-                _ => false,
-            }
-        };
-    }
-    at!(3 4 8 12 16 24 32 64)
+    at_few_capacities!(capacity, batch, call, rounds, texts, answers)
 }

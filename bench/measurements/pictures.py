@@ -5,21 +5,20 @@ import re
 from collections.abc import Callable, Iterable
 from functools import partial
 from io import StringIO
-from itertools import pairwise
 from math import ceil, log
 from textwrap import fill
 from typing import NamedTuple
 
 import matplotlib
+import numpy as np
 from matplotlib.axes import Axes
 from matplotlib.colors import LinearSegmentedColormap, TwoSlopeNorm
 from matplotlib.figure import Figure
 from matplotlib.ticker import LogLocator, NullLocator
 
-from measurements.look_ups import HASHED, ONE_BY_ONE, RANDOM, RIVALS, cell_of, counts, widths
-from measurements.printing import SECOND, geometric, range_text
-from measurements.ratios import FULL, MIXED, SLOWEST_FAILING, SUFFIXES, Rows, means, rows_of
-from measurements.results import HERE, THERE, Results
+from measurements.results import HERE, SECOND, THERE, Results, geometric, range_text
+from measurements.tables import FULL, HASHED, MIXED, ONE_BY_ONE, RANDOM, RIVALS, SLOWEST_FAILING, SUFFIXES, Rows
+from measurements.tables import cell_of, counts, means, rows_of, widths
 
 BLUE, ORANGE, GREY = "#0072b2", "#c04f00", "#6e7781"
 MUTED, FAINT = "#57606a", "#c9ced4"
@@ -37,9 +36,8 @@ SETTINGS = {
     "font.family": "sans-serif", "font.sans-serif": ["DejaVu Sans"], "font.size": 9,
     "svg.fonttype": "none", "svg.hashsalt": "tinystr",
     "axes.spines.top": False, "axes.spines.right": False, "axes.edgecolor": MUTED,
+    "axes.titlelocation": "left", "axes.titlesize": 9, "axes.titleweight": "bold",
 }  # fmt: skip
-METADATA = dict.fromkeys(["Creator", "Date", "Format", "Type"])
-TITLE = {"loc": "left", "fontsize": 9, "fontweight": "bold"}
 
 # Replacements that make a file smaller and show the same: no comments, no rotation by 0, no names of shapes, no name of a font
 # but sans-serif, no group of a single text, two digits after a point outside of texts, and no line breaks in paths.
@@ -61,14 +59,6 @@ class Line(NamedTuple):
     is_bold: bool = False
 
 
-def spread(places: list[float], step: float) -> list[float]:
-    """Increases places where needed, so that no two are closer than a step."""
-    placed = list(places)
-    for before, after in pairwise(sorted(range(len(places)), key=places.__getitem__)):
-        placed[after] = max(placed[after], placed[before] + step)
-    return placed
-
-
 def draw_lines(axes: Axes, lines: list[Line], bounds: tuple[float, float], step: float) -> None:
     """The y axis is logarithmic. The labels of lines are at least `step` apart, as a fraction of the height."""
     axes.set(yscale="log", ylim=bounds)
@@ -80,11 +70,14 @@ def draw_lines(axes: Axes, lines: list[Line], bounds: tuple[float, float], step:
             style = {"linewidth": 3 if line.is_bold else 1.5, "marker": "o", "markersize": 4}
         axes.plot(line.values, color=line.color, linestyle="--" if line.color == ORANGE else "-", **style)
     named = [line for line in lines if line.name]
-    ends = [log(line.values[-1] / bounds[0]) / log(bounds[1] / bounds[0]) for line in named]
-    for line, place in zip(named, spread(ends, step)):
+    places, last = {}, -step
+    for line in sorted(named, key=lambda line: line.values[-1]):
+        end = log(line.values[-1] / bounds[0]) / log(bounds[1] / bounds[0])
+        last = places[line.name] = max(end, last + step)
+    for line in named:
         axes.annotate(
-            line.name, (len(line.values) - 1, line.values[-1]), (1.03, place), textcoords="axes fraction", va="center",
-            color=line.color, fontweight="bold" if line.is_bold else None,
+            line.name, (len(line.values) - 1, line.values[-1]), (1.03, places[line.name]), textcoords="axes fraction",
+            va="center", color=line.color, fontweight="bold" if line.is_bold else None,
             arrowprops={"arrowstyle": "-", "color": line.color, "linewidth": 0.5, "relpos": (0, 0.5)},
         )  # fmt: skip
 
@@ -98,8 +91,7 @@ def draw_panels(figure: Figure, labels: dict[str, str], x: list[str], panels: di
     values = [value for lines in panels.values() for line in lines for value in line.values]
     all_axes = list(figure.subplots(rows, columns, squeeze=False).flat)
     for axes, (title, lines) in zip(all_axes, panels.items()):
-        axes.set(**labels)
-        axes.set_title(title, **TITLE)
+        axes.set(title=title, **labels)
         axes.set_xticks(range(len(x)), x)
         draw_lines(axes, lines, (min(values) / 1.3, max(values) * 1.5), 0.15 / (height - 0.7))
     return all_axes
@@ -155,13 +147,11 @@ def jobs(figure: Figure, results: Results) -> tuple[str, str]:
     figure.set_figheight(HEAD + 0.6 + ROW * (len(series) + 0.6) * len(results.times))
     axes, depth = figure.subplots(), 0.8 / len(series)
     for i, (whose, name, color) in enumerate(series):
-        seconds = [[nanos / SECOND for nanos in results.range(cell, whose)] for cell in results.times]
-        least, medians, most = zip(*seconds)
-        places = [group + depth * i for group in range(len(seconds))]
-        axes.barh(places, medians, 0.9 * depth, color=color, label=name, alpha=0.75)
-        axes.hlines(places, least, most, color="black", linewidth=1)
-        for place, median, end in zip(places, medians, most):
-            axes.annotate(f"{median:#.3g}".rstrip("."), (end, place), (4, 0), textcoords="offset points", va="center")
+        least, medians, most = np.array([results.range(cell, whose) for cell in results.times]).T / SECOND
+        places = np.arange(len(medians)) + depth * i
+        ranges = {"xerr": [medians - least, most - medians], "error_kw": {"linewidth": 1}}
+        bars = axes.barh(places, medians, 0.9 * depth, color=color, label=name, alpha=0.75, **ranges)
+        axes.bar_label(bars, [f"{median:#.3g}".rstrip(".") for median in medians], padding=4)
     names = [f"{job}:\n{work[job]}" for _, job, _ in results.times]
     axes.set_yticks([group + 0.4 - depth / 2 for group in range(len(names))], names)
     axes.tick_params(axis="y", length=0)
@@ -176,11 +166,10 @@ def heat_rows(rows: Rows, suffix: str) -> dict[str, list[list[float]]]:
     """For each call the ratios on full texts and on mixed ones, each with its mean at the end. The slowest on full texts comes
     first, and the means of all calls last. The names have a suffix."""
     names = sorted(rows, key=lambda name: geometric(rows[name][FULL].values()), reverse=True)
-    of_calls = [[list(rows[name].get(kind, {}).values()) for kind in (FULL, MIXED)] for name in names]
-    both = [row for row in of_calls if all(row)]
-    of_means = [[geometric(column) for column in zip(*of_kind)] for of_kind in zip(*both)]
-    all_names = [name + suffix for name in [*names, "geometric mean"]]
-    return {name: [[*of, geometric(of)] if of else [] for of in row] for name, row in zip(all_names, [*of_calls, of_means])}
+    found = {name + suffix: [list(rows[name].get(kind, {}).values()) for kind in (FULL, MIXED)] for name in names}
+    both = [row for row in found.values() if all(row)]
+    found["geometric mean" + suffix] = [[geometric(column) for column in zip(*of_kind)] for of_kind in zip(*both)]
+    return {name: [[*of, geometric(of)] if of else [] for of in row] for name, row in found.items()}
 
 
 def draw_section(axes: Axes, columns: list[str], rows: list[list[float]], last: list[int]) -> None:
@@ -194,7 +183,6 @@ def draw_section(axes: Axes, columns: list[str], rows: list[list[float]], last: 
     for y in last:
         axes.plot([0, len(columns)], [[y, y + 1]] * 2, color=MUTED, linewidth=0.8)
     axes.set_xticks([x + 0.5 for x in range(len(columns))], columns)
-    axes.set_xlabel("capacity in bytes")
     axes.tick_params(length=0)
     axes.spines[:].set_visible(False)
 
@@ -209,7 +197,7 @@ def draw_heat_map(figure: Figure, results: Results, suffixes: Iterable[str]) -> 
     figure.set_figheight(HEAD + 0.7 + ROW * len(rows))
     panels = figure.subplots(1, 2, sharey=True)
     for i, (axes, title) in enumerate(zip(panels, ["full texts", "mixed texts"])):
-        axes.set_title(title, **TITLE)
+        axes.set(title=title, xlabel="capacity in bytes")
         draw_section(axes, columns, [sections[i] for sections in rows.values()], last)
     panels[0].set_yticks([y + 0.5 for y in range(len(rows))], rows)
     for y in last:
@@ -219,14 +207,14 @@ def draw_heat_map(figure: Figure, results: Results, suffixes: Iterable[str]) -> 
 
 def calls(figure: Figure, results: Results) -> tuple[str, str]:
     draw_heat_map(figure, results, [""])
-    full, mixed = means(rows_of(results))
+    full, mixed = means(results)
     title = f"A call takes {full:.2f} of the Rust crate's time on full texts, and {mixed:.2f} on mixed ones"
     return title, f"{SHADED} {WITHOUT}"
 
 
 def cargo(figure: Figure, results: Results) -> tuple[str, str]:
     draw_heat_map(figure, results, SUFFIXES)
-    (full, mixed), (full_alone, mixed_alone) = (means(rows_of(results, suffix)) for suffix in SUFFIXES)
+    (full, mixed), (full_alone, mixed_alone) = (means(results, suffix) for suffix in SUFFIXES)
     title = f"Crate for Cargo: calls over lists take {full:.2f} of the Rust crate's time on full texts, {mixed:.2f} on mixed"
     alone = f"Calls of one value at a time take {full_alone:.2f} on full texts, and {mixed_alone:.2f} on mixed ones."
     return title, f"{SHADED} {alone} {WITHOUT}"
@@ -242,18 +230,12 @@ def drawn(draw: Callable[[Figure, Results], tuple[str, str]], results: Results) 
         figure.text(0.012, 1 - 0.1 * top, title, fontsize=11, fontweight="bold", va="top")
         figure.text(0.012, 1 - 0.5 * top, fill(note, 130), color=MUTED, va="top")
         file = StringIO()
-        figure.savefig(file, format="svg", metadata=METADATA)
+        figure.savefig(file, format="svg", metadata=dict.fromkeys(["Creator", "Date", "Format", "Type"]))
     svg = file.getvalue()
     for needless, replacement in SMALLER:
         svg = re.sub(needless, replacement, svg)
     return title, svg
 
 
-# The pictures by the names of their files, each with what draws it and the file of its results.
-PICTURES = {
-    "calls.svg": (calls, "calls"),
-    "capacities.svg": (capacities, "cargo"),
-    "cargo.svg": (cargo, "cargo"),
-    "jobs.svg": (jobs, "jobs"),
-    "tables.svg": (tables, "tables"),
-}
+# What draws each picture, which has its name, and the file of its results.
+PICTURES = {calls: "calls", capacities: "cargo", cargo: "cargo", jobs: "jobs", tables: "tables"}

@@ -11,15 +11,10 @@ from collections.abc import Callable
 from datetime import date
 from pathlib import Path
 from tempfile import TemporaryDirectory
-from typing import Any
 
-from measurements.results import Results
-from measurements.printing import all_tables
+from measurements.results import Results, all_tables
 
 BENCH = Path(__file__).resolve().parent.parent
-
-# How many bytes after the start of a cache line the functions of a program begin.
-POSITIONS = [0, 16, 32, 48]
 
 
 def parser_of(name: str, document: str, runs: int, runs_help: str = "the number of runs") -> ArgumentParser:
@@ -30,19 +25,23 @@ def parser_of(name: str, document: str, runs: int, runs_help: str = "the number 
     return parser
 
 
-def output_of(*words: object, **more: Any) -> str:
+def output_of(*words: object) -> str:
     """What a command prints. A command that fails raises an error."""
-    return subprocess.run(list(map(str, words)), stdout=subprocess.PIPE, text=True, check=True, **more).stdout
+    return subprocess.run(list(map(str, words)), stdout=subprocess.PIPE, text=True, check=True).stdout
 
 
-def new_results() -> Results:
-    """Results without times. Their head names the machine and the tools; changes in docs aren't changes of what is timed."""
-    results = Results()
+def commit_of(checkout: Path) -> str:
+    return output_of("git", "-C", checkout, "rev-parse", "HEAD").strip()
+
+
+def new_results(*notes: str) -> Results:
+    """Results without times. Their head names the machine and the tools, and has notes; changes in docs aren't changes of what is
+    timed."""
     processors = re.findall(r"^model name\s*: (.*)", Path("/proc/cpuinfo").read_text(), re.M)
     clang = Path(shutil.which("rt")).resolve().parent / "../toolchain/bin/clang"
     rustc = output_of("rustc", "--version", "--verbose")
     changed = output_of("git", "-C", BENCH, "status", "--porcelain", "--", ":/", ":(top,exclude)docs")
-    results.head = [
+    head = [
         f"date: {date.today()}",
         f"processor: {processors[0]}, {len(processors)} of them",
         f"kernel: {platform.system()} {platform.release()}",
@@ -50,51 +49,34 @@ def new_results() -> Results:
         f"LLVM of the kit: {re.search('version (.*)', output_of(clang, '--version'))[1]}",
         f"rustc: {rustc.splitlines()[0]}",
         f"LLVM of rustc: {re.search('LLVM version: (.*)', rustc)[1]}",
-        f"commit: {output_of('git', '-C', BENCH, 'rev-parse', 'HEAD').strip()}{', and changes' * bool(changed)}",
+        f"commit: {commit_of(BENCH)}{', and changes' * bool(changed)}",
     ]
-    return results
+    return Results([*head, *notes])
 
 
-def other_seconds() -> float:
-    """The seconds of all processors that were used since the machine started, but for those of this program and of the programs
-    that it started and that have ended."""
+def clocks() -> tuple[float, float]:
+    """The time, and the seconds of all processors that were used since the machine started, but for those of this program and of
+    the programs that it started and that have ended."""
     words = Path("/proc/stat").read_text().split("\n", 1)[0].split()[1:]
     user, nice, system, _idle, _waiting, interrupt, soft_interrupt = map(int, words[:7])
-    return (user + nice + system + interrupt + soft_interrupt) / os.sysconf("SC_CLK_TCK") - sum(os.times()[:4])
+    used = (user + nice + system + interrupt + soft_interrupt) / os.sysconf("SC_CLK_TCK")
+    return time.monotonic(), used - sum(os.times()[:4])
 
 
-class Load:
-    """Counts how many other programs ran, on average over what is done `with` it."""
-
-    def __init__(self) -> None:
-        self.wall = self.others = 0.0
-
-    def __enter__(self) -> None:
-        self.start = time.monotonic(), other_seconds()
-
-    def __exit__(self, *_: object) -> None:
-        wall, others = self.start
-        self.wall += time.monotonic() - wall
-        self.others += other_seconds() - others
-
-    def note(self) -> str:
-        return f"other programs: {max(self.others / self.wall, 0):.2f} on average"
-
-
-def keep(results: Results, load: Load, csv: str | None) -> None:
-    """Adds the load to the head, and writes the CSV file, if one is requested."""
-    results.head.append(load.note())
+def keep(results: Results, start: tuple[float, float], csv: str | None) -> None:
+    """Adds to the head how many other programs ran since the start, on average, and writes the CSV file, if one is requested."""
+    wall, others = (now - before for now, before in zip(clocks(), start))
+    results.head.append(f"other programs: {max(others / wall, 0):.2f} on average")
     if csv:
         results.write_csv(csv)
 
 
-def take(options: Namespace, results: Results, lines_of: Callable[[], str]) -> None:
-    """Adds the lines of each run, keeps the results, and prints their head and their tables."""
-    load = Load()
+def take(options: Namespace, lines_of: Callable[[], str], *notes: str) -> None:
+    """Keeps the results that have the lines of each run, and prints their head, with notes, and their tables."""
+    results, start = new_results(*notes), clocks()
     for run in range(1, options.runs + 1):
-        with load:
-            results.add_lines(run, lines_of().splitlines())
-    keep(results, load, options.csv)
+        results.add_lines(run, lines_of().splitlines())
+    keep(results, start, options.csv)
     print("\n".join(results.head) + "\n\n" + all_tables(results))
 
 
@@ -104,10 +86,10 @@ def time_calls(name: str, document: str) -> None:
     parser.add_argument("original", metavar="FOLDER", help="a checkout of the Rust crate, or a folder with its libtinystr.rlib")
     parser.add_argument("call", metavar="CALL", nargs="?", default="", help="time the calls with CALL in their names")
     options = parser.parse_args()
-    results = new_results()
-    if name == "cargo":
-        results.head.append(f"built for: {os.environ.get('PROCESSOR', 'x86-64')}")
+    notes = [f"built for: {os.environ.get('PROCESSOR', 'x86-64')}"] if name == "cargo" else []
+    # how many bytes after the start of a cache line the functions of a program begin
+    positions = [0, 16, 32, 48]
     with TemporaryDirectory() as made:
-        output_of(BENCH / "drivers/build", name, options.original, made, *POSITIONS)
-        programs = [f"{made}/{position}/program" for position in POSITIONS]
-        take(options, results, lambda: "".join(output_of(program, options.call) for program in programs))
+        output_of(BENCH / "drivers/build", name, options.original, made, *positions)
+        programs = [f"{made}/{position}/program" for position in positions]
+        take(options, lambda: "".join(output_of(program, options.call) for program in programs), *notes)
