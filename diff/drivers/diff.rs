@@ -20,7 +20,7 @@ use original::{batch, numbers};
 #[cfg(made)]
 use made as ours;
 
-use inputs::{Random, escaped, hostile, padded, text, texts};
+use inputs::{Random, escaped, hostile, padded, text_within, texts};
 use original::COUNT;
 use original::numbers::*;
 use original::questions::QUESTIONS;
@@ -107,8 +107,8 @@ macro_rules! reads {
 reads!(read8, u8, READERS);
 reads!(read16, u16, READERS16);
 
-/// Compares the answer to each question about each text, and the text in each case.
-fn ask(count: &mut Count, n: usize, texts: &[Vec<u8>]) {
+/// Compares the answer to each question about each text, the text in each case, and how it is printed.
+fn ask_and_print(count: &mut Count, n: usize, texts: &[Vec<u8>]) {
     for texts in texts.chunks(COUNT) {
         for (question, call) in QUESTIONS.iter().map(|question| (question.number, question.call)).chain(OTHERS) {
             let departs = |text: &&Vec<u8>| DEPARTS && text.is_empty() && OF_CASED_LETTERS.contains(&question);
@@ -123,6 +123,7 @@ fn ask(count: &mut Count, n: usize, texts: &[Vec<u8>]) {
                 changed: vec![0u8; texts.len() * n]);
         }
     }
+    print(count, n, &OF_TEXTS, texts);
 }
 
 /// Prints each list in some forms: a text, or any bytes.
@@ -195,7 +196,7 @@ fn departures() {
 #[cfg(added)]
 mod of_tables {
     use super::*;
-    use crate::inputs::{identifier, key, records, spoiled};
+    use crate::inputs::{identifier, key, records, spoiled, text};
     use libraries::{LangId, TinyAsciiStr};
 
     const KEYS: usize = 64;
@@ -269,13 +270,10 @@ fn compare_short(count: &mut Count) {
     }
     short.retain(|list| list.iter().all(|b| (1..128).contains(b)));
     for n in [2, 3, 4, 7, 8, 9, 16, 17, 24] {
-        ask(count, n, &short);
-        print(count, n, &OF_TEXTS, &short);
+        ask_and_print(count, n, &short);
     }
-    for (n, how_many) in [(1, 128), (0, 1)] {
-        ask(count, n, &short[..how_many]);
-        print(count, n, &OF_TEXTS, &short[..how_many]);
-    }
+    ask_and_print(count, 1, &short[..128]);
+    ask_and_print(count, 0, &short[..1]);
 }
 
 /// Every byte at every position of texts of these letters.
@@ -290,8 +288,7 @@ fn compare_positions(count: &mut Count, n: usize, letters: &[u8]) {
         read8(count, n, &lists);
         print(count, n, &OF_ANY_BYTES, &lists);
         lists.retain(|list| list.iter().all(|b| (1..128).contains(b)));
-        ask(count, n, &lists);
-        print(count, n, &OF_TEXTS, &lists);
+        ask_and_print(count, n, &lists);
     }
 }
 
@@ -318,9 +315,7 @@ fn compare_lists(count: &mut Count, random: &mut Random, n: usize) {
     read16(count, n, &wide);
     lists.retain(|list| list.len() <= n);
     print(count, n, &OF_ANY_BYTES, &lists);
-    let some = texts(random, n, COUNT);
-    ask(count, n, &some);
-    print(count, n, &OF_TEXTS, &some);
+    ask_and_print(count, n, &texts(random, n, COUNT));
     let some: Vec<Vec<u8>> = (0..COUNT).map(|i| escaped(random, n.saturating_sub(i % 3))).collect();
     print(count, n, &OF_TEXTS, &some);
 }
@@ -346,10 +341,7 @@ fn compare_pairs(count: &mut Count, random: &mut Random) {
         for i in 1..list.len() {
             if random.one_in(2) {
                 let kept = random.below(list[i - 1].len() + 1);
-                let mut like = list[i - 1][..kept].to_vec();
-                let rest = random.below(n - kept + 1);
-                like.extend(text(random, rest));
-                list[i] = like;
+                list[i] = [&list[i - 1][..kept], &text_within(random, n - kept)].concat();
             }
         }
         compare(count, n, &list);

@@ -1,5 +1,7 @@
 //! Generated texts, identifiers, records and keys: valid ones, what is nearly valid, and any bytes.
 
+use std::iter::repeat;
+
 /// Numbers by shifts and exclusive ors (xorshift), the same in each run from one start.
 pub struct Random(pub u64);
 
@@ -22,13 +24,6 @@ impl Random {
     pub fn of<T: Copy>(&mut self, all: &[T]) -> T {
         all[self.below(all.len())]
     }
-
-    /// Puts another byte at some place.
-    pub fn spoil(&mut self, bytes: &mut [u8]) {
-        if !bytes.is_empty() {
-            bytes[self.below(bytes.len())] = if self.one_in(3) { self.below(256) as u8 } else { self.of(b"\0\0\x80\xff\x7f\x01-_") };
-        }
-    }
 }
 
 /// Bytes that a reader may meet: mostly letters, with NULs and bytes above 127.
@@ -47,21 +42,22 @@ pub fn text(random: &mut Random, len: usize) -> Vec<u8> {
     let kind = random.below(4);
     (0..len)
         .map(|i| match kind {
-            0 => b'a' + random.below(26) as u8,
-            1 => if i == 0 { b'A' + random.below(26) as u8 } else { b'a' + random.below(26) as u8 },
+            1 if i == 0 => b'A' + random.below(26) as u8,
+            0 | 1 => b'a' + random.below(26) as u8,
             2 => b'0' + random.below(10) as u8,
             _ => 1 + random.below(127) as u8,
         })
         .collect()
 }
 
+/// A text of at most `n` bytes.
+pub fn text_within(random: &mut Random, n: usize) -> Vec<u8> {
+    let len = random.below(n + 1);
+    text(random, len)
+}
+
 pub fn texts(random: &mut Random, n: usize, how_many: usize) -> Vec<Vec<u8>> {
-    (0..how_many)
-        .map(|_| {
-            let len = random.below(n + 1);
-            text(random, len)
-        })
-        .collect()
+    (0..how_many).map(|_| text_within(random, n)).collect()
 }
 
 /// A text of characters of which most are escaped.
@@ -109,17 +105,14 @@ pub fn records(random: &mut Random, n: usize) -> Vec<Vec<u8>> {
 
 /// Each padded to `n` bytes.
 pub fn padded(texts: &[Vec<u8>], n: usize) -> Vec<u8> {
-    let mut bytes = vec![0; texts.len() * n];
-    for (i, text) in texts.iter().enumerate() {
-        bytes[i * n..i * n + text.len()].copy_from_slice(text);
-    }
-    bytes
+    texts.iter().flat_map(|text| text.iter().copied().chain(repeat(0)).take(n)).collect()
 }
 
 /// The bytes of a table, of which some have a fault.
 pub fn spoiled(random: &mut Random, mut bytes: Vec<u8>) -> Vec<u8> {
-    if random.one_in(4) {
-        random.spoil(&mut bytes);
+    if !bytes.is_empty() && random.one_in(4) {
+        let place = random.below(bytes.len());
+        bytes[place] = if random.one_in(3) { random.below(256) as u8 } else { random.of(b"\0\0\x80\xff\x7f\x01-_") };
     }
     if random.one_in(12) {
         bytes.truncate(random.below(bytes.len() + 1));
@@ -130,8 +123,7 @@ pub fn spoiled(random: &mut Random, mut bytes: Vec<u8>) -> Vec<u8> {
 /// A text of the records, its beginning, one near it, or any.
 pub fn key(random: &mut Random, records: &[Vec<u8>], n: usize) -> Vec<u8> {
     if records.is_empty() || random.one_in(4) {
-        let len = random.below(n + 1);
-        return text(random, len);
+        return text_within(random, n);
     }
     let mut key = records[random.below(records.len())].clone();
     if random.one_in(3) {

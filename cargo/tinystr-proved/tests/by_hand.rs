@@ -39,11 +39,9 @@ fn each_error_says_what_is_wrong() {
     assert_eq!(fault(Text::<4>::read_bytes(b"caf\xe9")), "a byte is above 127");
     let unvalidated = UnvalidatedTinyAsciiStr::from_utf8_unchecked(*b"\0GB");
     assert_eq!(fault(unvalidated.to_bytes()), "the bytes aren't a text and then NULs");
-    assert_eq!(fault(Table::<3>::new(b"EURJP")), "5 bytes can't be divided into records");
     assert_eq!(fault(Table::<3>::new(b"EURJP\xff")), "record 1: attempted to construct TinyAsciiStr from a non-ASCII string");
     assert_eq!(fault(Table::<3>::new(b"EU\0E\0U")), "record 1: a byte other than NUL follows a NUL");
     assert_eq!(fault(SortedTable::<3>::from_bytes(b"EURJP")), "5 bytes can't be divided into records");
-    assert_eq!(fault(SortedTable::<3>::from_bytes(b"JPYEUR")), "record 1 isn't above the one before it");
     assert_eq!(fault(PackedMap::<3, 1>::new(b"EU", &[2])), "keys: 2 bytes can't be divided into records");
     assert_eq!(fault(PackedMap::<3, 1>::new(b"JPYEUR", &[0, 2])), "keys: record 1 isn't above the one before it");
     assert_eq!(fault(PackedMap::<3, 1>::new(b"EURJPY", &[2])), "1 bytes aren't a value for each of 2 keys");

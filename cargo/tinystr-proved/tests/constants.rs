@@ -1,6 +1,6 @@
 //! What constants call gives what it gives when it runs, and the twins for tables give the same as the calls that aren't `const`.
 
-use tinystr::hashed::{HashedMap, HashedTable, HashedTextMap};
+use tinystr::hashed::{HashedMap, HashedMapError, HashedTable, HashedTextMap};
 use tinystr::packed::{NotRising, PackedMap, SortedError, SortedTable, Table, TextEntries, TextMap};
 use tinystr::subtags::{LangId, Language};
 use tinystr::ule::UleError;
@@ -154,16 +154,14 @@ fn hashed_tables_of_constants_agree() {
 
 static NAMES: Result<Table<'static, 4>, UleError> = Table::new_const(b"EuroYen\0");
 const DESCENDING: Result<SortedTable<'static, 3>, SortedError> = SortedTable::from_bytes_const(b"EURCHF");
-static DIGITS: HashedMap<'static, 3, 1> = match HashedMap::new_const(b"\x01\0\0\0\0\0\0\0\0\0\0\0\0\0\0\0EURJPY", &[2, 0]) {
-    Ok(map) => map,
-    Err(_) => panic!(),
-};
+static DIGITS: Result<HashedMap<'static, 3, 1>, HashedMapError> =
+    HashedMap::new_const(b"\x01\0\0\0\0\0\0\0\0\0\0\0\0\0\0\0EURJPY", &[2, 0]);
 
 #[test]
 fn tables_are_constants() {
     assert_eq!(NAMES.unwrap().get(1), Some(tinystr!(4, "Yen")));
     assert_eq!(DESCENDING.err(), Some(SortedError::Order(NotRising { index: 1 })));
-    assert_eq!(DIGITS.get(&tinystr!(3, "JPY")), Some(&[0]));
+    assert_eq!(DIGITS.unwrap().get(&tinystr!(3, "JPY")), Some(&[0]));
 }
 
 /// The message of a literal that is no text isn't a format.

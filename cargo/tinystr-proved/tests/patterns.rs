@@ -37,29 +37,6 @@ fn constants_are_patterns_of_a_match() {
     assert!(matches!(TinyAsciiStr::<0>::EMPTY, NOTHING));
 }
 
-#[derive(Clone, Copy, Debug, PartialEq, Eq)]
-struct Price {
-    code: TinyAsciiStr<3>,
-    unit: Option<TinyAsciiStr<8>>,
-    cents: u32,
-}
-
-const FREE: Price = Price { code: EUR, unit: None, cents: 0 };
-const A_KILO: Price = Price { code: EUR, unit: Some(tinystr!(8, "kilogram")), cents: 100 };
-
-#[test]
-fn constants_with_texts_in_them_are_patterns() {
-    let name = |price| match price {
-        FREE => "free",
-        A_KILO => "a kilo",
-        Price { code: USD, .. } => "dollars",
-        Price { unit: Some(_), .. } => "by a unit",
-        _ => "else",
-    };
-    let prices = [FREE, A_KILO, Price { code: USD, ..A_KILO }, Price { cents: 99, ..A_KILO }, Price { cents: 1, ..FREE }];
-    assert_eq!(prices.map(name), ["free", "a kilo", "dollars", "by a unit", "else"]);
-}
-
 /// A pattern fits exactly where `==` is true: at a text itself, with another byte at each place, and cut at each.
 macro_rules! patterns {
     ($($n:literal $text:literal)*) => {$({

@@ -104,11 +104,10 @@ fn loops_run_through_tables_and_maps() {
 }
 
 /// An iterator says how many it still gives, and gives none after the last.
-fn counts_down(mut it: impl ExactSizeIterator + FusedIterator, mut len: usize) {
-    while len > 0 {
-        assert_eq!((it.len(), it.size_hint()), (len, (len, Some(len))));
+fn counts_down(mut it: impl ExactSizeIterator + FusedIterator, len: usize) {
+    for left in (1..=len).rev() {
+        assert_eq!((it.len(), it.size_hint()), (left, (left, Some(left))));
         assert!(it.next().is_some());
-        len -= 1;
     }
     assert_eq!((it.len(), it.next().is_none(), it.next().is_none(), it.len()), (0, true, true, 0));
 }

@@ -14,7 +14,9 @@ use std::io::{self, BufWriter, ErrorKind, Write};
 use std::path::Path;
 use std::process::ExitCode;
 use std::{env, fs};
-use tables::Codes;
+use tables::{Checked, at_capacity};
+use tinystr::TinyAsciiStr;
+use tinystr::packed::Table;
 
 type Result<T> = std::result::Result<T, Box<dyn Error>>;
 
@@ -30,7 +32,7 @@ fn main() -> ExitCode {
             return ExitCode::from(2);
         }
     };
-    match run(&call) {
+    match at_capacity!(call.capacity, run(&call)) {
         Ok(true) => ExitCode::SUCCESS,
         Ok(false) => ExitCode::FAILURE,
         // the reader of the output has ended, as in `tinystr-table show .. | head`
@@ -43,10 +45,10 @@ fn main() -> ExitCode {
 }
 
 /// Runs a call: whether all codes that it asks for are found.
-fn run(call: &Call) -> Result<bool> {
+fn run<const N: usize>(call: &Call) -> Result<bool> {
     if let Command::Pack { input } = &call.command {
         let text = of_file(input, fs::read(input))?;
-        let (table, values) = of_file(input, packing::packed(call, &text))?;
+        let (table, values) = of_file(input, packing::packed::<N>(call, &text))?;
         of_file(&call.table, fs::write(&call.table, table))?;
         if let Some((_, path)) = &call.values {
             of_file(path, fs::write(path, values))?;
@@ -55,8 +57,9 @@ fn run(call: &Call) -> Result<bool> {
     }
     let bytes = of_file(&call.table, fs::read(&call.table))?;
     let what = format!("checking {} bytes", bytes.len());
-    let table = progress::shown(&what, || tables::checked(call.kind, call.capacity, &bytes));
-    let table = of_file(&call.table, table)?;
+    let checked = progress::shown(&what, || Checked::<N>::of(call.kind, &bytes));
+    let checked = of_file(&call.table, checked)?;
+    let table = checked.table();
     let values = match &call.values {
         Some((kind, path)) => {
             let values = of_file(path, fs::read(path))?;
@@ -69,10 +72,10 @@ fn run(call: &Call) -> Result<bool> {
     match &call.command {
         Command::Get { codes } => {
             for code in codes {
-                are_found &= get(&mut out, &*table, values.as_deref(), code)?;
+                are_found &= get(&mut out, &checked, values.as_deref(), code)?;
             }
         }
-        Command::Show => show(&mut out, &*table, values.as_deref())?,
+        Command::Show => show(&mut out, table, values.as_deref())?,
         _ => writeln!(out, "{}: {} codes", call.table.display(), table.len())?,
     }
     out.flush()?;
@@ -80,8 +83,8 @@ fn run(call: &Call) -> Result<bool> {
 }
 
 /// Prints the codes, with their values.
-fn show(out: &mut impl Write, table: &dyn Codes, values: Option<&[String]>) -> Result<()> {
-    for (index, code) in table.texts().enumerate() {
+fn show<const N: usize>(out: &mut impl Write, table: &Table<N>, values: Option<&[String]>) -> Result<()> {
+    for (index, code) in table.iter().enumerate() {
         match values {
             Some(values) => writeln!(out, "{code}\t{}", values[index])?,
             None => writeln!(out, "{code}")?,
@@ -91,9 +94,10 @@ fn show(out: &mut impl Write, table: &dyn Codes, values: Option<&[String]>) -> R
 }
 
 /// Prints the value or the index of a code: whether it is found.
-fn get(out: &mut impl Write, table: &dyn Codes, values: Option<&[String]>, code: &OsStr) -> Result<bool> {
+fn get<const N: usize>(out: &mut impl Write, table: &Checked<N>, values: Option<&[String]>, code: &OsStr) -> Result<bool> {
     let name = code.display();
-    let found = table.position(code.as_encoded_bytes()).map_err(|fault| format!("{name}: {fault}"))?;
+    let text = TinyAsciiStr::try_from_utf8(code.as_encoded_bytes()).map_err(|fault| format!("{name}: {fault}"))?;
+    let found = table.position(&text);
     match (found, values) {
         (Some(index), Some(values)) => writeln!(out, "{name}\t{}", values[index])?,
         (Some(index), None) => writeln!(out, "{name}\t{index}")?,

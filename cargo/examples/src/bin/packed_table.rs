@@ -5,26 +5,16 @@
 use std::error::Error;
 use std::{env, fs};
 use tinystr::TinyAsciiStr;
-use tinystr::packed::{SortedTable, Table, pack_sorted};
-
-type City = TinyAsciiStr<12>;
-
-fn written() -> Result<Vec<u8>, Box<dyn Error>> {
-    let cities = ["zurich", "bern", "basel", "lausanne", "winterthur", "bern"];
-    Ok(pack_sorted(&cities.map(City::try_from_str).into_iter().collect::<Result<Vec<_>, _>>()?))
-}
-
-/// The table of a file's bytes, or what is wrong with them.
-fn opened(bytes: &[u8]) -> Result<SortedTable<'_, 12>, Box<dyn Error>> {
-    Ok(SortedTable::new(Table::new(bytes)?)?)
-}
+use tinystr::packed::{SortedTable, pack_sorted};
 
 fn main() -> Result<(), Box<dyn Error>> {
+    let names = ["zurich", "bern", "basel", "lausanne", "winterthur", "bern"].map(TinyAsciiStr::try_from_str);
+    let names = names.into_iter().collect::<Result<Vec<TinyAsciiStr<12>>, _>>()?;
     let path = env::temp_dir().join(format!("cities-{}.packed", std::process::id()));
-    fs::write(&path, written()?)?;
+    fs::write(&path, pack_sorted(&names))?;
     let bytes = fs::read(&path)?;
     fs::remove_file(&path)?;
-    let cities = opened(&bytes)?;
+    let cities = SortedTable::<12>::from_bytes(&bytes)?;
     println!("{} cities in {} bytes", cities.len(), bytes.len());
     for city in env::args().skip(1).chain(["zurich".into(), "geneva".into()]) {
         match cities.binary_search(&city.parse()?) {
