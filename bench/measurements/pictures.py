@@ -16,9 +16,9 @@ from matplotlib.colors import LinearSegmentedColormap, TwoSlopeNorm
 from matplotlib.figure import Figure
 from matplotlib.ticker import LogLocator, NullLocator
 
+from measurements.page_tables import FULL, HASHED, MIXED, ONE_BY_ONE, RANDOM, RIVALS, SLOWEST_FAILING, SUFFIXES, Rows
+from measurements.page_tables import cell_of, counts, means, rows_of, widths
 from measurements.results import HERE, SECOND, THERE, Results, geometric, range_text
-from measurements.tables import FULL, HASHED, MIXED, ONE_BY_ONE, RANDOM, RIVALS, SLOWEST_FAILING, SUFFIXES, Rows
-from measurements.tables import cell_of, counts, means, rows_of, widths
 
 BLUE, ORANGE, GREY = "#0072b2", "#c04f00", "#6e7781"
 MUTED, FAINT = "#57606a", "#c9ced4"

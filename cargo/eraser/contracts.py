@@ -1,4 +1,4 @@
-"""Ghost items and tactics, which are for the prover alone, go, and contracts become comments.
+"""Leaves out ghost items and tactics, which are for the prover alone, and turns contracts into comments.
 
 A function's clauses end its comment, and what it requires is checked or documented.
 """
