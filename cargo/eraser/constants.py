@@ -22,10 +22,10 @@ FRAME = "cargo/eraser/in_constants.rs"
 NAME = "tinystr_words/in_constants.rt"
 # What only constants' forms are left of: files, and items of files.
 MOVED = {
-    "ascii/strict.rs": ["fn read", "fn read_padded", "fn read_pieces", "fn find_fault", "fn fault"],
+    "ascii/readers.rs": ["fn read", "fn read_padded", "fn read_pieces", "fn find_fault", "fn fault"],
     "words/code_unit.rs": ["impl CodeUnit for u16"],
     "words/padded.rs": ["fn len", "fn ask", "fn put_in_case", "fn concat"],
-    **{f"words/padded/{name}.rs": [] for name in ("bytewise", "code_units", "concatenation", "replacing", "words")},
+    **{f"words/padded/{name}.rs": [] for name in ("bytewise", "code_units", "concatenation", "words")},
 }
 MARK = re.compile(r"^( *)//= (?P<file>\S+\.rs)(?:, (?P<item>.*?))?: (?P<how>free |held )?`(?P<names>[\w ]+)`\n", re.M)
 HEAD = r"( *)(?:pub(?:\(crate\))? )?(?:const )?fn "
@@ -113,7 +113,7 @@ def as_const(text: str) -> str:
     """The text without what a `const fn` can't call: traits, so an index by a range, `for`, `min` and `from`."""
     text = OVER_RANGE.sub(r"\1let mut \2 = \3;\n\1while \2 < \4 {\n\5\1    \2 += 1;\n\1}\n", text)
     text = OVER_SLICE.sub(r"\1let mut left = \3;\n\1while let &[\2, ref after @ ..] = left {\n\1    left = after;\n", text)
-    text = LEAST.sub(r"crate::ranges::least(\1, \2)", text)
+    text = LEAST.sub(r"crate::in_words::least(\1, \2)", text)
     return without_from(PART.sub(part, text))
 
 

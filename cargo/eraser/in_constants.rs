@@ -1,9 +1,8 @@
-//! What constants call of the proved functions of `word`, `kernel`, `code_unit`, `int_ops`, `padded` and `ascii::strict`. A
+//! What constants call of the proved functions of `word`, `kernel`, `code_unit`, `int_ops`, `padded` and `ascii::readers`. A
 //! `const fn` calls no trait, so they are here once more, with those of the traits `Word` and `CodeUnit` as functions of a type:
 //! for each width, and for each code unit. Each has the contract that the function of its name has there.
 
 use crate::ascii::TinyAsciiStr;
-use crate::ascii::lanes::text_of_bytes;
 use crate::error::ParseError;
 use crate::in_words;
 use crate::simd::u64x2;
@@ -125,7 +124,7 @@ impl Aligned8 {
 
 //= words/padded/concatenation.rs: `concat_in_word concat_in_memory put_both`
 
-/// What `strict::read_padded` returns.
+/// What `ascii::readers::read_padded` returns.
 #[inline(always)]
 pub const fn read_padded<const N: usize>(raw: [u8; N]) -> Result<TinyAsciiStr<N>, ParseError> {
     if is_padded(&raw) {
@@ -166,7 +165,7 @@ macro_rules! readers {
 
         //= words/padded/code_units.rs: `byte_or read_piece read_pair read_many read_all low_bytes lossy_chunk lossy`
 
-        //= ascii/strict.rs: `read read_pieces find_fault fault`
+        //= ascii/readers.rs: `read read_pieces find_fault fault`
     };
 }
 

@@ -30,12 +30,12 @@ OF_HASHES = "start_of hash_of hash_on number short_number folded scaled slot_of 
 # Functions whose bodies Rust can run at compile time, by file: how each begins after its `fn`. An empty beginning is all. Each is
 # public or, if it is private, of no type.
 CONST = {
-    **{f"tinystr/ascii/{name}.rt": [""] for name in ("questions", "readers", "views")},
+    **{f"tinystr/ascii/{name}.rt": [""] for name in ("questions", "views")},
     **dict.fromkeys(["tinystr_words/padded/copying.rt", "tinystr_words/question.rt"], [""]),
     "tinystr/ascii.rt": ["default() -> Self", "from_padded("],
     "tinystr/ascii/concat.rt": ["concat<"],
-    "tinystr/ascii/lanes.rt": ["text_of_bytes<"],
-    "tinystr/ascii/resize.rt": ["resize<"],
+    "tinystr/ascii/readers.rt": ["try_from_", "from_utf"],
+    "tinystr/ascii/slicing.rt": ["resize<"],
     "tinystr/forms.rt": ["to_bytes(&self) -> [u8; N]"],
     "tinystr/ule.rt": ["niche_bit_pattern("],
     "tinystr/unvalidated.rt": ["default() -> Self", "from_utf8_unchecked(", "to_unvalidated("],

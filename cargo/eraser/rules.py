@@ -22,7 +22,7 @@ class Rule:
 OF_ALLOCATOR = "Rust's vectors and maps name no allocator"
 WANT_OF_MEMORY = "want of memory ends a program in Rust, and is no error"
 # Modules that are left out, and those whose functions constants call in `in_constants.rs`.
-GONE = "laws|macros|json|bytewise|code_units|concatenation|replacing"
+GONE = "laws|macros|json|bytewise|code_units|concatenation"
 
 EVERYWHERE = [
     Rule(
@@ -114,11 +114,18 @@ IN_FILE = {
         Rule("padded::equals(&self.bytes, &other.bytes)", "padded::equals(self.as_array(), other.as_array())", OF_BYTES),
     ],
     "tinystr/ascii/readers.rt": [
-        Rule("use crate::ascii::{TinyAsciiStr, strict};", "use crate::ascii::TinyAsciiStr;", OF_CONST_CALLS),
-        Rule("use crate::words::{CodeUnit, padded};", "use crate::words::in_constants;", OF_CONST_CALLS),
-        Rule("strict::read::<u8, N>(", "in_constants::bytes::read::<N>(", OF_CONST_CALLS),
-        Rule("strict::read_padded(", "in_constants::read_padded(", OF_CONST_CALLS),
-        Rule("strict::read::<u16, N>(", "in_constants::numbers::read::<N>(", OF_CONST_CALLS),
+        Rule(
+            "use crate::words::int_ops::{Aligned8, Aligned16};\n"
+            "use crate::words::padded::{self, Width, resize_at_once, width_of};\n"
+            "use crate::words::{CodeUnit, are_characters};\n",
+            "use crate::words::{in_constants, padded};\n",
+            OF_CONST_CALLS,
+        ),
+        Rule("    read::<u8, N>(code_units)", "    in_constants::bytes::read::<N>(code_units)", OF_CONST_CALLS),
+        Rule("    read_padded(raw)", "    in_constants::read_padded(raw)", OF_CONST_CALLS),
+        Rule("    read::<u16, N>(code_units)", "    in_constants::numbers::read::<N>(code_units)", OF_CONST_CALLS),
+        Rule("from_padded(padded::low_bytes(units))", "from_padded(padded::low_bytes(units)).hinted_in_result()", HINTED),
+        Rule("from_padded(bytes)", "from_padded(bytes).hinted_in_result()", HINTED),
         *(
             Rule(
                 f"Self::read_lossy::<{unit}>(code_units, replacement)",
@@ -148,20 +155,6 @@ IN_FILE = {
     "tinystr/ascii/questions.rt": [
         Rule("padded}", "in_constants}", OF_CONST_CALLS),
         Rule("padded::", "in_constants::", OF_CONST_CALLS, 2),
-    ],
-    "tinystr/ascii/strict.rt": [
-        Rule(
-            "use crate::ascii::TinyAsciiStr;\n"
-            "use crate::ascii::lanes::text_of_bytes;\n"
-            "use crate::error::ParseError;\n"
-            "use crate::words::int_ops::{Aligned8, Aligned16};\n"
-            "use crate::words::padded::{self, Width, width_of};\n"
-            "use crate::words::{CodeUnit, are_characters};\n",
-            "use crate::words::padded;\n",
-            OF_CONST_CALLS,
-        ),
-        Rule("from_padded(padded::low_bytes(units))", "from_padded(padded::low_bytes(units)).hinted_in_result()", HINTED),
-        Rule("from_padded(bytes)", "from_padded(bytes).hinted_in_result()", HINTED),
     ],
     "tinystr/ascii/views.rt": [
         Rule("get(", "get_byte(", NAMED_AS_STR, 3),
@@ -210,8 +203,7 @@ IN_FILE = {
             "what a kind gives is proved of the three that there are, so no caller adds one",
         ),
     ],
-    "tinystr_packed/lib.rt": of_feature("counting", "packing", "sorting"),
-    "tinystr_packed/counting.rt": [Rule("use std::alloc::{AllocError, Global};\n", "", OF_ALLOCATOR)],
+    "tinystr_packed/lib.rt": of_feature("packing"),
     "tinystr_hashed/lib.rt": [
         Rule("mod hashing;", "pub(crate) mod hashing;", OF_CONSTANTS),
         *of_feature("packing", "packing_maps"),
@@ -298,7 +290,7 @@ IN_FILE = {
         # readers
         Rule("pub const fn find_fault", "#[inline]\n    pub const fn find_fault", "not generic, so callers inline it only so"),
         Rule("try_from_text(units: &[U]) -> Option<Self>", "try_from_text(units: &[U]) -> Option<Aligned<T, LEN>>", OF_WIDTHS),
-        Rule("word: T::load(units)", "word: Word(Load::<Number>::load(units))", OF_WIDTHS),
+        Rule("word = T::load(units)", "word = Word(Load::<Number>::load(units))", OF_WIDTHS),
         *(
             Rule(f"Aligned{width}::try_from_text(", f"{name}::try_from_text(", OF_WIDTHS)
             for width, name in ((8, "eight"), (16, "sixteen"))

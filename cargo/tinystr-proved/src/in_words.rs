@@ -2,7 +2,6 @@
 //! past four, and what readers do with at most sixteen code units. Written by hand. A sum of the low seven bits of bytes leaves
 //! their high bits for what it carries, so no byte carries into the next.
 
-use crate::ranges::least;
 use crate::words::in_constants::{Aligned8, bytes, numbers};
 use crate::words::padded::copying::append;
 use crate::words::padded::resize_at_once;
@@ -11,6 +10,12 @@ use crate::words::word::joined;
 const LOW_BITS: u64 = 0x7f7f_7f7f_7f7f_7f7f;
 const HIGH_BITS: u64 = !LOW_BITS;
 const ONES: u64 = 0x0101_0101_0101_0101;
+
+/// `a.min(b)`, which a `const fn` can't call.
+#[inline(always)]
+pub(crate) const fn least(a: usize, b: usize) -> usize {
+    if b < a { b } else { a }
+}
 
 /// The length of a text with NULs after it.
 #[inline(always)]

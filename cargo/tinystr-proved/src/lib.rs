@@ -57,7 +57,6 @@ mod examples_of_readme {}
 mod errors;
 mod identifiers;
 mod in_words;
-mod ranges;
 mod sealed;
 #[cfg(feature = "serde")]
 mod serde;

@@ -5,7 +5,7 @@ use Rattle.std.specs.List.{list_all, slice_split, position_or_len, join_with_byt
 use Rattle.std.proofs.lemmas.Bool.Decides.{nat_tests}
 use Rattle.tinystr.specs.Classes.{is_alphanumeric}
 use Rattle.subtags.specs.Grammar.{dash, is_separator, fold_byte, fold_text, subtags_of, is_script, is_region, is_language, is_tail, IsLangId, canonical_subtag, canonical_subtags, canonical_text, IsCanonical}
-use Rattle.subtags.specs.Private.Tails.{first_subtag}
+use Rattle.subtags.specs.Private.{first_subtag}
 use Rattle.std.proofs.lemmas.List.{map-append, append-nil, length-append, take_all}
 use Rattle.std.proofs.lemmas.List.Splits.{join_with_byte-slice_split}
 use Rattle.std.proofs.lemmas.Grind.{common_steps}

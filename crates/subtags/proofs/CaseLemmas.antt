@@ -9,7 +9,7 @@ use Rattle.tinystr.specs.Classes.{is_alphabetic, is_alphanumeric, is_digit, is_u
 use Rattle.tinystr.specs.Text.{IsText, IsTextByte}
 use Rattle.tinystr.specs.ShortInput.{has_lowercase_bit, in_case_of, lower_but, upper_but}
 use Rattle.subtags.specs.Grammar.{dash, is_separator, fold_byte, IsLangId, canonical_text}
-use Rattle.subtags.specs.Private.Tails.{tail_example, example}
+use Rattle.subtags.specs.Private.{tail_example, example}
 use Rattle.subtags.proofs.FoldLemmas.{All-from_list_all}
 use Rattle.subtags.proofs.IdentifierLemmas.{All-canonical_text}
 use Rattle.subtags.proofs.HeadLemmas.{letters_few, end-le}
@@ -87,8 +87,9 @@ row_from e n row short is =
     ap (drop (8 - e)) (sym parts) ∙ drop-append-le (8 - e) (example 8 n) rest (omega (arith, eight))
     ∙ ap (λ (l : List ℕ). l ++ rest) (drop-append-le (8 - e) (replicate 8 0x61) (tail_example n) (omega arith) ∙ ap (λ (l : List ℕ). l ++ tail_example n) (drop-replicate {X = ℕ} (8 - e) 8 0x61 ∙ ap (λ j. replicate j 0x61) (omega (arith, short))))
 
-pub text_by_row : (u row part : List ℕ) (e len : ℕ) → IsLangId u → e ≡ position_or_len is_separator u → len ≡ length u → take (length (example 8 (len - e))) row ≡ example 8 (len - e) → part ≡ take 16 (take (24 - (8 - e)) (drop (8 - e) row)) → in_case_of part 0x5F 0x2D u ≡ canonical_text u
-text_by_row u row part e len h is all table chunk =
+pub text_by_row : (u row part : List ℕ) (e len : ℕ) → part ≡ take 16 (take (24 - (8 - e)) (drop (8 - e) row)) → IsLangId u → e ≡ position_or_len is_separator u → len ≡ length u → take (length (example 8 (len - e))) row ≡ example 8 (len - e)
+    → (part ≡ take 16 (take (24 - (8 - e)) (drop (8 - e) row))) × (in_case_of part 0x5F 0x2D u ≡ canonical_text u)
+text_by_row u row part e len chunk h is all table =
     let n = len - e in
     let t = canonical_text u in
     let x = rw (← is, ← all) at (example_of_id u h) in
@@ -97,4 +98,6 @@ text_by_row u row part e len h is all table chunk =
     let inside = end-le u in
     let classes : map cased t ≡ example e n = cased-canonical_text u ∙ x.text in
     let size : length (example e n) ≡ e + n = omega (arith, ap (λ (l : List ℕ). length l) classes, length-map t cased, length-canonical_text u) in
-    rw (chunk, take-take 16 (24 - (8 - e)) (drop (8 - e) row) (omega arith), row_from e n row short table, ← classes) (text_like 16 u t (drop (length (example 8 n)) row) (sym (length-canonical_text u)) (sym (fold_text-canonical_text u)) (plain_text u h) (rw classes (last_low e n short tail size)))
+    (chunk, rw (chunk, take-take 16 (24 - (8 - e)) (drop (8 - e) row) (omega arith), row_from e n row short table, ← classes) (text_like 16 u t (drop (length (example 8 n)) row) (sym (length-canonical_text u)) (sym (fold_text-canonical_text u)) (plain_text u h) (rw classes (last_low e n short tail size))))
+
+pub ruleset texts_by_row = (text_of_id, text_by_row)

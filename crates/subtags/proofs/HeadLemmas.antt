@@ -12,7 +12,7 @@ use Rattle.subtags.proofs.CanonLemmas.{subtags_at_first_separator}
 use Rattle.subtags.specs.Grammar.{is_separator, is_language, is_language_length}
 use Rattle.subtags.specs.Answers.{refusal_of}
 use Rattle.subtags.specs.declared.error.LangIdError.TheVariants.{InvalidLanguage, InvalidSubtag}
-use Rattle.subtags.specs.Private.Tails.{first_subtag}
+use Rattle.subtags.specs.Private.{first_subtag}
 
 pub length-first_subtag : (u : List ℕ) → length (first_subtag u) ≡ position_or_len is_separator u
 length-first_subtag u = length-prefix_len (λ b. not (is_separator b)) u

@@ -10,15 +10,14 @@ use Rattle.std.proofs.lemmas.List.Elements.{All-append, All-cons}
 use Rattle.tinystr.specs.Classes.{is_alphabetic, is_alphanumeric}
 use Rattle.subtags.specs.Grammar.{dash, is_separator, is_language, is_language_length, is_tail, fold_text, subtags_of, is_lang_id, IsLangId, canonical_subtag, canonical_text, canonical_of}
 use Rattle.subtags.specs.declared.error.LangIdError.TheVariants.{InvalidLanguage, InvalidSubtag}
-use Rattle.subtags.specs.Answers.{refusal_of}
-use Rattle.subtags.specs.Private.Tails.{first_subtag}
+use Rattle.subtags.specs.Answers.{refusal_of, is_subtag_end, IsIdPrefix}
+use Rattle.subtags.specs.Private.{first_subtag}
 use Rattle.subtags.proofs.CanonLemmas.{IsCanonical-canonical_text, fold_text-canonical_text, is_tail-canonical, plain_subtags, subtags_after, subtags_at_first_separator, subtags_of-alphanumeric}
 use Rattle.subtags.proofs.FoldLemmas.{All-from_list_all, is_language-fold_text, alphanumeric-fold_text, alphanumeric-from_letters}
 use Rattle.subtags.proofs.HeadLemmas.{letters_few, refusal_by_language, length-first_subtag, end-le}
 use Rattle.subtags.proofs.TailLemmas.{few_id, short_id}
 use Rattle.std.proofs.lemmas.List.Sums.{prefix_len_passes, prefix_len_stops}
 use Rattle.subtags.specs.Subtags.{first}
-use Rattle.subtags.specs.Prefixes.{is_subtag_end, IsIdPrefix}
 
 -- the first subtag of the first n bytes is cut there
 pub first_subtag-take : (n : ℕ) (u : List ℕ) → first_subtag (take n u) ≡ take n (first_subtag u)

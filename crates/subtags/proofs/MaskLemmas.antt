@@ -12,7 +12,7 @@ use Rattle.tinystr.specs.Classes.{is_alphabetic, is_digit}
 use Rattle.tinystr.specs.ShortInput.{bits_of}
 use Rattle.tinystr.proofs.ForCallers.{bits_of_class_all, bits_of_class_fits, bits_of_class_joined}
 use Rattle.subtags.specs.Grammar.{dash, is_separator}
-use Rattle.subtags.specs.Private.Tails.{classes_of, one_more}
+use Rattle.subtags.specs.Private.{classes_of, one_more}
 use Rattle.subtags.proofs.TailLemmas.{class_of, is_alphabetic-class_of, is_digit-class_of, is_separator-class_of}
 
 doubled : (n e : ℕ) → n * 2 ^ suc e ≡ n * 2 ^ e * 2

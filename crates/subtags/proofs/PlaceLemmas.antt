@@ -13,8 +13,7 @@ use Rattle.tinystr.specs.Classes.{is_alphanumeric}
 use Rattle.tinystr.specs.Case.{lowercase, titlecase, uppercase}
 use Rattle.subtags.specs.Grammar.{dash, fold_byte, fold_text, subtags_of, is_language, is_language_length, is_script, is_region, is_tail, canonical_subtag, canonical_text, IsCanonical}
 use Rattle.subtags.specs.Subtags.{IsCanonicalSubtag, language_of, script_of, region_of, after_dash, join_subtags}
-use Rattle.subtags.specs.Private.Tails.{first_subtag}
-use Rattle.subtags.specs.Private.SubtagPlaces.{language_end, region_start}
+use Rattle.subtags.specs.Private.{first_subtag, language_end, region_start}
 use Rattle.subtags.proofs.FoldLemmas.{fold_text-fold_text, fold_text-alphanumeric, alphanumeric-from_subtag, IsCanonicalSubtag-titlecase, IsCanonicalSubtag-uppercase}
 use Rattle.subtags.proofs.CanonLemmas.{subtags_of-join, subtags_after, subtags_at_first_separator, same_kind, is_tail-canonical, no_script-from_region, join_with_byte-tail, plain_subtags, fold_text-canonical_text}
 use Rattle.subtags.proofs.TailLemmas.{bytes_of_script, bytes_of_region}

@@ -9,7 +9,7 @@ use Rattle.std.proofs.lemmas.Simd.{map-map}
 use Rattle.tinystr.specs.Classes.{is_alphabetic, is_digit, is_upper}
 use Rattle.tinystr.specs.Case.{lower, raise, titlecase}
 use Rattle.subtags.specs.Grammar.{dash, is_separator, fold_byte, fold_text, subtags_of, is_language, is_language_length, is_script, is_region, is_tail, is_lang_id, canonical_subtag, canonical_subtags, canonical_text, IsLangId}
-use Rattle.subtags.specs.Private.Tails.{first_subtag, tail_example, example}
+use Rattle.subtags.specs.Private.{first_subtag, tail_example, example}
 use Rattle.subtags.proofs.FoldLemmas.{map-map_absorbed}
 use Rattle.subtags.proofs.CanonLemmas.{slice_split-map, subtags_of-fold_text, subtags_after, subtags_at_first_separator, fold_text-canonical_text}
 use Rattle.subtags.proofs.HeadLemmas.{length-first_subtag, letters_few, end-le}

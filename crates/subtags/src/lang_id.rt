@@ -6,8 +6,7 @@ ghost use Rattle.std.specs.Result.{result_ok};
 ghost use Rattle.tinystr.specs.Case.{lowercase, titlecase, uppercase};
 ghost use Rattle.subtags.specs.Grammar.{dash, fold_text, subtags_of, is_language, is_script, is_region, IsLangId, IsCanonical, canonical_text, canonical_of};
 ghost use Rattle.subtags.specs.Subtags.{first, IsCanonicalSubtag, language_of, script_of, region_of, join_subtags};
-ghost use Rattle.subtags.specs.Answers.{refusal_of, IsLangIdRead};
-ghost use Rattle.subtags.specs.Prefixes.{is_subtag_end, IsIdPrefix, IsLongestId};
+ghost use Rattle.subtags.specs.Answers.{refusal_of, IsLangIdRead, is_subtag_end, IsIdPrefix, IsLongestId};
 ghost use Rattle.subtags.specs.declared.error.LangIdError.TheVariants.{InvalidLanguage};
 
 use crate::classes::{Classes, is_alphabetic};
@@ -17,7 +16,6 @@ use crate::places::{has_byte_at, language_end, region_start};
 use crate::region::Region;
 use crate::script::Script;
 use crate::subtag::{Subtag, SubtagKind};
-use crate::tail::has_tail;
 use crate::texts::text_in_case;
 use std::convert::{AsSlice, AsStr};
 use std::fmt;
@@ -96,10 +94,9 @@ impl LangId {
             });
         }
         let classes = Classes::of(input);
-        let end = classes.first_end();
-        if !has_tail(&classes, end) {
+        let Some(end) = classes.language_len() else {
             return Err(refusal(&classes));
-        }
+        };
         Ok(LangId {
             text: text_in_case(classes.input(), end),
         })

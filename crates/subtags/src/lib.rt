@@ -12,7 +12,6 @@ mod places;
 pub mod region;
 pub mod script;
 pub mod subtag;
-mod tail;
 mod texts;
 
 pub use error::LangIdError;

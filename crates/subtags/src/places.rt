@@ -1,7 +1,7 @@
 //! The places of subtags in a canonical text.
 
 ghost use Rattle.std.specs.Prelude.{◌≡◌, ◌≤◌, nat_lt, length};
-ghost use Rattle.subtags.specs.Private.SubtagPlaces.{language_end, region_start};
+ghost use Rattle.subtags.specs.Private.{language_end, region_start};
 
 use tinystr::TinyAsciiStr;
 

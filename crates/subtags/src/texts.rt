@@ -3,12 +3,12 @@
 ghost use Rattle.std.specs.Prelude.{◌≡◌, ◌≤◌, length, take};
 ghost use Rattle.std.specs.List.{position_or_len};
 ghost use Rattle.subtags.specs.Grammar.{IsLangId, canonical_text, is_separator};
-ghost use Rattle.subtags.specs.Private.Tails.{example};
+ghost use Rattle.subtags.specs.Private.{example};
 
 use tinystr::{ShortInput, TinyAsciiStr};
 
 /// The canonical text of an identifier, whose language has `end` letters: its tail is in the case of the example.
-#[tactic(auto, using(crate::proofs::TailLemmas::parts_of_id))]
+#[tactic(auto, using(crate::proofs::TailLemmas::parts_of_id, crate::proofs::CaseLemmas::texts_by_row))]
 #[inline(always)]
 pub(crate) fn text_in_case(input: &ShortInput<'_>, end: usize) -> TinyAsciiStr<17>
     requires accepted { IsLangId input.now }

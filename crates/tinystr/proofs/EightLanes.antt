@@ -88,7 +88,7 @@ prefix_len-less [] a = refl
 prefix_len-less (b ∷ l) a = ap₂ (λ (is : Bool) (n : ℕ). cond is (1 + n) 0) (is_lower-less b a.0.fits) (prefix_len-less l a.1)
 
 -- the lowest mark is at the number of leading ones
-pub prefix_len-others : (lanes : List ℕ) → length lanes ≡ 8 → Each1 (Fits w8) lanes
+prefix_len-others : (lanes : List ℕ) → length lanes ≡ 8 → Each1 (Fits w8) lanes
     → (others lanes ≡ 0 → 8 ≡ prefix_len is_lower lanes) × (others lanes ≢ 0 → (count_trailing_zeros 64 (others lanes) ≡ prefix_len is_lower lanes) × (count_trailing_zeros 64 (others lanes) ≤ 8))
 prefix_len-others lanes eight small =
     let p : ℕ → Bool = λ x. ltb 25 x in
@@ -106,6 +106,12 @@ prefix_len-others lanes eight small =
           let at : count_trailing_zeros 64 (mask_l (map p places)) ≡ prefix_len is_lower lanes = grind (arith, nat_tests) in
           (at, omega (arith, at, most)),
     )
+
+pub others_none : (lanes : List ℕ) → length lanes ≡ 8 → Each1 (Fits w8) lanes → others lanes ≡ 0 → prefix_len is_lower lanes ≡ 8
+others_none lanes eight small none = sym ((prefix_len-others lanes eight small).0 none)
+
+pub others_some : (lanes : List ℕ) → length lanes ≡ 8 → Each1 (Fits w8) lanes → others lanes ≢ 0 → (count_trailing_zeros 64 (others lanes) ≡ prefix_len is_lower lanes) × (count_trailing_zeros 64 (others lanes) ≤ 8)
+others_some lanes eight small some = (prefix_len-others lanes eight small).1 some
 
 IsBytes-nuls : (l : List ℕ) (k : ℕ) → IsBytes l → IsBytes (l ++ NULS k)
 IsBytes-nuls [] k a = Each1-replicate (λ b. b < 256) k 0 (lit< tt)

@@ -15,7 +15,7 @@ use Rattle.tinystr_words.specs.Text.{IsPaddedText, IsText, IsTextByte, pad, text
 use Rattle.tinystr_words.proofs.Texts.{NULS, length-pad, get_or-pad, IsPaddedText-places}
 use Rattle.tinystr_words.proofs.Words.Lanes.{below, below_at}
 use Rattle.tinystr.specs.ShortInput.{has_lowercase_bit, lower_but, upper_but, in_case_of}
-use Rattle.tinystr.specs.Private.ShortInputs.{IsLoaded}
+use Rattle.tinystr.specs.Private.{IsLoaded}
 use Rattle.tinystr.proofs.EightLanes.{less}
 
 -- ---- the bits of lanes
@@ -171,7 +171,10 @@ held_in_case from to u lanes example last load sixteen text some new is =
     held xs last t long (text-in_case_of example from to u some new text) (omega (arith, length-in_case_of example from to u, load.few)) same end
 
 -- an example in lowercase
-pub all_in_lowercase : (from to k : ℕ) (u : List ℕ) → in_case_of (replicate k 0x61) from to u ≡ map (lower_but from to) u
-all_in_lowercase from to k [] = refl
-all_in_lowercase from to zero (b ∷ u) = ap (λ (w : List ℕ). lower_but from to b ∷ w) (all_in_lowercase from to zero u)
-all_in_lowercase from to (suc k) (b ∷ u) = ap (λ (w : List ℕ). lower_but from to b ∷ w) (all_in_lowercase from to k u)
+all_lowered : (from to k : ℕ) (u : List ℕ) → in_case_of (replicate k 0x61) from to u ≡ map (lower_but from to) u
+all_lowered from to k [] = refl
+all_lowered from to zero (b ∷ u) = ap (λ (w : List ℕ). lower_but from to b ∷ w) (all_lowered from to zero u)
+all_lowered from to (suc k) (b ∷ u) = ap (λ (w : List ℕ). lower_but from to b ∷ w) (all_lowered from to k u)
+
+pub all_in_lowercase : (from to : ℕ) (u : List ℕ) → in_case_of (replicate 16 0x61) from to u ≡ map (lower_but from to) u
+all_in_lowercase from to u = all_lowered from to 16 u

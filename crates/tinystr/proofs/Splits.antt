@@ -1,18 +1,20 @@
 -- The parts of a padded text, found and taken in vectors of sixteen bytes.
-use Rattle.std.proofs.Common.{◌≡◌, ◌+◌, ◌*◌, ◌%◌, ◌-◌, ◌<◌, ◌≤◌, ℕ, suc, inl, inr, Bool, true, false, not, Some, None, List, [], ◌∷◌, length, map, replicate, take, drop, get_or, cond, eqb, ap, sym, ◌∙◌, w8, arith, refl, take_all, rules}
+use Rattle.std.proofs.Common.{◌≡◌, ◌+◌, ◌*◌, ◌%◌, ◌-◌, ◌<◌, ◌≤◌, ℕ, suc, inl, inr, Bool, true, false, not, Some, None, List, [], ◌∷◌, length, map, replicate, take, drop, get_or, cond, eqb, ap, sym, ◌∙◌, w8, arith, refl, take_all, rules, append_assoc}
 use lib.Lanes.{zip2, mask_l, top}
 use lib.Count.{count_trailing_zeros}
-use Rattle.std.specs.List.{Contains, after_first, before_first, position, position_or_len, slice_split}
+use Rattle.std.specs.List.{join_with_byte, Contains, after_first, before_first, position, position_or_len, slice_split}
 use Rattle.std.proofs.lemmas.Bool.{cases_lt}
 use Rattle.std.proofs.lemmas.Bool.Decides.{nat_tests}
-use Rattle.std.proofs.lemmas.List.{length-drop, length-map, length-take, take-take, get_or_default, places, take_rest}
+use Rattle.std.proofs.lemmas.List.{length-append, length-drop, length-map, length-take, take-take, get_or_default, places, take_rest}
+use Rattle.std.proofs.lemmas.List.Elements.{All-cons, All-nil}
 use Rattle.std.proofs.lemmas.List.Quantifiers.{position-Some}
 use Rattle.std.proofs.lemmas.Simd.{bitmask_splat, first_set_mask_l}
 use Rattle.std.proofs.lemmas.List.Sums.{fails_before_first, passes_at_first, position_or_len_is}
-use Rattle.tinystr_words.specs.Text.{IsPadded, IsPaddedText, IsText, pad, text_of}
-use Rattle.tinystr_words.proofs.Parts.Splits.{slice_split-found, slice_split-missed}
+use Rattle.tinystr_words.specs.Text.{IsTextByte, IsPadded, IsPaddedText, IsText, pad, text_of}
+use Rattle.tinystr_words.proofs.Padding.{IsPadded-first_lanes}
+use Rattle.tinystr_words.proofs.Parts.Splits.{joined-more, length-joined_more, slice_split-found, slice_split-missed}
 use Rattle.tinystr_words.proofs.Parts.Found.{position-none_after, position-front, position-None, position-None-fails, position-at}
-use Rattle.tinystr_words.proofs.Texts.{IsPaddedText-made, IsPaddedText-drop, IsPaddedText-take, get_or-text_of, length-pad, length-text_of-le, text_of-drop, text_of-made, text_of-take}
+use Rattle.tinystr_words.proofs.Texts.{text_of-pad, IsPaddedText-made, IsPaddedText-drop, IsPaddedText-take, get_or-text_of, length-pad, length-text_of-le, text_of-drop, text_of-made, text_of-take}
 
 -- ---- a byte of a padded text
 
@@ -137,3 +139,26 @@ split_once-missed c t none found =
     let other : eqb (get_or t found.0 0) c ≡ false = position-None-fails (λ b. eqb b c) t none found.0 found.1 in
     let here : get_or t found.0 0 ≡ c = get_or_default t found.0 0 c found.1 ∙ found.2 in
     absurd (grind (arith, nat_tests))
+
+-- ---- texts in lanes
+
+pub ruleset sixteen = (IsPadded-fewer, IsPadded-first_sixteen)
+
+-- the first of sixteen lanes
+pub first_lanes : (lanes made : List ℕ) (count n : ℕ) → made ≡ pad (take count lanes) 16 → length (text_of lanes) ≤ n → length lanes ≡ 16 → IsPadded lanes → count ≤ 16
+    → (made ≡ pad (take count lanes) 16) × IsPadded made × (length (text_of made) ≤ n) × (text_of made ≡ take count (text_of lanes))
+first_lanes lanes made count n is fits len h some =
+    let front = IsPadded-first_lanes lanes made 16 count (rw len at h) some is in
+    (is, front.0, rw front.1 (omega (arith, length-take count (text_of lanes))), front.1)
+
+-- ---- joined texts
+
+-- one byte is its own text
+pub text_of_byte : (b : ℕ) → IsTextByte b → text_of (b ∷ []) ≡ b ∷ []
+text_of_byte b h = text_of-pad (b ∷ []) 1 (All-cons IsTextByte b [] h (All-nil IsTextByte))
+
+-- one more text
+pub joined_longer : (c : ℕ) (t : List ℕ) (ts : List (List ℕ)) (i : ℕ) → i < length ts → length (join_with_byte c (t ∷ take i ts)) + 1 + length (get_or ts i []) ≤ length (join_with_byte c (t ∷ ts))
+joined_longer c t ts i inside = length-joined_more c t ts i [] inside
+
+pub ruleset joined_bytes = (length-append, append_assoc, text_of_byte, joined_longer, joined-more)

@@ -1,8 +1,9 @@
--- The forms of a text in JSON and in bytes, and what a refusal to read or to write one says.
-use Rattle.std.specs.Prelude.{◌≡◌, ℕ, List, None, IsSomeAnd}
+-- The forms of a text in JSON and in bytes, what a refusal to read or to write one says, and what bytes print as.
+use Rattle.std.specs.Prelude.{◌≡◌, ℕ, List, None, IsSomeAnd, Option, Some, if◌then◌else◌}
+use Rattle.std.specs.Fmt.{decimal, debug_str, debug_list}
 use Rattle.serde_json.specs.Data.{Data, string}
 use Rattle.serde_json.specs.Find.{as_str}
-use Rattle.tinystr_words.specs.Text.{IsStrictText, IsPaddedText}
+use Rattle.tinystr_words.specs.Text.{IsStrictText, IsPaddedText, text_of, is_padded_text}
 use Rattle.tinystr_words.specs.ByteForm.{ByteFault}
 use Rattle.tinystr_words.specs.ByteForm.ByteFault.{too_short, null, non_ascii}
 use Rattle.tinystr.specs.declared.forms.JsonReadError.{JsonReadError}
@@ -34,3 +35,9 @@ byte_fault_of NonAscii = non_ascii
 abbrev pub RefusesWrite : FormWriteError → List ℕ → ℕ → Type 0
 RefusesWrite NotAscii bytes n = ¬ IsPaddedText bytes n
 RefusesWrite (Memory refused) bytes n = IsPaddedText bytes n
+
+-- the library's debug form of the text where the n bytes are one, and else that of the list of bytes
+-- e.g. at 2, of 61 00 it is "a" in its quotes, and of 00 61 it is [0, 97]
+abbrev pub debug_bytes : List ℕ → ℕ → Option (List ℕ)
+debug_bytes bytes n =
+    if is_padded_text bytes n then debug_str (text_of bytes) else debug_list (λ b. Some (decimal b)) bytes

@@ -78,6 +78,7 @@ impl<const N: usize> TinyAsciiStr<N> {
     /// tinystr!(3, "GBP")?.write_bytes(&mut record[4..]);
     /// assert_eq!(rt; record, *b"GB\0\0GBP..");
     /// ```
+    #[tactic(auto, using(std::proofs::Common::take_at, tinystr_words::proofs::Reading::ByteForms::byte_reading))]
     #[inline]
     pub fn write_bytes(&self, out: &mut [u8])
         requires { N ≤ length out.old }
@@ -159,7 +160,7 @@ impl<const N: usize> UnvalidatedTinyAsciiStr<N> {
 }
 
 // The fault at the first of `expected` positions that has one. Bytes are read in order, so the end of the input is a
-// fault where it comes, and a byte above 127 after a NUL is `Null`. `ascii::strict::find_fault` gives the first fault
+// fault where it comes, and a byte above 127 after a NUL is `Null`. `ascii::readers::find_fault` gives the first fault
 // of code units that were counted before, and has `NonAscii` before `ContainsNull`.
 #[tactic(auto, using(tinystr_words::proofs::Reading::ByteForms::byte_pass))]
 fn find_byte_fault(input: &[u8], expected: usize) -> Option<BytesReadError>

@@ -6,7 +6,7 @@ ghost use Rattle.tinystr_words.specs.Case.{lower, raise};
 ghost use Rattle.tinystr_words.specs.Classes.{is_alphabetic, is_digit};
 ghost use Rattle.tinystr_words.specs.Text.{IsPaddedText, IsText, IsTextByte, pad, text_of};
 ghost use Rattle.tinystr.specs.ShortInput.{bits_of, lower_but, in_case_of};
-ghost use Rattle.tinystr.specs.Private.ShortInputs.{IsLoaded};
+ghost use Rattle.tinystr.specs.Private.{IsLoaded};
 
 use crate::ascii::TinyAsciiStr;
 use std::marker::Model;
@@ -31,7 +31,7 @@ pub struct ShortInput<'a> {
 
 impl<'a> Model for ShortInput<'a> {
     ghost use Rattle.std.specs.Prelude.{List, ℕ};
-    ghost use Rattle.tinystr.specs.Private.ShortInputs.{IsLoaded};
+    ghost use Rattle.tinystr.specs.Private.{IsLoaded};
 
     ghost Value = { List ℕ };
 
@@ -108,6 +108,7 @@ impl<'a> ShortInput<'a> {
 
     /// The text of the bytes, with `to` for `from` and letters in lowercase. The bytes must be a text, and `from` and `to`
     /// bytes from 1 to 127.
+    #[tactic(auto, using(crate::proofs::ShortInputs::all_in_lowercase))]
     #[inline(always)]
     pub fn in_lowercase(&self, from: u8, to: u8) -> TinyAsciiStr<17>
         requires text { IsText self.now }
@@ -188,7 +189,6 @@ fn digits(lanes: u8x16) -> u64
 }
 
 // The lanes that are one of two bytes.
-#[tactic(auto, using(crate::proofs::ShortInputs::either_marks))]
 #[inline(always)]
 fn either(lanes: u8x16, one: u8, other: u8) -> u64
     ensures { result ≡ mask_l (map (λ b. b == one || b == other) lanes) }

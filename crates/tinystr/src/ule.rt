@@ -5,7 +5,7 @@ ghost use Rattle.std.specs.Prelude.{◌≡◌, ◌≢◌, ◌<◌, ◌≤◌, �
 ghost use Rattle.tinystr_words.specs.Text.{IsPaddedText};
 ghost use Rattle.tinystr_words.specs.Packed.{IsPacked};
 ghost use Rattle.tinystr.specs.Records.{RefusesRecords};
-ghost use Rattle.tinystr.specs.Private.RecordLists.{RefusesOneOf};
+ghost use Rattle.tinystr.specs.Private.{RefusesOneOf};
 
 use crate::ascii::{TinyAsciiStr, are_padded};
 use crate::error::ParseError;
@@ -38,6 +38,7 @@ impl<const N: usize> TinyAsciiStr<N> {
     /// let fault = ParseError::ContainsNull;
     /// assert_eq!(rt; TinyAsciiStr::<3>::validate_bytes(b"EURG\0B"), Err(UleError::Parse { index: 1, fault }));
     /// ```
+    #[tactic(auto, using(crate::proofs::Errors::record_lists))]
     pub fn validate_bytes(bytes: &[u8]) -> Result<(), UleError>
         requires { 0 < N }
         ensures accepted { IsOk result ↔ IsPacked bytes.now N }
@@ -54,6 +55,7 @@ impl<const N: usize> TinyAsciiStr<N> {
     }
 
     // Whether all records are padded texts, and else the first that isn't and its fault.
+    #[tactic(auto, using(crate::proofs::Errors::checked_records))]
     #[inline]
     fn validate_records(records: &[[u8; N]]) -> Result<(), UleError>
         ensures accepted { IsOk result ↔ All (λ raw. IsPaddedText raw N) records.now }

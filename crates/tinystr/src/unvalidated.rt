@@ -5,7 +5,7 @@ ghost use Rattle.tinystr_words.specs.Text.{pad, text_of, IsPaddedText};
 ghost use Rattle.tinystr_words.specs.Reading.{fault_in};
 ghost use Rattle.tinystr.specs.Error.{fault_of};
 ghost use Rattle.tinystr.specs.Reading.{read_raw_of};
-ghost use Rattle.tinystr.specs.Unvalidated.{debug_bytes};
+ghost use Rattle.tinystr.specs.Forms.{debug_bytes};
 
 use crate::ascii::TinyAsciiStr;
 use crate::error::ParseError;
@@ -165,6 +165,7 @@ impl<const N: usize> Default for UnvalidatedTinyAsciiStr<N> {
 impl<const N: usize> fmt::Debug for UnvalidatedTinyAsciiStr<N> {
     ghost debug_output = { λ bytes. debug_bytes bytes N };
 
+    #[tactic(auto, using(crate::proofs::Errors::padded_read))]
     fn fmt<W: fmt::Write>(&self, f: &mut fmt::Formatter<W>) -> fmt::Result {
         match self.try_into_tinystr() {
             Ok(text) => fmt::Debug::fmt(&text, f),

@@ -3,14 +3,15 @@ use Rattle.std.proofs.Common.{◌≡◌, ◌≢◌, ◌+◌, ◌-◌, ◌∙◌,
 use Rattle.std.proofs.lemmas.Bool.{false_from_ne_true}
 use Rattle.std.proofs.lemmas.Bool.Decides.{nat_tests}
 use Rattle.std.proofs.lemmas.List.{take_all, length-drop}
-use Rattle.subtags.specs.Grammar.{subtags_of, fold_text, is_language, is_tail, IsLangId, IsCanonical, canonical_subtag, canonical_text}
-use Rattle.subtags.specs.Prefixes.{IsIdPrefix, IsLongestId}
+use Rattle.subtags.specs.Grammar.{is_lang_id, subtags_of, fold_text, is_language, is_tail, IsLangId, IsCanonical, canonical_subtag, canonical_text}
+use Rattle.subtags.specs.Answers.{IsIdPrefix, IsLongestId}
 use Rattle.subtags.specs.Subtags.{first, script_of, region_of}
-use Rattle.subtags.specs.Private.Tails.{first_subtag}
+use Rattle.subtags.specs.Private.{first_subtag}
 use Rattle.subtags.proofs.CanonLemmas.{IsCanonical-canonical_text, is_tail-canonical, no_script-from_region, plain_subtags, subtags_of-join, subtags_after, subtags_at_first_separator}
 use Rattle.subtags.proofs.IdentifierLemmas.{prefix_language}
 use Rattle.tinystr_c.specs.Codes.{OK, INVALID_LANGUAGE, INVALID_SUBTAG, NO_ROOM, success, failure, no_parts}
 use Rattle.tinystr_c.specs.Langid.{AnswersParts}
+use Rattle.tinystr_c.specs.declared.answer.TinystrParts.{TinystrParts}
 use Rattle.tinystr_c.specs.declared.answer.TinystrResult.{TinystrResult}
 
 -- an identifier begins with itself
@@ -27,7 +28,7 @@ whole_longest u t r none h =
 pub longer_input : (u t r : List ℕ) → length r ≢ 0 → IsLongestId u t r → ¬ IsLangId u
 longer_input u t r some h is = some (omega (arith, h.longest (length u) (whole_prefix u is), length-drop h.end u, ap (λ (l : List ℕ). length l) h.rest))
 
-pub parts-no_subtag : (u t r : List ℕ) (len : ℕ) → length r ≢ 0 → (h : IsLongestId u t r) → AnswersParts (no_parts (failure INVALID_SUBTAG (length u - length r + 1)) (length (subtags_of t))) u len
+parts-no_subtag : (u t r : List ℕ) (len : ℕ) → length r ≢ 0 → (h : IsLongestId u t r) → AnswersParts (no_parts (failure INVALID_SUBTAG (length u - length r + 1)) (length (subtags_of t))) u len
 parts-no_subtag u t r len some h =
     let place : length u - length r ≡ h.end = omega (arith, h.prefix.inside, length-drop h.end u, ap (λ (l : List ℕ). length l) h.rest) in
     record {
@@ -43,7 +44,7 @@ parts-no_language u len other none = record {
   no_subtag = λ _ why. (let bad = rw other at why in absurd (cc));
 }
 
-pub parts-no_room : (u t r : List ℕ) (len : ℕ) (w : TinystrResult) → length r ≡ 0 → IsLongestId u t r → w ≡ cond (nat_le (length t) len) (success (length t)) (failure NO_ROOM (length t)) → w.code ≢ OK → AnswersParts (no_parts w 0) u len
+parts-no_room : (u t r : List ℕ) (len : ℕ) (w : TinystrResult) → length r ≡ 0 → IsLongestId u t r → w ≡ cond (nat_le (length t) len) (success (length t)) (failure NO_ROOM (length t)) → w.code ≢ OK → AnswersParts (no_parts w 0) u len
 parts-no_room u t r len w none h written failed =
     let whole = whole_longest u t r none h in
     let less : nat_le (length t) len ≡ false = false_from_ne_true (nat_le (length t) len) λ fits. failed (ap (λ (w : TinystrResult). w.code) (rw fits at written)) in
@@ -74,3 +75,17 @@ count_of_subtags t h =
     let tail = is_tail-canonical (subtags_after t) (grind arith) in
     let of : subtags_of (canonical_text t) ≡ l ∷ ps = rw split (subtags_of-join l ps (plain_subtags l ps is tail)) in
     rw (rw h.canonical at of) (grind (arith, no_script-from_region))
+
+-- what the code makes of these
+pub made_no_subtag : (u t r : List ℕ) (len : ℕ) (made : TinystrParts) → made ≡ no_parts (failure INVALID_SUBTAG (length u - length r + 1)) (length (subtags_of t)) → length r ≢ 0 → IsLongestId u t r
+    → (made ≡ no_parts (failure INVALID_SUBTAG (length u - length r + 1)) (length (subtags_of t))) × AnswersParts made u len
+made_no_subtag u t r len made is some h = (is, rw is (parts-no_subtag u t r len some h))
+
+pub made_no_room : (u t r : List ℕ) (len : ℕ) (w : TinystrResult) (made : TinystrParts) → made ≡ no_parts w 0 → w ≡ cond (nat_le (length t) len) (success (length t)) (failure NO_ROOM (length t)) → w.code ≢ OK → length r ≡ 0 → IsLongestId u t r
+    → (made ≡ no_parts w 0) × AnswersParts made u len
+made_no_room u t r len w made is written failed none h = (is, rw is (parts-no_room u t r len w none h written failed))
+
+pub no_longer : (u t r : List ℕ) → length r ≢ 0 → IsLongestId u t r → is_lang_id (subtags_of (fold_text u)) ≡ false
+no_longer u t r some h = false_from_ne_true (is_lang_id (subtags_of (fold_text u))) (longer_input u t r some h)
+
+pub ruleset longest_parts = (nat_tests, canonical_longest, no_longer, made_no_subtag, made_no_room)

@@ -1,8 +1,7 @@
 -- What the exports answer of language identifiers, and what they write.
 use Rattle.std.specs.Prelude.{◌≡◌, ℕ, ◌+◌, nat_le, Bool, if◌then◌else◌, List, length, Option, Some, None}
-use Rattle.subtags.specs.Answers.{refusal_of}
+use Rattle.subtags.specs.Answers.{refusal_of, IsLongestId}
 use Rattle.subtags.specs.Grammar.{is_lang_id, fold_text, subtags_of, canonical_text, IsLangId}
-use Rattle.subtags.specs.Prefixes.{IsLongestId}
 use Rattle.subtags.specs.Subtags.{language_of, script_of, region_of, after_dash}
 use Rattle.subtags.specs.declared.error.LangIdError.{LangIdError}
 use Rattle.subtags.specs.declared.error.LangIdError.TheVariants.{InvalidLanguage, InvalidSubtag}

@@ -25,6 +25,7 @@ pub fn langid(input: &[u8], out: &mut [u8]) -> TinystrResult
 }
 
 /// The same, with the places of the subtags, or of the first that can't follow those before it.
+#[tactic(auto, using(crate::proofs::Identifiers::longest_parts))]
 pub fn langid_parts(input: &[u8], out: &mut [u8]) -> TinystrParts
     ensures answer { AnswersParts result input.now (length out.old) }
     ensures bytes { out.new ≡ langid_bytes input.now out.old }
@@ -96,6 +97,7 @@ fn place_after<K: SubtagKind<N>, const N: usize>(
 }
 
 // How many subtags an identifier has.
+#[tactic(auto, using(crate::proofs::Identifiers::count_of_subtags))]
 fn count_of(id: &LangId) -> usize
     requires { IsCanonical id.now }
     ensures { result ≡ length (subtags_of id.now) }

@@ -5,7 +5,6 @@
 
 mod answer;
 mod hashed;
-mod key;
 mod langid;
 mod messages;
 mod numbers;
@@ -26,10 +25,10 @@ ghost use Rattle.tinystr_c.specs.Texts.{without_nuls, read_answer, read_bytes, a
 pub use answer::{TinystrParts, TinystrRange, TinystrResult};
 use answer::{bad_argument, no_range};
 use hashed::{hashed_check, hashed_map_check, hashed_search, hashed_search_each};
-use key::without_nuls;
 use packed::{map_check, sorted_check, sorted_prefix, sorted_search, table_check};
 use packing::{hashed_pack, sorted_pack};
 use search_each::sorted_search_each;
+use texts::without_nuls;
 
 // Calls a function at one of the capacities of records, or returns another value.
 macro_rules! at_capacity {

@@ -80,6 +80,7 @@ fn search_eight<const N: usize>(
 }
 
 // The eight keys from an index on.
+#[tactic(auto, using(tinystr_packed::proofs::EightSearches::answers_so_far))]
 fn eight_from<const N: usize>(keys: &Table<'_, N>, start: usize) -> [TinyAsciiStr<N>; 8]
     requires keys { start + 8 ≤ length keys.now }
     requires fits { start + 8 < 2 ^ 64 }

@@ -2,10 +2,9 @@
 
 ghost use Rattle.std.specs.Prelude.{◌≡◌, ◌≤◌, length, IfOk};
 ghost use Rattle.tinystr_words.specs.Text.{pad};
-ghost use Rattle.tinystr_c.specs.Texts.{read_answer, read_bytes, ask_answer, case_answer, case_bytes, question_of, case_of, padded_read, yes_or_no};
+ghost use Rattle.tinystr_c.specs.Texts.{read_answer, read_bytes, ask_answer, case_answer, case_bytes, question_of, case_of, padded_read, yes_or_no, without_nuls};
 
 use crate::answer::{TinystrResult, bad_argument, failure, fault_answer, success};
-use crate::key::without_nuls;
 use crate::numbers::{
     ALPHABETIC, ALPHABETIC_LOWERCASE, ALPHABETIC_TITLECASE, ALPHABETIC_UPPERCASE, ALPHANUMERIC,
     LOWER, LOWERCASE, NUMERIC, TITLE, TITLECASE, TOO_LONG, UPPER, UPPERCASE,
@@ -14,6 +13,7 @@ use tinystr::TinyAsciiStr;
 use tinystr_words::{Case, Question};
 
 /// Reads a text, and writes it padded.
+#[tactic(auto, using(crate::proofs::Putting::reading))]
 #[inline]
 pub fn read(input: &[u8], out: &mut [u8]) -> TinystrResult
     ensures answer { result ≡ read_answer input.now (length out.old) }
@@ -133,4 +133,17 @@ fn yes_or_no(yes: bool) -> TinystrResult
     ensures { result ≡ yes_or_no yes }
 {
     success(usize::from(yes))
+}
+
+/// The bytes up to the last that isn't a NUL.
+#[inline]
+pub fn without_nuls(bytes: &[u8]) -> &[u8]
+    ensures bytes { result.now ≡ without_nuls bytes.now }
+    ensures fits { length result.now ≤ length bytes.now }
+{
+    let mut len = bytes.len();
+    while len > 0 && bytes[len - 1] == 0 {
+        len -= 1;
+    }
+    &bytes[..len]
 }

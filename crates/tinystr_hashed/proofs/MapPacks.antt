@@ -29,8 +29,7 @@ use Rattle.tinystr_words.specs.Text.{IsStrictText, pad}
 use Rattle.tinystr_packed.specs.Map.{get}
 use Rattle.tinystr_packed.proofs.PackedMaps.{Entries, get-absent, get-zip, same-Decides}
 use Rattle.tinystr_hashed.specs.Hashing.{AreDistinct}
-use Rattle.tinystr_hashed.specs.Packing.{ArePackedHashed, RefusesToPack}
-use Rattle.tinystr_hashed.specs.PackingMaps.{ArePackedHashedEntries, ArePackedHashedTexts, IsNotDuplicate}
+use Rattle.tinystr_hashed.specs.Packing.{ArePackedHashed, RefusesToPack, ArePackedHashedEntries, ArePackedHashedTexts, IsNotDuplicate}
 use Rattle.tinystr_hashed.specs.Reading.{IsHashed, pilots_of, place_by}
 use Rattle.tinystr_hashed.specs.declared.packing.PackHashedError.{PackHashedError}
 use Rattle.tinystr_hashed.specs.declared.packing.PackHashedError.TheVariants.{Duplicate, Memory}

@@ -3,6 +3,5 @@ pub mod Reading
 pub mod Map
 pub mod TextMap
 pub mod Packing
-pub mod PackingMaps
 pub mod PackingInto
 pub mod Private

@@ -5,7 +5,7 @@ ghost use Rattle.std.specs.List.{IsDistinct};
 ghost use Rattle.std.specs.Str.{bytes_eq};
 ghost use Rattle.tinystr_packed.specs.Rising.{text_at};
 ghost use Rattle.tinystr_hashed.specs.Packing.{ArePackedHashed};
-ghost use Rattle.tinystr_hashed.specs.Private.Building.{texts_in};
+ghost use Rattle.tinystr_hashed.specs.Private.{texts_in};
 
 use crate::hashing::{hash_of, start_of};
 use crate::placing::{cut, cut_numbers, find_index, search_size, set};

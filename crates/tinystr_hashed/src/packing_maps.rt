@@ -2,8 +2,7 @@
 
 ghost use Rattle.std.specs.Prelude.{◌<◌, IfOk, IfErr};
 ghost use Rattle.std.specs.BTreeMap.{keys};
-ghost use Rattle.tinystr_hashed.specs.Packing.{ArePackedHashed};
-ghost use Rattle.tinystr_hashed.specs.PackingMaps.{ArePackedHashedEntries, ArePackedHashedTexts, IsNotDuplicate};
+ghost use Rattle.tinystr_hashed.specs.Packing.{ArePackedHashed, ArePackedHashedEntries, ArePackedHashedTexts, IsNotDuplicate};
 
 use crate::packing::{PackHashedError, pack_hashed};
 use crate::table::HashedTable;

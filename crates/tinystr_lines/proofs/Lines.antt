@@ -2,12 +2,12 @@
 use Rattle.std.proofs.Common.{◌≡◌, ℕ, inl, inr, List, [], ◌∷◌, ◌++◌, ◌<◌, length, refl, ap, sym, ◌∙◌, arith, append-nil, append_assoc, length-append, take_all, drop_of_length-le, ◌-◌, Option, Ok, Err, Result, OnErr, take, drop, take-append-drop, subst}
 use Rattle.std.specs.List.{before_first, after_first, position_or_len, flat_map, slice_split}
 use Rattle.std.proofs.lemmas.Bool.{cases_lt}
+use Rattle.std.proofs.lemmas.Grind.{common_steps}
 use Rattle.std.proofs.lemmas.Bool.Decides.{nat_tests}
 use Rattle.std.proofs.lemmas.List.Sums.{fails_before_first}
 use Rattle.std.proofs.lemmas.List.Concat.{flat_map-append}
 use Rattle.std.proofs.lemmas.List.Splits.{slice_split_first, slice_split_none, length-slice_split}
-use Rattle.tinystr_lines.specs.Reply.{reply}
-use Rattle.tinystr_lines.specs.Output.{is_line_feed, without_empty_last, lines_of, reply_line, output_of, AppendsBeginning}
+use Rattle.tinystr_lines.specs.Reply.{reply, is_line_feed, without_empty_last, lines_of, reply_line, output_of, AppendsBeginning}
 use Rattle.std.proofs.Math.Seq.{take-append_seam}
 use Rattle.std.proofs.lemmas.List.{take_rest}
 use Rattle.std.proofs.KnownBytes.{Appends-trans, Appends-kept}
@@ -105,3 +105,5 @@ AppendsBeginning-from_write a b c bytes rest (Err e) kept (done, split, appended
 pub AppendsBeginning-from_flush : {T E : Type 0} (a b c : Option (List ℕ)) (bytes rest : List ℕ) (r : Result T E) → Keeps b c → AllBut a b bytes rest → OnErr r (AppendsBeginning a c bytes)
 AppendsBeginning-from_flush a b c bytes rest (Ok v) kept all_but = tt
 AppendsBeginning-from_flush a b c bytes rest (Err e) kept all_but = AppendsBeginning-from_write a b c bytes rest (Err e) kept all_but
+
+pub ruleset output_steps = (nat_tests, common_steps, output_of-first, output_of-none)

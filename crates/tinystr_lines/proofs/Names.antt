@@ -3,7 +3,7 @@ use Rattle.std.proofs.Common.{◌≡◌, ℕ, if◌then◌else◌, eqb, List, []
 use Rattle.std.proofs.lemmas.Bool.Decides.{nat_tests}
 use Rattle.std.proofs.lemmas.Slice.Eq.{bytes_eq-Decides}
 use Rattle.tinystr_lines.specs.declared.command.Command.{Command}
-use Rattle.tinystr_lines.specs.Fields.{named, commands, command_of}
+use Rattle.tinystr_lines.specs.Reply.{named, commands, command_of}
 
 -- the rows of a table whose name is n bytes long
 abbrev pub of_length : ℕ → List (List ℕ × Command) → List (List ℕ × Command)

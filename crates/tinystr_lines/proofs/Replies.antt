@@ -11,7 +11,7 @@ use Rattle.tinystr_words.specs.Text.{IsPaddedText, is_padded_text}
 use Rattle.tinystr_words.specs.Packed.{IsPacked, IsFirstBad, record_at}
 use Rattle.tinystr_words.proofs.Reading.Records.{IsPacked-length, IsPacked-record}
 use Rattle.tinystr_words.proofs.Reading.OnePass.{find-none, find-first}
-use Rattle.tinystr_words.proofs.Reading.Decided.{is_padded_text-Decides}
+use Rattle.tinystr_words.proofs.Reading.Decided.{is_padded_text-Decides, is_strict_text-Decides}
 
 -- ---- a text that fits in two capacities gets the same reply at both
 
@@ -22,6 +22,15 @@ call_reply-fits n m call units in_n in_m = grind (arith, nat_tests)
 pub call_reply-too_long : (n : ℕ) (call : TextCall) (units : List ℕ) → n < length units → call_reply n call units ≡ fault_text (too_long n (length units))
 unfolding call_reply fault_in
 call_reply-too_long n call units long = grind (arith, nat_tests)
+
+-- in the two capacities that hold all others
+pub call_reply-in_8 : (n : ℕ) (call : TextCall) (units : List ℕ) → length units ≤ n → length units ≤ 8 → call_reply n call units ≡ call_reply 8 call units
+call_reply-in_8 n call units = call_reply-fits n 8 call units
+
+pub call_reply-in_32 : (n : ℕ) (call : TextCall) (units : List ℕ) → length units ≤ n → n ≤ 32 → call_reply n call units ≡ call_reply 32 call units
+call_reply-in_32 n call units fits small = call_reply-fits n 32 call units fits (omega arith)
+
+pub ruleset call_replies = (call_reply-in_8, call_reply-in_32, call_reply-too_long)
 
 -- the units after a capacity are left out, whether there or before
 pub lossy-take : (n m : ℕ) (units : List ℕ) → n ≤ m → lossy (take (min n (length units)) units) replacement m ≡ lossy units replacement n
@@ -65,3 +74,7 @@ pub records_reply-bad : (bytes : List ℕ) (n i : ℕ) → 0 < n → length byte
     → records_reply n bytes ≡ bad_index_text i ++ fault_text (fault_in n (record_at n bytes i))
 unfolding records_reply
 records_reply-bad bytes n i some length_is first = rw (first_bad_record-some bytes n i some length_is first) (grind (arith, nat_tests))
+
+pub ruleset records_replies = (records_reply-packed, records_reply-length)
+
+pub ruleset strict_texts = is_strict_text-Decides

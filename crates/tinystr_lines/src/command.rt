@@ -1,7 +1,7 @@
 //! The commands of a line, and the fields that name them.
 
 ghost use Rattle.std.specs.Prelude.{◌≡◌, length};
-ghost use Rattle.tinystr_lines.specs.Fields as Spec;
+ghost use Rattle.tinystr_lines.specs.Reply as Spec;
 
 use self::Command::{Locale, Lossy, OnText, Records};
 use self::TextCall::{Ask, Change, Len, Text};
@@ -91,7 +91,7 @@ fn named<const N: usize>(mut table: &[([u8; N], Command)], field: &[u8]) -> Opti
 
 impl Command {
     /// The command that a field names, by its one spelling in lowercase.
-    #[tactic(auto, unfolding(crate::specs::Fields::command_of))]
+    #[tactic(auto, unfolding(crate::specs::Reply::command_of))]
     pub fn parse(field: &[u8]) -> Option<Command>
         ensures { result ≡ Spec.command_of field.now }
     {

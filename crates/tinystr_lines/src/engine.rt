@@ -4,7 +4,7 @@ ghost use Rattle.std.specs.Prelude.{◌≡◌, ◌+◌, ◌<◌, ◌≤◌, ℕ,
 ghost use Rattle.std.specs.List.{list_any};
 ghost use Rattle.std.specs.Vec.{vec_len};
 ghost use Rattle.std.specs.Io.KnownBytes.{Keeps, Appends, Consumes, IsAtEnd};
-ghost use Rattle.tinystr_lines.specs.Output.{AppendsBeginning, is_line_feed, reply_line, output_of};
+ghost use Rattle.tinystr_lines.specs.Reply.{AppendsBeginning, is_line_feed, reply_line, output_of};
 
 use crate::reply::push_line_reply;
 use crate::split::{place_in_lanes, split_at_first};
@@ -45,7 +45,7 @@ enum Refused {
 const PIECE: usize = 65536;
 
 // Appends the reply to a line with which `ahead` begins, and a line feed.
-#[tactic(auto, unfolding(crate::specs::Output::reply_line))]
+#[tactic(auto, unfolding(crate::specs::Reply::reply_line))]
 fn push_reply_and_line_feed(out: &mut Vec<u8>, line: &[u8], ahead: &[u8]) -> Result<(), AllocError>
     requires { line.now ≡ take (length line.now) ahead.now }
     ensures { OnOk result (out.new.items ≡ out.old.items ++ reply_line line.now) }
@@ -56,6 +56,7 @@ fn push_reply_and_line_feed(out: &mut Vec<u8>, line: &[u8], ahead: &[u8]) -> Res
 }
 
 // Appends the output of an input.
+#[tactic(auto, using(crate::proofs::Lines::output_steps))]
 fn push_output_of_input(out: &mut Vec<u8>, input: &[u8]) -> Result<(), AllocError>
     ensures { OnOk result (out.new.items ≡ out.old.items ++ output_of input.now) }
 {

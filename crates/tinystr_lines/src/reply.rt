@@ -6,8 +6,7 @@ ghost use Rattle.std.specs.Fmt.{decimal};
 ghost use Rattle.tinystr.specs.Error.{fault_of};
 ghost use Rattle.tinystr_words.specs.Reading.{lossy};
 ghost use Rattle.tinystr_words.specs.Reading.Fault.{too_long};
-ghost use Rattle.tinystr_lines.specs.Fields.{capacity_of};
-ghost use Rattle.tinystr_lines.specs.Reply.{replacement, fault_text, truth_text, bad_index_text, answer_of, call_reply, records_reply, locale_reply, fields_reply, reply};
+ghost use Rattle.tinystr_lines.specs.Reply.{capacity_of, replacement, fault_text, truth_text, bad_index_text, answer_of, call_reply, records_reply, locale_reply, fields_reply, reply};
 
 use crate::command::{Command, TextCall};
 use crate::split::{split_at_first, split_once};
@@ -75,6 +74,7 @@ pub fn push_large_number(out: &mut Vec<u8>, number: usize) -> Result<(), AllocEr
 }
 
 // Speed: most numbers are below a hundred, and their digits are appended in one step.
+#[tactic(auto, using(std::proofs::lemmas::Fmt::decimal_digit, std::proofs::lemmas::Fmt::decimal_step))]
 fn push_number(out: &mut Vec<u8>, number: usize) -> Result<(), AllocError>
     ensures { OnOk result (out.new.items ≡ out.old.items ++ decimal number) }
 {
@@ -130,7 +130,7 @@ fn push_answer<const N: usize>(
 }
 
 // Appends what a call returns of the text that the code units are, or their fault.
-#[tactic(auto, unfolding(crate::specs::Reply::call_reply))]
+#[tactic(auto, using(crate::proofs::Replies::strict_texts), unfolding(crate::specs::Reply::call_reply))]
 fn push_call_reply_at_const<const N: usize>(
     out: &mut Vec<u8>,
     call: TextCall,
@@ -148,6 +148,7 @@ fn push_call_reply_at_const<const N: usize>(
 
 // Does the same at a run-time capacity. A text that isn't too long gets the same reply at each capacity that holds it, so code
 // for two of them suffices, and is faster than a choice among all.
+#[tactic(auto, using(crate::proofs::Replies::call_replies))]
 fn push_call_reply_at_run_time(
     out: &mut Vec<u8>,
     capacity: usize,
@@ -208,7 +209,7 @@ fn push_bad_record(out: &mut Vec<u8>, index: usize, fault: ParseError) -> Result
 }
 
 // Appends whether the bytes are packed records of `N` bytes.
-#[tactic(auto, unfolding(crate::specs::Reply::records_reply))]
+#[tactic(auto, using(crate::proofs::Replies::records_replies), unfolding(crate::specs::Reply::records_reply))]
 fn push_records_reply_at_const<const N: usize>(
     out: &mut Vec<u8>,
     bytes: &[u8],
@@ -238,7 +239,7 @@ fn push_locale_reply(out: &mut Vec<u8>, units: &[u8]) -> Result<(), AllocError>
 }
 
 // Appends whether the bytes are packed records, at the capacity that a field spells.
-#[tactic(auto, unfolding(crate::specs::Fields::capacity_of))]
+#[tactic(auto, unfolding(crate::specs::Reply::capacity_of))]
 fn push_records_reply_at_run_time(
     out: &mut Vec<u8>,
     capacity_field: &[u8],
@@ -265,7 +266,7 @@ fn known_capacity<const N: usize>() -> Option<usize>
 }
 
 // The capacity that a field spells.
-#[tactic(auto, unfolding(crate::specs::Fields::capacity_of))]
+#[tactic(auto, unfolding(crate::specs::Reply::capacity_of))]
 fn parse_capacity(field: &[u8]) -> Option<usize>
     ensures value { result ≡ capacity_of field.now }
     ensures bound { IfSome result (λ n. n ≤ 32) }

@@ -13,7 +13,7 @@ use Rattle.std.specs.Vec.{vec_items}
 use Rattle.std.specs.declared.iter.Map.{Map}
 use Rattle.std.specs.declared.result.Result.{Result}
 use Rattle.std.specs.declared.vec.Vec.{Vec}
-use Rattle.tinystr_packed.specs.Search.{search_result}
+use Rattle.tinystr_packed.specs.Rising.{search_result}
 
 -- the list collected from `map` is what the closure computes of each item
 pub items_from_map : {A F C Z E : Type 0} {s : Map (List A) F} (g : Mut F (A × Unit {0}) C) (h : A → C) {f : F} (xs : List A) (r : Result (Vec C Z) E) → map_source s ≡ xs → map_callee s ≡ f → ((x : A) (y : C) (q : F) → Called g f (x, tt) y q → (q ≡ f) × (y ≡ h x)) → IsCollectResult (maps (YieldsFirst (λ rest. rest)) g) s r → IfOk r (λ made. vec_items made ≡ map h xs)

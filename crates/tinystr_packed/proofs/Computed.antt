@@ -98,3 +98,5 @@ map_of-other keys values n m some more other =
     rw fails refl
 
 pub ruleset sorted_tables = (sorted_of-other, sorted_of-rising)
+
+pub ruleset packed_tables = (table_of-other, table_of-packed)

@@ -6,12 +6,10 @@ use Rattle.std.specs.declared.result.Result.TheVariants.{Ok}
 use Rattle.std.proofs.lemmas.Bool.{cases_lt}
 use Rattle.std.proofs.lemmas.Bool.Decides.{nat_tests}
 use Rattle.std.proofs.lemmas.List.{at_drop_more, get_or-replicate, get_or-set_other, get_or-set_same, length-take, places, get_or_default, length-set}
-use Rattle.tinystr_words.specs.Text.{IsPaddedText, IsStrictText, pad}
+use Rattle.tinystr_words.specs.Text.{IsPaddedText, IsStrictText, pad, text_of}
 use Rattle.tinystr_words.proofs.Texts.{get_or-pad, length-pad}
-use Rattle.tinystr_packed.specs.Private.Numbers.{number_at, pair_at}
-use Rattle.tinystr_packed.specs.Rising.{text_at}
-use Rattle.tinystr_packed.specs.Search.{search_result}
-use Rattle.tinystr_packed.specs.Private.EightSearches.{paired, IsPairOfText, AreNumbered, AreReady, AreWithin, AreAscending, IsPlaceWithin, ArePlacesWithin}
+use Rattle.tinystr_packed.specs.Private.{number_at, pair_at, paired, IsPairOfText, AreNumbered, AreReady, AreWithin, AreAscending, IsPlaceWithin, ArePlacesWithin}
+use Rattle.tinystr_packed.specs.Rising.{text_at, search_result}
 use Rattle.tinystr_packed.proofs.RisingTexts.{ascii-padded}
 use Rattle.std.proofs.lemmas.List.Elements.{All-get_or}
 
@@ -80,11 +78,20 @@ pub record IsNumberOf (n start : ℕ) (key : List ℕ) (first next : ℕ) : Type
   pub number : paired first next ≡ pair_at start (pad key n)
   pub strict : IsStrictText key n
 
--- at first all places are the start of a range
-pub ArePlacesWithin-start : (n s : ℕ) (records : List (List ℕ)) (w : ℕ → ℕ) (i j size : ℕ) → i + size ≡ j → AreWithin n s records w i j → ArePlacesWithin n s records w (i ∷ i ∷ i ∷ i ∷ i ∷ i ∷ i ∷ i ∷ []) size
-ArePlacesWithin-start n s records w i j size end h = record {
-  each = λ lane within. rw (get_or-replicate {A = ℕ} 8 lane i 0 within, end) (h.each lane within);
+pub IsNumberOf-bytes : (n start : ℕ) (key bytes : List ℕ) (first next : ℕ) → (IsPaddedText bytes n → IsPairOfText n first next) → paired first next ≡ pair_at start bytes → bytes ≡ pad key n → text_of bytes ≡ key → IsPaddedText bytes n → IsNumberOf n start key first next
+IsNumberOf-bytes n start key bytes first next pair number is text padded = record {
+  text = pair padded;
+  number = number ∙ ap (pair_at start) is;
+  strict = rw (← text) (record { text = padded.text; fits = padded.fits });
 }
+
+pub ruleset numbers_so_far = (get_or_default, length-set, so_far-set_both, IsNumberOf-bytes)
+
+-- at first all places are the start of a range
+pub ArePlacesWithin_start : (n s : ℕ) (records : List (List ℕ)) (w : ℕ → ℕ) (i j : ℕ) → AreWithin n s records w i j → ArePlacesWithin n s records w (i ∷ i ∷ i ∷ i ∷ i ∷ i ∷ i ∷ i ∷ []) (j - i)
+ArePlacesWithin_start n s records w i j h =
+    let end : i + (j - i) ≡ j = omega (arith, (h.each 0 (omega arith)).ordered) in
+    record { each = λ lane within. rw (get_or-replicate {A = ℕ} 8 lane i 0 within, end) (h.each lane within) }
 
 -- ---- answers for eight keys
 

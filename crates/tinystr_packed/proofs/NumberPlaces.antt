@@ -5,9 +5,8 @@ use Rattle.std.proofs.lemmas.Bool.{cases_lt, lt-ltb}
 use Rattle.std.proofs.lemmas.Cmp.{nat_list_cmp_total, tied_itself}
 use Rattle.std.proofs.lemmas.List.{take-take}
 use Rattle.tinystr_words.specs.Text.{IsPaddedText}
-use Rattle.tinystr_packed.specs.Private.Numbers.{number_at, pair_at, IsRecord, AreRisingRecords, BeginAlike}
+use Rattle.tinystr_packed.specs.Private.{number_at, pair_at, IsRecord, AreRisingRecords, BeginAlike, AreNumbered, AreAscendingBy, IsPlaceWithin}
 use Rattle.tinystr_packed.specs.Rising.{order, text_at, IsFirstNotBelow}
-use Rattle.tinystr_packed.specs.Private.EightSearches.{AreNumbered, AreAscendingBy, IsPlaceWithin}
 use Rattle.tinystr_packed.proofs.RecordOrder.{Less-pair, turned, same-pair, is_lt-short, not_below-short, pair_at-parts}
 use Rattle.tinystr_packed.proofs.RisingTexts.{Less-from_is_lt, below_from_rising}
 

@@ -3,7 +3,7 @@ use Rattle.std.proofs.Common.{◌≡◌, ℕ, ◌≤◌, List, length, ap, ◌�
 use Rattle.std.specs.Int.{from_be_bytes, w64}
 use Rattle.std.proofs.lemmas.List.{take_all}
 use Rattle.tinystr_words.specs.Text.{pad}
-use Rattle.tinystr_packed.specs.Private.Numbers.{number_at}
+use Rattle.tinystr_packed.specs.Private.{number_at}
 
 -- a record of at most eight bytes is one number
 pub number_at-short : (raw : List ℕ) → length raw ≤ 8 → number_at 0 raw ≡ from_be_bytes w64 (pad raw 8)

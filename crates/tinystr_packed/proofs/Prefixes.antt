@@ -16,7 +16,7 @@ use Rattle.std.proofs.lemmas.Slice.Zip.{get_or-zip, length-zip}
 use Rattle.tinystr_words.specs.Text.{IsTextByte, IsText, IsStrictText, IsPaddedText, pad, text_of}
 use Rattle.tinystr_words.proofs.Order.OfPadded.{cmp-IsPaddedText}
 use Rattle.tinystr_words.proofs.Texts.{NULS, length-pad, text_of-pad, IsPaddedText-pad}
-use Rattle.tinystr_packed.specs.Private.Numbers.{AreRisingRecords, BeginAlike}
+use Rattle.tinystr_packed.specs.Private.{AreRisingRecords, BeginAlike}
 use Rattle.tinystr_packed.specs.Rising.{order, text_at, IsRising, IsFirstNotBelow, IsPrefixRange}
 use Rattle.tinystr_packed.proofs.RisingTexts.{IsRecordOf-at, IsRecord-padded, raised, below_from_rising, not_above}
 

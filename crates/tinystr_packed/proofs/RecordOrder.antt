@@ -12,7 +12,7 @@ use Rattle.std.specs.Cmp.{nat_cmp_is}
 use Rattle.std.proofs.lemmas.Nat.{be_bytes_8}
 use Rattle.std.proofs.Math.Seq.{take-add}
 use Rattle.tinystr_words.specs.Text.{pad}
-use Rattle.tinystr_packed.specs.Private.Numbers.{number_at, pair_at, IsRecord, AreRisingRecords, AreDistinguished, BeginAlike, AreOrderedBy}
+use Rattle.tinystr_packed.specs.Private.{number_at, pair_at, IsRecord, AreRisingRecords, AreDistinguished, BeginAlike, AreOrderedBy}
 use Rattle.tinystr_packed.specs.Rising.{order, text_at}
 use Rattle.tinystr_packed.proofs.Numbers.{number_at-short, number_at-long}
 use Rattle.tinystr_packed.proofs.RisingTexts.{Less-from_is_lt, IsFirstNotBelowWithin-all}

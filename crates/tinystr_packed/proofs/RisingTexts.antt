@@ -20,7 +20,7 @@ use Rattle.tinystr_words.specs.Text.{IsPaddedText, text_of}
 use Rattle.tinystr_words.proofs.Texts.{get_or-pad, length-pad}
 use Rattle.tinystr_words.proofs.Order.OfLists.{cmp_is_same}
 use Rattle.tinystr_words.proofs.Order.OfPadded.{cmp-IsPaddedText}
-use Rattle.tinystr_packed.specs.Private.Numbers.{IsRecord, AreRisingRecords}
+use Rattle.tinystr_packed.specs.Private.{IsRecord, AreRisingRecords}
 use Rattle.tinystr_packed.specs.Rising.{order, text_at, IsRising, IsFirstFall, IsPlaceFor, IsFirstNotBelow, IsFirstNotBelowWithin}
 
 -- a padded text has n bytes
@@ -323,3 +323,5 @@ IsFirstNotBelow-same ts key m up inside same =
           below_from_rising ts key k (m - 1) up (omega arith) (omega arith) (rw (place, is) at (up (m - 1) (omega arith)));
       not_below = λ k from within less. let no = below_from_rising ts key m k up from within less in cc;
     }
+
+pub ruleset middles = (get_or_default, IsFirstNotBelow-same, IsFirstNotBelow-empty)

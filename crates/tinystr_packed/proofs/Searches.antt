@@ -21,8 +21,7 @@ use Rattle.std.proofs.lemmas.Slice.Eq.{bytes_eq-Decides}
 use Rattle.tinystr_words.proofs.Order.OfLists.{cmp_is_same}
 use Rattle.tinystr_words.proofs.Parts.Found.{text_position-at, text_position-some}
 use Rattle.tinystr_packed.specs.Map.{get}
-use Rattle.tinystr_packed.specs.Rising.{order, text_at, IsRising, IsFirstNotBelow, IsPlaceFor, IsSearched}
-use Rattle.tinystr_packed.specs.Search.{search_result, value_at}
+use Rattle.tinystr_packed.specs.Rising.{order, text_at, IsRising, IsFirstNotBelow, IsPlaceFor, IsSearched, search_result, value_at}
 use Rattle.tinystr_packed.proofs.PackedMaps.{DifferentKeys-rising, Entries, get-zip, get-zip_absent}
 use Rattle.tinystr_packed.proofs.RisingTexts.{IsFirstNotBelow-same, IsPlaceFor-missed, Less-from_is_lt, below_from_rising, not_above}
 use Rattle.std.proofs.lemmas.Map.Made.{keys_of-zip}

@@ -1,10 +1,16 @@
--- Strictly ascending texts, and places among them.
+-- Strictly ascending texts, places among them, and what a search for a key returns.
 use Rattle.std.specs.Prelude.{◌≡◌, ◌≢◌, ◌↔◌, ℕ, ◌+◌, ◌-◌, ◌<◌, ◌≤◌, ◌&&◌, Bool, true, false, List, [], ◌∷◌, length, take, slice_index_or, slice_get, nat_eq, All, Contains, Result, Some, IsOk, IfOk, IfErr}
 use Rattle.std.specs.Cmp.Lexicographic.{slice_cmp}
-use Rattle.std.specs.List.{flat_map, starts_with}
+use Rattle.std.specs.List.{flat_map, starts_with, count_by, position, slice_get}
 use Rattle.std.specs.Ordering.{is_lt, nat_cmp}
 use Rattle.std.specs.declared.cmp.Ordering.{Ordering}
 use Rattle.std.specs.declared.cmp.Ordering.TheVariants.{Less, Greater}
+use Rattle.std.specs.Option.{ok_or}
+use Rattle.std.specs.Str.{bytes_eq}
+use Rattle.std.specs.declared.option.Option.{Option}
+use Rattle.std.specs.declared.option.Option.TheVariants.{None}
+use Rattle.std.specs.declared.result.Result.{Result}
+use Rattle.std.specs.declared.result.Result.TheVariants.{Ok, Err}
 use Rattle.tinystr_words.specs.Text.{IsStrictText, pad}
 
 -- the order of two texts: one is below another where it is Less
@@ -79,3 +85,13 @@ pub record IsSearched (t : List ℕ) (texts : List (List ℕ)) (r : Result ℕ �
   pub found : IfOk r (λ index. slice_get texts index ≡ Some t)
   pub place : IfErr r (λ place. IsPlaceFor t texts place)
   pub exact : IsOk r ↔ Contains texts t
+
+-- the index of the text that is the key, or else how many texts are below the key
+-- e.g. in "a" "c" it is Ok 1 of "c", and Err 1 of "b"
+unfoldable pub search_result : List (List ℕ) → List ℕ → Result ℕ ℕ
+search_result texts key = ok_or (position (bytes_eq key) texts) (count_by (λ t. is_lt (order t key)) texts)
+
+-- the value at what a search returns, of values in the order of their keys
+abbrev pub value_at : List (List ℕ) → Result ℕ ℕ → Option (List ℕ)
+value_at values (Ok i) = slice_get values i
+value_at values (Err i) = None

@@ -4,8 +4,7 @@ ghost use Rattle.std.specs.Prelude.{◌≡◌, ◌+◌, ◌<◌, ◌≤◌, ◌-
 ghost use Rattle.std.specs.Iterator.{YieldsFirst, item_count, UpTo, at_most};
 ghost use Rattle.std.specs.Iterator.SizeHint.{IsWithinCount};
 ghost use Rattle.tinystr_words.specs.Text.{IsPaddedText, text_of};
-ghost use Rattle.tinystr_packed.specs.Rising.{text_at, IsRising};
-ghost use Rattle.tinystr_packed.specs.Search.{search_result};
+ghost use Rattle.tinystr_packed.specs.Rising.{text_at, IsRising, search_result};
 
 use crate::eight::{SingleBlocks, search_first_eight};
 use crate::search::{answer_at, binary_search, lower_bound_near};
@@ -41,9 +40,8 @@ impl<'a, 'k, const N: usize> Model for BinarySearchEach<'a, 'k, N> {
     ghost use Rattle.std.specs.Prelude.{◌^◌, ◌+◌, ◌<◌, ◌≤◌, All, List, ℕ, drop, length, map};
     ghost use Rattle.std.specs.declared.result.Result.{Result};
     ghost use Rattle.tinystr_words.specs.Text.{IsPaddedText, text_of};
-    ghost use Rattle.tinystr_packed.specs.Rising.{IsRising};
-    ghost use Rattle.tinystr_packed.specs.Search.{search_result};
-    ghost use Rattle.tinystr_packed.specs.Private.EightSearches.{AreReady, IsLast};
+    ghost use Rattle.tinystr_packed.specs.Rising.{IsRising, search_result};
+    ghost use Rattle.tinystr_packed.specs.Private.{AreReady, IsLast};
 
     ghost Value = { List (Result ℕ ℕ) };
 

@@ -4,8 +4,7 @@
 ghost use Rattle.std.specs.Prelude.{◌≡◌, ◌<◌, ◌≤◌, ◌+◌, ◌-◌, ◌/◌, ℕ, All, IfSome, IsTrue, cond, length, nat_eq, nat_lt, slice_index};
 ghost use Rattle.std.specs.declared.cmp.Ordering.TheVariants.{Less};
 ghost use Rattle.tinystr_words.specs.Text.{IsPaddedText, IsStrictText, pad};
-ghost use Rattle.tinystr_packed.specs.Private.Numbers.{pair_at, AreRisingRecords, BeginAlike};
-ghost use Rattle.tinystr_packed.specs.Private.EightSearches.{paired, wanted, AreAnswers, IsPairOfText, ArePairsOfTexts, AreNumbered, AreAscending, AreWithin, IsPlaceWithin, ArePlacesWithin};
+ghost use Rattle.tinystr_packed.specs.Private.{pair_at, AreRisingRecords, BeginAlike, paired, wanted, AreAnswers, IsPairOfText, ArePairsOfTexts, AreNumbered, AreAscending, AreWithin, IsPlaceWithin, ArePlacesWithin};
 ghost use Rattle.tinystr_packed.specs.Rising.{order, text_at, IsFirstNotBelow};
 
 use crate::record::{Pair, bit_below, is_below};
@@ -214,6 +213,7 @@ fn halved<const N: usize>(
 }
 
 // The pairs of eight keys.
+#[tactic(auto, using(crate::proofs::EightSearches::numbers_so_far))]
 #[inline(always)]
 fn pairs_of<const N: usize>(keys: &[TinyAsciiStr<N>], start: usize) -> EightPairs
     requires eight { 8 ≤ length keys.now }
@@ -267,6 +267,7 @@ fn halved_each<const N: usize>(
 
 // The places of eight pairs within a range that holds them all.
 // Speed: the range is halved by the same sizes for each key, so that each search waits for memory while the others do.
+#[tactic(auto, using(crate::proofs::EightSearches::ArePlacesWithin_start))]
 #[inline(always)]
 fn places_within<const N: usize>(
     records: &[[u8; N]],

@@ -8,8 +8,7 @@ ghost use Rattle.std.specs.Str.{bytes_eq};
 ghost use Rattle.tinystr_words.specs.Text.{IsStrictText, pad};
 ghost use Rattle.tinystr_packed.specs.Map.{ArePacked, get};
 ghost use Rattle.tinystr_packed.specs.Reading.{are_packed};
-ghost use Rattle.tinystr_packed.specs.Rising.{IsPlaceFor, IsRising, is_rising};
-ghost use Rattle.tinystr_packed.specs.Search.{search_result};
+ghost use Rattle.tinystr_packed.specs.Rising.{IsPlaceFor, IsRising, is_rising, search_result};
 ghost use Rattle.tinystr_packed.specs.TextMap.{ArePackedTexts};
 
 use crate::map::PackedMap;

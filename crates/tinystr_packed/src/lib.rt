@@ -2,7 +2,6 @@
 //! checked once, and then read in place.
 #![tactic(auto)]
 
-mod counting;
 mod each;
 mod eight;
 pub mod in_place;
@@ -13,15 +12,12 @@ mod prefix;
 mod record;
 mod search;
 mod sorted;
-mod sorting;
 mod table;
 mod text_map;
 
-pub use counting::count_texts;
 pub use each::BinarySearchEach;
 pub use map::{Entries, GetEach, MapError, PackedMap};
-pub use packing::{pack, pack_map, pack_text_map, unpack};
+pub use packing::{count_texts, pack, pack_map, pack_sorted, pack_text_map, unpack};
 pub use sorted::{NotRising, SortedError, SortedTable};
-pub use sorting::pack_sorted;
 pub use table::{Table, Texts};
 pub use text_map::{TextEntries, TextMap, TextMapError};

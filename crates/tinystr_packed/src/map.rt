@@ -121,6 +121,7 @@ impl<'a, const N: usize, const M: usize> PackedMap<'a, N, M> {
     }
 
     /// The value of a key, or `None` if the map doesn't have the key.
+    #[tactic(auto, using(crate::proofs::PackedMaps::lookups))]
     pub fn get(&self, key: &TinyAsciiStr<N>) -> Option<&'a [u8; M]>
         ensures { option_copied result ≡ Spec.get self.now key.now }
     {
@@ -328,7 +329,7 @@ pub struct GetEach<'a, 'k, const N: usize, const M: usize> {
 impl<'a, 'k, const N: usize, const M: usize> Model for GetEach<'a, 'k, N, M> {
     ghost use Rattle.std.specs.Prelude.{List, ℕ, map};
     ghost use Rattle.std.specs.declared.option.Option.{Option};
-    ghost use Rattle.tinystr_packed.specs.Search.{value_at};
+    ghost use Rattle.tinystr_packed.specs.Rising.{value_at};
 
     ghost Value = { List (Option (List ℕ)) };
 

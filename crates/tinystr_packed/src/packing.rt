@@ -1,11 +1,15 @@
-//! Texts and maps packed, and texts read back.
+//! Texts and maps packed, and texts read back and counted.
 
-ghost use Rattle.std.specs.Prelude.{◌≡◌, All, IfOk};
-ghost use Rattle.std.specs.List.{flat_map};
+ghost use Rattle.std.specs.Prelude.{◌≡◌, All, IfOk, ℕ, List, bytes_eq, count_by, is_some, unwrap_or};
+ghost use Rattle.std.specs.List.{flat_map, list_any};
+ghost use Rattle.std.specs.BTreeMap.{get};
+ghost use Rattle.std.specs.Cmp.Lexicographic.{slice_cmp};
+ghost use Rattle.std.specs.Ordering.{nat_cmp};
 ghost use Rattle.tinystr_words.specs.Packed.{IsPacked};
 ghost use Rattle.tinystr_words.specs.Text.{IsStrictText, pad};
 ghost use Rattle.tinystr_packed.specs.Map.{ArePacked};
 ghost use Rattle.tinystr_packed.specs.TextMap.{ArePackedTexts};
+ghost use Rattle.tinystr_packed.specs.Sorting.{ArePackedInOrder};
 
 use crate::table::Table;
 use std::alloc::{AllocError, Global};
@@ -108,4 +112,48 @@ pub fn pack_text_map<const N: usize, const M: usize>(
         values.extend_from_slice(value.all_bytes())?;
     }
     Ok((keys, values))
+}
+
+/// Packs texts in order and each once, as `SortedTable` takes them. It fails only if an allocation fails.
+///
+/// ```rust
+/// let texts = [tinystr!(3, "JPY")?, tinystr!(3, "EUR")?, tinystr!(3, "JPY")?];
+/// assert_eq!(rt; pack_sorted(rt.alloc(), &texts)?.as_slice(), b"EURJPY".as_slice());
+/// ```
+pub fn pack_sorted<const N: usize>(
+    alloc: Global,
+    texts: &[TinyAsciiStr<N>],
+) -> Result<Vec<u8>, AllocError>
+    ensures { IfOk result (λ made. ArePackedInOrder texts.now made.items N) }
+{
+    let mut sorted = Vec::new(alloc);
+    sorted.extend_from_slice(texts)?;
+    sorted.sort_unstable();
+    sorted.dedup();
+    pack(alloc, sorted.as_slice())
+}
+
+/// Counts how often each text occurs in a list; one that doesn't has no entry. It fails only if an allocation fails.
+///
+/// ```rust
+/// let texts = [tinystr!(3, "EUR")?, tinystr!(3, "CHF")?, tinystr!(3, "EUR")?];
+/// let counts = count_texts(rt.alloc(), &texts)?;
+/// assert_eq!(rt; counts.get(&tinystr!(3, "EUR")?), Some(&2));
+/// assert_eq!(rt; counts.get(&tinystr!(3, "USD")?), None);
+/// ```
+pub fn count_texts<const N: usize>(
+    alloc: Global,
+    texts: &[TinyAsciiStr<N>],
+) -> Result<BTreeMap<TinyAsciiStr<N>, usize>, AllocError>
+    ensures counts { IfOk result (λ counts. (t : List ℕ) →
+        unwrap_or (get (slice_cmp nat_cmp) counts t) 0 ≡ count_by (bytes_eq t) texts.now) }
+    ensures keys { IfOk result (λ counts. (t : List ℕ) →
+        is_some (get (slice_cmp nat_cmp) counts t) ≡ list_any (bytes_eq t) texts.now) }
+{
+    let mut counts = BTreeMap::new(alloc);
+    for text in texts {
+        let count = counts.get(text).copied().unwrap_or(0);
+        counts.insert(*text, count + 1)?;
+    }
+    Ok(counts)
 }

@@ -4,7 +4,7 @@ ghost use Rattle.std.specs.Prelude.{◌≡◌, ◌≤◌, ◌+◌, All, drop, fa
 ghost use Rattle.std.specs.List.{starts_with};
 ghost use Rattle.std.specs.List.Sorted.{IsPartitionPoint};
 ghost use Rattle.tinystr_words.specs.Text.{IsPaddedText, pad, text_of};
-ghost use Rattle.tinystr_packed.specs.Private.Numbers.{AreRisingRecords, IsRecord};
+ghost use Rattle.tinystr_packed.specs.Private.{AreRisingRecords, IsRecord};
 ghost use Rattle.tinystr_packed.specs.Rising.{IsRising, IsFirstNotBelow};
 
 use crate::search::{is_below_at, lower_bound, lower_bound_whole};
@@ -34,6 +34,7 @@ pub(crate) fn count_with_prefix<const N: usize>(
 // Speed: if the last record is below the key, no other is compared. Else the time grows with the logarithm of the place, since
 // mostly few records begin with a text: steps that grow eightfold pass the place, and the records that the last step passed are
 // searched.
+#[tactic(auto, using(crate::proofs::RisingTexts::below_from_rising))]
 #[inline(always)]
 fn lower_bound_near_start<const N: usize>(records: &[[u8; N]], key: &[u8; N]) -> usize
     requires records { AreRisingRecords N records.now }

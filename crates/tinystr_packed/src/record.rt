@@ -4,8 +4,8 @@ ghost use Rattle.std.specs.Prelude.{◌≡◌, ◌<◌, ◌≤◌, ◌^◌, ◌+
 ghost use Rattle.std.specs.Cmp.Lexicographic.{slice_cmp};
 ghost use Rattle.std.specs.Ordering.{nat_cmp, is_lt};
 ghost use Rattle.tinystr_words.specs.Text.{IsPaddedText};
-ghost use Rattle.tinystr_packed.specs.Private.Numbers as Spec;
-ghost use Rattle.tinystr_packed.specs.Private.EightSearches.{paired, IsPairOfText};
+ghost use Rattle.tinystr_packed.specs.Private as Spec;
+ghost use Rattle.tinystr_packed.specs.Private.{paired, IsPairOfText};
 
 use std::cmp::Ordering;
 use tinystr_words::padded;
@@ -139,6 +139,7 @@ pub(crate) struct Pair {
 
 impl Pair {
     /// The pair of a record from `start` on.
+    #[tactic(auto, unfolding(crate::specs::Private::pair_at))]
     #[inline(always)]
     pub(crate) fn at<const N: usize>(raw: &[u8; N], start: usize) -> Pair
         requires { start ≤ N - 8 }

@@ -6,8 +6,7 @@ ghost use Rattle.std.specs.Cmp.Lexicographic.{slice_cmp};
 ghost use Rattle.std.specs.Ordering.{nat_cmp, is_lt};
 ghost use Rattle.std.specs.declared.cmp.Ordering.TheVariants.{Less};
 ghost use Rattle.tinystr_words.specs.Text.{IsPaddedText, pad};
-ghost use Rattle.tinystr_packed.specs.Private.Numbers.{IsRecord, AreRisingRecords, AreDistinguished, BeginAlike};
-ghost use Rattle.tinystr_packed.specs.Private.EightSearches.{IsAnswer};
+ghost use Rattle.tinystr_packed.specs.Private.{IsRecord, AreRisingRecords, AreDistinguished, BeginAlike, IsAnswer};
 ghost use Rattle.tinystr_packed.specs.Rising.{order, text_at, IsRising, IsFirstNotBelow, IsFirstNotBelowWithin};
 
 use crate::record::{Number, are_same, compare, is_below, number_at};
@@ -107,8 +106,11 @@ pub(crate) fn lower_bound<const N: usize>(records: &[[u8; N]], key: &[u8; N]) ->
     ensures bound { result ≤ length records.now }
     ensures place { AreRisingRecords N records.now → IsRecord N key.now → IsFirstNotBelow key.now records.now result }
 {
-    if N <= 16 || records.len() < FEWEST_NARROWED {
-        return lower_bound_whole(records, key);
+    if N <= 16 {
+        return lower_bound_short(records, key);
+    }
+    if records.len() < FEWEST_NARROWED {
+        return lower_bound_by_halves(records, key);
     }
     lower_bound_long(records, key)
 }
@@ -243,6 +245,7 @@ fn narrow<const N: usize, T: Number<N>>(
 
 // The place of a key within a range that holds the place, by whole records.
 // Speed: the middle is first, since it is mostly the key where `narrow` ends.
+#[tactic(auto, using(crate::proofs::RisingTexts::middles))]
 #[inline(always)]
 fn lower_bound_within<const N: usize>(
     records: &[[u8; N]],

@@ -4,8 +4,7 @@ ghost use Rattle.std.specs.Prelude.{[], ◌≡◌, ◌<◌, ◌≤◌, ◌-◌, 
 ghost use Rattle.std.specs.List.{starts_with};
 ghost use Rattle.std.specs.Result.{result_ok};
 ghost use Rattle.tinystr_packed.specs.Reading.{sorted_of, sorted_table_of};
-ghost use Rattle.tinystr_packed.specs.Rising.{IsRising, ArePackedRising, IsFirstFall, IsPlaceFor, IsPrefixRange};
-ghost use Rattle.tinystr_packed.specs.Search.{search_result};
+ghost use Rattle.tinystr_packed.specs.Rising.{IsRising, ArePackedRising, IsFirstFall, IsPlaceFor, IsPrefixRange, search_result};
 ghost use Rattle.tinystr_packed.specs.Sorting.{RefusesSorted};
 
 use crate::each::BinarySearchEach;

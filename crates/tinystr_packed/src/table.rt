@@ -51,7 +51,7 @@ impl<'a, const N: usize> Table<'a, N> {
     /// assert!(rt; Table::<3>::new(b"EURJPY").is_ok());
     /// assert_eq!(rt; Table::<3>::new(b"EURJP").err(), Some(UleError::Length { len: 5 }));
     /// ```
-    #[tactic(auto, using(crate::proofs::PackedTexts::table_steps))]
+    #[tactic(auto, using(crate::proofs::PackedTexts::table_steps, crate::proofs::Computed::packed_tables))]
     pub fn new(bytes: &'a [u8]) -> Result<Self, UleError>
         requires { 0 < N }
         ensures packed { IsOk result ↔ IsPacked bytes.now N }

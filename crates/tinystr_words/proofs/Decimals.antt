@@ -1,9 +1,10 @@
 -- Decimal texts of numbers.
 use Rattle.std.proofs.Common.{◌≡◌, ℕ, ◌+◌, ◌/◌, ◌%◌, ◌^◌, ◌<◌, ◌≤◌, List, [], ◌∷◌, ◌++◌, refl, ap, ap₂, ◌*◌, ◌∙◌, arith, lit<, zero, suc, ◌-◌, length, take, drop, get_or, replicate, sym, inl, inr, map, bit_and, bit_or, subst}
-use Rattle.std.proofs.Math.Nat.{pow-le-pow_right, mul-le-mul_right, one-le-pow, mul_assoc, add-mul, pow-suc, mul_comm, mul-mod_left}
+use Rattle.std.proofs.Math.Nat.{mod-lt, pow-le-pow_right, mul-le-mul_right, one-le-pow, mul_assoc, add-mul, pow-suc, mul_comm, mul-mod_left}
 use Rattle.std.specs.Fmt.{decimal}
 use Rattle.std.proofs.lemmas.Fmt.{decimal_step, decimal_digit, decimal_nonempty, first_decimal, digits_decimal, digits_value-decimal, decimal-digits_value, length-decimal-le}
-use Rattle.tinystr_words.specs.Words.{word}
+use Rattle.tinystr_words.specs.Words.{HoldsText, text_in, word}
+use Rattle.tinystr_words.proofs.Words.Texts.{HoldsText-rest, HoldsText-word}
 use Rattle.std.proofs.lemmas.Grind.{pow_more}
 use Rattle.std.proofs.Math.Seq.{drop-append-add}
 use Rattle.std.proofs.lemmas.List.{length-drop, take-append-drop, length-append, length-replicate, drop-drop, drop_at, length-take-le}
@@ -61,13 +62,11 @@ word_onto-last_two r w big small =
 
 -- ---- the steps fit in 64 bits
 
--- up to three pairs of bytes with one more pair below them take one pair more, and fit in 64 bits
-pub fits_more : (last pair i : ℕ) → i < 4 → last < 65536 ^ i → pair < 65536 → (65536 * last + pair < 65536 ^ (i + 1)) × (65536 * last + pair < 2 ^ 64)
-fits_more last pair i few fits small =
-    let next : 65536 * last + pair < 65536 ^ (i + 1) = omega (arith, pow_more 65536 i) in
-    let up : i + 1 ≤ 4 = omega arith in
-    let most : 65536 ^ (i + 1) ≤ 65536 ^ 4 = pow-le-pow_right {n = 65536} (lit< tt) up in
-    (next, omega arith)
+-- three pairs of bytes fit, with one more pair below them
+pub pow_65536-bounds : (i : ℕ) → i < 4 → (65536 ^ i ≤ 2 ^ 48) × (65536 ^ (i + 1) ≡ 65536 ^ i * 65536)
+pow_65536-bounds i few =
+    let three : i ≤ 3 = omega arith in
+    (pow-le-pow_right {n = 65536} (lit< tt) three, pow_more 65536 i)
 
 -- the remainder, times 100 for each pair of digits taken, stays at most n with one pair more
 pub enough_next : (r i n : ℕ) → r * 100 ^ i ≤ n → r / 100 * 100 ^ (i + 1) ≤ n
@@ -81,6 +80,8 @@ enough_small r i n from to small enough =
     let four : i ≡ 4 = omega arith in
     let steps = rw four at enough in
     omega arith
+
+pub ruleset decimal_steps = (word_is_onto, word_onto-two_digits, word_onto-one_digit, word_onto-last_two, pow_65536-bounds, enough_next, enough_small)
 
 -- ---- std's `decimal` is the shortest decimal text
 
@@ -139,6 +140,12 @@ number_of-append (d ∷ a) b =
 pub decimal-lt : (k n : ℕ) → n < 2 ^ 64 → length (decimal n) ≤ k → n < 10 ^ k
 decimal-lt k n fits short = rw (digits_value-decimal digits_model n fits) at (digits_value_short digits_model (decimal n) k (digits_decimal digits_model n fits) short)
 
+-- a word holds the decimal text of a number of 32 bits
+pub decimal_in_word : (n : ℕ) → n < 2 ^ 32 → (decimal n ≡ text_in 16 (word (decimal n))) × HoldsText 16 (word (decimal n))
+decimal_in_word n fits =
+    let held = HoldsText-word 16 (decimal n) (IsText-decimal n (omega arith)) (omega (arith, length-decimal-le_ten n (omega arith))) in
+    (sym held.1, held.0)
+
 pub ruleset decimal_lengths = (length-decimal-le, decimal_nonempty, length-decimal-le_ten, decimal-lt)
 
 -- they are those of a number that has a 1 before them, without the 1
@@ -156,12 +163,21 @@ decimal-last_digits k n fits more =
     let small = digits_value_short digits_model (49 ∷ ds) 11 digits (omega arith) in
     ap (λ m. drop 1 (decimal m)) value ∙ ap (drop 1) (decimal-digits_value digits_model (49 ∷ ds) digits (omega arith) (λ e. absurd (omega arith)) (omega arith))
 
--- where a number of 32 bits has more than k digits, 10 ^ k is at most 10 ^ 9, and positive
-pub pow_10-bounds : (k n : ℕ) → n < 2 ^ 32 → k < length (decimal n) → (10 ^ k ≤ 10 ^ 9) × (0 < 10 ^ k)
-pow_10-bounds k n fits more =
-    let ten : length (decimal n) ≤ 10 = length-decimal-le_ten n (omega arith) in
-    let nine : k ≤ 9 = omega arith in
-    (pow-le-pow_right {n = 10} (lit< tt) nine, one-le-pow k 10 (lit< tt))
+-- at most nine zeros after a 1
+pub pow_10-bounds : (k : ℕ) → k ≤ 9 → (10 ^ k ≤ 10 ^ 9) × (0 < 10 ^ k)
+pow_10-bounds k nine = (pow-le-pow_right {n = 10} (lit< tt) nine, one-le-pow k 10 (lit< tt))
+
+-- where a number of 32 bits has more than k digits, a word holds the last k, without a 1 before them; the first part says nothing
+pub last_digits_in_word : (k n : ℕ) → n < 2 ^ 32 → k < length (decimal n) → let m = 10 ^ k + n % 10 ^ k in
+    (decimal m ≡ decimal m) × ((last k (decimal n) ≡ text_in 16 (word (decimal m) / 256)) × HoldsText 16 (word (decimal m) / 256))
+last_digits_in_word k n fits more =
+    let m = 10 ^ k + n % 10 ^ k in
+    let bounds = pow_10-bounds k (omega (arith, length-decimal-le_ten n (omega arith))) in
+    let small : m < 2 ^ 32 = omega (arith, mod-lt n bounds.1) in
+    let whole = HoldsText-rest 16 (decimal m) (IsText-decimal m (omega arith)) (omega (arith, length-decimal-le_ten m (omega arith))) in
+    (refl, (sym (whole.1 ∙ decimal-last_digits k n fits more), whole.0))
+
+pub ruleset last_digits = (length-decimal-le_ten, pow_10-bounds, last_digits_in_word)
 
 -- ---- the last eight digits of a number, and leading zeros where it has fewer
 
@@ -291,21 +307,18 @@ word-eight_digits n small =
     ∙ word_onto-one_digit 1 w4 (omega arith))
     ∙ without_first w4 49 (omega arith)
 
--- the pairs, their tens, and the digits made of these
-pub made : (n pairs tens : ℕ) → n < 10 ^ 8 → pairs ≡ n / 10 ^ 6 + 65536 * (n / 10 ^ 4 % 100 + 65536 * (n / 100 % 100 + 65536 * (n % 100)))
-    → tens ≡ bit_and (pairs * 103 / 1024) 0x000f_000f_000f_000f
-    → (10 * tens ≤ pairs) × (tens + 256 * (pairs - 10 * tens) < 2 ^ 64) × (tens + 256 * (pairs - 10 * tens) + 0x3030303030303030 ≡ word (decimal (10 ^ 8 + n)) / 256)
-made n pairs tens small is cut =
+-- the pairs, their tens, and the digits made of these; the first part says nothing
+pub made : (n : ℕ) → n < 10 ^ 8 → (n / 10 ^ 6 ≡ n / 10 ^ 6)
+    × (let pairs = n / 10 ^ 6 + 65536 * (n / 10 ^ 4 % 100 + 65536 * (n / 100 % 100 + 65536 * (n % 100))) in let tens = bit_and (pairs * 103 / 1024) 0x000f_000f_000f_000f in
+    (10 * tens ≤ pairs) × (tens + 256 * (pairs - 10 * tens) + 0x3030303030303030 ≡ word (decimal (10 ^ 8 + n)) / 256))
+made n small =
     let a : ℕ = n / 10 ^ 6 in
     let b : ℕ = n / 10 ^ 4 % 100 in
     let c : ℕ = n / 100 % 100 in
     let d : ℕ = n % 100 in
-    let first : a < 100 = omega arith in
-    let whole : pairs ≡ four a b c d = is in
-    let tenth : tens ≡ four (a / 10) (b / 10) (c / 10) (d / 10) = cut ∙ ap (λ m. bit_and (m * 103 / 1024) 0x000f_000f_000f_000f) whole ∙ tenths a b c d first (omega arith) (omega arith) (omega arith) in
+    let tenth = tenths a b c d (omega arith) (omega arith) (omega arith) (omega arith) in
     let digits = digits_of_pairs a b c d in
-    let below : four (pair a) (pair b) (pair c) (pair d) < 2 ^ 64 = pairs_fit a b c d first (omega arith) (omega arith) (omega arith) in
-    rw (tenth, whole) (digits.0, omega (arith, digits.1), digits.1 ∙ sym (word-eight_digits n small))
+    (refl, rw tenth (digits.0, digits.1 ∙ sym (word-eight_digits n small)))
 
 -- ---- the zeros at the low end of a number
 

@@ -15,23 +15,23 @@ use Rattle.std.proofs.lemmas.Slice.Eq.{bytes_eq-Decides}
 use Rattle.tinystr_words.specs.ByteForm.{byte_fault}
 use Rattle.tinystr_words.specs.Case.{lower, raise, lowercase, titlecase, uppercase}
 use Rattle.tinystr_words.specs.Classes.{ask, is_alphabetic, is_alphanumeric, is_digit, is_lower, is_upper, is_not_lower, is_not_upper}
-use Rattle.tinystr_words.specs.Decimal.{number_of}
+use Rattle.tinystr_words.specs.Decimal.{IsDecimalOf, number_of}
 use Rattle.tinystr_words.specs.Order.{IsBefore}
 use Rattle.tinystr_words.specs.Reading.{fault_in, first_fault, strict_of}
 use Rattle.tinystr_words.specs.Reading.Fault.{non_ascii}
 use Rattle.tinystr_words.specs.Text.{IsPaddedText, IsStrictText, IsText, is_strict_text, pad, text_of}
-use Rattle.tinystr_words.specs.declared.question.Case.TheVariants.{Title}
+use Rattle.tinystr_words.specs.declared.question.Case.TheVariants.{Lower, Title, Upper}
 use Rattle.tinystr_words.proofs.Order.OfLists.{before_not_same, before_one_way}
 use Rattle.tinystr_words.proofs.Reading.ByteForms.{byte_fault-first_padded, byte_fault-padded}
 use Rattle.tinystr_words.proofs.Cases.{All-differs, IsStrictText-map, IsText-ask, IsText-list_all, ask-joined, ask-map, ask-titlecase, map-map_same, position-missed, titlecase-twice}
 use Rattle.tinystr_words.proofs.Parts.Found.{All-absent}
 use Rattle.tinystr_words.proofs.Decimals.{IsDecimalOf-decimal, IsText-decimal}
-use Rattle.tinystr_words.proofs.Parts.Splits.{map-joined}
+use Rattle.tinystr_words.proofs.Parts.Splits.{map-joined, texts_of_parts}
 use Rattle.tinystr_words.proofs.Printing.{padded-before, padded-after, padded-between}
 use Rattle.tinystr_words.proofs.Reading.OnePass.{IsScanned-none, fault_in-fits, first_fault-high}
 use Rattle.tinystr_words.proofs.Texts.{IsAscii-padded, after_first-joined, before_first-joined, length-pad, text_of-pad}
 use Rattle.tinystr_words.proofs.Texts as texts
-use Rattle.tinystr_words.proofs.Pieces.Answers.{ask-append, in_case-append, length-in_case}
+use Rattle.tinystr_words.proofs.Pieces.Answers.{IsText-in_case, ask-append, in_case-append, length-in_case}
 use Rattle.tinystr_words.proofs.Reading.Decided.{is_strict_text-Decides}
 pub use Rattle.tinystr_words.proofs.Cases.{IsStrictText-titlecase as case_fits_title, lowercase-titlecase as case_last_lower_title, titlecase-lowercase as case_last_title_lower, titlecase-twice as case_last_title_title, titlecase-uppercase as case_last_title_upper, uppercase-titlecase as case_last_upper_title, lowercase-alone as case_fixed_lower, titlecase-alone as case_fixed_title, uppercase-alone as case_fixed_upper, All-differs as class_without_differs}
 pub use Rattle.tinystr_words.proofs.Cases.{is_alphanumeric-std as same_as_std_letter_or_digit, lower-std as same_as_std_lowered, raise-std as same_as_std_raised, lowercase-std as same_as_std_lowercase, uppercase-std as same_as_std_uppercase}
@@ -103,7 +103,16 @@ case_fits_lower = IsStrictText-map lower (λ b h. grind (arith, nat_tests))
 pub case_fits_upper : (t : List ℕ) (n : ℕ) → IsStrictText t n → IsStrictText (uppercase t) n
 case_fits_upper = IsStrictText-map raise (λ b h. grind (arith, nat_tests))
 
-pub ruleset case_fits = (case_fits_lower, case_fits_title, case_fits_upper)
+pub lowercase_text : (t : List ℕ) → IsText t → IsText (lowercase t)
+lowercase_text = IsText-in_case Lower
+
+pub titlecase_text : (t : List ℕ) → IsText t → IsText (titlecase t)
+titlecase_text = IsText-in_case Title
+
+pub uppercase_text : (t : List ℕ) → IsText t → IsText (uppercase t)
+uppercase_text = IsText-in_case Upper
+
+pub ruleset case_fits = (case_fits_lower, case_fits_title, case_fits_upper, lowercase_text, titlecase_text, uppercase_text)
 
 pub case_twice_lower : (t : List ℕ) → (length (lowercase t) ≡ length t) × (lowercase (lowercase t) ≡ lowercase t)
 case_twice_lower t = (length-map t lower, map-map_same lower lower lower (λ b. grind (arith, nat_tests)) t)
@@ -149,7 +158,10 @@ pub ruleset class_joined = (class_joined_lower, class_joined_title, class_joined
 pub join_fits : (a b : List ℕ) (q : ℕ) → length a + length b ≤ q → take q (a ++ b) ≡ a ++ b
 join_fits a b q fits = take_all q (a ++ b) (omega (arith, length-append a b))
 
-pub ruleset digits_shortest = (digits_shortest_is, digits_shortest_only)
+pub decimal_shown : (n : ℕ) → n < 2 ^ 64 → (decimal n ≡ decimal n) × IsDecimalOf n (decimal n)
+decimal_shown n fits = (refl, digits_shortest_is n fits)
+
+pub ruleset digits_shortest = (digits_shortest_is, decimal_shown, digits_shortest_only)
 
 pub decimal_back_strict : (n k : ℕ) → n < 2 ^ 64 → 0 < k → n < 10 ^ k → IsStrictText (decimal n) k
 decimal_back_strict n k fits some short = record { text = IsText-decimal n fits; fits = length-decimal-le k n some short fits }
@@ -264,7 +276,7 @@ pub ruleset bytes_back = (bytes_back_clean, bytes_back_first, bytes_back_text, b
 pub split_joined_joined : (c : ℕ) (t : List ℕ) → join_with_byte c (slice_split (λ b. b == c) t) ≡ t
 split_joined_joined = join_with_byte-slice_split
 
-pub ruleset split_joined = (split_joined_back, split_joined_joined, split_joined_strict)
+pub ruleset split_joined = (split_joined_back, split_joined_joined, split_joined_strict, texts_of_parts)
 
 pub split_found_inside : (p : ℕ → Bool) (t : List ℕ) (at : ℕ) → position p t ≡ Some at → at < length t
 split_found_inside p t i at = grind (arith, nat_tests)

@@ -17,7 +17,7 @@ use Rattle.tinystr_words.proofs.Pieces.Copying.{IsPadded-append, IsPadded-nuls}
 use Rattle.tinystr_words.proofs.Words.Formulas.{same_from_nat_eq}
 use Rattle.tinystr_words.proofs.Words.Numbers.{word-nuls}
 use Rattle.std.proofs.Math.Facts.{Fits-lt-pow}
-use Rattle.tinystr_words.specs.Private.Padded.{ArePaddedFrom}
+use Rattle.tinystr_words.specs.Private.{ArePaddedFrom}
 use Rattle.std.specs.Int.Bits.{or_zero_r}
 use Rattle.std.specs.List.{range_with_len}
 use Rattle.std.specs.Simd.Lanes.{mask_l, pick_l, sel_l, top, zip2, chunk}
@@ -352,8 +352,8 @@ kept_at : (lanes : List ℕ) (n count i : ℕ) → count ≤ 16 → cond (nat_lt
 kept_at lanes n count i few = rw get_or-pad (grind (arith, nat_tests, places))
 
 -- lanes whose later ones were cleared
-pub zip2-kept_lanes : (n : ℕ) (lanes : List ℕ) (count : ℕ) → n ≤ 16 → length lanes ≡ n → Each1 (Fits w8) lanes → count ≤ n → zip2 bit_and lanes (kept_lanes n (16 - count)) ≡ pad (take count lanes) n
-zip2-kept_lanes n lanes count few long small some =
+pub lanes_kept : (n : ℕ) (lanes : List ℕ) (count : ℕ) → n ≤ 16 → length lanes ≡ n → Each1 (Fits w8) lanes → count ≤ n → zip2 bit_and lanes (kept_lanes n (16 - count)) ≡ pad (take count lanes) n
+lanes_kept n lanes count few long small some =
     let kept = length-kept_lanes n (16 - count) few (omega arith) in
     let all = length-zip2 bit_and lanes (kept_lanes n (16 - count)) (long ∙ sym kept) ∙ long in
     same_number_lists _ _ (all ∙ sym (length-pad (take count lanes) n (omega (arith, length-take count lanes)))) (λ i inside.
@@ -361,8 +361,6 @@ zip2-kept_lanes n lanes count few long small some =
     ∙ ap (bit_and (get_or lanes i 0)) (get_or-kept_lanes n (16 - count) i few (omega arith) (omega arith))
     ∙ byte_kept (get_or lanes i 0) (Each1-get_or (Fits w8) lanes i 0 (omega arith) small).fits (nat_lt (16 - count + i) 16)
     ∙ kept_at lanes n count i (omega arith))
-
-pub ruleset kept = zip2-kept_lanes
 
 -- the lanes of a text up to a place are a front of the text
 pub IsPadded-first_lanes : (bytes lanes : List ℕ) (n count : ℕ) → IsPaddedText bytes n → count ≤ n → lanes ≡ pad (take count bytes) n → IsPadded lanes × (text_of lanes ≡ take count (text_of bytes))

@@ -157,6 +157,15 @@ IsPaddedText-drop l n q p = (padded-drop l n q p).0
 pub text_of-drop : (l : List ℕ) (n q : ℕ) → IsPaddedText l n → text_of (drop q l) ≡ drop q (text_of l)
 text_of-drop l n q p = (padded-drop l n q p).1
 
+-- the front and the back of padded bytes; the first part says nothing, and shows `grind` the list to match
+pub padded_front : (l : List ℕ) (q : ℕ) → IsPadded l → (take q l ≡ take q l) × ((length (take q l) ≤ q) × IsPadded (take q l))
+padded_front l q p = (refl, (omega (arith, length-take q l), IsPaddedText-take l (length l) q p))
+
+pub padded_back : (l : List ℕ) (q : ℕ) → IsPadded l → (drop q l ≡ drop q l) × IsPadded (drop q l)
+padded_back l q p = (refl, IsPaddedText-drop l (length l) q p)
+
+pub ruleset padded_parts = (padded_front, padded_back)
+
 -- ---- texts in another case, and two texts around a byte
 
 -- what fits in lowercase or in uppercase is a text that fits

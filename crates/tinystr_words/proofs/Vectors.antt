@@ -12,9 +12,10 @@ use Rattle.std.specs.List.{flat_map}
 use mir.Val.{zeroes}
 use Rattle.tinystr_words.specs.Text.{IsPadded, IsPaddedText, IsText, IsTextByte, pad, text_of, is_text_byte}
 use Rattle.std.proofs.lemmas.List.Elements.{All-append}
-use Rattle.tinystr_words.proofs.Pieces.Copying.{IsPaddedText-pad_take}
+use Rattle.tinystr_words.proofs.Pieces.Copying.{IsPaddedText-pad_take, copied_more}
+use borrow.Rule.Slice.PartMut.{put_mid}
 use Rattle.tinystr_words.proofs.Texts.{IsPaddedText-drop, NULS, get_or-nuls, get_or-pad, length-text_of-le, text_of-drop, text_of-take, length-pad}
-use Rattle.tinystr_words.specs.Private.Padded.{sixteen_from}
+use Rattle.tinystr_words.specs.Private.{sixteen_from}
 use Rattle.tinystr_words.specs.declared.padded.concatenation.TheConstants.{TAKEN_LANES as rows}
 use Rattle.tinystr_words.proofs.Words.Lanes.{below_at, IsBytes}
 use Rattle.tinystr_words.specs.Words.{lanes_of, word}
@@ -185,12 +186,12 @@ get_or-last_sixteen l b made fits k = rw made (get_or-pad (take 16 (drop 16 b)) 
 
 -- ---- lanes loaded and stored
 
-pub sixteen_from-loaded : (l x : List ℕ) (start count at : ℕ) → IsPadded l → start ≡ min at (length l) → count ≡ min (length l - start) 16 → x ≡ pad (text_of (take count (drop start l))) 16
-    → x ≡ sixteen_from (text_of l) at
-sixteen_from-loaded l x start count at p is many made =
+pub sixteen_loaded : (l : List ℕ) (start count at : ℕ) → IsPadded l → start ≡ min at (length l) → count ≡ min (length l - start) 16
+    → pad (text_of (take count (drop start l))) 16 ≡ sixteen_from (text_of l) at
+sixteen_loaded l start count at p is many =
     let y = text_of-take (drop start l) (length (drop start l)) count (IsPaddedText-drop l (length l) start p) in
     let z = text_of-drop l (length l) start p in
-    sixteen_from-HasLanes x (text_of l) at (rw made (search (rules, places)), λ i small. rw (made, get_or-pad, y, z) (grind (arith, places, length-text_of-le l)))
+    sixteen_from-HasLanes (pad (text_of (take count (drop start l))) 16) (text_of l) at (search (rules, places), λ i small. rw (get_or-pad, y, z) (grind (arith, places, length-text_of-le l)))
 
 -- one more piece of t, which fills its array
 pub take-sixteen_from : (lanes piece t : List ℕ) (n at k : ℕ) → at + k ≤ n → k ≤ 16 → lanes ≡ sixteen_from t at → piece ≡ take k lanes → piece ≡ take k (drop at (pad (take n t) n))
@@ -201,6 +202,13 @@ take-sixteen_from lanes piece t n at k inside few made is =
     let below : i < k = omega (arith, size) in
     let in_array : at + i < n = omega arith in
     rw (get_or-take, get_or-take, get_or-drop, get_or-pad, get_or-take) (x.1 i (omega arith))))
+
+-- which is stored
+pub stored_more : (t lanes piece bytes : List ℕ) (n at k count next : ℕ) → bytes ≡ take at (pad (take n t) n) ++ drop at (NULS n) → lanes ≡ sixteen_from t at → piece ≡ take count lanes
+    → k ≡ count → next ≡ at + count → next ≤ n → count ≤ 16 → put_mid at k bytes piece ≡ take next (pad (take n t) n) ++ drop next (NULS n)
+stored_more t lanes piece bytes n at k count next stored made is same step inside few =
+    copied_more (NULS n) (pad (take n t) n) bytes piece at k next stored (omega arith) (omega (arith, length-pad (take n t) n (omega (arith, length-take n t)))) (omega (arith, length-replicate {A = ℕ} n 0))
+    (take-sixteen_from lanes piece t n at k (omega arith) (omega arith) made (is ∙ ap (λ c. take c lanes) (sym same)))
 
 -- all pieces
 pub IsPaddedText-stored : (bytes a b : List ℕ) (n at : ℕ) → n ≤ at → IsText a → IsText b → bytes ≡ take at (pad (take n (a ++ b)) n) ++ drop at (NULS n)

@@ -29,6 +29,7 @@ fn two_digits(number: u32) -> u32
 
 /// The shortest decimal text of a number, its first digit in the lowest lane. After at most four steps the number is
 /// below 100.
+#[tactic(auto, using(crate::proofs::Decimals::decimal_steps))]
 #[inline(always)]
 pub(crate) fn decimal_word(number: u32) -> u128
     ensures { result ≡ word (decimal number) }
@@ -69,6 +70,7 @@ fn four_pairs(number: u32) -> u64
 
 /// The values of eight digits, leading zeros included, the first in the lowest lane. The caller adds 0x30 to each. All
 /// pairs are divided in one step: below 100, `n / 10` is `n * 103 / 1024`, and no product leaves its lane.
+#[tactic(auto, using(crate::proofs::Decimals::made))]
 #[inline(always)]
 pub(crate) fn eight_digits(number: u32) -> u64
     requires { number < 10 ^ 8 }

@@ -5,7 +5,7 @@ ghost use Rattle.std.specs.Fmt.{decimal};
 ghost use Rattle.std.specs.Str.{bytes_eq};
 ghost use Rattle.tinystr_words.specs.Text.{IsText, IsPaddedText, IsPadded, pad, text_of};
 ghost use Rattle.tinystr_words.specs.Classes.{ask, is_alphabetic, is_alphanumeric};
-ghost use Rattle.tinystr_words.specs.Private.Ranges.{is_in, is_not_in};
+ghost use Rattle.tinystr_words.specs.Private.{is_in, is_not_in};
 ghost use Rattle.tinystr_words.specs.Decimal.{last};
 ghost use Rattle.tinystr_words.specs.Questions.{ask_question, in_case};
 
@@ -133,16 +133,16 @@ impl<T: Word<LEN>, const LEN: usize> Aligned<T, LEN> {
         ensures { MatchOption result (¬ IsText (map U.number units.now))
             (λ t. IsText (map U.number units.now) × (t ≡ map U.number units.now)) }
     {
+        let word = T::load(units);
         if is_text(units) {
-            Some(Aligned {
-                word: T::load(units),
-            })
+            Some(Aligned { word })
         } else {
             None
         }
     }
 
     /// The text and then NULs.
+    #[tactic(auto, using(crate::proofs::Words::Texts::padded_lanes), unfolding(crate::specs::Words::text_in))]
     #[inline(always)]
     pub fn to_bytes(&self) -> [u8; LEN]
         ensures bytes { result ≡ pad self.now LEN }
@@ -179,6 +179,7 @@ impl<T: Word<LEN>, const LEN: usize> Aligned<T, LEN> {
     }
 
     // Whether the first byte is in one range, and each later byte in another.
+    #[tactic(auto, using(crate::proofs::Words::Kernels::asked_in))]
     #[inline(always)]
     fn each_in(&self, first: Range, others: Range) -> bool
         ensures { result ≡ ask (is_in first) (is_in others) self.now }
@@ -188,6 +189,7 @@ impl<T: Word<LEN>, const LEN: usize> Aligned<T, LEN> {
     }
 
     // Whether the first byte is outside one range, and each later byte outside another.
+    #[tactic(auto, using(crate::proofs::Words::Kernels::asked_not_in))]
     #[inline(always)]
     fn none_in(&self, first: Range, others: Range) -> bool
         ensures { result ≡ ask (is_not_in first) (is_not_in others) self.now }
@@ -205,6 +207,7 @@ impl<T: Word<LEN>, const LEN: usize> Aligned<T, LEN> {
     }
 
     // Whether each byte is a letter or a digit.
+    #[tactic(auto, using(crate::proofs::Words::Kernels::asked_letters_or_digits))]
     #[inline(always)]
     fn each_letter_or_digit(&self) -> bool
         ensures { result ≡ ask is_alphanumeric is_alphanumeric self.now }
@@ -216,6 +219,7 @@ impl<T: Word<LEN>, const LEN: usize> Aligned<T, LEN> {
     }
 
     /// The text in the given case, and then NULs: `in_case(Case::Title)` is `to_ascii_titlecase()`.
+    #[tactic(auto, using(crate::proofs::Words::Texts::changed_lanes))]
     #[inline(always)]
     pub fn in_case(&self, case: Case) -> [u8; LEN]
         ensures { result ≡ pad (in_case case self.now) LEN }
@@ -273,6 +277,7 @@ impl Aligned<u64, 8> {
 
 impl Aligned<u128, 16> {
     /// The text and then NULs, in a vector.
+    #[tactic(auto, using(crate::proofs::Words::Texts::padded_lanes))]
     #[inline(always)]
     pub fn to_lanes(&self) -> u8x16
         ensures { result ≡ pad self.now 16 }
@@ -285,6 +290,7 @@ impl Aligned<u128, 16> {
     /// ```rust
     /// assert_eq!(rt; Aligned16::from_decimal(4294967295).to_bytes(), *b"4294967295\0\0\0\0\0\0");
     /// ```
+    #[tactic(auto, using(crate::proofs::Decimals::decimal_in_word))]
     #[inline(always)]
     pub fn from_decimal(number: u32) -> Self
         ensures { result ≡ decimal number }
@@ -295,6 +301,7 @@ impl Aligned<u128, 16> {
     }
 
     /// The last `count` digits of a number that has more. While they are made, a 1 before them keeps their zeros.
+    #[tactic(auto, using(crate::proofs::Decimals::last_digits))]
     #[inline(always)]
     pub fn from_last_digits(number: u32, count: usize) -> Self
         requires { count < length (decimal number) }

@@ -67,7 +67,7 @@ pub fn case_letters()
 {}
 
 /// A text that fits also fits in each case.
-#[tactic(auto, using(crate::proofs::ForCallers::case_fits))]
+#[tactic(auto, using(crate::proofs::ForCallers::case_fits, crate::proofs::ForCallers::case_twice))]
 pub fn case_fits()
     ensures lower { (t : List ℕ) (n : ℕ) → IsStrictText t n → IsStrictText (lowercase t) n }
     ensures title { (t : List ℕ) (n : ℕ) → IsStrictText t n → IsStrictText (titlecase t) n }
@@ -75,7 +75,7 @@ pub fn case_fits()
 {}
 
 /// A case change keeps the length, repeating it changes nothing, and lowercase after uppercase is lowercase.
-#[tactic(auto, using(crate::proofs::ForCallers::case_twice))]
+#[tactic(auto, using(crate::proofs::ForCallers::case_twice, crate::proofs::ForCallers::case_last))]
 pub fn case_twice()
     ensures lower { (t : List ℕ) → (length (lowercase t) ≡ length t) × (lowercase (lowercase t) ≡ lowercase t) }
     ensures title { (t : List ℕ) → (length (titlecase t) ≡ length t) × (titlecase (titlecase t) ≡ titlecase t) }

@@ -8,17 +8,15 @@ ghost use Rattle.std.specs.Str.{bytes_eq};
 ghost use Rattle.tinystr_words.specs.Text.{IsPaddedText, text_of, pad};
 ghost use Rattle.tinystr_words.specs.Decimal.{last};
 ghost use Rattle.tinystr_words.specs.Questions.{ask_question, in_case};
-ghost use Rattle.tinystr_words.specs.Private.Padded.{IsWidthOf};
+ghost use Rattle.tinystr_words.specs.Private.{IsWidthOf};
 
 mod bytewise;
 mod code_units;
+mod comparison;
 mod concatenation;
 mod copying;
-mod equality;
 mod first_lanes;
-mod order;
 mod padding;
-mod replacing;
 mod words;
 
 use crate::decimal::decimal_fits;
@@ -26,10 +24,10 @@ use crate::int_ops::{Aligned4, Aligned8, Aligned16};
 use crate::question::{Case, Question};
 pub use bytewise::ask_bytes;
 pub use code_units::{lossy, low_bytes, read_all};
+pub use comparison::{compare, number};
 use concatenation::{concat_in_memory, concat_in_vectors, concat_in_word, fit_vectors};
 pub use copying::{resize, resize_at_once};
 pub use first_lanes::{first_lanes_of_eight, first_lanes_of_sixteen};
-pub use order::{compare, number};
 
 /// The words that take padded bytes: the narrowest that holds them all, since it takes the fewest steps to load and to
 /// test.
@@ -122,7 +120,7 @@ pub fn equals<const N: usize>(left: &[u8; N], right: &[u8; N]) -> bool
             &Aligned16::from_ascii_bytes(right),
         ),
         // vectors of sixteen bytes
-        Width::Sixteen | Width::Many => equality::equal(&left[..], &right[..]),
+        Width::Sixteen | Width::Many => comparison::equal(&left[..], &right[..]),
     }
 }
 
@@ -161,8 +159,8 @@ pub fn put_in_case<const N: usize>(bytes: &mut [u8; N], case: Case)
 
 /// The first `Q` bytes of the two texts joined. The way is chosen at compile time, except that a first text which fills
 /// the result is found at run time.
+#[tactic(auto, using(crate::proofs::Parts::Splits::prefixes))]
 #[inline(always)]
-#[tactic(auto, using(crate::proofs::Parts::Splits::prefixes_joined))]
 pub fn concat<const N: usize, const M: usize, const Q: usize>(
     first: &[u8; N],
     second: &[u8; M],

@@ -133,6 +133,7 @@ impl Word<4> for u32 {
         4 - u32::leading_zeros(self) as usize / 8
     }
 
+    #[tactic(auto, using(crate::proofs::Words::Numbers::low_word_bounds))]
     #[inline]
     fn plus(self, other: u32) -> u32 {
         self + other
@@ -202,12 +203,14 @@ impl Word<8> for u64 {
     }
 
     // One more bit, below all, so that the count needs no test for 0. It fits, since no byte is above 0x7f.
+    #[tactic(auto, using(crate::proofs::Words::Texts::length_by_top))]
     #[inline]
     fn text_len(self) -> usize {
         let bits = 63 - u64::leading_zeros(2 * self + 1) as usize;
         (bits + 7) / 8
     }
 
+    #[tactic(auto, using(crate::proofs::Words::Numbers::low_word_bounds))]
     #[inline]
     fn plus(self, other: u64) -> u64 {
         self + other
@@ -337,21 +340,25 @@ impl Word<16> for u128 {
         63 - u64::leading_zeros((1 << 16) - nuls) as usize
     }
 
+    #[tactic(auto, using(crate::proofs::Words::Numbers::low_halves))]
     #[inline(always)]
     fn plus(self, other: u128) -> u128 {
         whole(halves(self) + halves(other))
     }
 
+    #[tactic(auto, using(crate::proofs::Words::Numbers::and_halves))]
     #[inline(always)]
     fn and(self, other: u128) -> u128 {
         whole(halves(self) & halves(other))
     }
 
+    #[tactic(auto, using(crate::proofs::Words::Numbers::or_halves))]
     #[inline(always)]
     fn or(self, other: u128) -> u128 {
         whole(halves(self) | halves(other))
     }
 
+    #[tactic(auto, using(crate::proofs::Words::Numbers::xor_halves))]
     #[inline(always)]
     fn xor(self, other: u128) -> u128 {
         whole(halves(self) ^ halves(other))
@@ -362,6 +369,7 @@ impl Word<16> for u128 {
         whole(!halves(self))
     }
 
+    #[tactic(auto, using(crate::proofs::Words::Numbers::case_halves))]
     #[inline(always)]
     fn high_bits_as_case_bits(self) -> u128 {
         whole((halves(self) & halves(Self::splat(0x80))) >> u64x2::splat(2))

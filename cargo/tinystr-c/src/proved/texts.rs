@@ -2,7 +2,6 @@
 //! Texts of a capacity.
 
 use crate::answer::{TinystrResult, bad_argument, failure, fault_answer, success};
-use crate::key::without_nuls;
 use crate::numbers::{
     ALPHABETIC, ALPHABETIC_LOWERCASE, ALPHABETIC_TITLECASE, ALPHABETIC_UPPERCASE, ALPHANUMERIC,
     LOWER, LOWERCASE, NUMERIC, TITLE, TITLECASE, TOO_LONG, UPPER, UPPERCASE,
@@ -145,4 +144,21 @@ fn case_of(case: u32) -> Option<Case> {
 #[inline]
 fn yes_or_no(yes: bool) -> TinystrResult {
     success(usize::from(yes))
+}
+
+/// The bytes up to the last that isn't a NUL.
+///
+/// # Contract
+///
+/// ```text
+/// ensures bytes { result.now ≡ without_nuls bytes.now }
+/// ensures fits { length result.now ≤ length bytes.now }
+/// ```
+#[inline]
+pub fn without_nuls(bytes: &[u8]) -> &[u8] {
+    let mut len = bytes.len();
+    while len > 0 && bytes[len - 1] == 0 {
+        len -= 1;
+    }
+    &bytes[..len]
 }

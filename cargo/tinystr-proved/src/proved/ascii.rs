@@ -6,21 +6,18 @@ mod decimals;
 pub(crate) mod lanes;
 mod letters;
 mod order;
-mod print;
 mod questions;
 mod readers;
-mod resize;
 mod slicing;
 pub mod splitting;
-mod strict;
 mod views;
 
 use crate::ascii_bytes::AsciiBytes;
 use crate::error::ParseError;
+pub(crate) use readers::are_padded;
 pub use splitting::Parts;
 use core::hash::{Hash, Hasher};
 use core::str::FromStr;
-pub(crate) use strict::are_padded;
 
 /// A text of at most `N` bytes, each from 1 to 127, in `N` bytes: the text and then NULs, stored inline.
 ///

@@ -189,7 +189,7 @@ impl<const N: usize> UnvalidatedTinyAsciiStr<N> {
 }
 
 // The fault at the first of `expected` positions that has one. Bytes are read in order, so the end of the input is a
-// fault where it comes, and a byte above 127 after a NUL is `Null`. `ascii::strict::find_fault` gives the first fault
+// fault where it comes, and a byte above 127 after a NUL is `Null`. `ascii::readers::find_fault` gives the first fault
 // of code units that were counted before, and has `NonAscii` before `ContainsNull`.
 // Proved:
 //     ensures { option_map byte_fault_of result ≡ byte_fault expected input.now }

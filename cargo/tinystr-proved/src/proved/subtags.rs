@@ -11,7 +11,6 @@ mod places;
 pub mod region;
 pub mod script;
 pub mod subtag;
-mod tail;
 mod texts;
 
 #[doc(inline)]

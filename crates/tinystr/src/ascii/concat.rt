@@ -67,7 +67,7 @@ impl<const N: usize> TinyAsciiStr<N> {
     }
 
     // Appends each of the others to the first text, with the separator before it, in the bytes of the first.
-    #[tactic(auto, using(tinystr_words::proofs::Parts::Splits::joined_parts))]
+    #[tactic(auto, using(crate::proofs::Splits::joined_bytes))]
     fn join_after<const Q: usize>(
         first: TinyAsciiStr<Q>,
         others: &[Self],

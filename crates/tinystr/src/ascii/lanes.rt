@@ -9,6 +9,7 @@ use tinystr_words::int_ops::Aligned16;
 use tinystr_words::padded::{first_lanes_of_sixteen, resize, resize_at_once};
 
 /// The first sixteen bytes of the text, and then NULs.
+#[tactic(auto, using(crate::proofs::Splits::sixteen))]
 #[inline(always)]
 pub(crate) fn first_sixteen(bytes: &[u8]) -> u8x16
     requires { IsPadded bytes.now }
@@ -33,6 +34,7 @@ pub(crate) fn text_of_lanes<const N: usize>(lanes: u8x16) -> TinyAsciiStr<N>
 }
 
 /// The first `count` bytes of the text in the lanes, which has to fit.
+#[tactic(auto, using(crate::proofs::Splits::first_lanes))]
 #[inline(always)]
 pub(crate) fn text_of_first_lanes<const N: usize>(lanes: u8x16, count: usize) -> TinyAsciiStr<N>
     requires len { length lanes ≡ 16 }

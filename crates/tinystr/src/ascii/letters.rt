@@ -43,6 +43,7 @@ fn front_lanes(units: &[u8]) -> u8x8
 }
 
 // The number of leading lanes that are lowercase letters. From 'a' to 'z' are 25 steps.
+#[tactic(auto, using(crate::proofs::EightLanes::others_none, crate::proofs::EightLanes::others_some))]
 #[inline(always)]
 fn lowercase_lanes(lanes: u8x8) -> usize
     ensures len { result ≡ prefix_len is_lower lanes }

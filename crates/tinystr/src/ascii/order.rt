@@ -39,6 +39,7 @@ impl<const N: usize> Ord for TinyAsciiStr<N> {
 
     ghost matches_eq = { Prim.search (comparing, rules) };
 
+    #[tactic(auto, using(crate::proofs::Errors::padded_order))]
     fn cmp(&self, other: &Self) -> Ordering {
         padded::compare(&self.bytes[..], &other.bytes[..])
     }

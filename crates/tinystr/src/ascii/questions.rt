@@ -26,6 +26,7 @@ impl<const N: usize> TinyAsciiStr<N> {
     /// ```rust
     /// assert_eq!(rt; tinystr!(4, "lATN")?.in_case(Case::Title).as_str(), "Latn");
     /// ```
+    #[tactic(auto, using(crate::proofs::Errors::cased))]
     #[inline(always)]
     pub fn in_case(self, case: Case) -> Self
         ensures { result ≡ in_case case self.entry }

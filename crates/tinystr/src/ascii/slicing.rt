@@ -1,6 +1,6 @@
-//! Parts of a text, by index.
+//! Parts of a text, by index, and texts at other capacities.
 
-ghost use Rattle.std.specs.Prelude.{◌≡◌, ◌≤◌, ◌-◌, take, drop};
+ghost use Rattle.std.specs.Prelude.{◌≡◌, ◌≤◌, ◌-◌, take, drop, SomeIff, length};
 
 use crate::ascii::TinyAsciiStr;
 use crate::ascii::lanes::{
@@ -8,7 +8,7 @@ use crate::ascii::lanes::{
 };
 use std::ops::Range;
 use std::simd::prelude::*;
-use tinystr_words::padded::{first_lanes_of_eight, resize};
+use tinystr_words::padded::{self, first_lanes_of_eight, resize};
 
 impl<const N: usize> TinyAsciiStr<N> {
     /// The bytes of the text at a range of indices, as a text of capacity `M`: those that exist, and at most the first
@@ -77,5 +77,40 @@ impl<const N: usize> TinyAsciiStr<N> {
             return text_of_first_lanes(first_sixteen(bytes), len);
         }
         text_of_bytes(front_of(bytes, len))
+    }
+}
+
+impl<const N: usize> TinyAsciiStr<N> {
+    /// The text at capacity `M`, truncated to its first `M` bytes. If `M` is at least `N`, nothing is truncated.
+    ///
+    /// ```rust
+    /// assert_eq!(rt; tinystr!(8, "en-US")?.resize::<16>().as_str(), "en-US");
+    /// assert_eq!(rt; tinystr!(8, "en-US")?.resize::<2>().as_str(), "en");
+    /// ```
+    #[inline]
+    pub fn resize<const M: usize>(self) -> TinyAsciiStr<M>
+        ensures text { result ≡ take M self.entry }
+        ensures whole { N ≤ M → result ≡ self.entry }
+    {
+        TinyAsciiStr {
+            bytes: padded::resize(&self.bytes),
+        }
+    }
+
+    /// The text at capacity `M`, or `None` if it has more than `M` bytes.
+    ///
+    /// ```rust
+    /// let language = tinystr!(8, "en")?;
+    /// assert!(rt; language.try_resize() == Some(tinystr!(2, "en")?));
+    /// assert!(rt; language.try_resize::<1>().is_none());
+    /// ```
+    #[inline]
+    pub fn try_resize<const M: usize>(self) -> Option<TinyAsciiStr<M>>
+        ensures { SomeIff result (length self.entry ≤ M) self.entry }
+    {
+        if self.len() > M {
+            return None;
+        }
+        Some(self.resize())
     }
 }

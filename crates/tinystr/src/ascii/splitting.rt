@@ -5,7 +5,7 @@ ghost use Rattle.std.specs.Iterator.{YieldsFirst, item_count};
 ghost use Rattle.std.specs.List.{after_first, before_first, slice_split};
 ghost use Rattle.std.specs.Option.{option_copied};
 ghost use Rattle.tinystr_words.specs.Text.{IsPadded, text_of};
-ghost use Rattle.tinystr.specs.Private.Splitting.{parts_left};
+ghost use Rattle.tinystr.specs.Private.{parts_left};
 
 use crate::ascii::TinyAsciiStr;
 use crate::ascii::lanes::{
@@ -36,7 +36,7 @@ impl<'a, const N: usize> Model for Parts<'a, N> {
     ghost use Rattle.std.specs.Prelude.{◌<◌, ◌≤◌, List, ℕ, IfSome, length, option_map};
     ghost use Rattle.std.specs.Option.{option_copied, option_or};
     ghost use Rattle.tinystr_words.specs.Text.{IsPadded, text_of};
-    ghost use Rattle.tinystr.specs.Private.Splitting.{parts_left};
+    ghost use Rattle.tinystr.specs.Private.{parts_left};
 
     ghost Value = { List (List ℕ) };
 

@@ -1,10 +1,12 @@
-//! Views of a text: its length, its bytes and its string.
+//! Views of a text: its length, its bytes, its string, and what it prints.
 
-ghost use Rattle.std.specs.Prelude.{◌≡◌, ◌≤◌, [], length, ◌↔◌, IsTrue, slice_get};
+ghost use Rattle.std.specs.Prelude.{◌≡◌, ◌≤◌, [], length, ◌↔◌, IsTrue, slice_get, Some};
+ghost use Rattle.std.specs.Fmt.{debug_str, styled_text};
 ghost use Rattle.tinystr_words.specs.Text.{pad, text_of, IsText, IsStrictText, IsPaddedText};
 
 use crate::ascii::TinyAsciiStr;
 use std::convert::{AsSlice, AsStr};
+use std::fmt::{Debug, Display, Formatter, Result, Write};
 use tinystr_words::padded;
 
 impl<const N: usize> TinyAsciiStr<N> {
@@ -110,5 +112,30 @@ impl<const N: usize> AsSlice<u8> for TinyAsciiStr<N> {
     #[inline]
     fn as_slice(&self) -> &[u8] {
         self.as_utf8()
+    }
+}
+
+/// Prints the text, with the width, the fill, the alignment and the precision that std gives a string.
+///
+/// ```rust
+/// let code = tinystr!(3, "GB")?;
+/// let printed = format!(in rt.alloc(); "{code:>4}|{code:?}")?;
+/// assert_eq!(rt; printed.as_str(), r#"  GB|"GB""#);
+/// ```
+impl<const N: usize> Display for TinyAsciiStr<N> {
+    ghost output = { λ t. Some t };
+
+    ghost styled_output = { λ t s. Some (styled_text s t) };
+
+    fn fmt<W: Write>(&self, f: &mut Formatter<W>) -> Result {
+        Display::fmt(self.as_str(), f)
+    }
+}
+
+impl<const N: usize> Debug for TinyAsciiStr<N> {
+    ghost debug_output = { debug_str };
+
+    fn fmt<W: Write>(&self, f: &mut Formatter<W>) -> Result {
+        Debug::fmt(self.as_str(), f)
     }
 }

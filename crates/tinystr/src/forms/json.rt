@@ -19,6 +19,7 @@ impl<const N: usize> TinyAsciiStr<N> {
     /// let value = tinystr!(3, "EUR")?.to_json(rt.alloc())?;
     /// assert_eq!(rt; value.as_str(), Some("EUR"));
     /// ```
+    #[tactic(auto, using(serde_json::specs::declared::value::Value::the_lemmas))]
     #[inline]
     pub fn to_json(&self, alloc: Global) -> Result<Value, AllocError>
         ensures { IfOk result (λ value. view value ≡ json_form self.now) }

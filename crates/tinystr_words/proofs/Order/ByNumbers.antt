@@ -146,14 +146,12 @@ from_le_bytes-word (a ∷ b ∷ c ∷ d ∷ e ∷ f ∷ []) l = absurd (omega ar
 from_le_bytes-word (a ∷ b ∷ c ∷ d ∷ e ∷ f ∷ g ∷ []) l = absurd (omega arith)
 
 -- the number of at most eight bytes
-pub number-loaded : (bs : List ℕ) (w r : ℕ) → length bs ≤ 8 → AllFit bs → w ≡ word (map (λ u. u % 256) bs) → r ≡ swap_bytes w64 w → r ≡ from_be_bytes w64 (pad bs 8)
-number-loaded bs w r fits bytes loaded swapped =
+pub loaded_number : (bs : List ℕ) (w r : ℕ) → length bs ≤ 8 → AllFit bs → w ≡ word (map (λ u. u % 256) bs) → r ≡ swap_bytes w64 w → r ≡ from_be_bytes w64 (pad bs 8)
+loaded_number bs w r fits bytes loaded swapped =
     let same : w ≡ word (pad bs 8) = loaded ∙ ap word (map-mod_bytes bs bytes) ∙ sym (word-nuls bs (8 - length bs)) in
     let long = length-pad bs 8 fits in
     let back : to_le_bytes w64 (word (pad bs 8)) ≡ pad bs 8 = le_bytes_8 (pad bs 8) (word (pad bs 8)) long (λ i. rw (get_or-pad bs 8 i) (AreBytes-from_type bs bytes i)) (from_le_bytes-word (pad bs 8) long) in
     swapped ∙ rw same (ap (λ (l : List ℕ). from_be_bytes w64 l) back)
-
-pub ruleset loaded = number-loaded
 
 -- ---- bytes compared by their numbers
 

@@ -3,7 +3,7 @@ use Rattle.std.proofs.Common.{◌≡◌, ◌≢◌, ℕ, zero, suc, ◌+◌, ◌
 use Rattle.std.specs.List.{All, before_first, after_first, join_with_byte, list_all, onto_first, position, position_or_len, slice_split, sum_by}
 use Rattle.std.proofs.lemmas.Bool.{cases_lt}
 use Rattle.std.proofs.lemmas.Bool.Decides.{nat_tests}
-use Rattle.std.proofs.lemmas.List.{length-append, length-drop, length-take, map-append, places, same_lists, take-map}
+use Rattle.std.proofs.lemmas.List.{length-append, length-drop, length-take, map-append, places, same_lists, take-map, take-take}
 use Rattle.std.proofs.lemmas.List.Folds.{list_all-append}
 use Rattle.std.proofs.lemmas.List.Sums.{count_by-le-length, fails_before_first, sum_by-cons, sum_by_more_le}
 use Rattle.std.proofs.lemmas.List.Elements.{All-append, All-cons, All-drop, All-head, All-nil, All-tail, All-take, All-weaker}
@@ -12,7 +12,7 @@ use Rattle.tinystr_words.specs.Classes.{ask}
 use Rattle.tinystr_words.specs.Text.{IsStrictText, IsText, IsTextByte, IsPaddedText, text_of}
 use Rattle.tinystr_words.proofs.Reading.Records.{AllStrict}
 use Rattle.tinystr_words.proofs.Pieces.Answers.{ask-same}
-use Rattle.tinystr_words.proofs.Texts.{text_of-take}
+use Rattle.tinystr_words.proofs.Texts.{padded_front, text_of-take}
 use Rattle.tinystr_words.specs.Case.{lower, raise, lowercase, titlecase, uppercase}
 
 -- ---- cut at a place
@@ -53,11 +53,11 @@ AllStrict-onto_first b n (part ∷ parts) here h =
     (AllStrict-weaker n (suc n) parts (omega arith) (All-tail (λ t. IsStrictText t n) part parts h))
 
 -- no part is longer than the text
-AllStrict-parts : (p : ℕ → Bool) (t : List ℕ) → IsText t → AllStrict (length t) (slice_split p t)
-AllStrict-parts p [] h =
+pub texts_of_parts : (p : ℕ → Bool) (t : List ℕ) → IsText t → AllStrict (length t) (slice_split p t)
+texts_of_parts p [] h =
     All-cons (λ t. IsStrictText t 0) [] [] (record { text = h; fits = omega arith }) (All-nil (λ t. IsStrictText t 0))
-AllStrict-parts p (b ∷ t) h =
-    let rest = AllStrict-parts p t (All-tail IsTextByte b t h) in
+texts_of_parts p (b ∷ t) h =
+    let rest = texts_of_parts p t (All-tail IsTextByte b t h) in
     let n = length t in
     AllStrict-either (suc n) (p b) ([] ∷ slice_split p t) (onto_first b (slice_split p t))
     (All-cons (λ t. IsStrictText t (suc n)) [] (slice_split p t) (record { text = All-nil IsTextByte; fits = omega arith }) (AllStrict-weaker n (suc n) (slice_split p t) (omega arith) rest))
@@ -65,7 +65,7 @@ AllStrict-parts p (b ∷ t) h =
 
 -- each part of a strict text is one
 pub IsStrictText-slice_split : (p : ℕ → Bool) (t : List ℕ) (n : ℕ) → IsStrictText t n → All (λ part. IsStrictText part n) (slice_split p t)
-IsStrictText-slice_split p t n h = AllStrict-weaker (length t) n (slice_split p t) h.fits (AllStrict-parts p t h.text)
+IsStrictText-slice_split p t n h = AllStrict-weaker (length t) n (slice_split p t) h.fits (texts_of_parts p t h.text)
 
 -- at the first byte of a kind a text is split into the part before it, and the parts of the rest after it
 pub slice_split-found : (p : ℕ → Bool) (t : List ℕ) (i : ℕ) → position p t ≡ Some i → slice_split p t ≡ take i t ∷ slice_split p (drop (i + 1) t)
@@ -187,3 +187,9 @@ prefixes_joined l r n m q p o =
     let first = p.fits in
     let second = o.fits in
     rw (text_of-take l n (min n q) p, text_of-take r m (min m q) o) (same_lists _ _ (search (rules, places)) (λ k d h. grind (arith, places)))
+
+-- a beginning of the first eight bytes
+pub prefix_of_eight : (a b : List ℕ) (q : ℕ) → q ≤ 8 → take q (take 8 (a ++ b)) ≡ take q (a ++ b)
+prefix_of_eight a b q le = take-take q 8 (a ++ b) le
+
+pub ruleset prefixes = (prefixes_joined, padded_front)

@@ -12,7 +12,7 @@ use Rattle.tinystr_words.specs.Reading.{lossy, lossy_byte}
 use Rattle.tinystr_words.proofs.Texts.{IsPaddedText-made, NULS, get_or-nuls, get_or-pad, length-pad, text_of-made}
 use Rattle.std.proofs.lemmas.List.Folds.{map_fixed}
 use Rattle.tinystr_words.proofs.Pieces.Word.{map-mod_text}
-use Rattle.tinystr_words.specs.Private.ReadPieces.{IsReadPiece}
+use Rattle.tinystr_words.specs.Private.{IsReadPiece}
 use Rattle.tinystr_words.proofs.Pieces.Copying.{IsPaddedText-pad_take, pad-full}
 
 -- one more item

@@ -1,9 +1,9 @@
 -- Bytes copied in pieces onto others, and a padded text put after another.
-use Rattle.std.proofs.Common.{List, [], ap, arith, drop, length, map, min, refl, rules, sym, take, ℕ, ◌++◌, ◌+◌, ◌-◌, ◌<◌, ◌∙◌, ◌≡◌, ◌≤◌, ◌⊎◌}
-use Rattle.std.proofs.lemmas.List.{drop-drop, drop-map, drop-take, length-append, places, same_lists, take-map, take-take, take_all}
+use Rattle.std.proofs.Common.{List, [], ap, arith, drop, length, map, min, refl, rules, sym, take, ℕ, ◌++◌, ◌+◌, ◌-◌, ◌<◌, ◌∙◌, ◌≡◌, ◌≤◌, ◌⊎◌, inl, inr}
+use Rattle.std.proofs.lemmas.List.{drop-drop, drop-map, drop-take, length-append, length-drop, length-map, length-take, places, same_lists, take-map, take-take, take_all}
 use Rattle.std.proofs.lemmas.List.Elements.{All-append, All-nil}
 use Rattle.std.proofs.Math.Seq.{take-nil}
-use borrow.Rule.Slice.PartMut.{put_mid}
+use borrow.Rule.Slice.PartMut.{put_mid, same_len_mid}
 use Rattle.tinystr_words.specs.Text.{IsPadded, IsPaddedText, IsText, IsTextByte, pad, text_of}
 use Rattle.tinystr_words.proofs.Texts.{IsPaddedText-places, NULS, get_or-pad, get_or-text_of, get_or-nuls, length-text_of-le}
 
@@ -17,9 +17,11 @@ pub copied_more : (old src bytes piece : List ℕ) (at k next : ℕ) → bytes �
 copied_more old src bytes piece at k next e step inside fits is =
     rw (e, is) (same_lists _ _ (search (rules, places)) (λ i d h. grind (arith, places)))
 
--- what both have is all of one
-pub copied_all : (old src : List ℕ) (len : ℕ) → len ≡ min (length old) (length src) → take len src ++ drop len old ≡ take (length old) src ++ drop (length src) old
-copied_all old src len is = same_lists _ _ (search (rules, places)) (λ k d h. grind (arith, places))
+-- the last piece, up to the end of the shorter list
+pub copied_rest : (old src bytes piece : List ℕ) (at k : ℕ) → bytes ≡ take at src ++ drop at old → at + k ≡ min (length old) (length src) → piece ≡ take k (drop at src)
+    → put_mid at k bytes piece ≡ take (length old) src ++ drop (length src) old
+copied_rest old src bytes piece at k e all is =
+    copied_more old src bytes piece at k (at + k) e refl (omega arith) (omega arith) is ∙ same_lists _ _ (search (rules, places)) (λ k d h. grind (arith, places))
 
 -- one list and then another
 pub copied_both : (old f b bytes y : List ℕ) (i : ℕ) → bytes ≡ take (length old) f ++ drop (length f) old → i ≡ min (length f) (length bytes)
@@ -68,6 +70,20 @@ IsPadded-appended r x y at k p here q y_is some fits all =
     (λ i below. rw y_is (grind (arith, places, get_or-text_of r (length r) i p, get_or-text_of x (length x) (i - at) q, all))) in
     (made.0, rw long at made.1)
 
+-- all of x
+pub appended_whole : (r x : List ℕ) (at k : ℕ) → IsPadded r → at ≡ length (text_of r) → IsPadded x → k ≡ length x → at + k ≤ length r → let made = put_mid at k r x in
+    (made ≡ made) × ((text_of made ≡ take (length r) (text_of r ++ text_of x)) × ((length made ≡ length r) × IsPadded made))
+appended_whole r x at k p here q all fits =
+    let made = IsPadded-appended r x x at k p here q (rw all (sym (take_all (length x) x (omega arith)))) (omega arith) fits (inl all) in
+    (refl, (made.1, (same_len_mid at k r x (omega (arith, length-take k (drop at r), length-drop at r)), made.0)))
+
+-- as much of it as fits
+pub appended_front : (r x : List ℕ) (at k : ℕ) → IsPadded r → at ≡ length (text_of r) → IsPadded x → k ≤ length x → k ≡ length r - at → at ≤ length r → let made = put_mid at k r (take k x) in
+    (made ≡ made) × ((text_of made ≡ take (length r) (text_of r ++ text_of x)) × ((length made ≡ length r) × IsPadded made))
+appended_front r x at k p here q some all fits =
+    let made = IsPadded-appended r x (take k x) at k p here q refl some (omega arith) (inr all) in
+    (refl, (made.1, (same_len_mid at k r (take k x) (omega (arith, length-take k x, length-take k (drop at r), length-drop at r)), made.0)))
+
 -- no text in NULs
 pub IsPadded-nuls : (n : ℕ) → IsPadded (NULS n) × (text_of (NULS n) ≡ [])
 IsPadded-nuls n =
@@ -88,3 +104,10 @@ piece-of_eight f xs eight piece at all skip k from count is_all made is fits the
 -- all of a list copied onto one as long
 pub copied_whole : (old src bytes : List ℕ) (n : ℕ) → n ≡ length src → length old ≡ n → bytes ≡ take n src ++ drop n old → bytes ≡ src
 copied_whole old src bytes n all long e = rw e (same_lists _ _ (search (rules, places)) (λ k d h. grind (arith, places)))
+
+-- one more piece of a map, of which eight were made
+pub mapped_more : {X : Type 0} (f : X → ℕ) (units : List X) (old bytes eight piece : List ℕ) (at all k next : ℕ) → bytes ≡ take at (map f units) ++ drop at old → eight ≡ map f (take all (drop at units))
+    → piece ≡ take k eight → all ≡ 8 → k ≤ 8 → next ≡ at + k → next ≤ length units → length old ≡ length units → put_mid at k bytes piece ≡ take next (map f units) ++ drop next old
+mapped_more f units old bytes eight piece at all k next e made is is_all few step inside same =
+    copied_more old (map f units) bytes piece at k next e step (omega (arith, length-map units f)) (omega arith)
+    (piece-of_eight f units eight piece at all 0 k at k is_all made is (omega arith) (omega arith) refl)

@@ -11,7 +11,7 @@ use Rattle.tinystr_words.specs.declared.question.Question.{Question}
 use Rattle.tinystr_words.specs.Questions.{ask_question, first_class, in_case, later_case, later_class, later_question}
 use Rattle.tinystr_words.proofs.Texts.{NULS, IsPaddedText-drop, IsPaddedText-made, IsPaddedText-take, length-text_of-le, take-pad, text_of-drop, text_of-made, text_of-take}
 use Rattle.tinystr_words.proofs.Pieces.Answers.{IsText-in_case, ask-pieces, ask-same, later-ask_question, in_case-padded, in_case-pieces, length-in_case}
-use Rattle.tinystr_words.specs.Private.Padded.{IsFirstWord}
+use Rattle.tinystr_words.specs.Private.{IsFirstWord}
 use Rattle.std.proofs.lemmas.Slice.{drop-put_mid, take-put_mid}
 use borrow.Rule.Slice.PartMut.{put_mid}
 use Rattle.tinystr_words.specs.declared.question.Case.{Case}

@@ -31,6 +31,10 @@ word_cut m n l cut = elim (cases_lt (length l) m) [
   | inr long ↦ (let at : n ≡ m = omega (arith, cut) in rw at (sym (word_split m l long)))
 ]
 
+-- cut at eight bytes
+pub word_by_halves : (l : List ℕ) → let n = min (length l) 8 in word (take n l) + 2 ^ 64 * word (drop n l) ≡ word l
+word_by_halves l = word_cut 8 (min (length l) 8) l refl
+
 -- ---- the pieces that a word is loaded by
 
 -- of one to three bytes, the first, the middle and the last

@@ -1,17 +1,18 @@
 -- The formulas of the questions and of each case change, and that they are right at each of the 128 bytes.
-use Rattle.std.proofs.Common.{lit<, lit≤, ℕ, ◌+◌, ◌-◌, ◌*◌, ◌%◌, ◌<◌, ◌≡◌, Bool, true, false, not, cond, bit_and, bit_or, nat_eq, nat_le, nat_lt, refl, ap, ap₂, ◌&&◌, ◌∙◌, arith}
+use Rattle.std.proofs.Common.{lit<, lit≤, ℕ, ◌+◌, ◌-◌, ◌*◌, ◌%◌, ◌<◌, ◌≡◌, Bool, true, false, not, cond, bit_and, bit_or, nat_eq, nat_le, nat_lt, refl, sym, ap, ap₂, ◌&&◌, ◌∙◌, arith}
 use Rattle.std.proofs.lemmas.Bool.Decides.{nat_tests}
 use Rattle.std.proofs.lemmas.Grind.{widths}
 use Rattle.std.proofs.lemmas.Nat.{le_or_l, le_or_r, or_lt, and_le_r, xor_lt, xor_block}
 use Rattle.std.specs.Int.Bits.{bit_xor}
 use Rattle.std.specs.Bool.{beq}
-use Rattle.tinystr_words.specs.Classes.{is_alphabetic, is_alphanumeric}
-use Rattle.tinystr_words.specs.Private.Ranges.{is_in, is_not_in}
+use Rattle.tinystr_words.specs.Classes.{ask, is_alphabetic, is_alphanumeric}
+use Rattle.tinystr_words.specs.Private.{is_in, is_not_in}
 use Rattle.tinystr_words.specs.declared.question.Case.{Case}
 use Rattle.tinystr_words.specs.declared.question.Case.TheVariants.{Lower, Title, Upper}
 use Rattle.tinystr_words.specs.declared.kernel.Range.{Range}
 use Rattle.tinystr_words.proofs.Words.Lanes.{everywhere, below_at, conjunction, disjunction, difference, addition}
-use Rattle.tinystr_words.proofs.Words.Formulas.{Formula, itself, splat, lead, join, flip, quarter, Asks, Asks-from_everywhere, Changes, is_safe, same_from_nat_eq}
+use Rattle.tinystr_words.proofs.Words.Formulas.{Formula, itself, splat, lead, join, flip, quarter, Asks, Asks-from_everywhere, Changes, is_safe, same_from_nat_eq, nat_eq-on, on}
+use Rattle.tinystr_words.specs.Words.{HoldsText, text_in}
 
 -- the code's ranges
 abbrev pub UPPER : Range
@@ -131,24 +132,30 @@ is_safe-marks : (r : Range) (b : ℕ) → b < 128 → (is_safe (outside_but_nuls
 is_safe-marks r b h = let bounds = r.no_carry in (grind (arith, nat_tests, widths), grind (arith, nat_tests, widths))
 
 -- these test whether each byte is in its range
-pub Asks-outside_but_nuls : (first others : Range) → Asks (outside_but_nuls first others) (splat 0) (is_in first) (is_in others)
+Asks-outside_but_nuls : (first others : Range) → Asks (outside_but_nuls first others) (splat 0) (is_in first) (is_in others)
 Asks-outside_but_nuls first others true b h = ((is_safe-marks first b h).0, (refl, nat_eq-outside_but_nuls first b h))
 Asks-outside_but_nuls first others false b h = ((is_safe-marks others b h).0, (refl, nat_eq-outside_but_nuls others b h))
 
 -- and these to be outside it
-pub Asks-inside : (first others : Range) → Asks (inside first others) (splat 0) (is_not_in first) (is_not_in others)
+Asks-inside : (first others : Range) → Asks (inside first others) (splat 0) (is_not_in first) (is_not_in others)
 Asks-inside first others true b h = ((is_safe-marks first b h).1, (refl, nat_eq-inside first b h))
 Asks-inside first others false b h = ((is_safe-marks others b h).1, (refl, nat_eq-inside others b h))
 
--- these test for letters, as computing finds at each byte
-pub Asks-not_letters : Asks not_letters (splat 0) is_alphabetic is_alphabetic
-unfolding everywhere
-Asks-not_letters = Asks-from_everywhere not_letters (splat 0) is_alphabetic is_alphabetic refl
+-- the answers about the text that a word holds
+pub asked_in : {n w : ℕ} → HoldsText n w → (first others : Range) → ask (is_in first) (is_in others) (text_in n w) ≡ nat_eq (on (outside_but_nuls first others) n w) (on (splat 0) n w)
+asked_in h first others = sym (nat_eq-on h (outside_but_nuls first others) (splat 0) _ _ (Asks-outside_but_nuls first others))
 
--- and these for letters and digits
-pub Asks-not_letters_or_digits : Asks not_letters_or_digits (splat 0) is_alphanumeric is_alphanumeric
+pub asked_not_in : {n w : ℕ} → HoldsText n w → (first others : Range) → ask (is_not_in first) (is_not_in others) (text_in n w) ≡ nat_eq (on (inside first others) n w) (on (splat 0) n w)
+asked_not_in h first others = sym (nat_eq-on h (inside first others) (splat 0) _ _ (Asks-inside first others))
+
+-- for letters, and for digits too, computing finds them at each byte
+pub asked_letters : {n w : ℕ} → HoldsText n w → ask is_alphabetic is_alphabetic (text_in n w) ≡ nat_eq (on not_letters n w) (on (splat 0) n w)
 unfolding everywhere
-Asks-not_letters_or_digits = Asks-from_everywhere not_letters_or_digits (splat 0) is_alphanumeric is_alphanumeric refl
+asked_letters h = sym (nat_eq-on h not_letters (splat 0) _ _ (Asks-from_everywhere not_letters (splat 0) is_alphabetic is_alphabetic refl))
+
+pub asked_letters_or_digits : {n w : ℕ} → HoldsText n w → ask is_alphanumeric is_alphanumeric (text_in n w) ≡ nat_eq (on not_letters_or_digits n w) (on (splat 0) n w)
+unfolding everywhere
+asked_letters_or_digits h = sym (nat_eq-on h not_letters_or_digits (splat 0) _ _ (Asks-from_everywhere not_letters_or_digits (splat 0) is_alphanumeric is_alphanumeric refl))
 
 -- the word in another case
 abbrev pub case_change : Case → Formula

@@ -2,7 +2,8 @@
 use Rattle.std.proofs.Common.{ℕ, zero, suc, ◌+◌, ◌-◌, ◌*◌, ◌/◌, ◌%◌, ◌^◌, ◌<◌, ◌≤◌, ◌≡◌, List, [], ◌∷◌, ◌++◌, length, refl, sym, ap, ap₂, ◌∙◌, subst, arith, lit<, ⊎_elim, replicate, bit_and, bit_or}
 use Rattle.std.proofs.Math.Nat.{one-le-pow, mul_comm, pow-suc, div-div-eq-div-mul, pow-le-pow_right}
 use Rattle.std.proofs.Math.Arith.{mod-mul}
-use Rattle.std.proofs.lemmas.Nat.{leading_length, leading_top, pow-add, pow_pos, and_shr, and_mod, and_le_r, or_shr, or_mod, or_lt}
+use Rattle.std.proofs.lemmas.Nat.{leading_length, leading_top, pow-add, pow_pos, and_shr, and_mod, and_le_r, or_shr, or_mod, or_lt, xor_mod, xor_shr}
+use Rattle.std.specs.Int.Bits.{bit_xor}
 use Rattle.std.proofs.lemmas.Bool.{cases_lt}
 use Rattle.std.proofs.lemmas.List.Elements.{All-head, All-tail}
 use Rattle.std.specs.Int.{bytes_low_first, byte_at}
@@ -171,6 +172,10 @@ low_bound (suc n) w h =
     let first = h 0 in
     omega (arith, mod-pow_256 n w, low_bound n (w / 256) (λ i. rw (div-pow_256 w i) at (h (suc i))))
 
+-- so it fits with room for one bit
+pub low_word_bounds : (w : ℕ) → HasLowLanes w → (w < 2 ^ 32 → w ≤ 0x7f7f7f7f) × (w < 2 ^ 64 → w ≤ 0x7f7f7f7f7f7f7f7f)
+low_word_bounds w h = (λ k. omega (arith, low_bound 4 w h), λ k. omega (arith, low_bound 8 w h))
+
 -- two such lanes leave no carry, so nor do two such words
 pub low_sum : (n w v : ℕ) → HasLowLanes w → HasLowLanes v → w % 256 ^ n + v % 256 ^ n < 256 ^ n
 low_sum zero w v h k = omega arith
@@ -198,3 +203,26 @@ low_or w m h k i =
     let e : lane (bit_or w m) i ≡ bit_or (lane w i) (lane m i) =
     rw (pow_256 i) (ap (λ n. n % 256) (or_shr w m (8 * i)) ∙ or_mod (w / 2 ^ (8 * i)) (m / 2 ^ (8 * i)) 8) in
     omega (arith, or_lt 7 (lane w i) (lane m i) (omega (arith, h i)) (omega (arith, k i)))
+
+-- ---- a word of sixteen lanes, by its halves
+
+pub and_halves : (w v : ℕ) → bit_and (w % 2 ^ 64) (v % 2 ^ 64) + 2 ^ 64 * bit_and (w / 2 ^ 64) (v / 2 ^ 64) ≡ bit_and w v
+and_halves w v = omega (arith, and_mod w v 64, and_shr w v 64)
+
+pub or_halves : (w v : ℕ) → bit_or (w % 2 ^ 64) (v % 2 ^ 64) + 2 ^ 64 * bit_or (w / 2 ^ 64) (v / 2 ^ 64) ≡ bit_or w v
+or_halves w v = omega (arith, or_mod w v 64, or_shr w v 64)
+
+pub xor_halves : (w v : ℕ) → bit_xor (w % 2 ^ 64) (v % 2 ^ 64) + 2 ^ 64 * bit_xor (w / 2 ^ 64) (v / 2 ^ 64) ≡ bit_xor w v
+xor_halves w v = omega (arith, xor_mod w v 64, xor_shr w v 64)
+
+-- no lane carries into the next, so nor does the low half into the high one
+pub low_halves : (w : ℕ) → HasLowLanes w → w < 2 ^ 128 → (w % 2 ^ 64 ≤ 0x7f7f7f7f7f7f7f7f) × (w / 2 ^ 64 ≤ 0x7f7f7f7f7f7f7f7f)
+low_halves w h fits = (omega (arith, low_bound 8 w h), omega (arith, low_bound 16 w h))
+
+-- the high bits, two places lower
+pub case_halves : (w : ℕ) → bit_and (w % 2 ^ 64) 0x8080808080808080 / 4 + 2 ^ 64 * (bit_and (w / 2 ^ 64) 0x8080808080808080 / 4) ≡ bit_and w 0x80808080808080808080808080808080 / 4
+case_halves w =
+    let mask : ℕ = 0x80808080808080808080808080808080 in
+    let none = and_mod (w / 2 ^ 64) 0x8080808080808080 2 in
+    let least = and_le_r (w / 2 ^ 64 % 4) 0 in
+    omega (arith, and_mod w mask 64, and_shr w mask 64)

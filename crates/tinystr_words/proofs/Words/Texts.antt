@@ -2,7 +2,7 @@
 use Rattle.std.proofs.Common.{cond, eqb, ℕ, zero, suc, ◌+◌, ◌-◌, ◌*◌, ◌/◌, ◌%◌, ◌^◌, ◌<◌, ◌≤◌, ◌≡◌, List, [], ◌∷◌, ◌++◌, length, get_or, Fits, w8, drop, map, replicate, refl, sym, ap, ◌∙◌, subst, arith, take, ap₂, lit<, inl, inr}
 use lib.Lanes.{zip2, mask_l, top}
 use Rattle.std.proofs.Math.Nat.{pow-suc, mul_comm, pow-le-pow_right, mul-mod_left, mod-eq_of_lt, add-mul-mod_self_left}
-use Rattle.std.proofs.lemmas.Nat.{pow_pos, pow-add, div-mul-add}
+use Rattle.std.proofs.lemmas.Nat.{leading_top, pow_pos, pow-add, div-mul-add}
 use Rattle.std.proofs.lemmas.Simd.{bitmask_splat, Each1-chunk}
 use Rattle.std.proofs.lemmas.Bool.Decides.{nat_tests}
 use Rattle.std.proofs.lemmas.List.{length-drop, take_all, length-take, length-append}
@@ -14,10 +14,10 @@ use Rattle.tinystr_words.proofs.Pieces.Answers.{IsText-in_case, length-in_case}
 use Rattle.tinystr_words.specs.Questions.{in_case}
 use Rattle.tinystr_words.specs.declared.question.Case.{Case}
 use Rattle.tinystr_words.proofs.Texts.{NULS, text_of-pad, length-text_of-le, take-joined}
-use Rattle.tinystr_words.proofs.Words.Lanes.{lanes, IsBytes, IsBytes-from_IsText, word-lt}
+use Rattle.tinystr_words.proofs.Words.Lanes.{lanes, IsBytes, IsBytes-from_Fits, IsBytes-from_IsText, word-lt}
 use Rattle.tinystr_words.proofs.Words.Formulas.{on, Ascii-padded, IsSafe-changes, on-text_in, lanes-change}
-use Rattle.tinystr_words.proofs.Words.Numbers.{lanes_of-word_pad, word-nuls, leading_zeros-word, leading_zeros-more, low_word, low_bound, pow_256-pos}
-use Rattle.tinystr_words.proofs.Pieces.Word.{map-mod_bytes, word_split}
+use Rattle.tinystr_words.proofs.Words.Numbers.{lanes_of-word_bytes, lanes_of-word_pad, word-nuls, leading_zeros-word, leading_zeros-more, low_word, low_word_bounds, pow_256-pos}
+use Rattle.tinystr_words.proofs.Pieces.Word.{map-mod_bytes, word_by_halves, word_split}
 use Rattle.tinystr_words.proofs.Words.Kernels.{case_change, Changes-case_change}
 use Rattle.std.proofs.Math.Arith.{mod-mul}
 use Rattle.std.proofs.Math.Seq.{take-append_seam, drop-append_seam}
@@ -42,24 +42,24 @@ HoldsText-padded n l bytes p le =
     rw e (HoldsText-word n t p.text (omega (arith, length-text_of-le l)))
 
 -- the length of the text, by the leading zeros
-pub length-text_in : {n w : ℕ} → HoldsText n w → n - count_leading_zeros (8 * n) w / 8 ≡ length (text_in n w)
-length-text_in {n} {w} h =
+pub text_length : {n w : ℕ} → HoldsText n w → n - count_leading_zeros (8 * n) w / 8 ≡ length (text_in n w)
+text_length {n} {w} h =
     let t = text_in n w in
     let e : w ≡ word t = h.padded ∙ word-nuls t (n - length t) in
     let z : count_leading_zeros (8 * n) w / 8 ≡ n - length t = ap (λ v. count_leading_zeros (8 * n) v / 8) e ∙ leading_zeros-word n t h.text h.fits in
     let fits = h.fits in
     omega arith
 
-pub ruleset text_length = length-text_in
-
 -- and by the place of the highest bit, above one more bit
-pub length-text_in-by_top : {w : ℕ} → HoldsText 8 w → w < 18446744073709551616 → (63 - count_leading_zeros 64 (2 * w + 1) + 7) / 8 ≡ length (text_in 8 w)
-length-text_in-by_top {w} h small =
-    omega (arith, length-text_in h, leading_zeros-more 63 w (omega (arith, low_bound 8 w h.low)))
+pub length_by_top : {w : ℕ} → HoldsText 8 w → w < 2 ^ 64
+    → (length (text_in 8 w) ≡ (63 - count_leading_zeros 64 (2 * w + 1) + 7) / 8) × ((count_leading_zeros 64 (2 * w + 1) ≤ 63) × (w ≤ 0x7f7f7f7f7f7f7f7f))
+length_by_top {w} h small =
+    let low : w ≤ 0x7f7f7f7f7f7f7f7f = (low_word_bounds w h.low).1 small in
+    (omega (arith, text_length h, leading_zeros-more 63 w (omega arith)), (omega (arith, (leading_top 64 (2 * w + 1) (omega arith) (omega arith)).1), low))
 
--- the lanes are the padded text
-pub lanes-text_in : {n w : ℕ} → HoldsText n w → lanes_of n w ≡ pad (text_in n w) n
-lanes-text_in {n} {w} h = ap (λ m. lanes_of n m) h.padded ∙ lanes_of-word_pad n (text_in n w) h.text h.fits
+-- the padded text is the lanes
+pub padded_lanes : {n w : ℕ} → HoldsText n w → pad (text_in n w) n ≡ lanes_of n w
+padded_lanes {n} {w} h = sym (ap (λ m. lanes_of n m) h.padded ∙ lanes_of-word_pad n (text_in n w) h.text h.fits)
 
 -- of a text and then NULs the NULs are marked: these marks and the bit at the text's length are the bit above all
 mask_nuls-padded : (t : List ℕ) (k n : ℕ) → IsText t → length t + k ≡ n → mask_l (map (λ b. eqb b 0) (t ++ NULS k)) + 2 ^ length t ≡ 2 ^ n
@@ -83,7 +83,7 @@ nuls-text_in {w} h lanes is =
     let t = text_in 16 w in
     let long : length lanes ≡ 16 = ap (λ (l : List ℕ). length l) is in
     let fits = h.fits in
-    ap (λ m. m + 2 ^ length t) (bitmask_splat w8 eqb lanes 16 0 long (omega arith) ∙ ap (λ (l : List ℕ). mask_l (map (λ b. eqb b 0) l)) (is ∙ lanes-text_in h))
+    ap (λ m. m + 2 ^ length t) (bitmask_splat w8 eqb lanes 16 0 long (omega arith) ∙ ap (λ (l : List ℕ). mask_l (map (λ b. eqb b 0) l)) (is ∙ sym (padded_lanes h)))
     ∙ mask_nuls-padded t (16 - length t) 16 h.text (omega arith)
 
 -- and the zeros above it give the length
@@ -108,13 +108,13 @@ HoldsText-rest n t x le =
 
 -- ---- its changes
 
--- the lanes of a changed word are the changed text, padded
-pub lanes_of-changed : {n w : ℕ} → HoldsText n w → (c : Case) → lanes_of n (on (case_change c) n w) ≡ pad (in_case c (text_in n w)) n
-lanes_of-changed {n} {w} h c =
+-- the changed text, padded, is the lanes of a changed word
+pub changed_lanes : {n w : ℕ} → HoldsText n w → (c : Case) → pad (in_case c (text_in n w)) n ≡ lanes_of n (on (case_change c) n w)
+changed_lanes {n} {w} h c =
     let s = IsSafe-changes (case_change c) c (Changes-case_change c) in
     let e = lanes-change (case_change c) c (Changes-case_change c) n (text_in n w) h.text h.fits in
     let back = lanes_of-word_pad n (in_case c (text_in n w)) (IsText-in_case c (text_in n w) h.text) (omega (arith, length-in_case c (text_in n w), h.fits)) in
-    rw (on-text_in h (case_change c) s, e) back
+    sym (rw (on-text_in h (case_change c) s, e) back)
 
 -- ---- a word whose text is followed by that of another
 
@@ -161,3 +161,9 @@ HoldsText-concat {n} {w} {v} p q len is =
     ∙ sym (ap word cut ∙ word-append t (take (n - len) s) ∙ ap (λ m. word t + 256 ^ m * word (take (n - len) s)) (sym is)) in
     let holds = HoldsText-word n both text fits in
     rw sum (word-lt_pow both n (IsBytes-from_IsText both text) fits, holds.0, holds.1)
+
+-- the lanes of at most sixteen bytes
+pub padded_bytes : (l : List ℕ) → ((i : ℕ) → Fits w8 (get_or l i 0)) → length l ≤ 16 → pad l 16 ≡ lanes_of 16 (word l)
+padded_bytes l f fits = sym (lanes_of-word_bytes 16 l (IsBytes-from_Fits l f) fits)
+
+pub ruleset sixteen_bytes = (word_by_halves, padded_bytes)

@@ -1,12 +1,16 @@
 //! Readers take many code units into an array of bytes, by pieces of a known length. `code_unit` says what one of them is.
+//! Lossy readers take at most sixteen bytes in a vector.
 
-ghost use Rattle.std.specs.Prelude.{◌≡◌, ◌+◌, ◌*◌, ◌%◌, ◌≤◌, map, length};
+ghost use Rattle.std.specs.Prelude.{◌≡◌, ◌+◌, ◌*◌, ◌%◌, ◌≤◌, map, length, replicate};
 ghost use Rattle.tinystr_words.specs.Text.{pad};
 ghost use Rattle.tinystr_words.specs.Reading.{lossy, lossy_byte};
-ghost use Rattle.tinystr_words.specs.Private.ReadPieces.{IsReadPiece};
+ghost use Rattle.tinystr_words.specs.Private.{IsReadPiece};
 
-use crate::code_unit::CodeUnit;
-use crate::padded::replacing::lossy_word;
+use crate::code_unit::{CHARACTERS, CodeUnit};
+use crate::padded::copying::resize;
+use crate::padded::first_lanes::first_lanes_of_sixteen;
+use crate::word::{Word, lanes};
+use std::simd::prelude::*;
 
 // The byte of a character, or the replacement.
 #[inline(always)]
@@ -102,6 +106,7 @@ pub fn read_all<U: CodeUnit>(bytes: &mut [u8], units: &[U], replacement: u8) -> 
 
 // The low bytes of all code units, eight at a time. The pieces end at 7, 15 and so on, where the compiler cuts a
 // `Result` of a text and an error of two numbers, so that each stays in a register.
+#[tactic(auto, using(crate::proofs::Pieces::Copying::mapped_more))]
 #[inline(always)]
 fn put_low_bytes<U: CodeUnit>(bytes: &mut [u8], units: &[U])
     requires least { 8 ≤ length units.now }
@@ -173,4 +178,37 @@ pub fn lossy<U: CodeUnit, const N: usize>(units: &[U], replacement: u8) -> [u8; 
     let mut bytes = [0; N];
     read_all(&mut bytes[..], units, replacement);
     bytes
+}
+
+// At most sixteen bytes, with the replacement for each that isn't a character, and then NULs.
+#[tactic(auto, using(crate::proofs::Vectors::replaced))]
+#[inline(always)]
+fn lossy_word<const N: usize>(bytes: &[u8], replacement: u8) -> [u8; N]
+    requires one_word { length bytes.now ≤ 16 }
+    requires fits { length bytes.now ≤ N }
+    ensures { result ≡ pad (map (lossy_byte replacement) bytes.now) N }
+{
+    resize(&lossy_lanes(bytes, replacement).to_array()[..])
+}
+
+// As `lossy_word`, in a vector. The bytes are loaded in registers: a load of bytes that were stored in pieces would wait
+// for them.
+#[inline(always)]
+fn lossy_lanes(bytes: &[u8], replacement: u8) -> u8x16
+    requires { length bytes.now ≤ 16 }
+    ensures { result ≡ pad (map (lossy_byte replacement) bytes.now) 16 }
+{
+    let given = lanes(<u128 as Word<16>>::load(bytes));
+    let are_characters = (given - u8x16::splat(1)).simd_lt(u8x16::splat(CHARACTERS));
+    are_characters.select(given, replacements(replacement, bytes.len()))
+}
+
+// `count` replacements, and then NULs.
+#[tactic(auto, using(crate::proofs::Vectors::replaced))]
+#[inline(always)]
+fn replacements(replacement: u8, count: usize) -> u8x16
+    requires { count ≤ 16 }
+    ensures { result ≡ pad (replicate count replacement) 16 }
+{
+    first_lanes_of_sixteen(u8x16::splat(replacement), count)
 }

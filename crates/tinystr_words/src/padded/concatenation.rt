@@ -2,7 +2,7 @@
 
 ghost use Rattle.std.specs.Prelude.{◌≡◌, ◌≤◌, ◌*◌, ◌++◌, length, replicate, take, drop, IsTrue};
 ghost use Rattle.tinystr_words.specs.Text.{IsPadded, IsPaddedText, text_of};
-ghost use Rattle.tinystr_words.specs.Private.Padded.{sixteen_from};
+ghost use Rattle.tinystr_words.specs.Private.{sixteen_from};
 
 use crate::int_ops::{Aligned8, Aligned16};
 use crate::padded::copying::{append, put, resize, resize_at_once};
@@ -40,8 +40,8 @@ pub(crate) fn fit_vectors(first_len: usize, second_len: usize) -> bool
 
 /// The first `Q` bytes of two texts joined, in one word of eight bytes, which a register holds: for results of at most
 /// eight.
+#[tactic(auto, using(crate::proofs::Parts::Splits::prefix_of_eight))]
 #[inline(always)]
-#[tactic(auto, using(crate::proofs::Parts::Splits::prefixes_joined))]
 pub(crate) fn concat_in_word<const Q: usize>(first: &[u8], second: &[u8]) -> [u8; Q]
     requires result_fits { Q ≤ 8 }
     requires first { IsPadded first.now }
@@ -58,6 +58,7 @@ pub(crate) fn concat_in_word<const Q: usize>(first: &[u8], second: &[u8]) -> [u8
 /// The first `Q` bytes of two texts joined, each in at most two vectors: for results past eight bytes. A shuffle moves
 /// the second text to its place, and each vector is stored at a place known at compile time, since a load that lies
 /// across two stores would stall.
+#[tactic(auto, using(crate::proofs::Vectors::stored_more))]
 #[inline(always)]
 pub(crate) fn concat_in_vectors<const Q: usize>(first: &[u8], second: &[u8]) -> [u8; Q]
     requires first { IsPadded first.now }
@@ -104,6 +105,7 @@ fn joined_from(first: &[u8], first_len: usize, second: &[u8], at: usize) -> u8x1
 }
 
 // Sixteen bytes of a text from `at` on, with NULs where it has ended.
+#[tactic(auto, using(crate::proofs::Texts::padded_parts, crate::proofs::Vectors::sixteen_loaded))]
 #[inline(always)]
 fn lanes_from(bytes: &[u8], at: usize) -> u8x16
     requires { IsPadded bytes.now }

@@ -6,6 +6,7 @@ ghost use Rattle.tinystr_words.specs.Text.{IsPadded, IsPaddedText, pad, text_of}
 
 /// Copies the bytes that both have, eight at a time: where their number is known at compile time they go through
 /// registers, and one copy of all would keep the value in memory.
+#[tactic(auto, using(crate::proofs::Pieces::Copying::copied_more, crate::proofs::Pieces::Copying::copied_rest))]
 #[inline(always)]
 pub(crate) fn put(bytes: &mut [u8], src: &[u8])
     ensures { bytes.new ≡ take (length bytes.old) src.now ++ drop (length src.now) bytes.old }
@@ -47,6 +48,7 @@ pub fn resize_at_once<const M: usize>(padded: &[u8]) -> [u8; M]
 
 /// Appends as much of a padded text as fits. Its place is known only at run time, so one copy of all bytes is faster
 /// than `put`.
+#[tactic(auto, using(crate::proofs::Pieces::Copying::appended_whole, crate::proofs::Pieces::Copying::appended_front))]
 #[inline(always)]
 pub(crate) fn append(bytes: &mut [u8], len: usize, padded: &[u8])
     requires padded { IsPadded bytes.old }

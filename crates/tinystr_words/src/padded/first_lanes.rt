@@ -13,7 +13,7 @@ static KEPT_LANES: [u8; 32] = [
 ];
 
 /// The first `count` of eight lanes, and then NULs.
-#[tactic(auto, using(crate::proofs::Padding::kept))]
+#[tactic(auto, using(crate::proofs::Padding::lanes_kept))]
 #[inline(always)]
 pub fn first_lanes_of_eight(lanes: u8x8, count: usize) -> u8x8
     requires { count ≤ 8 }
@@ -23,7 +23,7 @@ pub fn first_lanes_of_eight(lanes: u8x8, count: usize) -> u8x8
 }
 
 /// The first `count` of sixteen lanes, and then NULs.
-#[tactic(auto, using(crate::proofs::Padding::kept))]
+#[tactic(auto, using(crate::proofs::Padding::lanes_kept))]
 #[inline(always)]
 pub fn first_lanes_of_sixteen(lanes: u8x16, count: usize) -> u8x16
     requires { count ≤ 16 }

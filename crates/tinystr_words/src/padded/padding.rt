@@ -3,7 +3,7 @@
 ghost use Rattle.std.specs.Prelude.{◌≡◌, ◌≤◌, ◌↔◌, length, IsTrue};
 ghost use Rattle.tinystr_words.specs.Text.{IsPadded, pad};
 ghost use Rattle.tinystr_words.specs.Words.{word};
-ghost use Rattle.tinystr_words.specs.Private.Padded.{ArePaddedFrom, sixteen_from};
+ghost use Rattle.tinystr_words.specs.Private.{ArePaddedFrom, sixteen_from};
 
 use crate::word::Word;
 use std::simd::prelude::*;
@@ -58,6 +58,7 @@ fn sixteen_at(bytes: &[u8], at: usize) -> u8x16
 }
 
 // At most sixteen bytes and then NULs.
+#[tactic(auto, using(crate::proofs::Words::Texts::sixteen_bytes))]
 #[inline(always)]
 fn sixteen_of(bytes: &[u8]) -> u8x16
     requires { length bytes.now ≤ 16 }

@@ -3,7 +3,7 @@
 ghost use Rattle.std.specs.Prelude.{◌≡◌, ◌<◌, length, MatchOption};
 ghost use Rattle.tinystr_words.specs.Text.{IsPadded, text_of, pad};
 ghost use Rattle.tinystr_words.specs.Questions.{ask_question, in_case};
-ghost use Rattle.tinystr_words.specs.Private.Padded.{IsFirstWord};
+ghost use Rattle.tinystr_words.specs.Private.{IsFirstWord};
 
 use crate::int_ops::Aligned16;
 use crate::question::{Case, Question};
@@ -53,6 +53,7 @@ pub(crate) fn ask(bytes: &[u8], question: Question) -> bool
 }
 
 /// Changes each word in place; the later words are changed as the rest of a text. The NULs after the text stay.
+#[tactic(auto, using(crate::proofs::Texts::padded_front))]
 #[inline(always)]
 pub(crate) fn put_in_case(bytes: &mut [u8], case: Case)
     requires { IsPadded bytes.old }

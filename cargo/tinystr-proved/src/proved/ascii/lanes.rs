@@ -63,7 +63,7 @@ pub(crate) fn text_of_first_lanes<const N: usize>(lanes: u8x16, count: usize) ->
 /// ensures { result ≡ take N (text_of bytes.now) }
 /// ```
 #[inline(always)]
-pub(crate) const fn text_of_bytes<const N: usize>(bytes: &[u8]) -> TinyAsciiStr<N> {
+pub(crate) fn text_of_bytes<const N: usize>(bytes: &[u8]) -> TinyAsciiStr<N> {
     TinyAsciiStr::from_padded(resize_at_once(bytes))
 }
 

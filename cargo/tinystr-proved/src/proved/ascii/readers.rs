@@ -3,7 +3,7 @@
 
 use crate::ascii::TinyAsciiStr;
 use crate::error::ParseError;
-use crate::words::in_constants;
+use crate::words::{in_constants, padded};
 
 impl<const N: usize> TinyAsciiStr<N> {
     /// Reads a string of at most `N` bytes, each from 1 to 127.
@@ -187,3 +187,20 @@ impl<const N: usize> TinyAsciiStr<N> {
         TinyAsciiStr::from_padded(code_units)
     }
 }
+
+/// Whether all records are padded texts. There is no early exit, so that the compiler tests several in one step.
+///
+/// # Contract
+///
+/// ```text
+/// ensures { IsTrue result ↔ All (λ bytes. IsPaddedText bytes N) records.now }
+/// ```
+#[inline(always)]
+pub(crate) fn are_padded<const N: usize>(records: &[[u8; N]]) -> bool {
+    let mut are_padded = true;
+    for bytes in records {
+        are_padded &= padded::is_padded(bytes);
+    }
+    are_padded
+}
+

@@ -158,7 +158,7 @@ pub(crate) const fn hash_of<const N: usize>(start: u64, raw: &[u8; N]) -> u64 {
 //     ensures { result ≡ hash_on hash piece.now }
 #[inline(always)]
 const fn hash_on(hash: u64, piece: &[u8]) -> u64 {
-    let (low, high) = piece.split_at(crate::ranges::least(piece.len(), 8));
+    let (low, high) = piece.split_at(crate::in_words::least(piece.len(), 8));
     folded(hash ^ number(low), hash ^ (HASH_MASK ^ number(high)))
 }
 

@@ -315,7 +315,7 @@ impl<'a, const N: usize> Default for HashedTable<'a, N> {
     }
 }
 
-// A place, if a text is there.
+// A place, if a text is there. It is compared in place, since a copy would be stored before it is loaded.
 // Proved:
 //     ensures there { IfSome result (λ index. (index ≡ place) × (slice_get table.now index ≡ Some text.now)) }
 //     ensures elsewhere { IsNone result → (slice_get table.now place ≢ Some text.now) }
@@ -325,22 +325,8 @@ fn position_at<const N: usize>(
     place: usize,
     text: &TinyAsciiStr<N>,
 ) -> Option<usize> {
-    if has_text_at(table, place, text) {
-        Some(place)
-    } else {
-        None
-    }
-}
-
-// Whether a text is at an index. It is compared in place, since a copy would be stored before it is loaded.
-// Proved:
-//     ensures { IsTrue result ↔ (slice_get table.now index ≡ Some text.now) }
-#[inline(always)]
-fn has_text_at<const N: usize>(table: &Table<'_, N>, index: usize, text: &TinyAsciiStr<N>) -> bool {
-    match table.records().get(index) {
-        Some(raw) => padded::equals(raw, text.all_bytes()),
-        None => false,
-    }
+    let raw = table.records().get(place)?;
+    padded::equals(raw, text.all_bytes()).then_some(place)
 }
 
 // The same of the place of a slot past the records. It isn't inlined, since few slots are.

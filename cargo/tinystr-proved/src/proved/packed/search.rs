@@ -118,8 +118,11 @@ pub(crate) fn answer_at<const N: usize>(
 /// ```
 #[inline(always)]
 pub(crate) fn lower_bound<const N: usize>(records: &[[u8; N]], key: &[u8; N]) -> usize {
-    if N <= 16 || records.len() < FEWEST_NARROWED {
-        return lower_bound_whole(records, key);
+    if N <= 16 {
+        return lower_bound_short(records, key);
+    }
+    if records.len() < FEWEST_NARROWED {
+        return lower_bound_by_halves(records, key);
     }
     lower_bound_long(records, key)
 }

@@ -8,7 +8,6 @@ use crate::subtags::places::{has_byte_at, language_end, region_start};
 use crate::subtags::region::Region;
 use crate::subtags::script::Script;
 use crate::subtags::subtag::{Subtag, SubtagKind};
-use crate::subtags::tail::has_tail;
 use crate::subtags::texts::text_in_case;
 use core::fmt;
 use core::str::FromStr;
@@ -83,10 +82,9 @@ impl LangId {
             });
         }
         let classes = Classes::of(input);
-        let end = classes.first_end();
-        if !has_tail(&classes, end) {
+        let Some(end) = classes.language_len() else {
             return Err(refusal(&classes));
-        }
+        };
         Ok(LangId {
             text: text_in_case(classes.input(), end),
         })

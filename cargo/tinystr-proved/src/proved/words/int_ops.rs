@@ -130,10 +130,9 @@ impl<T: Word<LEN>, const LEN: usize> Aligned<T, LEN> {
     /// ```
     #[inline(always)]
     pub fn try_from_text<U: CodeUnit>(units: &[U]) -> Option<Self> {
+        let word = T::load(units);
         if is_text(units) {
-            Some(Aligned {
-                word: T::load(units),
-            })
+            Some(Aligned { word })
         } else {
             None
         }

@@ -3,18 +3,17 @@
 //! `int_ops`: the narrowest that holds them, as `width_of` returns it, except where a comment gives the reason for a wider
 //! one. Past 16 bytes it uses the module below that is named for what it does.
 
+mod comparison;
 pub mod copying;
-mod equality;
 mod first_lanes;
-mod order;
 mod padding;
 
 use crate::words::decimal::decimal_fits;
 use crate::words::int_ops::{Aligned4, Aligned8, Aligned16};
 use crate::words::question::{Case, Question};
+pub use comparison::{compare, number};
 pub use copying::{resize, resize_at_once};
 pub use first_lanes::{first_lanes_of_eight, first_lanes_of_sixteen};
-pub use order::{compare, number};
 
 /// The words that take padded bytes: the narrowest that holds them all, since it takes the fewest steps to load and to
 /// test.
@@ -110,7 +109,7 @@ pub fn equals<const N: usize>(left: &[u8; N], right: &[u8; N]) -> bool {
             &Aligned16::from_ascii_bytes(right),
         ),
         // vectors of sixteen bytes
-        Width::Sixteen | Width::Many => equality::equal(&left[..], &right[..]),
+        Width::Sixteen | Width::Many => comparison::equal(&left[..], &right[..]),
     }
 }
 

@@ -2,7 +2,7 @@ use Rattle.std.proofs.Common.{◌≡◌, ◌≢◌, ◌∙◌, ◌<◌, ◌≤�
 use Rattle.std.proofs.lemmas.Bool.{false≢true}
 use Rattle.std.proofs.lemmas.List.{get_or_default, take_all, take_more}
 use Rattle.std.proofs.lemmas.List.Elements.{All-contains}
-use Rattle.tinystr_hashed.specs.Private.Building.{texts_in}
+use Rattle.tinystr_hashed.specs.Private.{texts_in}
 use Rattle.tinystr_hashed.proofs.Marks.{AreMarked, AreMarked-more, AreMarked-none, Contains-marked, repeats}
 use Rattle.tinystr_hashed.proofs.building.has_each_once.Goals as goal
 

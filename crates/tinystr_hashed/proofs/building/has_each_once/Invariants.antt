@@ -1,5 +1,5 @@
 use Rattle.std.proofs.Common.{take}
-use Rattle.tinystr_hashed.specs.Private.Building.{texts_in}
+use Rattle.tinystr_hashed.specs.Private.{texts_in}
 use Rattle.tinystr_hashed.proofs.Marks.{AreMarked}
 use Rattle.tinystr_hashed.proofs.building.has_each_once.Given as goal
 

@@ -1,6 +1,6 @@
 use Rattle.std.proofs.Common.{◌∙◌, sym}
 use Rattle.std.proofs.lemmas.Bool.{false≢true}
-use Rattle.tinystr_hashed.specs.Private.Building.{texts_in}
+use Rattle.tinystr_hashed.specs.Private.{texts_in}
 use Rattle.tinystr_hashed.proofs.Marks.{table-each}
 use Rattle.tinystr_hashed.proofs.Packs.{has_same_number}
 use Rattle.tinystr_hashed.proofs.building.is_table_of.Goals as goal

@@ -1,6 +1,6 @@
 -- The table's rest gives what the table gives.
 use Rattle.std.proofs.Common.{◌≡◌, length}
-use Rattle.tinystr_lines.specs.Fields.{named}
+use Rattle.tinystr_lines.specs.Reply.{named}
 use Rattle.tinystr_lines.proofs.command.named.Given as goal
 
 abbrev pub invariant-loop-table : goal.invariant-loop-table

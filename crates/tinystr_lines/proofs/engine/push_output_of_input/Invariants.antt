@@ -1,6 +1,6 @@
 -- What is written so far, and the output of the rest, is what was there and the output of the input.
 use Rattle.std.proofs.Common.{◌≡◌, ◌++◌, length}
-use Rattle.tinystr_lines.specs.Output.{output_of}
+use Rattle.tinystr_lines.specs.Reply.{output_of}
 use Rattle.tinystr_lines.proofs.engine.push_output_of_input.Given as goal
 
 abbrev pub invariant-loop-rest : goal.invariant-loop-rest

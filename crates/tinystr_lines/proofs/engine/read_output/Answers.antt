@@ -1,7 +1,7 @@
 use Rattle.std.proofs.Common.{◌++◌, ℕ, List, [], take, sym, ap, ◌∙◌, arith, append-nil, append_assoc}
 use Rattle.std.proofs.KnownBytes.{Consumes-trans}
 use Rattle.std.proofs.lemmas.Grind.{common_steps}
-use Rattle.tinystr_lines.specs.Output.{output_of}
+use Rattle.tinystr_lines.specs.Reply.{output_of}
 use Rattle.tinystr_lines.proofs.engine.read_output.Goals as goal
 
 pub returns-in-Ok-eq0-clause-output : goal.returns-in-Ok-eq0-clause-output

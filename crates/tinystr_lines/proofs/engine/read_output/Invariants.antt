@@ -1,7 +1,7 @@
 -- What was read is answered but for what is begun. Each read adds a reply, or bytes to what is begun.
 use Rattle.std.proofs.Common.{◌≡◌, ◌++◌, ◌+◌, ◌*◌, ◌-◌, ◌^◌, List, ℕ, vec_len}
 use Rattle.std.specs.Io.KnownBytes.{Consumes}
-use Rattle.tinystr_lines.specs.Output.{output_of}
+use Rattle.tinystr_lines.specs.Reply.{output_of}
 use Rattle.tinystr_lines.proofs.engine.read_output.Given as goal
 
 abbrev pub invariant-loop-out : goal.invariant-loop-out

@@ -1,6 +1,6 @@
 use Rattle.std.proofs.Common.{◌-◌, arith}
 use Rattle.std.proofs.lemmas.List.{length-take-le}
-use Rattle.tinystr_lines.specs.Output.{is_line_feed}
+use Rattle.tinystr_lines.specs.Reply.{is_line_feed}
 use Rattle.tinystr_lines.proofs.Splits.{none_from-lanes}
 use Rattle.tinystr_lines.proofs.engine.split_after_last_line.Goals as goal
 

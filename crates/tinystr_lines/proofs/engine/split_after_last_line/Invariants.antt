@@ -1,6 +1,6 @@
 use Rattle.std.proofs.Common.{◌≡◌, ◌≤◌, false, length, drop}
 use Rattle.std.specs.List.{list_any}
-use Rattle.tinystr_lines.specs.Output.{is_line_feed}
+use Rattle.tinystr_lines.specs.Reply.{is_line_feed}
 use Rattle.tinystr_lines.proofs.engine.split_after_last_line.Given as goal
 
 abbrev pub invariant-loop-end : goal.invariant-loop-end

@@ -37,10 +37,5 @@ lower_bound_near-requires g c =
       ),
     )
 
-pub answer_at-requires : goal.answer_at-requires
-answer_at-requires g c =
-    let found = c.in_ok-place-in-Less.ensures in
-    (search rules, (search rules, (found.inside, λ padded up. rw c.all_bytes.ensures.bytes at found)))
-
 pub returns-in-Equal : goal.returns-in-Equal
 returns-in-Equal g c = search_result-same (map text_of c.args.records.now) c.args.before.now c.args.key.now c.args.answer c.requires.answer (sym c.in-Equal.ensures)

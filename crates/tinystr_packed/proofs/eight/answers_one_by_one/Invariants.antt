@@ -1,5 +1,5 @@
 use Rattle.std.proofs.Common.{◌≡◌, length}
-use Rattle.tinystr_packed.specs.Private.EightSearches.{AreAnswers}
+use Rattle.tinystr_packed.specs.Private.{AreAnswers}
 use Rattle.tinystr_packed.proofs.eight.answers_one_by_one.Given as goal
 
 abbrev pub invariant-loop-lane : goal.invariant-loop-lane

@@ -1,5 +1,5 @@
 use Rattle.std.proofs.Common.{◌≡◌, ℕ, ◌<◌, ◌≤◌, ◌+◌}
-use Rattle.tinystr_packed.specs.Private.EightSearches.{wanted}
+use Rattle.tinystr_packed.specs.Private.{wanted}
 use Rattle.tinystr_packed.proofs.eight.are_ascending.Given as goal
 
 abbrev pub invariant-loop-lane : goal.invariant-loop-lane

@@ -1,7 +1,6 @@
 use Rattle.std.proofs.Common.{◌≤◌, arith}
 use Rattle.std.proofs.lemmas.Bool.Decides.{nat_tests}
-use Rattle.tinystr_packed.specs.Private.Numbers.{pair_at}
-use Rattle.tinystr_packed.specs.Private.EightSearches.{wanted}
+use Rattle.tinystr_packed.specs.Private.{pair_at, wanted}
 use Rattle.tinystr_packed.specs.Rising.{text_at}
 use Rattle.tinystr_packed.proofs.EightSearches.{AreAscending-later}
 use Rattle.tinystr_packed.proofs.eight.are_at_most.Goals as goal

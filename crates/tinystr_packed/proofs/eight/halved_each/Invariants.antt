@@ -1,6 +1,6 @@
 use Rattle.std.proofs.Common.{ℕ, ◌<◌, ◌≤◌, ◌+◌, ◌/◌}
 use Rattle.std.specs.List.{slice_index}
-use Rattle.tinystr_packed.specs.Private.EightSearches.{wanted, IsPlaceWithin}
+use Rattle.tinystr_packed.specs.Private.{wanted, IsPlaceWithin}
 use Rattle.tinystr_packed.proofs.eight.halved_each.Given as goal
 
 abbrev pub invariant-loop-lane : goal.invariant-loop-lane

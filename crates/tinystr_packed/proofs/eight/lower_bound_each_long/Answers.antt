@@ -5,9 +5,8 @@ use borrow.Author.Count.{below_more}
 use Rattle.std.specs.List.{slice_index}
 use Rattle.std.proofs.lemmas.List.{get_or_default, get_or-set_other, get_or-set_same, length-set}
 use Rattle.tinystr_words.specs.Text.{IsPaddedText, pad}
-use Rattle.tinystr_packed.specs.Private.Numbers.{AreRisingRecords, pair_at}
+use Rattle.tinystr_packed.specs.Private.{AreRisingRecords, pair_at, IsPlaceWithin}
 use Rattle.tinystr_packed.specs.Rising.{order, text_at, IsFirstNotBelow}
-use Rattle.tinystr_packed.specs.Private.EightSearches.{IsPlaceWithin}
 use Rattle.tinystr_packed.proofs.NumberPlaces.{AreNumbered-rising, IsFirstNotBelow-tested}
 use Rattle.tinystr_packed.proofs.RisingTexts.{IsRecord-padded}
 use Rattle.tinystr_packed.proofs.EightSearches.{so_far-set, still-set}

@@ -1,9 +1,8 @@
 use Rattle.std.proofs.Common.{◌≡◌, ℕ, ◌<◌, ◌≤◌, length, All}
 use Rattle.std.specs.List.{slice_index}
 use Rattle.tinystr_words.specs.Text.{IsPaddedText, pad}
-use Rattle.tinystr_packed.specs.Private.Numbers.{AreRisingRecords, pair_at}
+use Rattle.tinystr_packed.specs.Private.{AreRisingRecords, pair_at, IsPlaceWithin}
 use Rattle.tinystr_packed.specs.Rising.{text_at, IsFirstNotBelow}
-use Rattle.tinystr_packed.specs.Private.EightSearches.{IsPlaceWithin}
 use Rattle.tinystr_packed.proofs.eight.lower_bound_each_long.Given as goal
 
 abbrev pub invariant-loop-lane : goal.invariant-loop-lane

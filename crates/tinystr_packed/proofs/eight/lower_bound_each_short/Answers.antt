@@ -7,9 +7,6 @@ use Rattle.tinystr_packed.proofs.NumberPlaces.{AreNumbered-rising, IsFirstNotBel
 use Rattle.tinystr_packed.proofs.RisingTexts.{IsRecord-padded}
 use Rattle.tinystr_packed.proofs.eight.lower_bound_each_short.Goals as goal
 
-pub returns-clause-bound : goal.returns-clause-bound
-returns-clause-bound g c i lane = (c.places_by_numbers.ensures.places i lane).inside
-
 pub returns-clause-places : goal.returns-clause-places
 returns-clause-places g c padded rising i lane =
     let records = c.args.records.now in

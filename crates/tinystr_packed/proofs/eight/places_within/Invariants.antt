@@ -1,4 +1,4 @@
-use Rattle.tinystr_packed.specs.Private.EightSearches.{wanted, ArePlacesWithin}
+use Rattle.tinystr_packed.specs.Private.{wanted, ArePlacesWithin}
 use Rattle.tinystr_packed.proofs.eight.places_within.Given as goal
 
 abbrev pub invariant-loop-size : goal.invariant-loop-size

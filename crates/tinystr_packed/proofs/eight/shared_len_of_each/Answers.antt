@@ -2,7 +2,7 @@ use Rattle.std.proofs.Common.{◌≡◌, ◌∙◌, ap, arith, [], ℕ, List}
 use borrow.Author.Count.{below_more}
 use Rattle.std.proofs.lemmas.List.{get_or_default}
 use Rattle.tinystr_words.specs.Text.{pad}
-use Rattle.tinystr_packed.specs.Private.Numbers.{BeginAlike}
+use Rattle.tinystr_packed.specs.Private.{BeginAlike}
 use Rattle.tinystr_packed.specs.Rising.{text_at}
 use Rattle.tinystr_packed.proofs.NumberPlaces.{BeginAlike-fewer}
 use Rattle.tinystr_packed.proofs.RisingTexts.{IsRecord-padded}

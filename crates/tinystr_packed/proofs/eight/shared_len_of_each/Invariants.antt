@@ -1,6 +1,6 @@
 use Rattle.std.proofs.Common.{ℕ, ◌<◌, ◌≤◌, ◌-◌}
 use Rattle.tinystr_words.specs.Text.{pad}
-use Rattle.tinystr_packed.specs.Private.Numbers.{AreRisingRecords, BeginAlike}
+use Rattle.tinystr_packed.specs.Private.{AreRisingRecords, BeginAlike}
 use Rattle.tinystr_packed.specs.Rising.{text_at}
 use Rattle.tinystr_packed.proofs.eight.shared_len_of_each.Given as goal
 

@@ -1,6 +1,6 @@
 use Rattle.std.proofs.Common.{◌≡◌, ap, arith}
 use Rattle.std.proofs.lemmas.Bool.Decides.{nat_tests}
-use Rattle.tinystr_packed.specs.Private.Numbers.{number_at, pair_at}
+use Rattle.tinystr_packed.specs.Private.{number_at, pair_at}
 use Rattle.tinystr_packed.proofs.RecordOrder.{is_eq-Decides, same-pair, same-short}
 use Rattle.tinystr_packed.proofs.record.are_same.Goals as goal
 

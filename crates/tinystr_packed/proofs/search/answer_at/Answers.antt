@@ -7,7 +7,7 @@ use Rattle.std.specs.declared.option.Option.TheVariants.{Some, None}
 use Rattle.std.proofs.lemmas.Bool.{false≢true}
 use Rattle.std.proofs.lemmas.Option.{get_or_from_slice_get, slice_get_within}
 use Rattle.tinystr_words.specs.Text.{IsPaddedText, pad, text_of}
-use Rattle.tinystr_packed.specs.Private.Numbers.{AreRisingRecords, IsRecord}
+use Rattle.tinystr_packed.specs.Private.{AreRisingRecords, IsRecord}
 use Rattle.tinystr_packed.specs.Rising.{IsFirstNotBelow, IsRising}
 use Rattle.tinystr_packed.proofs.InPlace.{found_record, missed_record, no_text_at}
 use Rattle.tinystr_packed.proofs.RisingTexts.{AreRisingRecords-texts, IsFirstNotBelow-texts, IsRecord-padded, IsPlaceFor-missed}

@@ -3,7 +3,7 @@ use Rattle.std.proofs.lemmas.Bool.{cases_lt, ltb-true}
 use Rattle.std.proofs.lemmas.List.{get_or_default}
 use Rattle.std.proofs.lemmas.Bool.Decides.{nat_tests}
 use Rattle.std.specs.declared.cmp.Ordering.TheVariants.{Less}
-use Rattle.tinystr_packed.specs.Private.Numbers.{AreDistinguished}
+use Rattle.tinystr_packed.specs.Private.{AreDistinguished}
 use Rattle.tinystr_packed.specs.Rising.{order, text_at, IsRising, IsFirstNotBelowWithin}
 use Rattle.tinystr_packed.proofs.RisingTexts.{IsFirstNotBelowWithin-from, IsFirstNotBelowWithin-to}
 use Rattle.tinystr_packed.proofs.search.narrow.Goals as goal

@@ -1,5 +1,5 @@
 use Rattle.std.proofs.Common.{◌≡◌, ◌+◌, ◌<◌, ◌≤◌, ◌/◌, length}
-use Rattle.tinystr_packed.specs.Private.Numbers.{AreDistinguished}
+use Rattle.tinystr_packed.specs.Private.{AreDistinguished}
 use Rattle.tinystr_packed.specs.Rising.{text_at, IsFirstNotBelowWithin}
 use Rattle.tinystr_packed.proofs.search.narrow.Given as goal
 

@@ -2,7 +2,7 @@ use Rattle.std.proofs.Common.{◌≡◌, ◌-◌, ℕ, List, [], refl, take, len
 use Rattle.std.proofs.lemmas.List.{take-take}
 use Rattle.tinystr_packed.proofs.Prefixes.{BeginAlike-ends}
 use Rattle.tinystr_packed.proofs.RecordOrder.{alike-long}
-use Rattle.tinystr_packed.specs.Private.Numbers.{IsRecord}
+use Rattle.tinystr_packed.specs.Private.{IsRecord}
 use Rattle.tinystr_packed.proofs.search.shared_len.Goals as goal
 
 pub loop-len-preserved : goal.loop-len-preserved

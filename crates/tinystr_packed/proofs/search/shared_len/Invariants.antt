@@ -1,5 +1,5 @@
 use Rattle.std.proofs.Common.{◌≡◌, ◌-◌, take}
-use Rattle.tinystr_packed.specs.Private.Numbers.{IsRecord, AreRisingRecords}
+use Rattle.tinystr_packed.specs.Private.{IsRecord, AreRisingRecords}
 use Rattle.tinystr_packed.proofs.search.shared_len.Given as goal
 
 abbrev pub invariant-loop-len : goal.invariant-loop-len

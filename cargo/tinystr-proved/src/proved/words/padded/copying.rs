@@ -12,7 +12,7 @@
 /// ```
 #[inline(always)]
 pub(crate) const fn put(bytes: &mut [u8], src: &[u8]) {
-    let len = crate::ranges::least(bytes.len(), src.len());
+    let len = crate::in_words::least(bytes.len(), src.len());
     let mut at = 0;
     while len - at >= 8 {
         bytes.split_at_mut(at + 8).0.split_at_mut(at).1.copy_from_slice(src.split_at(at + 8).0.split_at(at).1);

@@ -1,6 +1,6 @@
 use Rattle.std.proofs.Common.{◌≡◌, ◌∙◌, ◌-◌, ◌≤◌, ℕ, sym, rules, arith}
 use Rattle.std.proofs.lemmas.Bool.{false≢true}
-use Rattle.subtags.specs.Prefixes.{IsIdPrefix}
+use Rattle.subtags.specs.Answers.{IsIdPrefix}
 use Rattle.subtags.proofs.IdentifierLemmas.{prefix_some, prefix_language, language_prefix, language_rejected}
 use Rattle.subtags.proofs.lang_id.LangId.from_prefix.Goals as goal
 use Rattle.subtags.proofs.lang_id.LangId.from_prefix.Goals.{then-is_subtag_end+in-Err-InvalidSubtag, else-is_subtag_end}

@@ -1,6 +1,6 @@
 -- No identifier that the input begins with is longer than `end`.
 use Rattle.std.proofs.Common.{◌≤◌, ℕ, length}
-use Rattle.subtags.specs.Prefixes.{IsIdPrefix}
+use Rattle.subtags.specs.Answers.{IsIdPrefix}
 use Rattle.subtags.proofs.lang_id.LangId.from_prefix.Given as goal
 
 abbrev pub invariant-loop-end : goal.invariant-loop-end

@@ -1,32 +1,12 @@
-use Rattle.std.proofs.Common.{ℕ, ◌≡◌, ◌≢◌, ◌<◌, ◌≤◌, ◌%◌, ◌∙◌, ap, arith, inl, inr, List, [], length, refl, rules, sym}
-use Rattle.std.proofs.lemmas.Grind.{common_steps}
-use Rattle.std.proofs.lemmas.Bool.{cases_lt}
+use Rattle.std.proofs.Common.{ℕ, ◌<◌, ◌∙◌, ap, List, [], refl}
 use Rattle.std.proofs.lemmas.Result.{IfErr-at_err, IfErr-weaker}
-use Rattle.std.proofs.Math.Nat.{mod-eq_of_lt}
 use Rattle.tinystr_words.specs.Reading.{fault_in}
-use Rattle.tinystr_words.proofs.Reading.Records.{AreRecords, AllPadded-packed, IsFirstBad-records, IsPacked-length, IsPacked-records, get_or-AreRecords}
+use Rattle.tinystr_words.proofs.Reading.Records.{AreRecords, AllPadded-packed, IsFirstBad-records, IsPacked-records, get_or-AreRecords}
 use Rattle.tinystr.specs.Records.{RefusesRecords}
-use Rattle.tinystr.specs.Private.RecordLists.{RefusesOneOf}
+use Rattle.tinystr.specs.Private.{RefusesOneOf}
 use Rattle.tinystr.specs.declared.ule.UleError.{UleError}
 use Rattle.tinystr.specs.declared.ule.UleError.TheVariants.{Length, Parse}
 use Rattle.tinystr.proofs.ascii.TinyAsciiStr.validate_bytes.Goals as goal
-
--- a list that n divides has n elements, or none
-le_from_divides : (len n : ℕ) → len % n ≡ 0 → len ≢ 0 → n ≤ len
-le_from_divides len n whole some = elim (cases_lt len n) [
-  | inl less ↦ absurd (some (sym (mod-eq_of_lt less) ∙ whole))
-  | inr fits ↦ fits
-]
-
-pub as_chunks-requires : goal.as_chunks-requires
-as_chunks-requires g c =
-    let fits = le_from_divides (length c.args.bytes.now) g.row.N (search rules) (search rules) in
-    (omega (arith, c.well_formed.0), c.requires)
-
-pub returns-in_err-validate_bytes-clause-accepted : goal.returns-in_err-validate_bytes-clause-accepted
-returns-in_err-validate_bytes-clause-accepted g c =
-    let packed = IsPacked-length c.args.bytes.now g.row.N in
-    grind (arith, common_steps)
 
 -- the first bad record of the list is that of the bytes
 RefusesRecords-from_list : (records : List (List ℕ)) (bytes : List ℕ) (n : ℕ) → AreRecords records bytes n → 0 < n → (e : UleError) → RefusesOneOf e records n → RefusesRecords e bytes n

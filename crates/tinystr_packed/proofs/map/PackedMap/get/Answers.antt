@@ -1,5 +1,4 @@
-use Rattle.std.proofs.Common.{sym, true≢false}
-use Rattle.tinystr_packed.proofs.PackedMaps.{DifferentKeys-rising, get-zip, get-zip_absent, option_copied-item}
+use Rattle.tinystr_packed.proofs.PackedMaps.{DifferentKeys-rising, get-zip, option_copied-item}
 use Rattle.tinystr_packed.proofs.map.PackedMap.get.Goals as goal
 
 pub returns-in-Ok : goal.returns-in-Ok
@@ -7,8 +6,3 @@ returns-in-Ok g c =
     let s = c.self.inside in
     let found = get-zip s.keys s.values.now c.args.self.now c.args.key.now c.in-Ok.index c.self.view_is c.self.invariant.1 (DifferentKeys-rising s.keys c.self.invariant.0) c.in-Ok.ensures.found in
     rw found (option_copied-item s.values.now c.in-Ok.index c.get.result c.get.ensures.lookup)
-
-pub returns-in-Err : goal.returns-in-Err
-returns-in-Err g c =
-    let s = c.self.inside in
-    sym (get-zip_absent s.keys s.values.now c.args.self.now c.args.key.now c.self.view_is c.self.invariant.1 (λ found. true≢false (sym (c.in-Err.ensures.exact.1 found))))

@@ -1,6 +1,5 @@
 use Rattle.std.proofs.Common.{◌≡◌, ◌∙◌}
-use Rattle.tinystr_packed.specs.Rising.{IsRising}
-use Rattle.tinystr_packed.specs.Search.{search_result}
+use Rattle.tinystr_packed.specs.Rising.{IsRising, search_result}
 use Rattle.tinystr_packed.proofs.Searches.{IsSearched-result}
 use Rattle.tinystr_packed.proofs.sorted.SortedTable.binary_search.Goals as goal
 

@@ -1,6 +1,6 @@
-use Rattle.tinystr_words.proofs.Words.Formulas.{splat, nat_eq-on}
-use Rattle.tinystr_words.proofs.Words.Kernels.{not_letters, Asks-not_letters}
+use Rattle.std.proofs.Common.{sym}
+use Rattle.tinystr_words.proofs.Words.Kernels.{asked_letters}
 use Rattle.tinystr_words.proofs.int_ops.Aligned.each_letter.Goals as goal
 
 pub returns : goal.returns
-returns g c = rw (← c.self.view_is, c.no_character_marked.ensures, c.outside.ensures, c.with_case_bits.ensures.bits) (nat_eq-on c.self.invariant not_letters (splat 0) _ _ Asks-not_letters)
+returns g c = rw (← c.self.view_is, c.no_character_marked.ensures, c.outside.ensures, c.with_case_bits.ensures.bits) (sym (asked_letters c.self.invariant))

@@ -1,24 +1,7 @@
-use Rattle.std.proofs.Common.{◌%◌, ◌+◌, ◌-◌, ◌≡◌, arith, length, map, refl}
+use Rattle.std.proofs.Common.{◌%◌, ◌-◌, ◌≡◌, arith, length, map}
 use Rattle.std.proofs.lemmas.List.{length-map}
 use Rattle.tinystr_words.proofs.Pieces.Copying.{copied_more, copied_whole, piece-of_eight}
 use Rattle.tinystr_words.proofs.padded.code_units.put_low_bytes.Goals as goal
-
-pub loop-end-preserved : goal.loop-end-preserved
-loop-end-preserved g c =
-    let units = c.args.units.now in
-    let now = c.loop-end in
-    let piece = c.copy_from_slice in
-    let low = map (λ u. g.U.CodeUnit.number u % 256) units in
-    let long : length low ≡ length units = length-map units (λ u. g.U.CodeUnit.number u % 256) in
-    let part = piece-of_eight (λ u. g.U.CodeUnit.number u % 256) units c.eight_low_bytes-eight.result piece.new.self now.start (now.start + 8 - now.start) 0 (now.end - now.start) now.start (now.end - now.start)
-    (omega arith) c.eight_low_bytes-eight.ensures piece.ensures.after (omega (arith, now.invariant.most)) (omega arith) refl in
-    record {
-      least = omega arith;
-      most = omega arith;
-      inside = omega arith;
-      copied = copied_more c.args.bytes.now low now.bytes piece.new.self now.start (now.end - now.start) now.end
-          now.invariant.copied (omega (arith, now.invariant.least)) (omega arith) (omega (arith, c.requires.len)) part;
-    }
 
 pub returns : goal.returns
 returns g c =

@@ -1,5 +1,5 @@
 use Rattle.std.proofs.Common.{◌≡◌, length, map}
-use Rattle.tinystr_words.specs.Private.ReadPieces.{IsReadPiece}
+use Rattle.tinystr_words.specs.Private.{IsReadPiece}
 use Rattle.tinystr_words.proofs.padded.code_units.read_piece.Given as goal
 
 abbrev pub invariant-loop-i : goal.invariant-loop-i

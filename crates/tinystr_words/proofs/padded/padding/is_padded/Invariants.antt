@@ -1,5 +1,5 @@
 use Rattle.std.proofs.Common.{◌+◌, ◌-◌, ◌≤◌, length}
-use Rattle.tinystr_words.specs.Private.Padded.{ArePaddedFrom}
+use Rattle.tinystr_words.specs.Private.{ArePaddedFrom}
 use Rattle.tinystr_words.proofs.padded.padding.is_padded.Given as goal
 
 -- what was tested

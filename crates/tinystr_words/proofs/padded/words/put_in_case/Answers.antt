@@ -2,13 +2,9 @@ use Rattle.std.proofs.Common.{◌≡◌, ◌+◌, ◌-◌, ◌≤◌, length, ru
 use borrow.Rule.Slice.PartMut.{same_len_mid}
 use Rattle.tinystr_words.specs.Questions.{in_case, later_case}
 use Rattle.tinystr_words.specs.Text.{pad}
-use Rattle.tinystr_words.proofs.Texts.{IsPaddedText-take}
 use Rattle.tinystr_words.proofs.Pieces.Answers.{in_case-padded, later_case-same}
 use Rattle.tinystr_words.proofs.Pieces.PaddedWords.{in_case-first_word, in_case-last_word, IsPadded-after_word}
 use Rattle.tinystr_words.proofs.padded.words.put_in_case.Goals as goal
-
-pub from_padded-requires : goal.from_padded-requires
-from_padded-requires c = (omega arith, (search rules, IsPaddedText-take _ _ _ c.loop-bytes.invariant.padded))
 
 pub loop-bytes-preserved : goal.loop-bytes-preserved
 loop-bytes-preserved c =

@@ -1,9 +1,0 @@
--- The texts that a table is built of.
-use Rattle.std.specs.Prelude.{ℕ, List}
-use Rattle.tinystr_hashed.specs.declared.building.Texts.{Texts}
-use Rattle.tinystr_hashed.specs.declared.building.Texts.TheVariants.{Given, Packed}
-
--- those of a slice, or of a table
-abbrev pub texts_in : {n : ℕ} → Texts n → List (List ℕ)
-texts_in (Given texts) = texts.now
-texts_in (Packed table) = table.now
