@@ -290,7 +290,7 @@ IN_FILE = {
         # readers
         Rule("pub const fn find_fault", "#[inline]\n    pub const fn find_fault", "not generic, so callers inline it only so"),
         Rule("try_from_text(units: &[U]) -> Option<Self>", "try_from_text(units: &[U]) -> Option<Aligned<T, LEN>>", OF_WIDTHS),
-        Rule("word = T::load(units)", "word = Word(Load::<Number>::load(units))", OF_WIDTHS),
+        Rule("word: T::load(units)", "word: Word(Load::<Number>::load(units))", OF_WIDTHS),
         *(
             Rule(f"Aligned{width}::try_from_text(", f"{name}::try_from_text(", OF_WIDTHS)
             for width, name in ((8, "eight"), (16, "sixteen"))

@@ -133,9 +133,10 @@ impl<T: Word<LEN>, const LEN: usize> Aligned<T, LEN> {
         ensures { MatchOption result (¬ IsText (map U.number units.now))
             (λ t. IsText (map U.number units.now) × (t ≡ map U.number units.now)) }
     {
-        let word = T::load(units);
         if is_text(units) {
-            Some(Aligned { word })
+            Some(Aligned {
+                word: T::load(units),
+            })
         } else {
             None
         }

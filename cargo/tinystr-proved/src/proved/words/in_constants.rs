@@ -728,9 +728,10 @@ macro_rules! readers {
         for_each_width! {
             #[inline(always)]
             pub const fn try_from_text(units: &[U]) -> Option<Aligned<T, LEN>> {
-                let word = Word(Load::<Number>::load(units));
                 if is_text(units) {
-                    Some(Aligned { word })
+                    Some(Aligned {
+                        word: Word(Load::<Number>::load(units)),
+                    })
                 } else {
                     None
                 }

@@ -130,9 +130,10 @@ impl<T: Word<LEN>, const LEN: usize> Aligned<T, LEN> {
     /// ```
     #[inline(always)]
     pub fn try_from_text<U: CodeUnit>(units: &[U]) -> Option<Self> {
-        let word = T::load(units);
         if is_text(units) {
-            Some(Aligned { word })
+            Some(Aligned {
+                word: T::load(units),
+            })
         } else {
             None
         }
