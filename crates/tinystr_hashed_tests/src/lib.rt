@@ -14,6 +14,8 @@ mod maps;
 #[cfg(test)]
 mod packing;
 #[cfg(test)]
+mod packing_into;
+#[cfg(test)]
 mod spread;
 #[cfg(test)]
 mod tables;
