@@ -290,7 +290,9 @@ tinystr_result tinystr_hashed_search(const void *bytes, size_t bytes_len, size_t
 
 /* Searches each of some keys in a hashed table. The keys are records of the same capacity, in any order, and are checked.
  * The table isn't checked.
- *   OK                 value: how many keys. `out` begins with a result for each key, that of tinystr_hashed_search.
+ *   OK                 value: how many keys. `out` begins with a result for each key, that of tinystr_hashed_search. If
+ *                      the bytes aren't a hashed table, each is OK with the index of some record, or NOT_FOUND, and may
+ *                      differ from that of tinystr_hashed_search.
  *   BAD_LENGTH         detail: `keys_len`.
  *   NUL, NON_ASCII     detail: the index of the first key that isn't a padded text.
  *   NO_ROOM            detail: how many keys, which is above `out_len`.

@@ -514,8 +514,10 @@ pub unsafe extern "C" fn tinystr_hashed_search(
     )
 }
 
-/// Puts an answer for each of some keys, which are packed records, at the start of `out`: that of `tinystr_hashed_search`.
-/// Any code but OK leaves `out` as it was, and OK leaves what is after the answers.
+/// Puts an answer for each of some keys, which are packed records, at the start of `out`. Of a hashed table it is that of
+/// `tinystr_hashed_search`. The table isn't checked again: of any other bytes it is an index inside their records, or that the
+/// key isn't there, which may differ from what `tinystr_hashed_search` returns. Any code but OK leaves `out` as it was, and OK
+/// leaves what is after the answers.
 ///
 /// # Contract
 ///
