@@ -5,9 +5,10 @@ from pathlib import Path
 
 from eraser import Stopped
 from eraser.contracts import Contracts, without_ghosts
-from eraser.modules import MODULES, PRIVATE, path_of
+from eraser.modules import PRIVATE, path_of
 from eraser.package import finished, sources
 from eraser.rules import Rule, Rules
+from lib.sources import LIBRARIES
 
 CRATE = "tinystr_c"
 # The file of the exports, whose functions are public.
@@ -31,7 +32,7 @@ SAFETY = """///
 
 def files_of_c_library(top: Path) -> dict[str, str]:
     """The generated files, by their paths in `src/proved/`."""
-    paths = {crate: "proved::" if crate in PRIVATE else path_of(crate).replace("crate", "proved") for crate in MODULES}
+    paths = {crate: "proved::" if crate in PRIVATE else path_of(crate).replace("crate", "proved") for crate in LIBRARIES}
     rules = Rules(IN_FILE, [Rule(rf"(?<![\w:]){crate}::", path, OF_CRATES) for crate, path in paths.items()])
     made = {}
     for file, text in sources(top / "crates" / CRATE):

@@ -25,7 +25,7 @@ MOVED = {
     "ascii/readers.rs": ["fn read", "fn read_padded", "fn read_pieces", "fn find_fault", "fn fault"],
     "words/code_unit.rs": ["impl CodeUnit for u16"],
     "words/padded.rs": ["fn len", "fn ask", "fn put_in_case", "fn concat"],
-    **{f"words/padded/{name}.rs": [] for name in ("bytewise", "code_units", "concatenation", "words")},
+    **{f"words/{name}.rs": [] for name in ("bytewise", "padded/code_units", "padded/concatenation", "padded/words")},
 }
 MARK = re.compile(r"^( *)//= (?P<file>\S+\.rs)(?:, (?P<item>.*?))?: (?P<how>free |held )?`(?P<names>[\w ]+)`\n", re.M)
 HEAD = r"( *)(?:pub(?:\(crate\))? )?(?:const )?fn "

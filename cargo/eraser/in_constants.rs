@@ -71,7 +71,7 @@ impl Word<u32> {
 impl Word<u64> {
     //= words/word.rs, impl Word<8> for u64: held `from_le_bytes to_bytes_in_registers plus and or xor not`
 
-    //= words/word.rs, impl Word<8> for u64: held `text_len high_bits_as_case_bits next_lanes equals`
+    //= words/word.rs, impl Word<8> for u64: held `high_bits_as_case_bits next_lanes equals`
 
     //= words/word.rs, pub trait Word<const LEN: usize>: Copy: `to_bytes_in_memory`
 
@@ -103,7 +103,7 @@ mod words {
 mod bytewise {
     use super::*;
 
-    //= words/padded/bytewise.rs: `ask_bytes ask_apart ask_each all_pass passes`
+    //= words/bytewise.rs: `ask_bytes ask_apart ask_each all_pass passes`
 }
 
 type Aligned4 = Aligned<Word<u32>, 4>;
@@ -115,9 +115,7 @@ impl Aligned4 {
 }
 
 impl Aligned8 {
-    //= words/int_ops.rs: `len`
-
-    //= words/int_ops.rs, impl Aligned<u64, 8>: `concat`
+    //= words/int_ops.rs, impl Aligned<u64, 8>: `len_by_top concat`
 }
 
 //= words/padded.rs: `is_padded len ask put_in_case concat`

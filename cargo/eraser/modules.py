@@ -5,9 +5,10 @@ import re
 from eraser import Stopped, substituted
 from lib.rattle import with_code
 
-# The module of each crate, in order. That of the type is the root.
+# The module of each crate, in order. That of the type is the root, and `in_constants.rs` has what is used of tinystr_const.
 MODULES = {
     "tinystr_words": "words",
+    "tinystr_const": "words",
     "tinystr": "",
     "subtags": "subtags",
     "tinystr_packed": "packed",
@@ -15,7 +16,7 @@ MODULES = {
 }
 
 # Crates whose module is private: only the proved functions call theirs, and meet what these require.
-PRIVATE = {"tinystr_words"}
+PRIVATE = {"tinystr_words", "tinystr_const"}
 # A file of such a crate whose types callers have, and so the functions of these.
 EXPORTED = "tinystr_words/question.rt"
 # A private file of another crate, for the same reason: exported, its calls that make texts would have to be `unsafe`.

@@ -11,12 +11,14 @@ from eraser.modules import AS_CONST, EXPORTED, MODULES, PRIVATE, PRIVATE_FILE, w
 from eraser.omissions import LEFT_OUT, without_allocation_errors, without_items, without_kit_traits
 from eraser.rules import EVERYWHERE, IN_FILE, Rules, with_fields
 from lib.rattle import unmatched_bracket
+from lib.sources import LIBRARIES
 
 # Sources that are left out, each with the reason.
 FILES_LEFT_OUT = {
     "tinystr/forms/json.rt": "feature `serde` has its place",
     "tinystr/macros.rt": "`constants.rs` has `tinystr!` as a constant",
-    **{f"{crate}/laws.rt": "laws are for proofs" for crate in MODULES},
+    "tinystr_const/lib.rt": "`in_constants.rs` has its functions",
+    **{f"{crate}/laws.rt": "laws are for proofs" for crate in LIBRARIES},
 }
 
 

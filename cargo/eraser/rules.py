@@ -22,7 +22,7 @@ class Rule:
 OF_ALLOCATOR = "Rust's vectors and maps name no allocator"
 WANT_OF_MEMORY = "want of memory ends a program in Rust, and is no error"
 # Modules that are left out, and those whose functions constants call in `in_constants.rs`.
-GONE = "laws|macros|json|bytewise|code_units|concatenation"
+GONE = "laws|macros|json|code_units|concatenation"
 
 EVERYWHERE = [
     Rule(
@@ -227,6 +227,7 @@ IN_FILE = {
         Rule("<T: Word<LEN>, const LEN: usize>", "", OF_WIDTHS, 9),
         # words as a type
         Rule("-> [u8; LEN] {\n        self.to_b", "-> [u8; size_of::<Self>()] {\n        self.to_b", OF_WIDTHS, 2),
+        Rule("2 * self.word + 1", "2 * self.word.0 + 1", OF_WIDTHS),
         Rule("word: front + (back << (8 * len))", "word: Word(front.0 + (back.0 << (8 * len)))", OF_WIDTHS),
         Rule("Self::splat(0x80)", "Self::splat(0x80).0", OF_WIDTHS, 3),
         # operators of vectors

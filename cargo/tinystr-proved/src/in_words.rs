@@ -22,7 +22,7 @@ pub(crate) const fn least(a: usize, b: usize) -> usize {
 pub const fn text_len(bytes: &[u8]) -> usize {
     if bytes.len() <= 16 {
         let (front, back) = bytes.split_at(least(bytes.len(), 8));
-        return Aligned8::from_padded(front).len() + Aligned8::from_padded(back).len();
+        return Aligned8::from_padded(front).len_by_top() + Aligned8::from_padded(back).len_by_top();
     }
     let mut len = 0;
     let mut rest = bytes;

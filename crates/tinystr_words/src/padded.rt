@@ -10,7 +10,6 @@ ghost use Rattle.tinystr_words.specs.Decimal.{last};
 ghost use Rattle.tinystr_words.specs.Questions.{ask_question, in_case};
 ghost use Rattle.tinystr_words.specs.Private.{IsWidthOf};
 
-mod bytewise;
 mod code_units;
 mod comparison;
 mod concatenation;
@@ -22,7 +21,6 @@ mod words;
 use crate::decimal::decimal_fits;
 use crate::int_ops::{Aligned4, Aligned8, Aligned16};
 use crate::question::{Case, Question};
-pub use bytewise::ask_bytes;
 pub use code_units::{lossy, low_bytes, read_all};
 pub use comparison::{compare, number};
 use concatenation::{concat_in_memory, concat_in_vectors, concat_in_word, fit_vectors};
@@ -100,7 +98,7 @@ pub fn len<const N: usize>(bytes: &[u8; N]) -> usize
 {
     match width_of(N) {
         Width::Four => Aligned4::from_ascii_bytes(bytes).len(),
-        Width::Eight => Aligned8::from_ascii_bytes(bytes).len(),
+        Width::Eight => Aligned8::from_ascii_bytes(bytes).len_by_top(),
         Width::Sixteen | Width::Many => words::len(bytes),
     }
 }

@@ -202,12 +202,10 @@ impl Word<8> for u64 {
         u64::from(low) + ((u64::from(high) >> (8 * (8 - len))) << 32)
     }
 
-    // One more bit, below all, so that the count needs no test for 0. It fits, since no byte is above 0x7f.
-    #[tactic(auto, using(crate::proofs::Words::Texts::length_by_top))]
+    #[tactic(auto, using(crate::proofs::Words::Texts::text_length))]
     #[inline]
     fn text_len(self) -> usize {
-        let bits = 63 - u64::leading_zeros(2 * self + 1) as usize;
-        (bits + 7) / 8
+        8 - u64::leading_zeros(self) as usize / 8
     }
 
     #[tactic(auto, using(crate::proofs::Words::Numbers::low_word_bounds))]
@@ -333,11 +331,10 @@ impl Word<16> for u128 {
         joined(low, high >> (8 * (16 - len)))
     }
 
-    // `nuls` has a bit for each NUL, so `(1 << 16) - nuls` has one set bit, at the text's length.
+    #[tactic(auto, using(crate::proofs::Words::Texts::text_length))]
     #[inline(always)]
     fn text_len(self) -> usize {
-        let nuls = lanes(self).simd_eq(u8x16::splat(0)).to_bitmask();
-        63 - u64::leading_zeros((1 << 16) - nuls) as usize
+        16 - u128::leading_zeros(self) as usize / 8
     }
 
     #[tactic(auto, using(crate::proofs::Words::Numbers::low_halves))]

@@ -28,10 +28,10 @@ pub(crate) fn len(bytes: &[u8]) -> usize
     let mut rest = bytes;
     let mut sum = 0;
     while let Some((word, after)) = split_word(rest) {
-        sum += word.len();
+        sum += word.len_by_nuls();
         rest = after;
     }
-    sum + Aligned16::from_padded(rest).len()
+    sum + Aligned16::from_padded(rest).len_by_nuls()
 }
 
 /// Whether each word passes the question; the later words are tested as the rest of a text.

@@ -292,12 +292,6 @@ impl Word<u64> {
     }
 
     #[inline]
-    pub const fn text_len(self) -> usize {
-        let bits = 63 - u64::leading_zeros(2 * self.0 + 1) as usize;
-        (bits + 7) / 8
-    }
-
-    #[inline]
     pub const fn high_bits_as_case_bits(self) -> Self {
         Word((self.0 & Self::splat(0x80).0) >> 2)
     }
@@ -529,14 +523,15 @@ impl Aligned4 {
 
 impl Aligned8 {
     #[inline(always)]
-    pub const fn len(&self) -> usize {
-        self.word.text_len()
+    pub const fn len_by_top(&self) -> usize {
+        let bits = 63 - u64::leading_zeros(2 * self.word.0 + 1) as usize;
+        (bits + 7) / 8
     }
 
     #[inline(always)]
     pub const fn concat(&self, other: &Self) -> Self {
         let (front, back) = (self.word, other.word);
-        let len = front.text_len();
+        let len = self.len_by_top();
         if len == 8 {
             return Aligned { word: front };
         }
@@ -558,7 +553,7 @@ pub const fn is_padded<const N: usize>(bytes: &[u8; N]) -> bool {
 pub const fn len<const N: usize>(bytes: &[u8; N]) -> usize {
     match width_of(N) {
         Width::Four => Aligned4::from_ascii_bytes(bytes).len(),
-        Width::Eight => Aligned8::from_ascii_bytes(bytes).len(),
+        Width::Eight => Aligned8::from_ascii_bytes(bytes).len_by_top(),
         Width::Sixteen | Width::Many => in_words::text_len(bytes),
     }
 }

@@ -256,11 +256,9 @@ impl Word<8> for u64 {
         u64::from(low) + ((u64::from(high) >> (8 * (8 - len))) << 32)
     }
 
-    // One more bit, below all, so that the count needs no test for 0. It fits, since no byte is above 0x7f.
     #[inline]
     fn text_len(self) -> usize {
-        let bits = 63 - u64::leading_zeros(2 * self + 1) as usize;
-        (bits + 7) / 8
+        8 - u64::leading_zeros(self) as usize / 8
     }
 
     #[inline]
@@ -385,11 +383,9 @@ impl Word<16> for u128 {
         joined(low, high >> (8 * (16 - len)))
     }
 
-    // `nuls` has a bit for each NUL, so `(1 << 16) - nuls` has one set bit, at the text's length.
     #[inline(always)]
     fn text_len(self) -> usize {
-        let nuls = lanes(self).simd_eq(u8x16::splat(0)).to_bitmask();
-        63 - u64::leading_zeros((1 << 16) - nuls) as usize
+        16 - u128::leading_zeros(self) as usize / 8
     }
 
     #[inline(always)]

@@ -8,15 +8,15 @@ full : (t s : List ℕ) (n : ℕ) → length t ≡ n → t ≡ take n (t ++ s)
 full t s n is = rw (← is) (sym (take-append_seam t s))
 
 pub returns-then-len-eq8 : goal.returns-then-len-eq8
-returns-then-len-eq8 c = rw (← c.self.view_is, ← c.other.view_is) (full _ _ 8 (sym c.text_len-len.ensures ∙ c.if-len-eq8.true))
+returns-then-len-eq8 c = rw (← c.self.view_is, ← c.other.view_is) (full _ _ 8 (sym (rw (← c.self.view_is) at c.len_by_top-len.ensures) ∙ c.if-len-eq8.true))
 
 pub overflow_add-result : goal.overflow_add-result
 overflow_add-result c =
-    let small = rw (pow_256 c.text_len-len.result) at (HoldsText-concat c.self.invariant c.other.invariant c.text_len-len.result c.text_len-len.ensures).0 in
+    let small = rw (pow_256 c.len_by_top-len.result) at (HoldsText-concat c.self.invariant c.other.invariant c.len_by_top-len.result (rw (← c.self.view_is) at c.len_by_top-len.ensures)).0 in
     omega arith
 
 pub invariant_of-result-2 : goal.invariant_of-result-2
-invariant_of-result-2 c = rw (sym (pow_256 c.text_len-len.result)) (HoldsText-concat c.self.invariant c.other.invariant c.text_len-len.result c.text_len-len.ensures).1
+invariant_of-result-2 c = rw (sym (pow_256 c.len_by_top-len.result)) (HoldsText-concat c.self.invariant c.other.invariant c.len_by_top-len.result (rw (← c.self.view_is) at c.len_by_top-len.ensures)).1
 
 pub returns : goal.returns
-returns c = rw (sym (pow_256 c.text_len-len.result), ← c.self.view_is, ← c.other.view_is) (HoldsText-concat c.self.invariant c.other.invariant c.text_len-len.result c.text_len-len.ensures).2
+returns c = rw (sym (pow_256 c.len_by_top-len.result), ← c.self.view_is, ← c.other.view_is) (HoldsText-concat c.self.invariant c.other.invariant c.len_by_top-len.result (rw (← c.self.view_is) at c.len_by_top-len.ensures)).2

@@ -1,6 +1,6 @@
 use Rattle.std.proofs.Common.{◌∙◌, sym}
-use Rattle.tinystr_words.proofs.Pieces.PaddedWords.{list_all-pieces, padded_passes}
-use Rattle.tinystr_words.proofs.padded.bytewise.ask_each.Goals as goal
+use Rattle.tinystr_const.proofs.Passing.{list_all-pieces, padded_passes}
+use Rattle.tinystr_const.proofs.bytewise.ask_each.Goals as goal
 
 pub returns-then-not-all_pass : goal.returns-then-not-all_pass
 returns-then-not-all_pass c =

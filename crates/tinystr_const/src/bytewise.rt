@@ -1,5 +1,5 @@
-//! A question asked of each byte, in loops of sixteen without a branch, of which rustc makes vectors. The crate for Cargo takes
-//! it past sixteen bytes; `padded::ask` doesn't, since words are faster in the kit's build.
+//! A question asked of each byte, in loops of sixteen without a branch, of which rustc makes vectors. It stands in for
+//! `padded::ask` of `tinystr_words` past sixteen bytes; words are faster in the kit's build.
 
 ghost use Rattle.std.specs.Prelude.{◌≡◌, ◌≤◌, ◌==◌, ◌||◌, length};
 ghost use Rattle.std.specs.List.{list_all};
@@ -7,7 +7,7 @@ ghost use Rattle.tinystr_words.specs.Text.{IsPadded, text_of};
 ghost use Rattle.tinystr_words.specs.Classes.{ask};
 ghost use Rattle.tinystr_words.specs.Questions.{ask_question, later_class};
 
-use crate::question::Question;
+use tinystr_words::Question;
 
 /// The answer to a question about the text, as `ask` gives it, by loops over sixteen bytes or more.
 #[inline(always)]
@@ -51,7 +51,7 @@ fn ask_apart(bytes: &[u8], first: Question, others: Question) -> bool
 
 // Whether each byte passes the same question.
 #[inline(always)]
-#[tactic(auto, using(crate::proofs::Pieces::PaddedWords::padded_passes))]
+#[tactic(auto, using(crate::proofs::Passing::padded_passes))]
 fn ask_each(bytes: &[u8], question: Question) -> bool
     requires { IsPadded bytes.now }
     ensures { result ≡ ask (later_class question) (later_class question) (text_of bytes.now) }

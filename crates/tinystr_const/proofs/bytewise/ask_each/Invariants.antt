@@ -1,7 +1,7 @@
 use Rattle.std.proofs.Common.{◌≡◌, length}
 use Rattle.std.specs.List.{list_all}
-use Rattle.tinystr_words.proofs.Pieces.PaddedWords.{passes_later}
-use Rattle.tinystr_words.proofs.padded.bytewise.ask_each.Given as goal
+use Rattle.tinystr_const.proofs.Passing.{passes_later}
+use Rattle.tinystr_const.proofs.bytewise.ask_each.Given as goal
 
 -- the answer is that for the rest
 abbrev pub invariant-loop-rest : goal.invariant-loop-rest

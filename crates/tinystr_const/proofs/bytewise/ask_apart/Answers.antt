@@ -1,7 +1,7 @@
 use Rattle.std.proofs.Common.{◌∙◌, arith, sym}
 use Rattle.tinystr_words.proofs.Texts.{IsPaddedText-drop}
-use Rattle.tinystr_words.proofs.Pieces.PaddedWords.{ask-apart}
-use Rattle.tinystr_words.proofs.padded.bytewise.ask_apart.Goals as goal
+use Rattle.tinystr_const.proofs.Passing.{ask-apart}
+use Rattle.tinystr_const.proofs.bytewise.ask_apart.Goals as goal
 
 pub ask_each-requires : goal.ask_each-requires
 ask_each-requires c = rw c.split_at.ensures.back (IsPaddedText-drop _ _ 16 c.requires.padded)
