@@ -1,5 +1,5 @@
--- The words of private functions and of hidden modules. Of what is public, only the view of `Parts` has one of them:
--- `parts_left`.
+-- The words of private functions and of hidden modules. Of what is public, only the view of `Parts` and the invariant of
+-- `ShortInput` have some: `parts_left` and `IsLoaded`.
 use Rattle.std.specs.Prelude.{◌≡◌, ℕ, List, [], slice_index_or, ◌==◌, Option, Some, None, ◌≤◌, length, take}
 use Rattle.std.specs.List.{slice_split}
 use Rattle.tinystr_words.specs.Reading.{fault_in}
