@@ -12,7 +12,7 @@ message k =
     if k == NON_ASCII then codes "a byte is above 127" else (
     if k == INVALID_LANGUAGE then codes "the first subtag isn't a language" else (
     if k == INVALID_SUBTAG then codes "a later subtag isn't accepted" else (
-    if k == NO_ROOM then codes "`out` is too short" else (
+    if k == NO_ROOM then codes "`out` or `scratch` is too short" else (
     if k == BAD_ARGUMENT then codes "there is no such capacity, size, question or case" else (
     if k == BAD_LENGTH then codes "the capacity doesn't divide the number of bytes" else (
     if k == NOT_RISING then codes "a text isn't above the one before it" else (

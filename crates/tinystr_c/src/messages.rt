@@ -36,7 +36,7 @@ fn message(code: u32) -> &'static str
         NON_ASCII => "a byte is above 127",
         INVALID_LANGUAGE => "the first subtag isn't a language",
         INVALID_SUBTAG => "a later subtag isn't accepted",
-        NO_ROOM => "`out` is too short",
+        NO_ROOM => "`out` or `scratch` is too short",
         BAD_ARGUMENT => "there is no such capacity, size, question or case",
         BAD_LENGTH => "the capacity doesn't divide the number of bytes",
         NOT_RISING => "a text isn't above the one before it",
