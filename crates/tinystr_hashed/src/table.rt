@@ -75,7 +75,8 @@ pub enum HashedError {
     Header { len: usize },
     /// The version isn't 1.
     Version { version: u32 },
-    /// Only `len` bytes follow the header, fewer than the `size` bytes of the pilots and the moves.
+    /// Only `len` bytes follow the header, fewer than the `size` bytes of the pilots and the moves. With a 32-bit `usize`, a
+    /// greater size is `usize::MAX`.
     Index { size: usize, len: usize },
     /// The bytes after the moves aren't packed records.
     Records(UleError),
@@ -310,7 +311,8 @@ impl<'a> Parts<'a> {
         let pilot_count = short_number(&bytes[4..8]) as usize;
         let move_count = short_number(&bytes[8..12]) as usize;
         let start = start_of(short_number(&bytes[12..16]));
-        let size = pilot_count + 4 * move_count;
+        // a size above a 32-bit `usize` is `usize::MAX`, which is also above every length
+        let size = move_count.saturating_mul(4).saturating_add(pilot_count);
         let rest = &bytes[16..];
         if rest.len() < size {
             return Err(HashedError::Index {
