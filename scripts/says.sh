@@ -1,11 +1,13 @@
 # shellcheck shell=bash
 # For checks in bash, which source it under `set -euo pipefail`: counts results, prints a line 'NAME: yes' or 'NAME: no' for
-# each, and closes with the line 'N passed, M failed' (as scripts/lib/tally.py does in Python). A check that ends before it
-# closes has failed, and says so. It takes no arguments. The folder $scratch is removed when the check ends.
+# each, and closes with the line 'N passed, M failed', and ', K skipped' where some were (as scripts/lib/tally.py does in
+# Python). A check that ends before it closes has failed, and says so. It takes no arguments. The folder $scratch is removed
+# when the check ends.
 [ $# -eq 0 ] || { echo "usage: $0" >&2; exit 2; }
 scratch=$(mktemp -d)
 passed=0
 failed=0
+skipped=0
 is_closed=no
 end() {
     rm -rf "$scratch"
@@ -28,9 +30,10 @@ says() {
 # adds NAME LINE STATUS: adds the results of a part, by its last line; a part that passed nothing, or whose status isn't 0,
 # failed
 adds() {
-    if [[ $2 =~ ^([0-9]+)\ passed,\ ([0-9]+)\ failed$ ]]; then
+    if [[ $2 =~ ^([0-9]+)\ passed,\ ([0-9]+)\ failed(,\ ([0-9]+)\ skipped)?$ ]]; then
         passed=$((passed + BASH_REMATCH[1]))
         failed=$((failed + BASH_REMATCH[2]))
+        skipped=$((skipped + ${BASH_REMATCH[4]:-0}))
         if [ "${BASH_REMATCH[2]}" -eq 0 ] && { [ "$3" -ne 0 ] || [ "${BASH_REMATCH[1]}" -eq 0 ]; }; then
             echo "closed with '$2' and status $3: $1"
             failed=$((failed + 1))
@@ -44,7 +47,7 @@ adds() {
 # Ends the check: it fails where a result is no, and where there is no result.
 close() {
     is_closed=yes
-    echo "$passed passed, $failed failed"
+    echo "$passed passed, $failed failed$([ "$skipped" -eq 0 ] || echo ", $skipped skipped")"
     [ "$failed" -eq 0 ] && [ "$passed" -gt 0 ]
     exit
 }

@@ -71,9 +71,9 @@ def items_among(found: list[rattle.Item], file: str, block: str) -> Iterator[Ite
             yield Item(file, block, item.name, False, start, end, end)
 
 
-def texts_of(crate: str) -> dict[str, str]:
+def texts_of(crate: str, crates: Path = CRATES) -> dict[str, str]:
     """The texts of a crate that a check reads, by their paths in its folder."""
-    folder = CRATES / crate
+    folder = crates / crate
     files = [path for part in ("src", "specs", "proofs") for path in sorted((folder / part).rglob("*")) if path.is_file()]
     return {str(path.relative_to(folder)): path.read_text(encoding="utf-8") for path in files}
 

@@ -1,5 +1,5 @@
-"""Counts the results of a check, prints each fault, and closes with the line 'N passed, M failed'. says.sh does so
-for checks in bash."""
+"""Counts the results of a check, prints each fault, and closes with the line 'N passed, M failed', and ', K skipped' where some
+were. says.sh does so for checks in bash."""
 
 import sys
 from collections.abc import Iterator
@@ -10,10 +10,10 @@ from lib.commands import parser_of
 
 
 class Tally:
-    """The numbers of results that passed and that failed."""
+    """The numbers of results that passed, that failed and that were skipped."""
 
     def __init__(self) -> None:
-        self.passed = self.failed = 0
+        self.passed = self.failed = self.skipped = 0
 
     def count(self, is_so: object) -> None:
         """Counts whether something is so."""
@@ -27,7 +27,7 @@ class Tally:
 
     def close(self) -> NoReturn:
         """Ends the check: it fails where a result failed, and where there is no result."""
-        print(f"{self.passed} passed, {self.failed} failed")
+        print(f"{self.passed} passed, {self.failed} failed" + (f", {self.skipped} skipped" if self.skipped else ""))
         sys.exit(self.failed > 0 or not self.passed)
 
 

@@ -1,10 +1,10 @@
 """Tries groups of edits: copies of a crate are checked, each with the edits of a group, on top of what a check of the unchanged
-crate proved. A group in which an edit isn't as it has to be is tried again in parts, down to a single wrong body. What passed is
-kept outside the checkout, so that a later run tries only what changed."""
+crate proved. A group in which an edit isn't as it has to be is tried again in parts, down to a single wrong body. Each group has
+a line with the sum of all that its check and the verdict on it read, so that a later run tries only what changed."""
 
+import functools
 import hashlib
 import itertools
-import json
 import os
 import re
 import shutil
@@ -17,14 +17,16 @@ from functools import partial
 from pathlib import Path
 from queue import PriorityQueue
 
-from lib.copies import READ_BY_RT, copy_lists
-from lib.sources import TOP, below, function_named, libraries, texts_of
+from lib.copies import READ_BY_RT, linked, lists_of
+from lib.sources import TOP, below, function_named, texts_of
 from lib.wrong_bodies.edits import Unreadable, applied, edits_of
 from lib.wrong_bodies.groups import Group, groups_of, parts_of
 from lib.wrong_bodies.judging import VERDICT, Verdict, judge, open_goals
 from lib.wrong_bodies.searches import Search, is_for, searches_of, with_searches
 
-KEPT = Path(os.environ.get("XDG_CACHE_HOME") or Path.home() / ".cache") / "wrong-bodies"
+# The lines of the groups that passed: in the repository, and on this machine.
+RECORD = TOP / "scripts/wrong_bodies.passed"
+KEPT = Path(os.environ.get("XDG_CACHE_HOME") or Path.home() / ".cache") / RECORD.name
 # The verdicts on the edits of a group, and what else is wrong, a line each.
 Judged = tuple[list[Verdict], list[str]]
 
@@ -56,34 +58,35 @@ class Longest:
 
 
 class Crate:
-    """A crate, whose groups are checked in copies below a folder; its texts, and what each check reads but for the edits."""
+    """A crate, whose groups, or those of the named edits, are checked in copies below a folder, where all crates are copied to
+    base; its texts, and the groups by their lines."""
 
-    def __init__(self, name: str, folder: Path, given: Namespace, version: str) -> None:
+    def __init__(self, name: str, only: list[str], folder: Path, given: Namespace) -> None:
         self.name, self.folder, self.given = name, folder, given
-        self.texts, self.edits, self.searches, self.unproved = texts_of(name), edits_of(name), set(), set()
-        self.lock, self.tried, self.seconds = threading.Lock(), 0, 0.0
-        judges = [TOP / "scripts/lib/rattle.py", TOP / "scripts/lib/sources.py", *sorted(Path(__file__).parent.glob("*.py"))]
-        uses = libraries()
-        crates = [(crate, uses[crate], sorted(texts_of(crate).items())) for crate in [*below(name), name]]
-        self.read = repr((version, [path.read_text(encoding="utf-8") for path in judges], crates))
+        self.lock, self.tried, self.seconds, self.searches, self.unproved = threading.Lock(), 0, 0.0, set(), set()
+        self.lists, self.edits = lists_of({*below(name), name}), edits_of(name)
+        crates = {crate: texts_of(crate, folder / "base/crates") for crate in [*below(name), name]}
+        self.texts = crates[name]
+        self.wanted = searches_of(self.edits, self.texts)
+        self.read = repr((logic(), judges(), self.lists, crates))
+        self.groups = {self.line(group): group for group in groups_of(self.edits, self.texts, only)}
 
-    def kept(self, group: Group) -> Path:
-        """Where the verdicts on a group are kept, by the sum of all that its check reads."""
-        edits = repr([(edit.file, edit.text) for edit in group])
-        return KEPT / hashlib.sha256((self.read + edits).encode()).hexdigest()
+    def line(self, group: Group) -> str:
+        """The crate, the number of a group's edits, and the sum of all that its check and the verdict on it read."""
+        searches = sorted(repr(search) for search in self.wanted if is_for(search, group))
+        read = self.read + repr(([(edit.file, edit.text) for edit in group], searches))
+        return f"{self.name} {len(group)} {hashlib.sha256(read.encode()).hexdigest()}"
 
-    def trials(self, pool: Longest, only: list[str]) -> list[Future[Judged]]:
-        """The running checks of the groups, or of those of the named edits."""
-        groups = groups_of(self.edits, self.texts, only)
-        left = [group for group in groups if self.given.anew or not self.kept(group).is_file()]
+    def trials(self, pool: Longest, before: set[str]) -> list[Future[Judged]]:
+        """The running checks of the groups whose lines aren't among those of groups tried before."""
+        left = [group for line, group in self.groups.items() if line not in before]
         if left:
             self.begin()
         # (beside a wrong callee a goal is tried by its short search alone, so a group of several needs these)
         if any(len(group) > 1 for group in left) and not self.given.whole:
-            wanted = searches_of(self.edits, self.texts)
-            self.searches = self.proved(wanted)
-            self.unproved = wanted - self.searches
-        return [pool.submit(len(group), partial(self.judged, group, str(number))) for number, group in enumerate(groups)]
+            self.searches = self.proved(self.wanted)
+            self.unproved = self.wanted - self.searches
+        return [pool.submit(len(group), partial(self.judged, group, str(number))) for number, group in enumerate(left)]
 
     def check(self, top: Path, first: Sequence[str] = (), last: Sequence[str] = ()) -> str:
         """Checks the crate below a folder, by a command with some first and last words, and returns its output."""
@@ -118,7 +121,8 @@ class Crate:
         """Checks a copy of the crate with these texts."""
         top = self.folder / f"{self.name}-{number}"
         top.mkdir()
-        copy_lists(top, {*below(self.name), self.name})
+        for file, text in self.lists.items():
+            (top / file).write_text(text, encoding="utf-8")
         parts = [f"crates/{lower}/{part}" for lower in below(self.name) for part in (*READ_BY_RT, "out/rlib")]
         for part in [part for part in parts if (self.folder / "base" / part).is_dir()]:
             linked(self.folder / "base" / part, top / part)
@@ -132,11 +136,8 @@ class Crate:
         return output
 
     def judged(self, group: Group, number: str) -> Judged:
-        """The verdicts on a group: those that are kept, or those of its check, with a low priority, and of its parts where it is
-        disturbed. What passes is kept."""
-        kept = self.kept(group)
-        if kept.is_file() and not self.given.anew:
-            return [Verdict(name, True, said) for name, said in json.loads(kept.read_text(encoding="utf-8"))], []
+        """The verdicts on a group: those of its check, with a low priority, and of its parts where it is disturbed. The line of a
+        group that passes is kept."""
         named = [search for search in self.searches if is_for(search, group)]
         # (of one edit alone, the function that it names)
         only = [f"--only={edit.function}" for edit in group if len(group) == 1 and function_named(edit.function, self.texts)]
@@ -154,15 +155,24 @@ class Crate:
             verdicts = [last.get(verdict.name, verdict) for verdict in verdicts]
             wrong = [line for _, lines in tried for line in lines]
         if all(verdict.is_well for verdict in verdicts) and not wrong:
-            KEPT.mkdir(parents=True, exist_ok=True)
-            kept.write_text(json.dumps([(verdict.name, verdict.said) for verdict in verdicts]), encoding="utf-8")
+            KEPT.parent.mkdir(parents=True, exist_ok=True)
+            with KEPT.open("a", encoding="utf-8") as kept:
+                kept.write(f"{self.line(group)}\n")
         return verdicts, wrong
 
 
-def linked(folder: Path, to: Path) -> None:
-    """Copies a folder: what was proved, which a check replaces and never writes into, by links."""
+@functools.cache
+def logic() -> str:
+    """The number of the kit's logic: a kit with the same one proves nothing that is false."""
+    return re.search(r"\blogic (\w+)", subprocess.check_output(["rt", "version"], text=True))[1]
 
-    def copy(one: str, other: str) -> None:
-        (os.link if one.endswith((".oantt", ".a")) else shutil.copy2)(one, other)
 
-    shutil.copytree(folder, to, symlinks=True, copy_function=copy)
+def judges() -> list[str]:
+    """The sources on which a verdict depends."""
+    files = [TOP / f"scripts/lib/{name}.py" for name in ("copies", "rattle", "sources")]
+    return [path.read_text(encoding="utf-8") for path in [*files, *sorted(Path(__file__).parent.glob("*.py"))]]
+
+
+def lines_of(file: Path) -> set[str]:
+    """The lines of a file, or none where it isn't there."""
+    return set(file.read_text(encoding="utf-8").splitlines()) if file.is_file() else set()
