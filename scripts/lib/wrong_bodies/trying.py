@@ -68,7 +68,7 @@ class Crate:
         crates = {crate: texts_of(crate, folder / "base/crates") for crate in [*below(name), name]}
         self.texts = crates[name]
         self.wanted = searches_of(self.edits, self.texts)
-        self.read = repr((logic(), judges(), self.lists, crates))
+        self.read = repr((judges(), self.lists, crates))
         self.groups = {self.line(group): group for group in groups_of(self.edits, self.texts, only)}
 
     def line(self, group: Group) -> str:
@@ -162,15 +162,11 @@ class Crate:
 
 
 @functools.cache
-def logic() -> str:
-    """The number of the kit's logic: a kit with the same one proves nothing that is false."""
-    return re.search(r"\blogic (\w+)", subprocess.check_output(["rt", "version"], text=True))[1]
-
-
 def judges() -> list[str]:
-    """The sources on which a verdict depends."""
+    """What verdicts of any crate depend on: scripts, and the kit's logic. No kit with the same number proves what is false."""
     files = [TOP / f"scripts/lib/{name}.py" for name in ("copies", "rattle", "sources")]
-    return [path.read_text(encoding="utf-8") for path in [*files, *sorted(Path(__file__).parent.glob("*.py"))]]
+    texts = [path.read_text(encoding="utf-8") for path in [*files, *sorted(Path(__file__).parent.glob("*.py"))]]
+    return [*texts, re.search(r"\blogic (\w+)", subprocess.check_output(["rt", "version"], text=True))[1]]
 
 
 def lines_of(file: Path) -> set[str]:

@@ -61,7 +61,8 @@ pub enum HashedError {
     Header { len: usize },
     /// The version isn't 1.
     Version { version: u32 },
-    /// Only `len` bytes follow the header, fewer than the `size` bytes of the pilots and the moves.
+    /// Only `len` bytes follow the header, fewer than the `size` bytes of the pilots and the moves. With a 32-bit `usize`, a
+    /// greater size is `usize::MAX`.
     Index { size: usize, len: usize },
     /// The bytes after the moves aren't packed records.
     Records(UleError),
@@ -394,7 +395,8 @@ impl<'a> Parts<'a> {
         let pilot_count = short_number(bytes.split_at(8).0.split_at(4).1) as usize;
         let move_count = short_number(bytes.split_at(12).0.split_at(8).1) as usize;
         let start = start_of(short_number(bytes.split_at(16).0.split_at(12).1));
-        let size = pilot_count + 4 * move_count;
+        // a size above a 32-bit `usize` is `usize::MAX`, which is also above every length
+        let size = move_count.saturating_mul(4).saturating_add(pilot_count);
         let rest = bytes.split_at(16).1;
         if rest.len() < size {
             return Err(HashedError::Index {
