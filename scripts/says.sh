@@ -3,7 +3,7 @@
 # each, and closes with the line 'N passed, M failed', and ', K skipped' where some were (as scripts/lib/tally.py does in
 # Python). A check that ends before it closes has failed, and says so. It takes no arguments. The folder $scratch is removed
 # when the check ends.
-[ $# -eq 0 ] || { echo "usage: $0" >&2; exit 2; }
+[ $# -eq 0 ] || { echo "usage: $0${option:+ [$option]}" >&2; exit 2; }
 scratch=$(mktemp -d)
 passed=0
 failed=0
