@@ -1,5 +1,8 @@
-//! What constants call gives what it gives when it runs, and the twins for tables give the same as the calls that aren't `const`.
+//! What constants call gives what is defined, and the twins for tables give the same as the calls that aren't `const`.
 
+mod definitions;
+
+use definitions::{CASES, QUESTIONS};
 use tinystr::hashed::{HashedMap, HashedMapError, HashedTable, HashedTextMap};
 use tinystr::packed::{NotRising, PackedMap, SortedError, SortedTable, Table, TextEntries, TextMap};
 use tinystr::subtags::{LangId, Language};
@@ -27,8 +30,25 @@ const fn what_constants_call(text: TinyAsciiStr<3>, ids: &(LangId, Language), ta
     text.to_unvalidated()
 }
 
-const fn answers<const N: usize>(text: TinyAsciiStr<N>) -> [bool; 9] {
-    [
+/// How some units are read, as bytes and as 16-bit numbers, and what is made of them.
+type Read<const N: usize> = ([Result<TinyAsciiStr<N>, ParseError>; 3], [TinyAsciiStr<N>; 2]);
+
+const fn read_all<const N: usize>(bytes: [u8; N]) -> Read<N> {
+    let mut wide = [0; N];
+    let mut at = 0;
+    while at < N {
+        wide[at] = bytes[at] as u16;
+        at += 1;
+    }
+    let read = [TinyAsciiStr::try_from_utf8(&bytes), TinyAsciiStr::try_from_utf16(&wide), TinyAsciiStr::try_from_raw(bytes)];
+    (read, [TinyAsciiStr::from_utf8_lossy(&bytes, b'?'), TinyAsciiStr::from_utf16_lossy(&wide, b'?')])
+}
+
+/// The length, the answers in the order of `QUESTIONS`, the changes of case in that of `CASES`, and a longer text.
+type Answers<const N: usize> = (usize, [bool; 9], [TinyAsciiStr<N>; 3], TinyAsciiStr<24>);
+
+const fn answers<const N: usize>(text: TinyAsciiStr<N>) -> Answers<N> {
+    let answers = [
         text.is_ascii_alphabetic(),
         text.is_ascii_alphanumeric(),
         text.is_ascii_numeric(),
@@ -38,65 +58,38 @@ const fn answers<const N: usize>(text: TinyAsciiStr<N>) -> [bool; 9] {
         text.is_ascii_alphabetic_lowercase(),
         text.is_ascii_alphabetic_titlecase(),
         text.is_ascii_alphabetic_uppercase(),
-    ]
+    ];
+    (text.as_str().len(), answers, [text.to_ascii_lowercase(), text.to_ascii_titlecase(), text.to_ascii_uppercase()], text.concat(text))
 }
 
-/// What constants have of some bytes: how they are read, and of a text and NULs its length, the answers and other texts.
-type Facts<const N: usize> = ([Result<TinyAsciiStr<N>, ParseError>; 2], TinyAsciiStr<N>, Option<(usize, [bool; 9], [TinyAsciiStr<N>; 4])>);
-
-const fn facts<const N: usize>(bytes: [u8; N]) -> Facts<N> {
-    let of_text = match TinyAsciiStr::try_from_raw(bytes) {
-        Ok(text) => {
-            let more = [text.to_ascii_lowercase(), text.to_ascii_titlecase(), text.to_ascii_uppercase(), tinystr!(4, "latn").concat(text)];
-            Some((text.as_str().len(), answers(text), more))
-        }
-        Err(_) => None,
-    };
-    let mut wide = [0; N];
-    let mut at = 0;
-    while at < N {
-        wide[at] = bytes[at] as u16;
-        at += 1;
-    }
-    let read = [TinyAsciiStr::try_from_utf8(&bytes), TinyAsciiStr::try_from_utf16(&wide)];
-    (read, TinyAsciiStr::from_utf8_lossy(&bytes, b'?'), of_text)
+fn are_as_defined<const N: usize>(bytes: [u8; N], (read, lossy): Read<N>) {
+    let texts = read.map(|text| text.map(|text| text.to_bytes()));
+    assert_eq!(texts, [definitions::read(&bytes), definitions::read(&bytes), definitions::read_raw(bytes)]);
+    assert_eq!(lossy.map(|text| text.to_bytes()), [definitions::lossy(&bytes, b'?'); 2]);
 }
 
-// The first and the last byte of each class, and those beside them.
-const EDGES: [u8; 16] = *b"\0\x01/09:@AZ[`az{\x7f\x80";
-
-/// The most letters that fit, and then two bytes of `EDGES`: these by a number below 256.
-const fn ending<const N: usize>(number: usize) -> [u8; N] {
-    let mut bytes = [b'a'; N];
-    (bytes[N - 2], bytes[N - 1]) = (EDGES[number / 16], EDGES[number % 16]);
-    bytes
+fn answers_are_as_defined<const N: usize>(text: &[u8], (len, answers, in_case, twice): Answers<N>) {
+    assert_eq!((len, answers), (text.len(), QUESTIONS.map(|(_, first, others)| definitions::is_in(text, first, others))));
+    assert_eq!(in_case.map(|text| text.to_bytes()), CASES.map(|(_, first, others)| definitions::in_case(text, first, others)));
+    assert_eq!(twice.to_bytes(), definitions::padded([text, text].concat()));
 }
 
-const fn facts_of_all<const N: usize>() -> [Facts<N>; 256] {
-    let mut found = [facts([0; N]); 256];
-    let mut number = 0;
-    while number < 256 {
-        found[number] = facts(ending(number));
-        number += 1;
-    }
-    found
-}
-
-fn are_what_runs<const N: usize>(found: [Facts<N>; 256]) {
-    for (number, found) in found.into_iter().enumerate() {
-        assert_eq!(found, facts(std::hint::black_box(ending(number))));
-    }
-}
-
-/// At each width of a word, and past sixteen bytes. A sum that is too large doesn't compile.
+/// At each width of a word, and past sixteen bytes. A sum that is too large, or a byte above 127 in a text, doesn't compile.
 #[test]
-fn constants_are_what_runs() {
-    are_what_runs(const { facts_of_all::<2>() });
-    are_what_runs(const { facts_of_all::<4>() });
-    are_what_runs(const { facts_of_all::<8>() });
-    are_what_runs(const { facts_of_all::<13>() });
-    are_what_runs(const { facts_of_all::<18>() });
-    are_what_runs(const { facts_of_all::<24>() });
+fn constants_are_as_defined() {
+    macro_rules! readers {
+        ($($bytes:literal)*) => {
+            $(are_as_defined(*$bytes, const { read_all(*$bytes) });)*
+        };
+    }
+    macro_rules! answers {
+        ($($n:literal $text:literal)*) => {
+            $(answers_are_as_defined($text.as_bytes(), const { answers(tinystr!($n, $text)) });)*
+        };
+    }
+    readers!(b"" b"GB" b"\0\x80" b"Latn" b"a\0b\0" b"en-GB-wa" b"calenda\xff" b"zh-Hant-TW\0\0\0" b"zh-Hant\0TW\0\0\0");
+    readers!(b"America/New_York\0\0" b"America/Sao\xe3o_Pau" b"America/Argentina/Salta\0" b"America/Argentina\0Salta\0");
+    answers!(2 "GB" 4 "Latn" 5 "" 8 "z@`[A{/:" 13 "zh-Hant-TW" 16 "abcdefghijklmnop" 18 "123456789012345678" 24 "Aaaaaaaaaaaaaaaaaaaaaaaa");
 }
 
 macro_rules! agree {
@@ -135,19 +128,21 @@ fn tables_of_constants_agree() {
     }
 }
 
-/// A hashed table of 38 texts, with pilots and moves: each bit of it is flipped.
+/// Hashed tables with pilots and moves, and of one each bit is flipped. In some a text is moved from the first slot past the others.
 #[cfg(feature = "alloc")]
 #[test]
 fn hashed_tables_of_constants_agree() {
-    let texts: Vec<TinyAsciiStr<17>> = (0..38).map(|number| format!("ht{number}").parse().unwrap()).collect();
+    let texts: Vec<TinyAsciiStr<17>> = (0..60).map(|number| format!("ht{number}").parse().unwrap()).collect();
     let short: Vec<TinyAsciiStr<8>> = texts.iter().map(|text| text.resize()).collect();
-    let mut bytes = tinystr::hashed::pack_hashed(&short).unwrap();
+    for count in 0..60 {
+        agree!(HashedTable<8>, from_bytes_const, from_bytes, &tinystr::hashed::pack_hashed(&short[..count]).unwrap());
+    }
+    let mut bytes = tinystr::hashed::pack_hashed(&short[..38]).unwrap();
     for bit in 0..8 * bytes.len() {
         bytes[bit / 8] ^= 1 << (bit % 8);
         agree!(HashedTable<8>, from_bytes_const, from_bytes, &bytes);
         bytes[bit / 8] ^= 1 << (bit % 8);
     }
-    agree!(HashedTable<8>, from_bytes_const, from_bytes, &bytes);
     let long = tinystr::hashed::pack_hashed(&texts).unwrap();
     agree!(HashedTable<17>, from_bytes_const, from_bytes, &long);
 }

@@ -2,7 +2,6 @@
 //! masks. `machine` and `portable` are tested alike.
 
 use super::*;
-use crate::in_words::text_len;
 
 /// A pair of these has a call of `machine` and the same call of `portable`.
 type Binary = fn([u8; 16], [u8; 16]) -> [u8; 16];
@@ -115,27 +114,6 @@ fn next_lanes() {
         let one_further = Lanes(a).shuffle(Lanes(b), [1, 2, 3, 4, 5, 6, 7, 8, 9, 10, 11, 12, 13, 14, 15, 16]);
         assert_eq!([machine::next(a, b), portable::next(a, b), one_further.0], [next; 3]);
     });
-}
-
-/// The length of each text, in arrays just below and above the sizes that are summed in one step, and of sixteen bytes by the
-/// bits of its NULs too.
-#[test]
-fn lengths() {
-    for size in (0..=40).chain(236..=250).chain(476..=484) {
-        for len in 0..=size {
-            for (first, step) in [(0, 1), (0, 0), (63, 0), (126, 0), (len, 37)] {
-                let text: Vec<u8> = (0..size).map(|i| if i < len { 1 + ((first + i * step) % 127) as u8 } else { 0 }).collect();
-                assert_eq!(text_len(&text), len);
-                if size == 16 {
-                    let nuls = u8x16::from_slice(&text).simd_eq(u8x16::splat(0)).to_bitmask();
-                    assert_eq!((nuls | 1 << 16).trailing_zeros() as usize, len);
-                }
-            }
-        }
-    }
-    for byte in 1..=127 {
-        assert_eq!([text_len(&[byte; 40]), text_len(&[byte; 7])], [40, 7]);
-    }
 }
 
 /// The characters of a vector and others in the place of the rest: in words and by comparisons.
