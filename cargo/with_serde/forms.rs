@@ -2,10 +2,11 @@
 //! identifiers those of icu_locale_core.
 #![cfg(test)]
 
-use serde::Deserialize;
 use serde::de::value::{Error, SeqDeserializer};
 use serde::de::{Deserializer, Visitor};
 use serde::forward_to_deserialize_any;
+use serde::ser::{Impossible, SerializeTuple, Serializer};
+use serde::{Deserialize, Serialize};
 use tinystr::subtags::{LangId, Language, Region, Script};
 use tinystr::{TinyAsciiStr, UnvalidatedTinyAsciiStr, language, region, script, tinystr};
 
@@ -60,13 +61,20 @@ impl<'de> Deserializer<'de> for Bytes<'_> {
         visitor.visit_seq(SeqDeserializer::new(self.0.iter().copied()))
     }
 
+    /// Each of at most `len` bytes has to be read.
+    fn deserialize_tuple<V: Visitor<'de>>(self, len: usize, visitor: V) -> Result<V::Value, Error> {
+        let mut elements = SeqDeserializer::new(self.0.iter().copied().take(len));
+        let read = visitor.visit_seq(&mut elements)?;
+        elements.end().map(|()| read)
+    }
+
     fn is_human_readable(&self) -> bool {
         false
     }
 
     forward_to_deserialize_any! {
         bool i8 i16 i32 i64 i128 u8 u16 u32 u64 u128 f32 f64 char str string bytes byte_buf option unit unit_struct
-        newtype_struct seq tuple tuple_struct map struct enum identifier ignored_any
+        newtype_struct seq tuple_struct map struct enum identifier ignored_any
     }
 }
 
@@ -104,6 +112,72 @@ fn bytes_are_read_or_rejected_in_order() {
             read_alike::<4>(&bytes);
         }
     }
+}
+
+/// A format that isn't human-readable and writes tuples of bytes alone: the announced length, and the bytes.
+#[derive(Default)]
+struct Tuple(usize, Vec<u8>);
+
+macro_rules! never {
+    ($($call:ident $(<$type:ident>)? ($($argument:ty),*) $made:ident;)*) => {$(
+        fn $call $(<$type: Serialize + ?Sized>)? (self $(, _: $argument)*) -> Result<Self::$made, Error> {
+            unreachable!()
+        }
+    )*};
+}
+
+type Name = &'static str;
+type Never = Impossible<Tuple, Error>;
+
+impl Serializer for Tuple {
+    type Ok = Tuple;
+    type Error = Error;
+    type SerializeSeq = Never;
+    type SerializeTuple = Tuple;
+    type SerializeTupleStruct = Never;
+    type SerializeTupleVariant = Never;
+    type SerializeMap = Never;
+    type SerializeStruct = Never;
+    type SerializeStructVariant = Never;
+
+    fn is_human_readable(&self) -> bool {
+        false
+    }
+
+    fn serialize_tuple(self, len: usize) -> Result<Tuple, Error> {
+        Ok(Tuple(len, Vec::new()))
+    }
+
+    never! {
+        serialize_bool(bool) Ok; serialize_i8(i8) Ok; serialize_i16(i16) Ok; serialize_i32(i32) Ok; serialize_i64(i64) Ok;
+        serialize_u8(u8) Ok; serialize_u16(u16) Ok; serialize_u32(u32) Ok; serialize_u64(u64) Ok; serialize_f32(f32) Ok;
+        serialize_f64(f64) Ok; serialize_char(char) Ok; serialize_str(&str) Ok; serialize_bytes(&[u8]) Ok; serialize_none() Ok;
+        serialize_some<T>(&T) Ok; serialize_unit() Ok; serialize_unit_struct(Name) Ok; serialize_unit_variant(Name, u32, Name) Ok;
+        serialize_newtype_struct<T>(Name, &T) Ok; serialize_newtype_variant<T>(Name, u32, Name, &T) Ok;
+        serialize_seq(Option<usize>) SerializeSeq; serialize_tuple_struct(Name, usize) SerializeTupleStruct;
+        serialize_tuple_variant(Name, u32, Name, usize) SerializeTupleVariant; serialize_map(Option<usize>) SerializeMap;
+        serialize_struct(Name, usize) SerializeStruct; serialize_struct_variant(Name, u32, Name, usize) SerializeStructVariant;
+    }
+}
+
+impl SerializeTuple for Tuple {
+    type Ok = Tuple;
+    type Error = Error;
+
+    fn serialize_element<T: Serialize + ?Sized>(&mut self, element: &T) -> Result<(), Error> {
+        self.1.extend(bincode::serialize(element).unwrap());
+        Ok(())
+    }
+
+    fn end(self) -> Result<Tuple, Error> {
+        Ok(self)
+    }
+}
+
+#[test]
+fn a_tuple_is_announced_with_its_length() {
+    let Tuple(announced, bytes) = tinystr!(4, "GB").serialize(Tuple::default()).unwrap();
+    assert_eq!((announced, bytes.as_slice()), (4, b"GB\0\0".as_slice()));
 }
 
 #[test]
@@ -154,6 +228,8 @@ fn bytes_of_no_canonical_subtag_are_rejected() {
     for bytes in [b"tw\0", b"T\0\0", b"1W\0", b"TWN"] {
         assert_eq!(region(bytes), Err("invalid subtag".into()));
     }
+    let language = Language::deserialize(Bytes(b"EN\0\0\0\0\0\0")).map_err(|fault| fault.to_string());
+    assert_eq!(language, Err("invalid language".into()));
     assert_eq!(region(b"T\0W"), Err(NULL.into()));
     assert_eq!(region(b"TW"), Err("invalid length 3, expected a TinyAsciiStr<3>".into()));
 }

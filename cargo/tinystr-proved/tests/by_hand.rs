@@ -12,7 +12,7 @@ const EURO: TinyAsciiStr<3> = tinystr!(3, "EUR");
 
 #[test]
 fn a_value_equals_strings_and_lends_one() {
-    for (s, is_same) in [("EUR", true), ("EU", false), ("EURO", false), ("EUS", false), ("USD", false), ("", false)] {
+    for (s, is_same) in [("EUR", true), ("EU", false), ("EURO", false), ("EUS", false), ("eur", false), ("", false)] {
         let word = String::from(s);
         assert_eq!([EURO == s, EURO == *s, EURO == word], [is_same; 3], "{s}");
         assert_eq!([s == EURO, *s == EURO, word == EURO], [is_same; 3], "{s}");

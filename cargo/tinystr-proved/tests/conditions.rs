@@ -56,12 +56,6 @@ const PANICKING: &[(&str, fn())] = &[
     ("in_place::search at 0", || ignore(in_place::search::<0>(b"", &tinystr!(0, "")))),
     ("in_place::search_eight at 0", || ignore(in_place::search_eight::<0>(b"", &[tinystr!(0, ""); 8], 0))),
     ("in_place::with_prefix at 0", || ignore(in_place::with_prefix::<0>(b"", &tinystr!(0, "")))),
-    #[cfg(debug_assertions)]
-    ("from_utf8_unchecked of a letter after a NUL", || ignore(unchecked(*b"G\0B"))),
-    #[cfg(debug_assertions)]
-    ("from_utf8_unchecked of 128", || ignore(unchecked([b'G', 128, b'B']))),
-    #[cfg(debug_assertions)]
-    ("from_utf8_unchecked of 255 after a NUL", || ignore(unchecked([b'G', 0, 255]))),
 ];
 
 /// A hashed table of no texts.
@@ -72,7 +66,7 @@ fn table() -> Table<'static, 3> {
 }
 
 /// (A release build calls it of texts alone.)
-fn unchecked(raw: [u8; 3]) -> TinyAsciiStr<3> {
+fn unchecked<const N: usize>(raw: [u8; N]) -> TinyAsciiStr<N> {
     // SAFETY: they are a text and then NULs, or a debug build panics before it makes a text of them.
     unsafe { TinyAsciiStr::from_utf8_unchecked(raw) }
 }
@@ -87,8 +81,22 @@ fn backward(start: usize, end: usize) -> std::ops::Range<usize> {
 fn a_call_whose_condition_does_not_hold_panics() {
     std::panic::set_hook(Box::new(|_| {}));
     let taken: Vec<&str> = PANICKING.iter().filter(|(_, call)| catch_unwind(call).is_ok()).map(|(name, _)| *name).collect();
+    let unfit = if cfg!(debug_assertions) { unfit_arrays() } else { Vec::new() };
+    let made: Vec<_> = unfit.into_iter().filter(|raw| catch_unwind(|| unchecked(*raw)).is_ok()).collect();
     let _ = std::panic::take_hook();
-    assert!(taken.is_empty(), "no panic: {taken:?}");
+    assert!(taken.is_empty() && made.is_empty(), "no panic: {taken:?}, from_utf8_unchecked of {made:?}");
+}
+
+/// A byte above 127 at each place, after characters and after NULs, and a character after a NUL.
+fn unfit_arrays() -> Vec<[u8; 12]> {
+    let with = |front: u8, place: usize, byte: u8| {
+        let mut raw = [0; 12];
+        raw[..place].fill(front);
+        raw[place] = byte;
+        raw
+    };
+    let high = (0..12).flat_map(|place| [with(b'a', place, 128), with(0, place, 255)]);
+    high.chain((1..12).flat_map(|place| [with(0, place, 1), with(0, place, 127)])).collect()
 }
 
 /// In the original's words.

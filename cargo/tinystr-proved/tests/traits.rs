@@ -25,8 +25,9 @@ fn texts() -> TextMap<'static, 2, 3> {
     TextMap::new(b"CHJP", b"CHFJPY").unwrap()
 }
 
-/// A header of no pilots, and one text.
+/// Each is a header of no pilots, and one text.
 const ONE: &[u8] = b"\x01\0\0\0\0\0\0\0\0\0\0\0\0\0\0\0EUR";
+const OTHER: &[u8] = b"\x01\0\0\0\0\0\0\0\0\0\0\0\0\0\0\0USD";
 
 fn hashed_table() -> HashedTable<'static, 3> {
     HashedTable::try_from(ONE).unwrap()
@@ -74,7 +75,8 @@ fn tables_and_maps_are_compared() {
     assert!(table() != table().slice(0..2) && sorted() != sorted().with_prefix(&tinystr!(3, "E")) && hashed_table() != HashedTable::default());
     assert!(map() != PackedMap::new(b"EURJPY", &[2, 1]).unwrap() && map() != PackedMap::new(b"CHFJPY", &[2, 0]).unwrap());
     assert!(texts() != TextMap::new(b"CHJP", b"CHFUSD").unwrap() && texts() != TextMap::new(b"CHUS", b"CHFJPY").unwrap());
-    assert!(hashed_map() != HashedMap::new(ONE, &[3]).unwrap() && hashed_texts() != HashedTextMap::new(ONE, b"FR").unwrap());
+    assert!(hashed_map() != HashedMap::new(ONE, &[3]).unwrap() && hashed_map() != HashedMap::new(OTHER, &[2]).unwrap());
+    assert!(hashed_texts() != HashedTextMap::new(ONE, b"FR").unwrap() && hashed_texts() != HashedTextMap::new(OTHER, b"DE").unwrap());
 }
 
 #[test]
