@@ -52,6 +52,9 @@
 extern "C" {
 #endif
 
+/* cdef */
+/* Python's cffi takes what is between both lines `cdef`. */
+
 /* Of this header: 10,000 times the first number, 100 times the second, and the third. 300 is 0.3.0. */
 #define TINYSTR_VERSION 300
 
@@ -263,10 +266,6 @@ tinystr_result tinystr_map_check(const void *keys, size_t keys_len, size_t capac
  *   MISPLACED          detail: the index of the first text that isn't at its place or, without pilots, above the one before. */
 tinystr_result tinystr_hashed_check(const void *bytes, size_t bytes_len, size_t capacity);
 
-/* How many bytes tinystr_hashed_pack needs of `out` and of `scratch` for `count` records. */
-#define TINYSTR_HASHED_PACK_OUT(count, capacity) (80 + (size_t)(count) * ((size_t)(capacity) + 3))
-#define TINYSTR_HASHED_PACK_SCRATCH(count, capacity) (512 + (size_t)(count) * ((size_t)(capacity) + 40))
-
 /* Packs the texts of records, no two of which may be equal, as a hashed table at the start of `out`, by the help of `scratch`.
  * The table depends only on the set of the texts. The bytes of `out` after it, and `scratch`, end in any state.
  *   OK                 value: how many bytes the table has.
@@ -310,6 +309,12 @@ tinystr_result tinystr_hashed_search_each(const void *bytes, size_t bytes_len, s
  *   BAD_VALUES         detail: `values_len`. */
 tinystr_result tinystr_hashed_map_check(const void *keys, size_t keys_len, size_t capacity,
                                         const void *values, size_t values_len, size_t value_size);
+
+/* cdef */
+
+/* How many bytes tinystr_hashed_pack needs of `out` and of `scratch` for `count` records. */
+#define TINYSTR_HASHED_PACK_OUT(count, capacity) (80 + (size_t)(count) * ((size_t)(capacity) + 3))
+#define TINYSTR_HASHED_PACK_SCRATCH(count, capacity) (512 + (size_t)(count) * ((size_t)(capacity) + 40))
 
 #ifdef __cplusplus
 }
