@@ -19,12 +19,11 @@
  * may be wrong.
  *
  * Order of checks
- *   A function returns the code of the first check that fails, in this order:
- *     1. a capacity (of tinystr_read: `out_len`), a size of values, a question and a case, in the order of the parameters:
- *        BAD_ARGUMENT.
- *     2. the bytes, but not the table of a search, in the order of the parameters, and of a hashed table in the order of its
- *        parts: first their length, then the bytes, and then the order or the places of the texts.
- *     3. the length of `out` or of `scratch`: NO_ROOM.
+ *   The first check that fails gives the code. First come the numbers, in the order of the parameters (a capacity, of
+ *   tinystr_read `out_len`, a size of values, a question, a case): BAD_ARGUMENT. Then comes each argument of bytes in turn, but
+ *   not the table of a search: its length, its bytes, and the order or the places of its texts, where they matter; of a hashed
+ *   table the header, then the pilots and the moves, and then the records. Then comes the room of `out`, and of `scratch`:
+ *   NO_ROOM. Equal records to pack are found last: DUPLICATE.
  *   Each function below lists OK first, and NOT_FOUND if it may return it, and then the codes of its checks in this order.
  *   NUL and NON_ASCII are one check, which stops at the first fault: at a byte above 127 the code is NON_ASCII, and at a byte
  *   from 1 to 127 after a NUL it is NUL.
@@ -37,7 +36,8 @@
  * Words
  *   text          bytes from 1 to 127, none or more
  *   padded text   a text, and then NULs up to a capacity: `char code[4]` holds "EUR\0", "GB\0\0" and "euro"
- *   records       padded texts of one capacity, one after another, with nothing between: "EURGB\0JPY" at capacity 3
+ *   records       padded texts of one capacity, one after another, with nothing between: "EURGB\0JPY" at capacity 3. Record
+ *                 `index` is at `bytes + index * capacity`.
  *   strictly ascending   each text of the records is above the one before it, in the order of memcmp
  *
  * SPDX-License-Identifier: Unicode-3.0
@@ -253,8 +253,9 @@ tinystr_result tinystr_map_check(const void *keys, size_t keys_len, size_t capac
                                  const void *values, size_t values_len, size_t value_size);
 
 /* ---- Hashed tables: records in the order of a hash, so that a text is compared with one record, and before them numbers from
- * which a text's place, its index among the records, is computed. tinystr_hashed_pack and the repository's command
- * tinystr-table make them, and its crates/tinystr_hashed/CALLING.md has their format. */
+ * which a text's place, its index among the records, is computed. Record `index` of `count` is at
+ * `bytes + bytes_len - (count - index) * capacity`. tinystr_hashed_pack and the repository's command tinystr-table make them, and
+ * its crates/tinystr_hashed/CALLING.md has their format. */
 
 /* Whether the bytes are a hashed table. It isn't a checksum: a cut table can pass.
  *   OK                 value: how many texts.
