@@ -1,9 +1,10 @@
 //! The command line.
 
+use crate::files;
 use crate::tables::{self, Kind};
 use crate::values::ValueType;
 use std::ffi::OsString;
-use std::path::PathBuf;
+use std::path::{Path, PathBuf};
 
 pub const USAGE: &str = "\
 tinystr-table pack  KIND -n N CODES TABLE    makes a table of the codes in a text file, one on each line
@@ -16,11 +17,15 @@ KIND        --sorted (in ascending order, for searches by prefix too) or --hashe
 --map TYPE  a map, in two files: KEYS VALUES instead of TABLE. A line of CODES is a code, a tab and a value. So is a
             line that `show` or `get` prints. TYPE is u8, u16, u32 or u64, which are stored little-endian, or
             textM: texts of at most M bytes, where M is as N.
+-           standard input or output, in place of a file
+--          what follows is no option
+
+`pack` replaces its files only if it succeeds: it writes new ones beside them, and renames these.
 
 A table file holds neither KIND, N nor TYPE: give those with which it was made. `check` rejects most other files, but
 a sorted table without its last code is a table too.
 
-Status: 0; 1 if a file is faulty or a code isn't found; 2 if the command line is wrong.
+Status: 0; 1 if a file is faulty, can't be read or can't be written, or a code isn't found; 2 if the command line is wrong.
 ";
 
 pub struct Call {
@@ -51,7 +56,7 @@ pub fn parse(mut given: impl Iterator<Item = OsString>) -> Result<Option<Call>, 
             Some("-n") => set(&mut capacity, option("-n", given.next(), tables::capacity)?, "-n")?,
             Some("--map") => set(&mut map, option("--map", given.next(), ValueType::named)?, "--map")?,
             Some("--") => rest.extend(given.by_ref()),
-            Some(it) if it.starts_with('-') => return Err(format!("there is no option {it}")),
+            Some(it) if it.starts_with('-') && it != "-" => return Err(format!("there is no option {it}")),
             _ => rest.push(argument),
         }
     }
@@ -76,7 +81,29 @@ pub fn parse(mut given: impl Iterator<Item = OsString>) -> Result<Option<Call>, 
     };
     let kind = kind.ok_or("--sorted or --hashed is missing")?;
     let capacity = capacity.ok_or("-n is missing")?;
-    Ok(Some(Call { command, kind, capacity, table, values }))
+    let call = Call { command, kind, capacity, table, values };
+    call.check_paths()?;
+    Ok(Some(call))
+}
+
+impl Call {
+    /// Standard input is read once. `pack` writes to different files, and to none that it reads.
+    fn check_paths(&self) -> Result<(), String> {
+        let others = [Some(&self.table), self.values.as_ref().map(|(_, path)| path)].into_iter().flatten();
+        let paths: Vec<&Path> = match &self.command {
+            Command::Pack { input } => {
+                let targets = others.map(|it| files::path_of(it, "/dev/stdout"));
+                [files::path_of(input, "/dev/stdin")].into_iter().chain(targets).collect()
+            }
+            _ => others.map(PathBuf::as_path).filter(|it| files::is_stream(it)).collect(),
+        };
+        for (index, path) in paths.iter().enumerate() {
+            if let Some(earlier) = paths[..index].iter().find(|it| files::are_one(it, path)) {
+                return Err(format!("{} and {} are the same file", earlier.display(), path.display()));
+            }
+        }
+        Ok(())
+    }
 }
 
 /// Sets what the command line may say only once.

@@ -1,5 +1,6 @@
 //! Progress on standard error.
 
+use std::io::{self, Write};
 use std::sync::mpsc::{RecvTimeoutError, channel};
 use std::thread;
 use std::time::Duration;
@@ -11,7 +12,7 @@ pub fn shown<T>(what: &str, work: impl FnOnce() -> T) -> T {
         scope.spawn(move || {
             let (mut seconds, mut more) = (1, 1);
             while is_ended.recv_timeout(Duration::from_secs(more)) == Err(RecvTimeoutError::Timeout) {
-                eprintln!("{what}: {seconds} s");
+                let _ = writeln!(io::stderr(), "{what}: {seconds} s");
                 more = seconds;
                 seconds *= 2;
             }
