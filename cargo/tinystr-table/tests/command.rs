@@ -2,7 +2,7 @@
 
 use std::collections::BTreeMap;
 use std::fs::{self, File};
-use std::io::{self, BufRead, BufReader, Write};
+use std::io::{self, Write};
 use std::os::unix::fs::{PermissionsExt, symlink};
 use std::path::{Path, PathBuf};
 use std::process::{Command, Output, Stdio};
@@ -190,6 +190,7 @@ fn faults_name_their_line_or_their_file() {
     let here = Folder::new("faults");
     for (options, text, fault) in [
         ("--sorted", "EUR\nJPY\nEUR\n", "line 3: EUR is on line 1 too"),
+        ("--hashed", "EUR\nJPY\nJPY\nEUR\n", "line 3: JPY is on line 2 too"),
         ("--hashed", "EUR\n\nJPY\n", "line 2: there is no code"),
         ("--hashed", "EUR\nEURO", "line 2: found string of larger length 4 when constructing string of length 3"),
         ("--sorted --map u8", "EUR\t2\nJPY", "line 2: there is no tab"),
@@ -246,18 +247,18 @@ fn a_code_ends_at_the_first_tab() {
 #[test]
 fn what_no_line_has_is_not_shown() {
     let here = Folder::new("unshown");
-    here.write("values", b"x\ry");
-    for (table, options, code) in [
-        ("a\nb", "", "a\\nb"),
-        ("a\rb", "", "a\\rb"),
-        ("\0\0\0", "", ""),
-        ("a\tb", "--map text3 ", "a\\tb"),
-        ("abc", "--map text3 ", "abc"),
+    for (table, values, code) in [
+        ("a\nb", None, r"a\nb"),
+        ("a\rb", None, r"a\rb"),
+        ("\0\0\0", None, ""),
+        ("a\tb", Some("xyz"), r"a\tb"),
+        ("abc", Some("x\ry"), "abc"),
     ] {
         here.write("table", table);
-        let values = if options.is_empty() { "" } else { " values" };
+        here.write("values", values.unwrap_or_default());
+        let given = if values.is_some() { "--map text3 table values" } else { "table" };
         let fault = format!("no line has the code \"{code}\" and its value");
-        here.fails(&format!("show --sorted -n 3 {options}table{values}"), 1, "", &fault);
+        here.fails(&format!("show --sorted -n 3 {given}"), 1, "", &fault);
     }
 }
 
@@ -270,7 +271,12 @@ fn minus_is_a_stream_and_two_end_the_options() {
     assert_eq!(here.run_reading("-xEU", "get --sorted -n 2 - -- -x"), (0, "-x\t0\n".into(), "".into()));
     let fault = "tinystr-table: standard input: line 1: there is no code\n";
     assert_eq!(here.run_reading("\n", "pack --sorted -n 2 - table"), (1, "".into(), fault.into()));
-    assert_eq!(here.run_reading("EU\n", "pack --sorted -n 2 - /dev/stdout"), (0, "EU".into(), "".into()));
+    assert_eq!(here.run_reading("EU\n", "pack --sorted -n 2 - /dev/fd/1"), (0, "EU".into(), "".into()));
+    here.write("codes", "EU\n");
+    let mut out = File::create(here.0.join("out")).unwrap();
+    out.write_all(b"before").unwrap();
+    assert!(here.command("pack --sorted -n 2 codes /dev/stdout").stdout(out).status().unwrap().success());
+    assert_eq!(here.read("out"), b"beforeEU");
     here.fails("get --sorted -n 2 table -x", 2, "", "there is no option -x; see tinystr-table --help");
 }
 
@@ -368,12 +374,10 @@ fn a_file_is_given_once() {
 #[test]
 fn reading_shows_progress() {
     let here = Folder::new("progress");
-    let mut child = here.command("pack --sorted -n 2 - table").stdin(Stdio::piped()).stderr(Stdio::piped()).spawn().unwrap();
-    let mut message = String::new();
-    BufReader::new(child.stderr.take().unwrap()).read_line(&mut message).unwrap();
-    assert_eq!(message, "reading standard input: 1 s\n");
-    drop(child.stdin.take());
-    assert!(child.wait().unwrap().success());
+    let mut shell = Command::new("sh");
+    shell.current_dir(&here.0).args(["-c", "sleep 2 | \"$0\" pack --sorted -n 2 - table", TINYSTR_TABLE]);
+    let (status, _, message) = outcome(shell.output().unwrap());
+    assert_eq!((status, message.lines().next()), (0, Some("reading standard input: 1 s")));
 }
 
 /// 100,000 lines of 8 bytes are packed in 9 MB, of which 4 MB are the program's.
