@@ -92,7 +92,7 @@ fn concats<const N: usize>() {
             concat::<N, $m, 97>();
         )*};
     }
-    onto!(0 4 3 8 8 13 13 24 17 40);
+    onto!(0 4 3 8 8 13 9 24 17 40);
 }
 
 #[test]
