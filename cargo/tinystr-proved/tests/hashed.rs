@@ -2,10 +2,10 @@
 #![cfg(feature = "alloc")]
 
 use std::collections::BTreeMap;
-use tinystr::TinyAsciiStr;
-use tinystr::hashed::{HashedTable, HashedTextMap, PackHashedError};
+use tinystr::hashed::{HashedError, HashedTable, HashedTextMap, PackHashedError, in_place};
 use tinystr::hashed::{most_bytes, pack_hashed, pack_hashed_into, pack_hashed_text_map, scratch_bytes};
 use tinystr::packed::{Table, pack};
+use tinystr::{TinyAsciiStr, tinystr};
 
 /// FNV-1a.
 fn digest_of(bytes: &[u8]) -> u64 {
@@ -98,4 +98,18 @@ fn texts_are_packed_in_the_order_of_their_keys() {
         (0..100).map(|number| (format!("key{number}").parse().unwrap(), number.to_string().parse().unwrap())).collect();
     let (keys, values) = pack_hashed_text_map(&map).unwrap();
     assert_eq!(HashedTextMap::new(&keys, &values).unwrap().iter().collect::<BTreeMap<_, _>>(), map);
+}
+
+/// No slice has so many pilots and moves. With a 32-bit `usize` the error has its greatest number.
+#[test]
+fn a_header_of_four_gigabytes_or_more_is_refused() {
+    for (pilots, moves) in [(0, 1 << 30), (1, 1 << 30), (4, (1 << 30) + 1), (u32::MAX, 1), (u32::MAX, u32::MAX)] {
+        let header = [1, pilots, moves, 0].map(u32::to_le_bytes);
+        let bytes = [header.as_flattened(), b"EURGBP"].concat();
+        let size = usize::try_from(u64::from(pilots) + 4 * u64::from(moves)).unwrap_or(usize::MAX);
+        let fault = Some(HashedError::Index { size, len: 6 });
+        assert_eq!(HashedTable::<3>::from_bytes(&bytes).err(), fault);
+        assert_eq!(HashedTable::<3>::from_bytes_const(&bytes).err(), fault);
+        assert_eq!(in_place::position(&bytes, &tinystr!(3, "EUR")), None);
+    }
 }
