@@ -106,6 +106,7 @@ IN_FILE = {
         Rule("        TinyAsciiStr { bytes }\n", CHECKED, BELOW_128),
         Rule("    bytes: [u8; N],\n", "    bytes: AsciiBytes<N>,\n", BELOW_128),
         Rule("use crate::error::", "use crate::ascii_bytes::AsciiBytes;\nuse crate::error::", BELOW_128),
+        Rule("use std::hash::{Hash, Hasher};\n", "", "`strings.rs` has the hash of the `str`"),
     ],
     "tinystr/ascii/order.rt": [
         Rule("TinyAsciiStr;\n", "TinyAsciiStr;\nuse crate::ascii_bytes::AsciiBytes;\n", OF_BYTES),

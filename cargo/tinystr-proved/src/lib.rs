@@ -26,7 +26,7 @@
 //!
 //! - At capacity 0 `is_empty` returns true, where the original panics, and `new_unsigned_decimal(0)` returns an error.
 //! - Class predicates on letters in a case return true for the empty text at every capacity.
-//! - `Hash` writes the `N` bytes in one call.
+//! - A text hashes as its `str`, so that `map.get("EUR")` of a `HashMap` finds it.
 //! - There is no feature `zerovec` or `databake`.
 //!
 //! # Features

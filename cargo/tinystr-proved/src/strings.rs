@@ -6,6 +6,7 @@ use crate::subtags::subtag::{Subtag, SubtagKind};
 #[cfg(feature = "alloc")]
 use alloc::string::String;
 use core::borrow::Borrow;
+use core::hash::{Hash, Hasher};
 use core::ops::Deref;
 
 impl<const N: usize> Deref for TinyAsciiStr<N> {
@@ -17,12 +18,19 @@ impl<const N: usize> Deref for TinyAsciiStr<N> {
     }
 }
 
-/// As in the original, although a text's hash isn't that of its `str`: a `HashMap` with texts as keys finds none by a `str`, and a
-/// `BTreeMap` does.
+/// A `HashMap` or a `BTreeMap` with texts as keys finds one by a `str`.
 impl<const N: usize> Borrow<str> for TinyAsciiStr<N> {
     #[inline]
     fn borrow(&self) -> &str {
         self.as_str()
+    }
+}
+
+/// The hash of the `str`, which `Borrow<str>` promises.
+impl<const N: usize> Hash for TinyAsciiStr<N> {
+    #[inline]
+    fn hash<H: Hasher>(&self, state: &mut H) {
+        self.as_str().hash(state);
     }
 }
 

@@ -16,7 +16,6 @@ use crate::ascii_bytes::AsciiBytes;
 use crate::error::ParseError;
 pub(crate) use readers::are_padded;
 pub use splitting::Parts;
-use core::hash::{Hash, Hasher};
 use core::str::FromStr;
 
 /// A text of at most `N` bytes, each from 1 to 127, in `N` bytes: the text and then NULs, stored inline.
@@ -63,14 +62,6 @@ pub type TinyStr8 = TinyAsciiStr<8>;
 /// # Ok::<(), Box<dyn std::error::Error>>(())
 /// ```
 pub type TinyStr16 = TinyAsciiStr<16>;
-
-// All bytes in one write: the derive feeds each by itself, and maps then take twice as long.
-impl<const N: usize> Hash for TinyAsciiStr<N> {
-    #[inline]
-    fn hash<H: Hasher>(&self, state: &mut H) {
-        state.write(&self.bytes.as_array()[..]);
-    }
-}
 
 impl<const N: usize> TinyAsciiStr<N> {
     /// The empty text, which every capacity has.
