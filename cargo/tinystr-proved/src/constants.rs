@@ -86,13 +86,14 @@ const fn is_below<const N: usize>(left: &[u8; N], right: &[u8; N]) -> bool {
     at < N && left[at] < right[at]
 }
 
-/// A constant text of a literal, at a capacity that is a literal too. One that isn't such a text doesn't compile.
+/// A constant text of a capacity and a `str`, which are literals or constants. One that isn't such a text doesn't compile.
 ///
 /// ```
 /// use tinystr::{TinyAsciiStr, tinystr};
 ///
 /// const CITY: TinyAsciiStr<8> = tinystr!(8, "New York");
-/// assert_eq!(CITY, "New York");
+/// const NAME: &str = "Bern";
+/// assert_eq!([CITY, tinystr!(CITY.len(), NAME)], ["New York", "Bern"]);
 /// ```
 ///
 /// ```compile_fail,E0080
@@ -102,11 +103,17 @@ const fn is_below<const N: usize>(left: &[u8; N], right: &[u8; N]) -> bool {
 /// ```
 #[macro_export]
 macro_rules! tinystr {
-    ($n:literal, $s:literal) => {{
-        const TEXT: $crate::TinyAsciiStr<$n> = match $crate::TinyAsciiStr::try_from_utf8($s.as_bytes()) {
+    ($n:literal, $s:literal) => {
+        // the literal may have braces, so it is no format
+        $crate::tinystr!(@ $n, $s, concat!("no text of capacity ", $n, ": ", $s))
+    };
+    ($n:expr, $s:expr) => {
+        $crate::tinystr!(@ $n, $s, $s)
+    };
+    (@ $n:expr, $s:expr, $fault:expr) => {{
+        const TEXT: $crate::TinyAsciiStr<{ $n }> = match $crate::TinyAsciiStr::try_from_utf8($s.as_bytes()) {
             Ok(text) => text,
-            // the literal may have braces, so it is no format
-            Err(_) => panic!("{}", concat!("no text of capacity ", $n, ": ", $s)),
+            Err(_) => panic!("{}", $fault),
         };
         TEXT
     }};

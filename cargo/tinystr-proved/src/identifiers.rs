@@ -80,6 +80,24 @@ impl<K: SubtagKind<N>, const N: usize> Subtag<K, N> {
     }
 }
 
+/// Reads a text as `parse` does.
+impl<const M: usize> TryFrom<TinyAsciiStr<M>> for LangId {
+    type Error = LangIdError;
+
+    fn try_from(text: TinyAsciiStr<M>) -> Result<Self, LangIdError> {
+        text.parse()
+    }
+}
+
+/// Reads a text as `parse` does.
+impl<const M: usize, K: SubtagKind<N>, const N: usize> TryFrom<TinyAsciiStr<M>> for Subtag<K, N> {
+    type Error = LangIdError;
+
+    fn try_from(text: TinyAsciiStr<M>) -> Result<Self, LangIdError> {
+        text.parse()
+    }
+}
+
 /// What is before the first separator, and what is after it, if there is one.
 const fn split(code_units: &[u8]) -> (&[u8], Option<&[u8]>) {
     let mut at = 0;

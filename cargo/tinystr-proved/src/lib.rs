@@ -34,6 +34,7 @@
 //! | feature | what it adds |
 //! |---|---|
 //! | `alloc`, on by default | packing tables and maps, `count_texts`, and equality with `String` |
+//! | `std` | `AsRef` for `TinyAsciiStr` |
 //! | `serde` | `Serialize` and `Deserialize` |
 //!
 //! # Contracts
@@ -45,6 +46,8 @@
 
 #[cfg(feature = "alloc")]
 extern crate alloc;
+#[cfg(feature = "std")]
+extern crate std;
 
 mod ascii_bytes;
 mod constants;

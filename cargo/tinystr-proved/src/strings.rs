@@ -1,6 +1,7 @@
-//! A value in the place of a `str`: each call here is one of the proved `as_str`.
+//! A value in the place of a `str`: each call here is one of the proved `as_str`. And a text of an array of bytes.
 
 use crate::ascii::TinyAsciiStr;
+use crate::error::ParseError;
 use crate::subtags::LangId;
 use crate::subtags::subtag::{Subtag, SubtagKind};
 #[cfg(feature = "alloc")]
@@ -15,6 +16,16 @@ impl<const N: usize> Deref for TinyAsciiStr<N> {
     #[inline]
     fn deref(&self) -> &str {
         self.as_str()
+    }
+}
+
+/// Reads a literal such as `b"EUR"`, which is no slice, as `try_from_utf8` does.
+impl<const N: usize, const K: usize> TryFrom<&[u8; K]> for TinyAsciiStr<N> {
+    type Error = ParseError;
+
+    #[inline]
+    fn try_from(code_units: &[u8; K]) -> Result<Self, ParseError> {
+        Self::try_from_utf8(code_units)
     }
 }
 
@@ -34,15 +45,23 @@ impl<const N: usize> Hash for TinyAsciiStr<N> {
     }
 }
 
-// Equality with strings, both ways. A value of the original has no `AsRef`, so that `text.as_ref()` is that of `str`.
-macro_rules! equals_strings {
+// Equality with strings, both ways, and the `String`.
+macro_rules! with_strings {
     ($([$($generics:tt)*] $type:ty;)*) => {$(
-        equals_strings!(one [$($generics)*] $type, str);
-        equals_strings!(one [$($generics)*] $type, &str);
+        with_strings!(equal [$($generics)*] $type, str);
+        with_strings!(equal [$($generics)*] $type, &str);
         #[cfg(feature = "alloc")]
-        equals_strings!(one [$($generics)*] $type, String);
+        with_strings!(equal [$($generics)*] $type, String);
+
+        #[cfg(feature = "alloc")]
+        impl<$($generics)*> From<$type> for String {
+            #[inline]
+            fn from(value: $type) -> Self {
+                value.as_str().into()
+            }
+        }
     )*};
-    (one [$($generics:tt)*] $type:ty, $string:ty) => {
+    (equal [$($generics:tt)*] $type:ty, $string:ty) => {
         impl<$($generics)*> PartialEq<$string> for $type {
             #[inline]
             fn eq(&self, other: &$string) -> bool {
@@ -61,11 +80,27 @@ macro_rules! equals_strings {
     };
 }
 
-equals_strings! {
+with_strings! {
     [const N: usize] TinyAsciiStr<N>;
     [] LangId;
     [K: SubtagKind<N>, const N: usize] Subtag<K, N>;
 }
+
+// Each `AsRef` of `str` or none: where some are missing, `text.as_ref()` no longer finds those of `str` by `Deref`.
+#[cfg(feature = "std")]
+macro_rules! as_ref_like_str {
+    ($($type:ty),*) => {$(
+        impl<const N: usize> AsRef<$type> for TinyAsciiStr<N> {
+            #[inline]
+            fn as_ref(&self) -> &$type {
+                self.as_str().as_ref()
+            }
+        }
+    )*};
+}
+
+#[cfg(feature = "std")]
+as_ref_like_str! { str, [u8], std::ffi::OsStr, std::path::Path }
 
 impl AsRef<str> for LangId {
     #[inline]

@@ -1,12 +1,12 @@
-//! Equality with strings and the texts of errors, which are written by hand.
+//! Equality with strings, conversions and the texts of errors, which are written by hand.
 #![cfg(feature = "alloc")]
 
 use std::collections::BTreeMap;
 use std::error::Error;
 use tinystr::hashed::{HashedMap, HashedTable, HashedTextMap, PackIntoError, pack_hashed};
 use tinystr::packed::{PackedMap, SortedTable, Table, TextMap};
-use tinystr::subtags::{LangId, Language};
-use tinystr::{TinyAsciiStr, UnvalidatedTinyAsciiStr, tinystr};
+use tinystr::subtags::{LangId, LangIdError, Language, Region};
+use tinystr::{ParseError, TinyAsciiStr, UnvalidatedTinyAsciiStr, tinystr};
 
 const EURO: TinyAsciiStr<3> = tinystr!(3, "EUR");
 
@@ -21,6 +21,25 @@ fn a_value_equals_strings_and_lends_one() {
     assert_eq!([id == "en-GB", id == "en", language == "en", language == "EN"], [true, false, true, false]);
     assert_eq!((AsRef::<str>::as_ref(&id), AsRef::<str>::as_ref(&language)), ("en-GB", "en"));
     assert_eq!(BTreeMap::from([(EURO, 2)]).get("EUR"), Some(&2));
+}
+
+#[test]
+fn arrays_texts_and_strings_are_converted() {
+    assert_eq!((TinyAsciiStr::try_from(b"EUR"), TinyAsciiStr::<4>::try_from(&[]).unwrap()), (Ok(EURO), TinyAsciiStr::EMPTY));
+    assert_eq!(TinyAsciiStr::<2>::try_from(b"EUR"), Err(ParseError::TooLong { max: 2, len: 3 }));
+    assert_eq!(TinyAsciiStr::<4>::try_from(b"a\0b\x80"), Err(ParseError::ContainsNull));
+    let (id, region) = (LangId::try_from(tinystr!(8, "ZH_tw")).unwrap(), Region::try_from(tinystr!(4, "tw")).unwrap());
+    assert_eq!([String::from(EURO), id.into(), region.into()], ["EUR", "zh-TW", "TW"]);
+    assert_eq!(Language::try_from(tinystr!(4, "latn")), Err(LangIdError::InvalidLanguage));
+    assert_eq!(LangId::try_from(tinystr!(8, "zh-latin")), Err(LangIdError::InvalidSubtag));
+}
+
+#[cfg(feature = "std")]
+#[test]
+fn each_as_ref_is_that_of_str() {
+    let (text, bytes): (&str, &[u8]) = (EURO.as_ref(), EURO.as_ref());
+    let (word, path): (&std::ffi::OsStr, &std::path::Path) = (EURO.as_ref(), EURO.as_ref());
+    assert_eq!((text, bytes, word.to_str(), path.to_str()), ("EUR", b"EUR".as_slice(), Some("EUR"), Some("EUR")));
 }
 
 /// What the error of a call says.
