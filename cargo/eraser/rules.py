@@ -67,6 +67,7 @@ CHECKED = """        debug_assert!(AsciiBytes::are_padded(&bytes), "the bytes ar
 OF_BYTES = "the derived equality of a text is that of its bytes, and the proved one is theirs"
 NOT_PROVED = "in Rust nothing proves a condition at a call"
 UNCHECKED = r'TinyAsciiStr::from_utf8_unchecked(*b"GB\0")'
+DOCUMENTED_FIRST = "the page of a text begins with constructors and views"
 NAMED_AS_STR = "`Deref` to `str` has this name, and the original's callers use that"
 
 
@@ -98,6 +99,8 @@ IN_FILE = {
     "tinystr_words/lib.rt": [Rule("pub mod int_ops;\n", "pub mod in_constants;\npub mod int_ops;\n", OF_CONST_CALLS)],
     "tinystr/error.rt": [Rule("pub enum ParseError", "#[non_exhaustive]\npub enum ParseError", "as in the original")],
     "tinystr/ascii.rt": [
+        *(Rule(f"mod {it};\n", "", DOCUMENTED_FIRST) for it in ("readers", "views")),
+        Rule("mod concat;\n", "mod readers;\nmod views;\n\nmod concat;\n", DOCUMENTED_FIRST),
         Rule(
             "#[derive(Clone, Copy)]\npub struct TinyAsciiStr",
             "#[derive(Clone, Copy, PartialEq, Eq)]\n#[repr(transparent)]\npub struct TinyAsciiStr",
