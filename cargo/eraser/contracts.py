@@ -116,7 +116,7 @@ def is_open(between: str) -> bool:
 
 def with_folds(text: str) -> str:
     """The text where rustdoc folds the clauses of each comment, and a type's comment ends with how contracts see it."""
-    text = SHOWN.sub(rf"\1 {HEADING}\n\1 <details>\n\1\n\2\1 </details>\n", text)
+    text = SHOWN.sub(r"\1 <details><summary>Contract</summary>\n\1\n\1 [Notation](crate::definitions):\n\2\1 </details>\n", text)
     return VIEW.sub(rf"\n\3///\n/// {HEADING}\n///\n/// A contract \1\2\n", text)
 
 

@@ -73,9 +73,9 @@ impl<const N: usize> TinyAsciiStr<N> {
     /// assert_eq!(TinyAsciiStr::<8>::default().as_str(), "");
     /// ```
     ///
-    /// # [Contract](crate::definitions)
-    /// <details>
+    /// <details><summary>Contract</summary>
     ///
+    /// [Notation](crate::definitions):
     /// ```text
     /// ensures { result ≡ [] }
     /// ```

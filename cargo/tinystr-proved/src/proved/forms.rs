@@ -47,9 +47,9 @@ impl<const N: usize> TinyAsciiStr<N> {
     /// assert_eq!(tinystr!(4, "GB").to_bytes(), *b"GB\0\0");
     /// ```
     ///
-    /// # [Contract](crate::definitions)
-    /// <details>
+    /// <details><summary>Contract</summary>
     ///
+    /// [Notation](crate::definitions):
     /// ```text
     /// ensures bytes { result ≡ pad self.now N }
     /// ensures padded { IsPaddedText result N }
@@ -78,9 +78,9 @@ impl<const N: usize> TinyAsciiStr<N> {
     ///
     /// Where the slice has fewer than `N` bytes.
     ///
-    /// # [Contract](crate::definitions)
-    /// <details>
+    /// <details><summary>Contract</summary>
     ///
+    /// [Notation](crate::definitions):
     /// ```text
     /// requires { N ≤ length out.old }
     /// ensures bytes { out.new ≡ pad self.now N ++ drop N out.old }
@@ -111,9 +111,9 @@ impl<const N: usize> TinyAsciiStr<N> {
     /// assert_eq!(TinyAsciiStr::<4>::read_bytes(b"EUR").unwrap_err(), BytesReadError::Length { expected: 4 });
     /// ```
     ///
-    /// # [Contract](crate::definitions)
-    /// <details>
+    /// <details><summary>Contract</summary>
     ///
+    /// [Notation](crate::definitions):
     /// ```text
     /// ensures accepted { IsOk result ↔ (byte_fault N input.now ≡ None) }
     /// ensures padded { IfOk result (λ _. IsPaddedText (take N input.now) N) }
@@ -143,9 +143,9 @@ impl<const N: usize> UnvalidatedTinyAsciiStr<N> {
     /// assert!(UnvalidatedTinyAsciiStr::from_utf8_unchecked(*b"\0GB").to_bytes().is_err());
     /// ```
     ///
-    /// # [Contract](crate::definitions)
-    /// <details>
+    /// <details><summary>Contract</summary>
     ///
+    /// [Notation](crate::definitions):
     /// ```text
     /// ensures accepted { IsOk result ↔ IsPaddedText self.now N }
     /// ensures bytes { IfOk result (λ bytes. bytes ≡ self.now) }
@@ -170,9 +170,9 @@ impl<const N: usize> UnvalidatedTinyAsciiStr<N> {
     /// assert_eq!(rest, b"B".as_slice());
     /// ```
     ///
-    /// # [Contract](crate::definitions)
-    /// <details>
+    /// <details><summary>Contract</summary>
     ///
+    /// [Notation](crate::definitions):
     /// ```text
     /// ensures accepted { IsOk result ↔ (N ≤ length input.now) }
     /// ensures bytes { IfOk result (λ read. read.0 ≡ take N input.now) }

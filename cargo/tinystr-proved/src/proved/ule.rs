@@ -44,9 +44,9 @@ impl<const N: usize> TinyAsciiStr<N> {
     ///
     /// Where `N` is 0.
     ///
-    /// # [Contract](crate::definitions)
-    /// <details>
+    /// <details><summary>Contract</summary>
     ///
+    /// [Notation](crate::definitions):
     /// ```text
     /// requires { 0 < N }
     /// ensures accepted { IsOk result ↔ IsPacked bytes.now N }
@@ -110,9 +110,9 @@ impl<const N: usize> TinyAsciiStr<N> {
     /// assert_eq!(TinyAsciiStr::try_from_raw(pattern), Err(ParseError::NonAscii));
     /// ```
     ///
-    /// # [Contract](crate::definitions)
-    /// <details>
+    /// <details><summary>Contract</summary>
     ///
+    /// [Notation](crate::definitions):
     /// ```text
     /// ensures { result ≡ replicate N 255 }
     /// ```
@@ -131,9 +131,9 @@ impl<const N: usize> UnvalidatedTinyAsciiStr<N> {
     ///
     /// Where `N` is 0.
     ///
-    /// # [Contract](crate::definitions)
-    /// <details>
+    /// <details><summary>Contract</summary>
     ///
+    /// [Notation](crate::definitions):
     /// ```text
     /// requires { 0 < N }
     /// ensures accepted { IsOk result ↔ (length bytes.now % N ≡ 0) }

@@ -39,9 +39,9 @@ impl<const N: usize> PartialOrd for UnvalidatedTinyAsciiStr<N> {
 impl<const N: usize> UnvalidatedTinyAsciiStr<N> {
     /// `N` NULs.
     ///
-    /// # [Contract](crate::definitions)
-    /// <details>
+    /// <details><summary>Contract</summary>
     ///
+    /// [Notation](crate::definitions):
     /// ```text
     /// ensures { result ≡ replicate N 0 }
     /// ```
@@ -62,9 +62,9 @@ impl<const N: usize> UnvalidatedTinyAsciiStr<N> {
     /// # Ok::<(), Box<dyn std::error::Error>>(())
     /// ```
     ///
-    /// # [Contract](crate::definitions)
-    /// <details>
+    /// <details><summary>Contract</summary>
     ///
+    /// [Notation](crate::definitions):
     /// ```text
     /// ensures accepted { IsOk result ↔ (length bytes.now ≤ N) }
     /// ensures padded { IfOk result (λ made. made ≡ pad bytes.now N) }
@@ -84,9 +84,9 @@ impl<const N: usize> UnvalidatedTinyAsciiStr<N> {
 
     /// Takes `N` bytes, whatever they are.
     ///
-    /// # [Contract](crate::definitions)
-    /// <details>
+    /// <details><summary>Contract</summary>
     ///
+    /// [Notation](crate::definitions):
     /// ```text
     /// ensures { result ≡ bytes.entry }
     /// ```
@@ -99,9 +99,9 @@ impl<const N: usize> UnvalidatedTinyAsciiStr<N> {
 
     /// The text, if the bytes are a text and then NULs. The errors are those of `TinyAsciiStr::try_from_raw`.
     ///
-    /// # [Contract](crate::definitions)
-    /// <details>
+    /// <details><summary>Contract</summary>
     ///
+    /// [Notation](crate::definitions):
     /// ```text
     /// ensures accepted { IsOk result ↔ IsPaddedText self.entry N }
     /// ensures text { IfOk result (λ t. t ≡ text_of self.entry) }
@@ -125,9 +125,9 @@ impl<const N: usize> TinyAsciiStr<N> {
     /// assert!(bytes == UnvalidatedTinyAsciiStr::from_utf8_unchecked(*b"GB\0"));
     /// ```
     ///
-    /// # [Contract](crate::definitions)
-    /// <details>
+    /// <details><summary>Contract</summary>
     ///
+    /// [Notation](crate::definitions):
     /// ```text
     /// ensures bytes { result ≡ pad self.entry N }
     /// ensures padded { IsPaddedText result N }

@@ -16,9 +16,9 @@ impl<const N: usize> TinyAsciiStr<N> {
     /// assert_eq!(language.concat::<4, 4>(region).as_str(), "en-G");
     /// ```
     ///
-    /// # [Contract](crate::definitions)
-    /// <details>
+    /// <details><summary>Contract</summary>
     ///
+    /// [Notation](crate::definitions):
     /// ```text
     /// ensures text { result ≡ take Q (self.entry ++ other.entry) }
     /// ensures whole { N + M ≤ Q → result ≡ self.entry ++ other.entry }
@@ -41,9 +41,9 @@ impl<const N: usize> TinyAsciiStr<N> {
     /// assert!(language.try_concat::<4, 4>(region).is_none());
     /// ```
     ///
-    /// # [Contract](crate::definitions)
-    /// <details>
+    /// <details><summary>Contract</summary>
     ///
+    /// [Notation](crate::definitions):
     /// ```text
     /// ensures { SomeIff result (length self.entry + length other.entry ≤ Q) (self.entry ++ other.entry) }
     /// ```
@@ -75,9 +75,9 @@ impl<const N: usize> TinyAsciiStr<N> {
     ///
     /// Where the separator isn't from 1 to 127.
     ///
-    /// # [Contract](crate::definitions)
-    /// <details>
+    /// <details><summary>Contract</summary>
     ///
+    /// [Notation](crate::definitions):
     /// ```text
     /// requires { IsTextByte separator }
     /// ensures { SomeIff result (length (join_with_byte separator texts.now) ≤ Q) (join_with_byte separator texts.now) }

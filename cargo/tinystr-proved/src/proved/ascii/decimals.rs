@@ -14,9 +14,9 @@ impl<const N: usize> TinyAsciiStr<N> {
     /// assert_eq!(TinyAsciiStr::new_unsigned_decimal(2006), Err(tinystr!(2, "06")));
     /// ```
     ///
-    /// # [Contract](crate::definitions)
-    /// <details>
+    /// <details><summary>Contract</summary>
     ///
+    /// [Notation](crate::definitions):
     /// ```text
     /// ensures ok { IsOk result ↔ (length (decimal number) ≤ N) }
     /// ensures digits { IfOk result (λ t. t ≡ decimal number) }

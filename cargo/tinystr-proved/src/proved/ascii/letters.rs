@@ -17,9 +17,9 @@ impl TinyAsciiStr<8> {
     /// assert_eq!(len, 2);
     /// ```
     ///
-    /// # [Contract](crate::definitions)
-    /// <details>
+    /// <details><summary>Contract</summary>
     ///
+    /// [Notation](crate::definitions):
     /// ```text
     /// ensures len { result.1 ≡ prefix_len is_alphabetic (take 8 code_units.now) }
     /// ensures fits { result.1 ≤ 8 }

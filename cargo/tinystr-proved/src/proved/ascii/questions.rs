@@ -13,9 +13,9 @@ impl<const N: usize> TinyAsciiStr<N> {
     /// assert!(tinystr!(4, "Latn").ask(Question::AlphabeticTitlecase));
     /// ```
     ///
-    /// # [Contract](crate::definitions)
-    /// <details>
+    /// <details><summary>Contract</summary>
     ///
+    /// [Notation](crate::definitions):
     /// ```text
     /// ensures { result ≡ ask_question question self.now }
     /// ```
@@ -34,9 +34,9 @@ impl<const N: usize> TinyAsciiStr<N> {
     /// assert_eq!(tinystr!(4, "lATN").in_case(Case::Title).as_str(), "Latn");
     /// ```
     ///
-    /// # [Contract](crate::definitions)
-    /// <details>
+    /// <details><summary>Contract</summary>
     ///
+    /// [Notation](crate::definitions):
     /// ```text
     /// ensures { result ≡ in_case case self.entry }
     /// ```
@@ -59,9 +59,9 @@ impl<const N: usize> TinyAsciiStr<N> {
     /// assert!(tinystr!(8, "").is_ascii_alphabetic());
     /// ```
     ///
-    /// # [Contract](crate::definitions)
-    /// <details>
+    /// <details><summary>Contract</summary>
     ///
+    /// [Notation](crate::definitions):
     /// ```text
     /// ensures { result ≡ ask is_alphabetic is_alphabetic self.now }
     /// ```
@@ -74,9 +74,9 @@ impl<const N: usize> TinyAsciiStr<N> {
 
     /// Whether each byte is a letter or a digit.
     ///
-    /// # [Contract](crate::definitions)
-    /// <details>
+    /// <details><summary>Contract</summary>
     ///
+    /// [Notation](crate::definitions):
     /// ```text
     /// ensures { result ≡ ask is_alphanumeric is_alphanumeric self.now }
     /// ```
@@ -89,9 +89,9 @@ impl<const N: usize> TinyAsciiStr<N> {
 
     /// Whether each byte is a digit.
     ///
-    /// # [Contract](crate::definitions)
-    /// <details>
+    /// <details><summary>Contract</summary>
     ///
+    /// [Notation](crate::definitions):
     /// ```text
     /// ensures { result ≡ ask is_digit is_digit self.now }
     /// ```
@@ -111,9 +111,9 @@ impl<const N: usize> TinyAsciiStr<N> {
     /// assert!(!tinystr!(8, "UTF-8").is_ascii_lowercase());
     /// ```
     ///
-    /// # [Contract](crate::definitions)
-    /// <details>
+    /// <details><summary>Contract</summary>
     ///
+    /// [Notation](crate::definitions):
     /// ```text
     /// ensures { result ≡ ask is_not_upper is_not_upper self.now }
     /// ```
@@ -126,9 +126,9 @@ impl<const N: usize> TinyAsciiStr<N> {
 
     /// Whether the first byte isn't a lowercase letter and no later byte is an uppercase letter. Other bytes pass.
     ///
-    /// # [Contract](crate::definitions)
-    /// <details>
+    /// <details><summary>Contract</summary>
     ///
+    /// [Notation](crate::definitions):
     /// ```text
     /// ensures { result ≡ ask is_not_lower is_not_upper self.now }
     /// ```
@@ -141,9 +141,9 @@ impl<const N: usize> TinyAsciiStr<N> {
 
     /// Whether no byte is a lowercase letter. Other bytes pass.
     ///
-    /// # [Contract](crate::definitions)
-    /// <details>
+    /// <details><summary>Contract</summary>
     ///
+    /// [Notation](crate::definitions):
     /// ```text
     /// ensures { result ≡ ask is_not_lower is_not_lower self.now }
     /// ```
@@ -156,9 +156,9 @@ impl<const N: usize> TinyAsciiStr<N> {
 
     /// Whether each byte is a lowercase letter.
     ///
-    /// # [Contract](crate::definitions)
-    /// <details>
+    /// <details><summary>Contract</summary>
     ///
+    /// [Notation](crate::definitions):
     /// ```text
     /// ensures { result ≡ ask is_lower is_lower self.now }
     /// ```
@@ -178,9 +178,9 @@ impl<const N: usize> TinyAsciiStr<N> {
     /// assert!(!tinystr!(4, "LATN").is_ascii_alphabetic_titlecase());
     /// ```
     ///
-    /// # [Contract](crate::definitions)
-    /// <details>
+    /// <details><summary>Contract</summary>
     ///
+    /// [Notation](crate::definitions):
     /// ```text
     /// ensures { result ≡ ask is_upper is_lower self.now }
     /// ```
@@ -193,9 +193,9 @@ impl<const N: usize> TinyAsciiStr<N> {
 
     /// Whether each byte is an uppercase letter.
     ///
-    /// # [Contract](crate::definitions)
-    /// <details>
+    /// <details><summary>Contract</summary>
     ///
+    /// [Notation](crate::definitions):
     /// ```text
     /// ensures { result ≡ ask is_upper is_upper self.now }
     /// ```
@@ -208,9 +208,9 @@ impl<const N: usize> TinyAsciiStr<N> {
 
     /// The text with each letter in lowercase.
     ///
-    /// # [Contract](crate::definitions)
-    /// <details>
+    /// <details><summary>Contract</summary>
     ///
+    /// [Notation](crate::definitions):
     /// ```text
     /// ensures { result ≡ lowercase self.entry }
     /// ```
@@ -229,9 +229,9 @@ impl<const N: usize> TinyAsciiStr<N> {
     /// assert_eq!(tinystr!(8, "nEW yORK").to_ascii_titlecase().as_str(), "New york");
     /// ```
     ///
-    /// # [Contract](crate::definitions)
-    /// <details>
+    /// <details><summary>Contract</summary>
     ///
+    /// [Notation](crate::definitions):
     /// ```text
     /// ensures { result ≡ titlecase self.entry }
     /// ```
@@ -244,9 +244,9 @@ impl<const N: usize> TinyAsciiStr<N> {
 
     /// The text with each letter in uppercase.
     ///
-    /// # [Contract](crate::definitions)
-    /// <details>
+    /// <details><summary>Contract</summary>
     ///
+    /// [Notation](crate::definitions):
     /// ```text
     /// ensures { result ≡ uppercase self.entry }
     /// ```

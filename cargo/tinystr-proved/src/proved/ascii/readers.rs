@@ -20,9 +20,9 @@ impl<const N: usize> TinyAsciiStr<N> {
     /// assert_eq!(TinyAsciiStr::<3>::try_from_str("€"), Err(ParseError::NonAscii));
     /// ```
     ///
-    /// # [Contract](crate::definitions)
-    /// <details>
+    /// <details><summary>Contract</summary>
     ///
+    /// [Notation](crate::definitions):
     /// ```text
     /// ensures { IsStrictRead fault_of s.now N result }
     /// ```
@@ -41,9 +41,9 @@ impl<const N: usize> TinyAsciiStr<N> {
     /// assert_eq!(TinyAsciiStr::<3>::try_from_utf8(b"EU\0"), Err(ParseError::ContainsNull));
     /// ```
     ///
-    /// # [Contract](crate::definitions)
-    /// <details>
+    /// <details><summary>Contract</summary>
     ///
+    /// [Notation](crate::definitions):
     /// ```text
     /// ensures { IsStrictRead fault_of code_units.now N result }
     /// ```
@@ -63,9 +63,9 @@ impl<const N: usize> TinyAsciiStr<N> {
     /// assert_eq!(TinyAsciiStr::<3>::try_from_utf16(&[0x20ac]), Err(ParseError::NonAscii));
     /// ```
     ///
-    /// # [Contract](crate::definitions)
-    /// <details>
+    /// <details><summary>Contract</summary>
     ///
+    /// [Notation](crate::definitions):
     /// ```text
     /// ensures { IsStrictRead fault_of code_units.now N result }
     /// ```
@@ -88,9 +88,9 @@ impl<const N: usize> TinyAsciiStr<N> {
     /// # Ok::<(), Box<dyn std::error::Error>>(())
     /// ```
     ///
-    /// # [Contract](crate::definitions)
-    /// <details>
+    /// <details><summary>Contract</summary>
     ///
+    /// [Notation](crate::definitions):
     /// ```text
     /// ensures accepted { IsOk result ↔ IsPaddedText raw.entry N }
     /// ensures text { IfOk result (λ t. t ≡ text_of raw.entry) }
@@ -117,9 +117,9 @@ impl<const N: usize> TinyAsciiStr<N> {
     ///
     /// Where the replacement isn't from 1 to 127.
     ///
-    /// # [Contract](crate::definitions)
-    /// <details>
+    /// <details><summary>Contract</summary>
     ///
+    /// [Notation](crate::definitions):
     /// ```text
     /// requires { IsTextByte replacement }
     /// ensures { result ≡ lossy code_units.now replacement N }
@@ -145,9 +145,9 @@ impl<const N: usize> TinyAsciiStr<N> {
     ///
     /// Where the replacement isn't from 1 to 127.
     ///
-    /// # [Contract](crate::definitions)
-    /// <details>
+    /// <details><summary>Contract</summary>
     ///
+    /// [Notation](crate::definitions):
     /// ```text
     /// requires { IsTextByte replacement }
     /// ensures { result ≡ lossy code_units.now replacement N }
@@ -173,9 +173,9 @@ impl<const N: usize> TinyAsciiStr<N> {
     ///
     /// The array has to be bytes from 1 to 127 and then NULs: `as_str` trusts it.
     ///
-    /// # [Contract](crate::definitions)
-    /// <details>
+    /// <details><summary>Contract</summary>
     ///
+    /// [Notation](crate::definitions):
     /// ```text
     /// requires { IsPaddedText code_units N }
     /// ensures { result ≡ text_of code_units.entry }

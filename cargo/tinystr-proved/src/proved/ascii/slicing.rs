@@ -26,9 +26,9 @@ impl<const N: usize> TinyAsciiStr<N> {
     ///
     /// Where the range begins after its end.
     ///
-    /// # [Contract](crate::definitions)
-    /// <details>
+    /// <details><summary>Contract</summary>
     ///
+    /// [Notation](crate::definitions):
     /// ```text
     /// requires { range.start ≤ range.end }
     /// ensures { result ≡ take M (take (range.end - range.start) (drop range.start self.now)) }
@@ -52,9 +52,9 @@ impl<const N: usize> TinyAsciiStr<N> {
     /// assert_eq!(tag.take(99).as_str(), "zh-Hant-TW");
     /// ```
     ///
-    /// # [Contract](crate::definitions)
-    /// <details>
+    /// <details><summary>Contract</summary>
     ///
+    /// [Notation](crate::definitions):
     /// ```text
     /// ensures { result ≡ take len self.now }
     /// ```
@@ -112,9 +112,9 @@ impl<const N: usize> TinyAsciiStr<N> {
     /// assert_eq!(tinystr!(8, "en-US").resize::<2>().as_str(), "en");
     /// ```
     ///
-    /// # [Contract](crate::definitions)
-    /// <details>
+    /// <details><summary>Contract</summary>
     ///
+    /// [Notation](crate::definitions):
     /// ```text
     /// ensures text { result ≡ take M self.entry }
     /// ensures whole { N ≤ M → result ≡ self.entry }
@@ -136,9 +136,9 @@ impl<const N: usize> TinyAsciiStr<N> {
     /// assert!(language.try_resize::<1>().is_none());
     /// ```
     ///
-    /// # [Contract](crate::definitions)
-    /// <details>
+    /// <details><summary>Contract</summary>
     ///
+    /// [Notation](crate::definitions):
     /// ```text
     /// ensures { SomeIff result (length self.entry ≤ M) self.entry }
     /// ```

@@ -41,9 +41,9 @@ impl<const N: usize> TinyAsciiStr<N> {
     /// assert_eq!(tag.find_byte(b'_'), None);
     /// ```
     ///
-    /// # [Contract](crate::definitions)
-    /// <details>
+    /// <details><summary>Contract</summary>
     ///
+    /// [Notation](crate::definitions):
     /// ```text
     /// ensures place { result ≡ position (λ b. b == byte) self.now }
     /// ensures inside { IfSome result (λ at. at < N) }
@@ -72,9 +72,9 @@ impl<const N: usize> TinyAsciiStr<N> {
     /// assert!(tag.split_once_byte(b'_').is_none());
     /// ```
     ///
-    /// # [Contract](crate::definitions)
-    /// <details>
+    /// <details><summary>Contract</summary>
     ///
+    /// [Notation](crate::definitions):
     /// ```text
     /// ensures { SomeIff result (Contains self.now separator) (before_first (λ b. b == separator) self.now, after_first (λ b. b == separator) self.now) }
     /// ```
@@ -105,9 +105,9 @@ impl<const N: usize> TinyAsciiStr<N> {
     /// assert_eq!(parts.next(), None);
     /// ```
     ///
-    /// # [Contract](crate::definitions)
-    /// <details>
+    /// <details><summary>Contract</summary>
     ///
+    /// [Notation](crate::definitions):
     /// ```text
     /// ensures parts { result ≡ slice_split (λ b. b == separator) self.now }
     /// ensures bound { length result ≤ N + 1 }

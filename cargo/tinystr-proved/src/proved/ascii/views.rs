@@ -14,9 +14,9 @@ impl<const N: usize> TinyAsciiStr<N> {
     /// assert_eq!(tinystr!(8, "en-US").len(), 5);
     /// ```
     ///
-    /// # [Contract](crate::definitions)
-    /// <details>
+    /// <details><summary>Contract</summary>
     ///
+    /// [Notation](crate::definitions):
     /// ```text
     /// ensures len { result ≡ length self.now }
     /// ensures fits { result ≤ N }
@@ -30,9 +30,9 @@ impl<const N: usize> TinyAsciiStr<N> {
 
     /// Whether the text is empty. At capacity 0 it always is.
     ///
-    /// # [Contract](crate::definitions)
-    /// <details>
+    /// <details><summary>Contract</summary>
     ///
+    /// [Notation](crate::definitions):
     /// ```text
     /// ensures { IsTrue result ↔ (self.now ≡ []) }
     /// ```
@@ -52,9 +52,9 @@ impl<const N: usize> TinyAsciiStr<N> {
     /// assert_eq!(tinystr!(8, "en-US").get_byte(5), None);
     /// ```
     ///
-    /// # [Contract](crate::definitions)
-    /// <details>
+    /// <details><summary>Contract</summary>
     ///
+    /// [Notation](crate::definitions):
     /// ```text
     /// ensures { result ≡ slice_get self.now index }
     /// ```
@@ -76,9 +76,9 @@ impl<const N: usize> TinyAsciiStr<N> {
     /// assert_eq!(tinystr!(8, "en-US").as_utf8(), b"en-US".as_slice());
     /// ```
     ///
-    /// # [Contract](crate::definitions)
-    /// <details>
+    /// <details><summary>Contract</summary>
     ///
+    /// [Notation](crate::definitions):
     /// ```text
     /// ensures text { result.now ≡ self.now }
     /// ensures ascii { IsText result.now }
@@ -102,9 +102,9 @@ impl<const N: usize> TinyAsciiStr<N> {
     /// assert_eq!(tinystr!(8, "en-US").as_str(), "en-US");
     /// ```
     ///
-    /// # [Contract](crate::definitions)
-    /// <details>
+    /// <details><summary>Contract</summary>
     ///
+    /// [Notation](crate::definitions):
     /// ```text
     /// ensures text { result.now ≡ self.now }
     /// ensures ascii { IsText result.now }
@@ -128,9 +128,9 @@ impl<const N: usize> TinyAsciiStr<N> {
     /// assert_eq!(tinystr!(4, "GB").all_bytes(), b"GB\0\0");
     /// ```
     ///
-    /// # [Contract](crate::definitions)
-    /// <details>
+    /// <details><summary>Contract</summary>
     ///
+    /// [Notation](crate::definitions):
     /// ```text
     /// ensures bytes { result.now ≡ pad self.now N }
     /// ensures padded { IsPaddedText result.now N }

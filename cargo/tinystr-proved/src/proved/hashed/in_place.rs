@@ -22,9 +22,9 @@ use crate::packed::in_place::search;
 ///
 /// Where `N` is 0.
 ///
-/// # [Contract](crate::definitions)
-/// <details>
+/// <details><summary>Contract</summary>
 ///
+/// [Notation](crate::definitions):
 /// ```text
 /// requires { 0 < N }
 /// ensures inside { IfSome result (λ index. index < length (records_in bytes.now) / N) }

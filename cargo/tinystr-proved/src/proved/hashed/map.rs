@@ -54,9 +54,9 @@ impl<'a, const N: usize, const M: usize> HashedMap<'a, N, M> {
     ///
     /// Where `N` is 0 or `M` is 0.
     ///
-    /// # [Contract](crate::definitions)
-    /// <details>
+    /// <details><summary>Contract</summary>
     ///
+    /// [Notation](crate::definitions):
     /// ```text
     /// requires keys { 0 < N }
     /// requires values { 0 < M }
@@ -117,9 +117,9 @@ impl<'a, const N: usize, const M: usize> HashedMap<'a, N, M> {
 
     /// The number of entries.
     ///
-    /// # [Contract](crate::definitions)
-    /// <details>
+    /// <details><summary>Contract</summary>
     ///
+    /// [Notation](crate::definitions):
     /// ```text
     /// ensures { result ≡ length self.now }
     /// ```
@@ -131,9 +131,9 @@ impl<'a, const N: usize, const M: usize> HashedMap<'a, N, M> {
 
     /// Whether there is no entry.
     ///
-    /// # [Contract](crate::definitions)
-    /// <details>
+    /// <details><summary>Contract</summary>
     ///
+    /// [Notation](crate::definitions):
     /// ```text
     /// ensures { IsTrue result ↔ (self.now ≡ []) }
     /// ```
@@ -145,9 +145,9 @@ impl<'a, const N: usize, const M: usize> HashedMap<'a, N, M> {
 
     /// The value of a key, or `None` if the map doesn't have the key. Each key takes a look-up of `HashedTable::position`.
     ///
-    /// # [Contract](crate::definitions)
-    /// <details>
+    /// <details><summary>Contract</summary>
     ///
+    /// [Notation](crate::definitions):
     /// ```text
     /// ensures value { option_copied result ≡ get self.now key.now }
     /// ensures distinct { AreDistinct (keys_of self.now) }
@@ -167,9 +167,9 @@ impl<'a, const N: usize, const M: usize> HashedMap<'a, N, M> {
     ///
     /// Where `N` is above `isize::MAX` or `K` is above `isize::MAX`.
     ///
-    /// # [Contract](crate::definitions)
-    /// <details>
+    /// <details><summary>Contract</summary>
     ///
+    /// [Notation](crate::definitions):
     /// ```text
     /// requires texts { N < 2 ^ 63 }
     /// requires key { K < 2 ^ 63 }
@@ -188,9 +188,9 @@ impl<'a, const N: usize, const M: usize> HashedMap<'a, N, M> {
 
     /// Whether the map has a key.
     ///
-    /// # [Contract](crate::definitions)
-    /// <details>
+    /// <details><summary>Contract</summary>
     ///
+    /// [Notation](crate::definitions):
     /// ```text
     /// ensures { result ≡ is_some (get self.now key.now) }
     /// ```
@@ -202,9 +202,9 @@ impl<'a, const N: usize, const M: usize> HashedMap<'a, N, M> {
 
     /// The keys, in the order of the hash.
     ///
-    /// # [Contract](crate::definitions)
-    /// <details>
+    /// <details><summary>Contract</summary>
     ///
+    /// [Notation](crate::definitions):
     /// ```text
     /// ensures { result.now ≡ keys_of self.now }
     /// ```
@@ -216,9 +216,9 @@ impl<'a, const N: usize, const M: usize> HashedMap<'a, N, M> {
 
     /// The values, in the order of their keys.
     ///
-    /// # [Contract](crate::definitions)
-    /// <details>
+    /// <details><summary>Contract</summary>
     ///
+    /// [Notation](crate::definitions):
     /// ```text
     /// ensures { result.now ≡ values_of self.now }
     /// ```
@@ -230,9 +230,9 @@ impl<'a, const N: usize, const M: usize> HashedMap<'a, N, M> {
 
     /// The keys with their values, in the order of the hash.
     ///
-    /// # [Contract](crate::definitions)
-    /// <details>
+    /// <details><summary>Contract</summary>
     ///
+    /// [Notation](crate::definitions):
     /// ```text
     /// ensures entries { result ≡ self.now }
     /// ensures bound { length result < 2 ^ 64 }

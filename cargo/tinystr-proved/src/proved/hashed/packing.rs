@@ -44,9 +44,9 @@ pub enum PackHashedError<const N: usize> {
 ///
 /// Where `N` is 0.
 ///
-/// # [Contract](crate::definitions)
-/// <details>
+/// <details><summary>Contract</summary>
 ///
+/// [Notation](crate::definitions):
 /// ```text
 /// requires { 0 < N }
 /// ensures packed { IfOk result (λ made. ArePackedHashed texts.now made.items N) }

@@ -28,9 +28,9 @@ pub enum PackIntoError {
 
 /// How many bytes `pack_hashed_into` may write for `count` texts of at most `size` bytes, or the greatest number if they are more.
 ///
-/// # [Contract](crate::definitions)
-/// <details>
+/// <details><summary>Contract</summary>
 ///
+/// [Notation](crate::definitions):
 /// ```text
 /// ensures { result ≡ min (most_bytes count size) (2 ^ 64 - 1) }
 /// ```
@@ -45,9 +45,9 @@ pub fn most_bytes(count: usize, size: usize) -> usize {
 /// How many bytes of scratch `pack_hashed_into` takes for `count` texts of at most `size` bytes, or the greatest number if they
 /// are more.
 ///
-/// # [Contract](crate::definitions)
-/// <details>
+/// <details><summary>Contract</summary>
 ///
+/// [Notation](crate::definitions):
 /// ```text
 /// ensures { result ≡ min (scratch_bytes count size) (2 ^ 64 - 1) }
 /// ```
@@ -82,9 +82,9 @@ pub fn scratch_bytes(count: usize, size: usize) -> usize {
 ///
 /// Where `N` is 0 or `N` is above `isize::MAX`.
 ///
-/// # [Contract](crate::definitions)
-/// <details>
+/// <details><summary>Contract</summary>
 ///
+/// [Notation](crate::definitions):
 /// ```text
 /// requires some { 0 < N }
 /// requires sized { N < 2 ^ 63 }

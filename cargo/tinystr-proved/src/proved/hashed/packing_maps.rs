@@ -28,9 +28,9 @@ use crate::TinyAsciiStr;
 ///
 /// Where `N` is 0.
 ///
-/// # [Contract](crate::definitions)
-/// <details>
+/// <details><summary>Contract</summary>
 ///
+/// [Notation](crate::definitions):
 /// ```text
 /// requires { 0 < N }
 /// ensures packed { IfOk result (λ made. ArePackedHashedEntries map.now.entries made.0.items made.1.items N M) }
@@ -71,9 +71,9 @@ pub fn pack_hashed_map<const N: usize, const M: usize>(
 ///
 /// Where `N` is 0.
 ///
-/// # [Contract](crate::definitions)
-/// <details>
+/// <details><summary>Contract</summary>
 ///
+/// [Notation](crate::definitions):
 /// ```text
 /// requires { 0 < N }
 /// ensures packed { IfOk result (λ made. ArePackedHashedTexts map.now.entries made.0.items made.1.items N M) }

@@ -88,9 +88,9 @@ impl<'a, const N: usize> HashedTable<'a, N> {
     ///
     /// Where `N` is 0.
     ///
-    /// # [Contract](crate::definitions)
-    /// <details>
+    /// <details><summary>Contract</summary>
     ///
+    /// [Notation](crate::definitions):
     /// ```text
     /// requires { 0 < N }
     /// ensures accepted { IsOk result ↔ ((texts : List (List ℕ)) × IsHashed texts bytes.now N) }
@@ -148,9 +148,9 @@ impl<'a, const N: usize> HashedTable<'a, N> {
 
     /// The number of texts.
     ///
-    /// # [Contract](crate::definitions)
-    /// <details>
+    /// <details><summary>Contract</summary>
     ///
+    /// [Notation](crate::definitions):
     /// ```text
     /// ensures { result ≡ length self.now }
     /// ```
@@ -162,9 +162,9 @@ impl<'a, const N: usize> HashedTable<'a, N> {
 
     /// Whether there are no texts.
     ///
-    /// # [Contract](crate::definitions)
-    /// <details>
+    /// <details><summary>Contract</summary>
     ///
+    /// [Notation](crate::definitions):
     /// ```text
     /// ensures { IsTrue result ↔ (self.now ≡ []) }
     /// ```
@@ -176,9 +176,9 @@ impl<'a, const N: usize> HashedTable<'a, N> {
 
     /// The text at an index, counted from 0, in constant time, or `None` past the end.
     ///
-    /// # [Contract](crate::definitions)
-    /// <details>
+    /// <details><summary>Contract</summary>
     ///
+    /// [Notation](crate::definitions):
     /// ```text
     /// ensures { result ≡ slice_get self.now index }
     /// ```
@@ -190,9 +190,9 @@ impl<'a, const N: usize> HashedTable<'a, N> {
 
     /// The texts, in the order of the table.
     ///
-    /// # [Contract](crate::definitions)
-    /// <details>
+    /// <details><summary>Contract</summary>
     ///
+    /// [Notation](crate::definitions):
     /// ```text
     /// ensures texts { result ≡ self.now }
     /// ensures bound { length result < 2 ^ 64 }
@@ -206,9 +206,9 @@ impl<'a, const N: usize> HashedTable<'a, N> {
     /// The index of a text, or `None` if the table doesn't have it. Each key takes one hash, one pilot and one record, and some
     /// keys one move. If there are no pilots, a key is searched for by halves.
     ///
-    /// # [Contract](crate::definitions)
-    /// <details>
+    /// <details><summary>Contract</summary>
     ///
+    /// [Notation](crate::definitions):
     /// ```text
     /// ensures found { IfSome result (λ index. slice_get self.now index ≡ Some key.now) }
     /// ensures exact { IsSome result ↔ Contains self.now key.now }
@@ -248,9 +248,9 @@ impl<'a, const N: usize> HashedTable<'a, N> {
 
     /// Whether the table has a text.
     ///
-    /// # [Contract](crate::definitions)
-    /// <details>
+    /// <details><summary>Contract</summary>
     ///
+    /// [Notation](crate::definitions):
     /// ```text
     /// ensures { IsTrue result ↔ Contains self.now key.now }
     /// ```
@@ -266,9 +266,9 @@ impl<'a, const N: usize> HashedTable<'a, N> {
     ///
     /// Where `N` is above `isize::MAX` or `M` is above `isize::MAX`.
     ///
-    /// # [Contract](crate::definitions)
-    /// <details>
+    /// <details><summary>Contract</summary>
     ///
+    /// [Notation](crate::definitions):
     /// ```text
     /// requires texts { N < 2 ^ 63 }
     /// requires key { M < 2 ^ 63 }
@@ -288,9 +288,9 @@ impl<'a, const N: usize> HashedTable<'a, N> {
 
     /// The texts by index, in the order of the hash.
     ///
-    /// # [Contract](crate::definitions)
-    /// <details>
+    /// <details><summary>Contract</summary>
     ///
+    /// [Notation](crate::definitions):
     /// ```text
     /// ensures { result.now ≡ self.now }
     /// ```

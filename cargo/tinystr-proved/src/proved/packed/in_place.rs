@@ -22,9 +22,9 @@ use crate::TinyAsciiStr;
 ///
 /// Where `N` is 0.
 ///
-/// # [Contract](crate::definitions)
-/// <details>
+/// <details><summary>Contract</summary>
 ///
+/// [Notation](crate::definitions):
 /// ```text
 /// requires { 0 < N }
 /// ensures inside { IfOk result (λ index. index < length bytes.now / N) }
@@ -57,9 +57,9 @@ pub fn search<const N: usize>(bytes: &[u8], key: &TinyAsciiStr<N>) -> Result<usi
 ///
 /// Where `N` is 0.
 ///
-/// # [Contract](crate::definitions)
-/// <details>
+/// <details><summary>Contract</summary>
 ///
+/// [Notation](crate::definitions):
 /// ```text
 /// requires { 0 < N }
 /// ensures inside { (i : ℕ) → i < 8 → IfOk (slice_index_or result i (Ok 0)) (λ index. index < length bytes.now / N) }
@@ -96,9 +96,9 @@ pub fn search_eight<const N: usize>(
 ///
 /// Where `N` is 0.
 ///
-/// # [Contract](crate::definitions)
-/// <details>
+/// <details><summary>Contract</summary>
 ///
+/// [Notation](crate::definitions):
 /// ```text
 /// requires { 0 < N }
 /// ensures bound { result.0 + result.1 ≤ length bytes.now / N }

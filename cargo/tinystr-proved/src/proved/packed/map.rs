@@ -66,9 +66,9 @@ impl<'a, const N: usize, const M: usize> PackedMap<'a, N, M> {
     ///
     /// Where `N` is 0 or `M` is 0.
     ///
-    /// # [Contract](crate::definitions)
-    /// <details>
+    /// <details><summary>Contract</summary>
     ///
+    /// [Notation](crate::definitions):
     /// ```text
     /// requires keys { 0 < N }
     /// requires values { 0 < M }
@@ -131,9 +131,9 @@ impl<'a, const N: usize, const M: usize> PackedMap<'a, N, M> {
 
     /// The number of entries.
     ///
-    /// # [Contract](crate::definitions)
-    /// <details>
+    /// <details><summary>Contract</summary>
     ///
+    /// [Notation](crate::definitions):
     /// ```text
     /// ensures len { result ≡ length self.now }
     /// ensures rising { IsRising (keys_of self.now) }
@@ -146,9 +146,9 @@ impl<'a, const N: usize, const M: usize> PackedMap<'a, N, M> {
 
     /// Whether there is no entry.
     ///
-    /// # [Contract](crate::definitions)
-    /// <details>
+    /// <details><summary>Contract</summary>
     ///
+    /// [Notation](crate::definitions):
     /// ```text
     /// ensures { IsTrue result ↔ (self.now ≡ []) }
     /// ```
@@ -160,9 +160,9 @@ impl<'a, const N: usize, const M: usize> PackedMap<'a, N, M> {
 
     /// The value of a key, or `None` if the map doesn't have the key.
     ///
-    /// # [Contract](crate::definitions)
-    /// <details>
+    /// <details><summary>Contract</summary>
     ///
+    /// [Notation](crate::definitions):
     /// ```text
     /// ensures { option_copied result ≡ get self.now key.now }
     /// ```
@@ -190,9 +190,9 @@ impl<'a, const N: usize, const M: usize> PackedMap<'a, N, M> {
     /// assert_eq!(values.next(), None);
     /// ```
     ///
-    /// # [Contract](crate::definitions)
-    /// <details>
+    /// <details><summary>Contract</summary>
     ///
+    /// [Notation](crate::definitions):
     /// ```text
     /// ensures values { result ≡ map (get self.now) keys.now }
     /// ensures rising { IsRising (keys_of self.now) }
@@ -221,9 +221,9 @@ impl<'a, const N: usize, const M: usize> PackedMap<'a, N, M> {
     ///
     /// Where `N` is above `isize::MAX` or `K` is above `isize::MAX`.
     ///
-    /// # [Contract](crate::definitions)
-    /// <details>
+    /// <details><summary>Contract</summary>
     ///
+    /// [Notation](crate::definitions):
     /// ```text
     /// requires texts { N < 2 ^ 63 }
     /// requires key { K < 2 ^ 63 }
@@ -240,9 +240,9 @@ impl<'a, const N: usize, const M: usize> PackedMap<'a, N, M> {
 
     /// Whether the map has a key.
     ///
-    /// # [Contract](crate::definitions)
-    /// <details>
+    /// <details><summary>Contract</summary>
     ///
+    /// [Notation](crate::definitions):
     /// ```text
     /// ensures { result ≡ is_some (get self.now key.now) }
     /// ```
@@ -264,9 +264,9 @@ impl<'a, const N: usize, const M: usize> PackedMap<'a, N, M> {
     /// assert_eq!(found.get(&tinystr!(3, "EUR")), None);
     /// ```
     ///
-    /// # [Contract](crate::definitions)
-    /// <details>
+    /// <details><summary>Contract</summary>
     ///
+    /// [Notation](crate::definitions):
     /// ```text
     /// ensures { result ≡ filter (λ e. starts_with nat_eq e.0 beginning.now) self.now }
     /// ```
@@ -283,9 +283,9 @@ impl<'a, const N: usize, const M: usize> PackedMap<'a, N, M> {
 
     /// The keys in order.
     ///
-    /// # [Contract](crate::definitions)
-    /// <details>
+    /// <details><summary>Contract</summary>
     ///
+    /// [Notation](crate::definitions):
     /// ```text
     /// ensures { result.now ≡ keys_of self.now }
     /// ```
@@ -297,9 +297,9 @@ impl<'a, const N: usize, const M: usize> PackedMap<'a, N, M> {
 
     /// The values, in the order of their keys.
     ///
-    /// # [Contract](crate::definitions)
-    /// <details>
+    /// <details><summary>Contract</summary>
     ///
+    /// [Notation](crate::definitions):
     /// ```text
     /// ensures { result.now ≡ values_of self.now }
     /// ```
@@ -311,9 +311,9 @@ impl<'a, const N: usize, const M: usize> PackedMap<'a, N, M> {
 
     /// The keys with their values, in the order of the keys.
     ///
-    /// # [Contract](crate::definitions)
-    /// <details>
+    /// <details><summary>Contract</summary>
     ///
+    /// [Notation](crate::definitions):
     /// ```text
     /// ensures entries { result ≡ self.now }
     /// ensures rising { IsRising (keys_of self.now) }

@@ -16,9 +16,9 @@ use crate::TinyAsciiStr;
 /// assert_eq!(bytes.as_slice(), b"EURGB\0".as_slice());
 /// ```
 ///
-/// # [Contract](crate::definitions)
-/// <details>
+/// <details><summary>Contract</summary>
 ///
+/// [Notation](crate::definitions):
 /// ```text
 /// ensures packed { IfOk result (λ made. IsPacked made.items N) }
 /// ensures each { IfOk result (λ _. All (λ t. IsStrictText t N) texts.now) }
@@ -46,9 +46,9 @@ pub fn pack<const N: usize>(texts: &[TinyAsciiStr<N>]) -> Vec<u8> {
 /// assert_eq!(texts.as_slice(), [tinystr!(3, "EUR"), tinystr!(3, "GB")].as_slice());
 /// ```
 ///
-/// # [Contract](crate::definitions)
-/// <details>
+/// <details><summary>Contract</summary>
 ///
+/// [Notation](crate::definitions):
 /// ```text
 /// ensures { IfOk result (λ made. made.items ≡ table.now) }
 /// ```
@@ -79,9 +79,9 @@ pub fn unpack<const N: usize>(
 /// assert_eq!(values.as_slice(), [2, 0].as_slice());
 /// ```
 ///
-/// # [Contract](crate::definitions)
-/// <details>
+/// <details><summary>Contract</summary>
 ///
+/// [Notation](crate::definitions):
 /// ```text
 /// ensures { IfOk result (λ made. ArePacked map.now.entries made.0.items made.1.items N M) }
 /// ```
@@ -118,9 +118,9 @@ pub fn pack_map<const N: usize, const M: usize>(
 /// assert_eq!(values.as_slice(), b"CHFJPY".as_slice());
 /// ```
 ///
-/// # [Contract](crate::definitions)
-/// <details>
+/// <details><summary>Contract</summary>
 ///
+/// [Notation](crate::definitions):
 /// ```text
 /// ensures { IfOk result (λ made. ArePackedTexts map.now.entries made.0.items made.1.items N M) }
 /// ```
@@ -150,9 +150,9 @@ pub fn pack_text_map<const N: usize, const M: usize>(
 /// assert_eq!(pack_sorted(&texts).as_slice(), b"EURJPY".as_slice());
 /// ```
 ///
-/// # [Contract](crate::definitions)
-/// <details>
+/// <details><summary>Contract</summary>
 ///
+/// [Notation](crate::definitions):
 /// ```text
 /// ensures { IfOk result (λ made. ArePackedInOrder texts.now made.items N) }
 /// ```
@@ -180,9 +180,9 @@ pub fn pack_sorted<const N: usize>(
 /// assert_eq!(counts.get(&tinystr!(3, "USD")), None);
 /// ```
 ///
-/// # [Contract](crate::definitions)
-/// <details>
+/// <details><summary>Contract</summary>
 ///
+/// [Notation](crate::definitions):
 /// ```text
 /// ensures counts { IfOk result (λ counts. (t : List ℕ) → unwrap_or (get (slice_cmp nat_cmp) counts t) 0 ≡ count_by (bytes_eq t) texts.now) }
 /// ensures keys { IfOk result (λ counts. (t : List ℕ) → is_some (get (slice_cmp nat_cmp) counts t) ≡ list_any (bytes_eq t) texts.now) }

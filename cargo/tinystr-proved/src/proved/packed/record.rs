@@ -78,9 +78,9 @@ pub(crate) fn number_at<const N: usize>(raw: &[u8; N], start: usize) -> u64 {
 pub(crate) trait Number<const N: usize>: Copy {
     /// The number of a record from `start` on.
     ///
-    /// # [Contract](crate::definitions)
-    /// <details>
+    /// <details><summary>Contract</summary>
     ///
+    /// [Notation](crate::definitions):
     /// ```text
     /// requires { start ≤ N - 8 }
     /// ensures { value result ≡ spelled start raw.now }
@@ -90,9 +90,9 @@ pub(crate) trait Number<const N: usize>: Copy {
 
     /// Whether it is below another.
     ///
-    /// # [Contract](crate::definitions)
-    /// <details>
+    /// <details><summary>Contract</summary>
     ///
+    /// [Notation](crate::definitions):
     /// ```text
     /// ensures { result ≡ nat_lt (value self) (value other) }
     /// ```
@@ -101,9 +101,9 @@ pub(crate) trait Number<const N: usize>: Copy {
 
     /// Whether both are the same number.
     ///
-    /// # [Contract](crate::definitions)
-    /// <details>
+    /// <details><summary>Contract</summary>
     ///
+    /// [Notation](crate::definitions):
     /// ```text
     /// ensures { result ≡ nat_eq (value self) (value other) }
     /// ```

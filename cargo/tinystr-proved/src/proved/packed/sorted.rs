@@ -69,9 +69,9 @@ impl<'a, const N: usize> SortedTable<'a, N> {
     /// assert_eq!(SortedTable::new(table).err(), Some(NotRising { index: 1 }));
     /// ```
     ///
-    /// # [Contract](crate::definitions)
-    /// <details>
+    /// <details><summary>Contract</summary>
     ///
+    /// [Notation](crate::definitions):
     /// ```text
     /// ensures rising { IsOk result ↔ IsRising table.entry }
     /// ensures texts { IfOk result (λ sorted. sorted ≡ table.entry) }
@@ -102,9 +102,9 @@ impl<'a, const N: usize> SortedTable<'a, N> {
     ///
     /// Where `N` is 0.
     ///
-    /// # [Contract](crate::definitions)
-    /// <details>
+    /// <details><summary>Contract</summary>
     ///
+    /// [Notation](crate::definitions):
     /// ```text
     /// requires { 0 < N }
     /// ensures accepted { IsOk result ↔ ((texts : List (List ℕ)) × ArePackedRising texts bytes.now N) }
@@ -144,9 +144,9 @@ impl<'a, const N: usize> SortedTable<'a, N> {
 
     /// The table itself.
     ///
-    /// # [Contract](crate::definitions)
-    /// <details>
+    /// <details><summary>Contract</summary>
     ///
+    /// [Notation](crate::definitions):
     /// ```text
     /// ensures table { result.now ≡ self.now }
     /// ensures rising { IsRising self.now }
@@ -159,9 +159,9 @@ impl<'a, const N: usize> SortedTable<'a, N> {
 
     /// The number of texts.
     ///
-    /// # [Contract](crate::definitions)
-    /// <details>
+    /// <details><summary>Contract</summary>
     ///
+    /// [Notation](crate::definitions):
     /// ```text
     /// ensures { result ≡ length self.now }
     /// ```
@@ -173,9 +173,9 @@ impl<'a, const N: usize> SortedTable<'a, N> {
 
     /// Whether the table has no texts.
     ///
-    /// # [Contract](crate::definitions)
-    /// <details>
+    /// <details><summary>Contract</summary>
     ///
+    /// [Notation](crate::definitions):
     /// ```text
     /// ensures { IsTrue result ↔ (self.now ≡ []) }
     /// ```
@@ -187,9 +187,9 @@ impl<'a, const N: usize> SortedTable<'a, N> {
 
     /// The text at an index, counted from 0, in constant time, or `None` past the end.
     ///
-    /// # [Contract](crate::definitions)
-    /// <details>
+    /// <details><summary>Contract</summary>
     ///
+    /// [Notation](crate::definitions):
     /// ```text
     /// ensures { result ≡ slice_get self.now index }
     /// ```
@@ -201,9 +201,9 @@ impl<'a, const N: usize> SortedTable<'a, N> {
 
     /// The first text, which is the least, if there is one.
     ///
-    /// # [Contract](crate::definitions)
-    /// <details>
+    /// <details><summary>Contract</summary>
     ///
+    /// [Notation](crate::definitions):
     /// ```text
     /// ensures { result ≡ slice_get self.now 0 }
     /// ```
@@ -215,9 +215,9 @@ impl<'a, const N: usize> SortedTable<'a, N> {
 
     /// The last text, which is the greatest, if there is one.
     ///
-    /// # [Contract](crate::definitions)
-    /// <details>
+    /// <details><summary>Contract</summary>
     ///
+    /// [Notation](crate::definitions):
     /// ```text
     /// ensures { result ≡ slice_get self.now (length self.now - 1) }
     /// ```
@@ -237,9 +237,9 @@ impl<'a, const N: usize> SortedTable<'a, N> {
     /// assert_eq!(codes.iter().rev().nth(1), Some(tinystr!(3, "EUR")));
     /// ```
     ///
-    /// # [Contract](crate::definitions)
-    /// <details>
+    /// <details><summary>Contract</summary>
     ///
+    /// [Notation](crate::definitions):
     /// ```text
     /// ensures texts { result ≡ self.now }
     /// ensures bound { length result < 2 ^ 64 }
@@ -253,9 +253,9 @@ impl<'a, const N: usize> SortedTable<'a, N> {
     /// The index of a text, or as the error the index at which it belongs: all texts before that are below it, and all
     /// from that on are above it.
     ///
-    /// # [Contract](crate::definitions)
-    /// <details>
+    /// <details><summary>Contract</summary>
     ///
+    /// [Notation](crate::definitions):
     /// ```text
     /// ensures found { IfOk result (λ index. slice_get self.now index ≡ Some key.now) }
     /// ensures place { IfErr result (λ place. IsPlaceFor key.now self.now place) }
@@ -286,9 +286,9 @@ impl<'a, const N: usize> SortedTable<'a, N> {
     /// assert_eq!(places.next(), None);
     /// ```
     ///
-    /// # [Contract](crate::definitions)
-    /// <details>
+    /// <details><summary>Contract</summary>
     ///
+    /// [Notation](crate::definitions):
     /// ```text
     /// ensures answers { result ≡ map (search_result self.now) keys.now }
     /// ensures rising { IsRising self.now }
@@ -314,9 +314,9 @@ impl<'a, const N: usize> SortedTable<'a, N> {
     ///
     /// Where `N` is above `isize::MAX` or `M` is above `isize::MAX`.
     ///
-    /// # [Contract](crate::definitions)
-    /// <details>
+    /// <details><summary>Contract</summary>
     ///
+    /// [Notation](crate::definitions):
     /// ```text
     /// requires texts { N < 2 ^ 63 }
     /// requires key { M < 2 ^ 63 }
@@ -334,9 +334,9 @@ impl<'a, const N: usize> SortedTable<'a, N> {
 
     /// Whether the table has a text.
     ///
-    /// # [Contract](crate::definitions)
-    /// <details>
+    /// <details><summary>Contract</summary>
     ///
+    /// [Notation](crate::definitions):
     /// ```text
     /// ensures { IsTrue result ↔ Contains self.now key.now }
     /// ```
@@ -358,9 +358,9 @@ impl<'a, const N: usize> SortedTable<'a, N> {
     /// assert_eq!(found.first(), Some(tinystr!(3, "CHF")));
     /// ```
     ///
-    /// # [Contract](crate::definitions)
-    /// <details>
+    /// <details><summary>Contract</summary>
     ///
+    /// [Notation](crate::definitions):
     /// ```text
     /// ensures { result ≡ filter (λ t. starts_with nat_eq t beginning.now) self.now }
     /// ```

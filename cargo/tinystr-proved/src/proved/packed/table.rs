@@ -44,9 +44,9 @@ impl<'a, const N: usize> Table<'a, N> {
     ///
     /// Where `N` is 0.
     ///
-    /// # [Contract](crate::definitions)
-    /// <details>
+    /// <details><summary>Contract</summary>
     ///
+    /// [Notation](crate::definitions):
     /// ```text
     /// requires { 0 < N }
     /// ensures packed { IsOk result ↔ IsPacked bytes.now N }
@@ -70,9 +70,9 @@ impl<'a, const N: usize> Table<'a, N> {
 
     /// The number of texts.
     ///
-    /// # [Contract](crate::definitions)
-    /// <details>
+    /// <details><summary>Contract</summary>
     ///
+    /// [Notation](crate::definitions):
     /// ```text
     /// ensures len { result ≡ length self.now }
     /// ensures strict { All (λ t. IsStrictText t N) self.now }
@@ -85,9 +85,9 @@ impl<'a, const N: usize> Table<'a, N> {
 
     /// Whether the table has no texts.
     ///
-    /// # [Contract](crate::definitions)
-    /// <details>
+    /// <details><summary>Contract</summary>
     ///
+    /// [Notation](crate::definitions):
     /// ```text
     /// ensures { IsTrue result ↔ (self.now ≡ []) }
     /// ```
@@ -99,9 +99,9 @@ impl<'a, const N: usize> Table<'a, N> {
 
     /// The text at an index, counted from 0, in constant time, or `None` past the end.
     ///
-    /// # [Contract](crate::definitions)
-    /// <details>
+    /// <details><summary>Contract</summary>
     ///
+    /// [Notation](crate::definitions):
     /// ```text
     /// ensures text { result ≡ slice_get self.now index }
     /// ensures strict { All (λ t. IsStrictText t N) self.now }
@@ -120,9 +120,9 @@ impl<'a, const N: usize> Table<'a, N> {
     ///
     /// Where the index isn't below the number of texts.
     ///
-    /// # [Contract](crate::definitions)
-    /// <details>
+    /// <details><summary>Contract</summary>
     ///
+    /// [Notation](crate::definitions):
     /// ```text
     /// requires { index < length self.now }
     /// ensures { result ≡ slice_index_or self.now index [] }
@@ -136,9 +136,9 @@ impl<'a, const N: usize> Table<'a, N> {
 
     /// The first text, if there is one.
     ///
-    /// # [Contract](crate::definitions)
-    /// <details>
+    /// <details><summary>Contract</summary>
     ///
+    /// [Notation](crate::definitions):
     /// ```text
     /// ensures { result ≡ slice_get self.now 0 }
     /// ```
@@ -150,9 +150,9 @@ impl<'a, const N: usize> Table<'a, N> {
 
     /// The last text, if there is one.
     ///
-    /// # [Contract](crate::definitions)
-    /// <details>
+    /// <details><summary>Contract</summary>
     ///
+    /// [Notation](crate::definitions):
     /// ```text
     /// ensures { result ≡ slice_get self.now (length self.now - 1) }
     /// ```
@@ -177,9 +177,9 @@ impl<'a, const N: usize> Table<'a, N> {
     ///
     /// Where the range begins after its end or the range ends after the last text.
     ///
-    /// # [Contract](crate::definitions)
-    /// <details>
+    /// <details><summary>Contract</summary>
     ///
+    /// [Notation](crate::definitions):
     /// ```text
     /// requires start { range.start ≤ range.end }
     /// requires end { range.end ≤ length self.now }
@@ -205,9 +205,9 @@ impl<'a, const N: usize> Table<'a, N> {
     /// assert!(table.iter().all(|text| text.is_ascii_uppercase()));
     /// ```
     ///
-    /// # [Contract](crate::definitions)
-    /// <details>
+    /// <details><summary>Contract</summary>
     ///
+    /// [Notation](crate::definitions):
     /// ```text
     /// ensures texts { result ≡ self.now }
     /// ensures strict { All (λ t. IsStrictText t N) self.now }
@@ -247,9 +247,9 @@ impl<'a, const N: usize> Table<'a, N> {
     /// assert_eq!(table.records()[1], *b"GB\0");
     /// ```
     ///
-    /// # [Contract](crate::definitions)
-    /// <details>
+    /// <details><summary>Contract</summary>
     ///
+    /// [Notation](crate::definitions):
     /// ```text
     /// ensures texts { map text_of result.now ≡ self.now }
     /// ensures padded { All (λ raw. IsPaddedText raw N) result.now }

@@ -66,9 +66,9 @@ impl<'a, const N: usize, const M: usize> TextMap<'a, N, M> {
     ///
     /// Where `N` is 0 or `M` is 0.
     ///
-    /// # [Contract](crate::definitions)
-    /// <details>
+    /// <details><summary>Contract</summary>
     ///
+    /// [Notation](crate::definitions):
     /// ```text
     /// requires keys { 0 < N }
     /// requires values { 0 < M }
@@ -129,9 +129,9 @@ impl<'a, const N: usize, const M: usize> TextMap<'a, N, M> {
 
     /// The number of entries.
     ///
-    /// # [Contract](crate::definitions)
-    /// <details>
+    /// <details><summary>Contract</summary>
     ///
+    /// [Notation](crate::definitions):
     /// ```text
     /// ensures len { result ≡ length self.now }
     /// ensures rising { IsRising (keys_of self.now) }
@@ -144,9 +144,9 @@ impl<'a, const N: usize, const M: usize> TextMap<'a, N, M> {
 
     /// Whether there is no entry.
     ///
-    /// # [Contract](crate::definitions)
-    /// <details>
+    /// <details><summary>Contract</summary>
     ///
+    /// [Notation](crate::definitions):
     /// ```text
     /// ensures { IsTrue result ↔ (self.now ≡ []) }
     /// ```
@@ -158,9 +158,9 @@ impl<'a, const N: usize, const M: usize> TextMap<'a, N, M> {
 
     /// The value of a key, or `None` if the map doesn't have the key.
     ///
-    /// # [Contract](crate::definitions)
-    /// <details>
+    /// <details><summary>Contract</summary>
     ///
+    /// [Notation](crate::definitions):
     /// ```text
     /// ensures { result ≡ get self.now key.now }
     /// ```
@@ -188,9 +188,9 @@ impl<'a, const N: usize, const M: usize> TextMap<'a, N, M> {
     ///
     /// Where `N` is above `isize::MAX` or `K` is above `isize::MAX`.
     ///
-    /// # [Contract](crate::definitions)
-    /// <details>
+    /// <details><summary>Contract</summary>
     ///
+    /// [Notation](crate::definitions):
     /// ```text
     /// requires texts { N < 2 ^ 63 }
     /// requires key { K < 2 ^ 63 }
@@ -207,9 +207,9 @@ impl<'a, const N: usize, const M: usize> TextMap<'a, N, M> {
 
     /// Whether the map has a key.
     ///
-    /// # [Contract](crate::definitions)
-    /// <details>
+    /// <details><summary>Contract</summary>
     ///
+    /// [Notation](crate::definitions):
     /// ```text
     /// ensures { result ≡ is_some (get self.now key.now) }
     /// ```
@@ -231,9 +231,9 @@ impl<'a, const N: usize, const M: usize> TextMap<'a, N, M> {
     /// assert_eq!(found.get(&tinystr!(2, "CH")), Some(tinystr!(3, "CHF")));
     /// ```
     ///
-    /// # [Contract](crate::definitions)
-    /// <details>
+    /// <details><summary>Contract</summary>
     ///
+    /// [Notation](crate::definitions):
     /// ```text
     /// ensures { result ≡ filter (λ e. starts_with nat_eq e.0 beginning.now) self.now }
     /// ```
@@ -249,9 +249,9 @@ impl<'a, const N: usize, const M: usize> TextMap<'a, N, M> {
 
     /// The keys in order.
     ///
-    /// # [Contract](crate::definitions)
-    /// <details>
+    /// <details><summary>Contract</summary>
     ///
+    /// [Notation](crate::definitions):
     /// ```text
     /// ensures { result.now ≡ keys_of self.now }
     /// ```
@@ -263,9 +263,9 @@ impl<'a, const N: usize, const M: usize> TextMap<'a, N, M> {
 
     /// The values, in the order of their keys.
     ///
-    /// # [Contract](crate::definitions)
-    /// <details>
+    /// <details><summary>Contract</summary>
     ///
+    /// [Notation](crate::definitions):
     /// ```text
     /// ensures { result.now ≡ values_of self.now }
     /// ```
@@ -277,9 +277,9 @@ impl<'a, const N: usize, const M: usize> TextMap<'a, N, M> {
 
     /// The keys with their values, in the order of the keys.
     ///
-    /// # [Contract](crate::definitions)
-    /// <details>
+    /// <details><summary>Contract</summary>
     ///
+    /// [Notation](crate::definitions):
     /// ```text
     /// ensures entries { result ≡ self.now }
     /// ensures rising { IsRising (keys_of self.now) }
@@ -340,9 +340,9 @@ impl<'a, const N: usize, const M: usize> TextEntries<'a, N, M> {
     ///
     /// Where there isn't one text for each key.
     ///
-    /// # [Contract](crate::definitions)
-    /// <details>
+    /// <details><summary>Contract</summary>
     ///
+    /// [Notation](crate::definitions):
     /// ```text
     /// requires { length values.now ≡ length keys.now }
     /// ensures entries { result ≡ zip keys.now values.now }

@@ -46,9 +46,9 @@ impl LangId {
     /// # Ok::<(), Box<dyn std::error::Error>>(())
     /// ```
     ///
-    /// # [Contract](crate::definitions)
-    /// <details>
+    /// <details><summary>Contract</summary>
     ///
+    /// [Notation](crate::definitions):
     /// ```text
     /// ensures accepted { IsOk result ↔ IsLangId code_units.now }
     /// ensures text { IfOk result (λ id. id ≡ canonical_text code_units.now) }
@@ -105,9 +105,9 @@ impl LangId {
     /// # Ok::<(), Box<dyn std::error::Error>>(())
     /// ```
     ///
-    /// # [Contract](crate::definitions)
-    /// <details>
+    /// <details><summary>Contract</summary>
     ///
+    /// [Notation](crate::definitions):
     /// ```text
     /// ensures accepted { IsOk result ↔ IsTrue (is_language (first (subtags_of (fold_text code_units.now)))) }
     /// ensures read { IfOk result (λ read. IsLongestId code_units.now read.0 read.1.now) }
@@ -141,9 +141,9 @@ impl LangId {
     /// # Ok::<(), Box<dyn std::error::Error>>(())
     /// ```
     ///
-    /// # [Contract](crate::definitions)
-    /// <details>
+    /// <details><summary>Contract</summary>
     ///
+    /// [Notation](crate::definitions):
     /// ```text
     /// ensures text { result ≡ join_subtags language script region }
     /// ensures language { language_of result ≡ language }
@@ -160,9 +160,9 @@ impl LangId {
 
     /// The canonical text, which is read back as this identifier.
     ///
-    /// # [Contract](crate::definitions)
-    /// <details>
+    /// <details><summary>Contract</summary>
     ///
+    /// [Notation](crate::definitions):
     /// ```text
     /// ensures text { result ≡ self.now }
     /// ensures canonical { IsCanonical self.now }
@@ -176,9 +176,9 @@ impl LangId {
 
     /// Borrows the canonical text.
     ///
-    /// # [Contract](crate::definitions)
-    /// <details>
+    /// <details><summary>Contract</summary>
     ///
+    /// [Notation](crate::definitions):
     /// ```text
     /// ensures text { result.now ≡ self.now }
     /// ensures canonical { IsCanonical self.now }
@@ -192,9 +192,9 @@ impl LangId {
 
     /// The language, which each identifier has.
     ///
-    /// # [Contract](crate::definitions)
-    /// <details>
+    /// <details><summary>Contract</summary>
     ///
+    /// [Notation](crate::definitions):
     /// ```text
     /// ensures { result ≡ language_of self.now }
     /// ```
@@ -216,9 +216,9 @@ impl LangId {
     /// # Ok::<(), Box<dyn std::error::Error>>(())
     /// ```
     ///
-    /// # [Contract](crate::definitions)
-    /// <details>
+    /// <details><summary>Contract</summary>
     ///
+    /// [Notation](crate::definitions):
     /// ```text
     /// ensures { result ≡ script_of self.now }
     /// ```
@@ -235,9 +235,9 @@ impl LangId {
 
     /// The region, if the identifier has one.
     ///
-    /// # [Contract](crate::definitions)
-    /// <details>
+    /// <details><summary>Contract</summary>
     ///
+    /// [Notation](crate::definitions):
     /// ```text
     /// ensures { result ≡ region_of self.now }
     /// ```

@@ -20,9 +20,9 @@ use crate::TinyAsciiStr;
 pub trait SubtagKind<const N: usize>: crate::sealed::Sealed {
     /// The text in the case of the kind, or `None` if it isn't well-formed.
     ///
-    /// # [Contract](crate::definitions)
-    /// <details>
+    /// <details><summary>Contract</summary>
     ///
+    /// [Notation](crate::definitions):
     /// ```text
     /// ensures text { SomeIff result (IsTrue (is_well_formed code_units.now)) (in_case code_units.now) }
     /// ensures canonical { IfSome result (λ text. IsCanonicalSubtag is_well_formed in_case text) }
@@ -32,9 +32,9 @@ pub trait SubtagKind<const N: usize>: crate::sealed::Sealed {
 
     /// The error for a text that isn't well-formed.
     ///
-    /// # [Contract](crate::definitions)
-    /// <details>
+    /// <details><summary>Contract</summary>
     ///
+    /// [Notation](crate::definitions):
     /// ```text
     /// ensures { result ≡ refusal }
     /// ```
@@ -62,9 +62,9 @@ impl<K: SubtagKind<N>, const N: usize> Subtag<K, N> {
     /// Reads a language of 2, 3 or 5 to 8 letters in any case, a script of 4 letters in any case, or a region of 2
     /// letters in any case or of 3 digits, without space around it. Anything else gives `None`.
     ///
-    /// # [Contract](crate::definitions)
-    /// <details>
+    /// <details><summary>Contract</summary>
     ///
+    /// [Notation](crate::definitions):
     /// ```text
     /// ensures { SomeIff result (IsTrue (K.is_well_formed code_units.now)) (K.in_case code_units.now) }
     /// ```
@@ -97,9 +97,9 @@ impl<K: SubtagKind<N>, const N: usize> Subtag<K, N> {
 
     /// The text: of a language in lowercase, of a script in titlecase, of a region in uppercase.
     ///
-    /// # [Contract](crate::definitions)
-    /// <details>
+    /// <details><summary>Contract</summary>
     ///
+    /// [Notation](crate::definitions):
     /// ```text
     /// ensures text { result.now ≡ self.now }
     /// ensures canonical { IsCanonicalSubtag K.is_well_formed K.in_case self.now }
@@ -113,9 +113,9 @@ impl<K: SubtagKind<N>, const N: usize> Subtag<K, N> {
 
     /// The text as a value.
     ///
-    /// # [Contract](crate::definitions)
-    /// <details>
+    /// <details><summary>Contract</summary>
     ///
+    /// [Notation](crate::definitions):
     /// ```text
     /// ensures text { result ≡ self.now }
     /// ensures canonical { IsCanonicalSubtag K.is_well_formed K.in_case self.now }

@@ -33,9 +33,9 @@ pub enum Question {
 impl Question {
     /// The question for the words of a text after its first.
     ///
-    /// # [Contract](crate::definitions)
-    /// <details>
+    /// <details><summary>Contract</summary>
     ///
+    /// [Notation](crate::definitions):
     /// ```text
     /// ensures { result ≡ later_question self }
     /// ```
@@ -68,9 +68,9 @@ pub enum Case {
 impl Case {
     /// The case for the words of a text after its first.
     ///
-    /// # [Contract](crate::definitions)
-    /// <details>
+    /// <details><summary>Contract</summary>
     ///
+    /// [Notation](crate::definitions):
     /// ```text
     /// ensures { result ≡ later_case self }
     /// ```
