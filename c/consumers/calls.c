@@ -227,6 +227,9 @@ static void rejected_hashed_packs(void) {
     tinystr_result made = tinystr_hashed_pack(good, 9, 3, out, 98, scratch, 641);
     CHECK(made.code == TINYSTR_OK && made.value <= 98 && is(tinystr_hashed_check(out, made.value, 3), TINYSTR_OK, 3));
     CHECK(is(tinystr_hashed_pack(NULL, 0, 3, out, 80, scratch, 512), TINYSTR_OK, 16));
+    const size_t most = (size_t)-1;
+    CHECK(TINYSTR_HASHED_PACK_OUT(most / 19 - 5, 16) < most && TINYSTR_HASHED_PACK_OUT(most / 19, 16) == most);
+    CHECK(TINYSTR_HASHED_PACK_SCRATCH(most / 44 - 12, 4) < most && TINYSTR_HASHED_PACK_SCRATCH(most / 44, 4) == most);
 }
 
 /* Many keys, an `out` that is too short, and keys that aren't records. Nothing is written after the results. */

@@ -313,9 +313,11 @@ tinystr_result tinystr_hashed_map_check(const void *keys, size_t keys_len, size_
 
 /* cdef */
 
-/* How many bytes tinystr_hashed_pack needs of `out` and of `scratch` for `count` records. */
-#define TINYSTR_HASHED_PACK_OUT(count, capacity) (80 + (size_t)(count) * ((size_t)(capacity) + 3))
-#define TINYSTR_HASHED_PACK_SCRATCH(count, capacity) (512 + (size_t)(count) * ((size_t)(capacity) + 40))
+/* How many bytes tinystr_hashed_pack needs of `out` and of `scratch` for `count` records, or `(size_t)-1` if they are more. */
+#define TINYSTR_HASHED_PACK_OUT(count, capacity) TINYSTR_ROOM_(80, count, (size_t)(capacity) + 3)
+#define TINYSTR_HASHED_PACK_SCRATCH(count, capacity) TINYSTR_ROOM_(512, count, (size_t)(capacity) + 40)
+#define TINYSTR_ROOM_(least, count, each) \
+    ((size_t)(count) > ((size_t)-1 - (least)) / (each) ? (size_t)-1 : (least) + (size_t)(count) * (each))
 
 #ifdef __cplusplus
 }
