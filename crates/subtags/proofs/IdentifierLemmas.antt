@@ -1,16 +1,18 @@
 -- An identifier is read from its first 17 bytes.
-use Rattle.std.proofs.Common.{not, zero, min, inl, inr, suc, ◌≡◌, ◌+◌, ◌-◌, ◌<◌, ◌≤◌, ◌&&◌, ℕ, Bool, true, false, List, [], ◌∷◌, length, map, take, None, refl, sym, ap, ◌∙◌, cond, arith}
+use Rattle.std.proofs.Common.{not, zero, min, inl, inr, suc, ◌≡◌, ◌+◌, ◌-◌, ◌<◌, ◌≤◌, ◌&&◌, ℕ, Bool, true, false, List, [], ◌∷◌, length, map, take, get_or, None, refl, sym, ap, ◌∙◌, cond, arith}
 use Rattle.std.proofs.Math.Bool.{and-false}
 use Rattle.std.proofs.Math.Numerals.{one-add}
 use Rattle.std.specs.List.{All, list_all, join_with_byte, position_or_len}
 use Rattle.std.proofs.lemmas.Bool.{cases_lt, false_from_ne_true, false≢true}
 use Rattle.std.proofs.lemmas.Bool.Decides.{nat_tests}
-use Rattle.std.proofs.lemmas.List.{take_all, length-take, length-take-le}
+use Rattle.std.specs.Str.{IsCharBoundary}
+use Rattle.std.proofs.lemmas.Str.{IsCharBoundary-before_ascii}
+use Rattle.std.proofs.lemmas.List.{take_all, length-take, length-take-le, length-drop}
 use Rattle.std.proofs.lemmas.List.Elements.{All-append, All-cons}
 use Rattle.tinystr.specs.Classes.{is_alphabetic, is_alphanumeric}
 use Rattle.subtags.specs.Grammar.{dash, is_separator, is_language, is_language_length, is_tail, fold_text, subtags_of, is_lang_id, IsLangId, canonical_subtag, canonical_text, canonical_of}
 use Rattle.subtags.specs.declared.error.LangIdError.TheVariants.{InvalidLanguage, InvalidSubtag}
-use Rattle.subtags.specs.Answers.{refusal_of, is_subtag_end, IsIdPrefix}
+use Rattle.subtags.specs.Answers.{refusal_of, is_subtag_end, IsIdPrefix, IsLongestId}
 use Rattle.subtags.specs.Private.{first_subtag}
 use Rattle.subtags.proofs.CanonLemmas.{IsCanonical-canonical_text, fold_text-canonical_text, is_tail-canonical, plain_subtags, subtags_after, subtags_at_first_separator, subtags_of-alphanumeric}
 use Rattle.subtags.proofs.FoldLemmas.{All-from_list_all, is_language-fold_text, alphanumeric-fold_text, alphanumeric-from_letters}
@@ -138,3 +140,22 @@ language_prefix u h =
     }
 
 pub ruleset prefixes = (prefix_fits, prefix_language)
+
+separator_below : (b : ℕ) → is_separator b ≡ true → b < 128
+separator_below b is = grind (arith, nat_tests)
+
+at_separator : (u : List ℕ) (n : ℕ) → n < length u → is_subtag_end u n ≡ true → is_separator (get_or u n 0) ≡ true
+at_separator u n inside end = grind (arith, nat_tests)
+
+-- the rest begins at a separator, or is empty, so it is the end of a text
+pub rest_after_whole : (u t r : List ℕ) → IsLongestId u t r → IsCharBoundary u (length u - length r)
+rest_after_whole u t r p =
+    let n = p.end in
+    let inside = p.prefix.inside in
+    let place : length u - length r ≡ n = rw p.rest (omega (arith, length-drop n u, inside)) in
+    rw place (elim (cases_lt n (length u)) [
+      | inl before ↦ IsCharBoundary-before_ascii u n before (separator_below (get_or u n 0) (at_separator u n before p.prefix.whole))
+      | inr after ↦ (inside, λ before. absurd (omega (arith, before, after)))
+    ])
+
+pub ruleset rest_is_text = (rest_after_whole)

@@ -38,3 +38,14 @@ after_dash (Some p) = dash ∷ p
 -- e.g. of "zh", None and Some "TW" it is "zh-TW"
 abbrev pub join_subtags : List ℕ → Option (List ℕ) → Option (List ℕ) → List ℕ
 join_subtags language script region = language ++ (after_dash script ++ after_dash region)
+
+-- the subtags without the last one, joined by dashes, or None if that is the language
+abbrev pub join_but_last : List ℕ → Option (List ℕ) → Option (List ℕ) → Option (List ℕ)
+join_but_last language None None = None
+join_but_last language (Some script) None = Some language
+join_but_last language script (Some region) = Some (join_subtags language script None)
+
+-- the same of the subtags of a canonical text
+-- e.g. of "zh-Hant-TW" it is Some "zh-Hant", and of "zh" None
+abbrev pub parent_of : List ℕ → Option (List ℕ)
+parent_of t = join_but_last (language_of t) (script_of t) (region_of t)

@@ -5,7 +5,7 @@ ghost use Rattle.std.specs.Fmt.{debug_str, styled_text};
 ghost use Rattle.std.specs.Result.{result_ok};
 ghost use Rattle.tinystr.specs.Case.{lowercase, titlecase, uppercase};
 ghost use Rattle.subtags.specs.Grammar.{dash, fold_text, subtags_of, is_language, is_script, is_region, IsLangId, IsCanonical, canonical_text, canonical_of};
-ghost use Rattle.subtags.specs.Subtags.{first, IsCanonicalSubtag, language_of, script_of, region_of, join_subtags};
+ghost use Rattle.subtags.specs.Subtags.{first, IsCanonicalSubtag, language_of, script_of, region_of, join_subtags, parent_of};
 ghost use Rattle.subtags.specs.Answers.{refusal_of, IsLangIdRead, is_subtag_end, IsIdPrefix, IsLongestId};
 ghost use Rattle.subtags.specs.declared.error.LangIdError.TheVariants.{InvalidLanguage};
 
@@ -134,6 +134,26 @@ impl LangId {
         Err(LangIdError::InvalidLanguage)
     }
 
+    /// The same of a `str`.
+    ///
+    /// ```rust
+    /// let (id, rest) = LangId::from_prefix_str("de-u-co-phonebk")?;
+    /// assert_eq!(rt; id.as_str(), "de");
+    /// assert_eq!(rt; rest, "-u-co-phonebk");
+    /// ```
+    #[tactic(auto, using(crate::proofs::IdentifierLemmas::rest_is_text))]
+    pub fn from_prefix_str(s: &str) -> Result<(Self, &str), LangIdError>
+        ensures accepted { IsOk result ↔ IsTrue (is_language (first (subtags_of (fold_text s.now)))) }
+        ensures read { IfOk result (λ read. IsLongestId s.now read.0 read.1.now) }
+        ensures refusal { IfErr result (λ e. e ≡ InvalidLanguage) }
+        ensures none { IfErr result (λ _. (n : ℕ) → ¬ IsIdPrefix s.now n) }
+    {
+        match Self::from_prefix(s.as_bytes()) {
+            Ok((id, rest)) => Ok((id, s.split_at(s.len() - rest.len()).1)),
+            Err(error) => Err(error),
+        }
+    }
+
     /// Makes the identifier of these subtags, which its other calls give back.
     ///
     /// ```rust
@@ -150,6 +170,23 @@ impl LangId {
     {
         LangId {
             text: join_subtags(language, script, region),
+        }
+    }
+
+    /// The identifier without its last subtag, or `None` if that is its language.
+    ///
+    /// ```rust
+    /// let parent = LangId::try_from_utf8(b"zh-Hant-TW")?.parent().unwrap();
+    /// assert_eq!(rt; parent.as_str(), "zh-Hant");
+    /// assert_eq!(rt; parent.parent().unwrap().parent(), None);
+    /// ```
+    pub fn parent(&self) -> Option<Self>
+        ensures { result ≡ parent_of self.now }
+    {
+        match (self.script(), self.region()) {
+            (None, None) => None,
+            (Some(_), None) => Some(Self::from(self.language())),
+            (script, Some(_)) => Some(Self::from_parts(self.language(), script, None)),
         }
     }
 

@@ -140,3 +140,51 @@ fn has_its_subtags(row: &str) -> bool {
         && id.region() == region
         && LangId::from_parts(language, script, region) == id
 }
+
+#[test]
+fn a_parent_lacks_the_last_subtag(rt: HostRuntime) {
+    for row in "zh-Hant-TW>zh-Hant>zh es-419>es en-Latn>en und".split_whitespace() {
+        assert!(rt; has_parents(row), "{row}");
+    }
+}
+
+/// Whether each word, an identifier, is the parent of the one before it, and the last has none.
+fn has_parents(row: &str) -> bool {
+    let mut words = row.split('>');
+    let Ok(mut id) = words.next().unwrap_or("").parse::<LangId>() else {
+        return false;
+    };
+    for word in words {
+        let Some(parent) = id.parent() else {
+            return false;
+        };
+        if parent.as_str() != word {
+            return false;
+        }
+        id = parent;
+    }
+    id.parent().is_none()
+}
+
+#[test]
+fn the_rest_of_a_prefix_is_a_text(rt: HostRuntime) {
+    let rows = "DE_at-1996=de-AT=-1996 en_US.UTF-8=en=_US.UTF-8 zh-tw=zh-TW= fr-\u{e9}=fr=-\u{e9}";
+    for row in rows.split_whitespace() {
+        assert!(rt; has_prefix(row), "{row}");
+    }
+    assert!(rt; LangId::from_prefix_str("\u{e9}-fr") == Err(InvalidLanguage));
+}
+
+/// Whether the input before the first `=` begins with the identifier after it, and has the rest after that.
+fn has_prefix(row: &str) -> bool {
+    let Some((input, wanted)) = row.split_once('=') else {
+        return false;
+    };
+    let Some((text, left)) = wanted.split_once('=') else {
+        return false;
+    };
+    match LangId::from_prefix_str(input) {
+        Ok((id, rest)) => id.as_str() == text && rest == left,
+        Err(_) => false,
+    }
+}

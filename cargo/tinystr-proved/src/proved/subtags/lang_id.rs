@@ -130,6 +130,34 @@ impl LangId {
         Err(LangIdError::InvalidLanguage)
     }
 
+    /// The same of a `str`.
+    ///
+    /// ```
+    /// use tinystr::subtags::LangId;
+    ///
+    /// let (id, rest) = LangId::from_prefix_str("de-u-co-phonebk")?;
+    /// assert_eq!(id.as_str(), "de");
+    /// assert_eq!(rest, "-u-co-phonebk");
+    /// # Ok::<(), Box<dyn std::error::Error>>(())
+    /// ```
+    ///
+    /// <details><summary>Contract</summary>
+    ///
+    /// [Notation](crate::definitions):
+    /// ```text
+    /// ensures accepted { IsOk result ↔ IsTrue (is_language (first (subtags_of (fold_text s.now)))) }
+    /// ensures read { IfOk result (λ read. IsLongestId s.now read.0 read.1.now) }
+    /// ensures refusal { IfErr result (λ e. e ≡ InvalidLanguage) }
+    /// ensures none { IfErr result (λ _. (n : ℕ) → ¬ IsIdPrefix s.now n) }
+    /// ```
+    /// </details>
+    pub fn from_prefix_str(s: &str) -> Result<(Self, &str), LangIdError> {
+        match Self::from_prefix(s.as_bytes()) {
+            Ok((id, rest)) => Ok((id, s.split_at(s.len() - rest.len()).1)),
+            Err(error) => Err(error),
+        }
+    }
+
     /// Makes the identifier of these subtags, which its other calls give back.
     ///
     /// ```
@@ -155,6 +183,33 @@ impl LangId {
     pub fn from_parts(language: Language, script: Option<Script>, region: Option<Region>) -> Self {
         LangId {
             text: join_subtags(language, script, region),
+        }
+    }
+
+    /// The identifier without its last subtag, or `None` if that is its language.
+    ///
+    /// ```
+    /// use tinystr::subtags::LangId;
+    ///
+    /// let parent = LangId::try_from_utf8(b"zh-Hant-TW")?.parent().unwrap();
+    /// assert_eq!(parent.as_str(), "zh-Hant");
+    /// assert_eq!(parent.parent().unwrap().parent(), None);
+    /// # Ok::<(), Box<dyn std::error::Error>>(())
+    /// ```
+    ///
+    /// <details><summary>Contract</summary>
+    ///
+    /// [Notation](crate::definitions):
+    /// ```text
+    /// ensures { result ≡ parent_of self.now }
+    /// ```
+    /// </details>
+    #[must_use]
+    pub fn parent(&self) -> Option<Self> {
+        match (self.script(), self.region()) {
+            (None, None) => None,
+            (Some(_), None) => Some(Self::from(self.language())),
+            (script, Some(_)) => Some(Self::from_parts(self.language(), script, None)),
         }
     }
 
