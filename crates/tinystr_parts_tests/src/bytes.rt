@@ -2,6 +2,7 @@
 
 ghost use Rattle.std.specs.Prelude.{◌<◌, ◌≤◌, ◌^◌, length};
 
+use crate::check;
 use tinystr::forms::{BytesReadError, FormWriteError};
 use tinystr::{TinyAsciiStr, UnvalidatedTinyAsciiStr};
 
@@ -25,12 +26,15 @@ fn is_text_at_start<const N: usize>(input: &[u8], text: &str, left: &[u8]) -> bo
 
 #[test]
 fn bytes_at_the_start_are_read_and_the_remainder_is_returned(rt: HostRuntime) {
-    assert!(rt; is_text_at_start::<4>(b"abcd", "abcd", b""));
-    assert!(rt; is_text_at_start::<4>(b"a\0\0\0", "a", b""));
-    assert!(rt; is_text_at_start::<4>(b"\0\0\0\0", "", b""));
-    assert!(rt; is_text_at_start::<4>(b"abcde", "abcd", b"e"));
-    assert!(rt; is_text_at_start::<2>(b"enXY", "en", b"XY"));
-    assert!(rt; is_text_at_start::<0>(b"ab", "", b"ab"));
+    let are_right = [
+        is_text_at_start::<4>(b"abcd", "abcd", b""),
+        is_text_at_start::<4>(b"a\0\0\0", "a", b""),
+        is_text_at_start::<4>(b"\0\0\0\0", "", b""),
+        is_text_at_start::<4>(b"abcde", "abcd", b"e"),
+        is_text_at_start::<2>(b"enXY", "en", b"XY"),
+        is_text_at_start::<0>(b"ab", "", b"ab"),
+    ];
+    check(&rt, are_right == [true; 6], &are_right);
 }
 
 fn is_rejected(input: &[u8], expected: BytesReadError) -> bool {
@@ -57,7 +61,7 @@ fn bytes_are_rejected_for_their_first_fault(rt: HostRuntime) {
         (b"\x80", BytesReadError::NonAscii),
         (b"\0a", BytesReadError::Null),
     ] {
-        assert!(rt; is_rejected(input, expected), "{input:?}");
+        check(&rt, is_rejected(input, expected), &input);
     }
 }
 
@@ -76,9 +80,12 @@ fn has_byte_form<const N: usize>(text: &str, form: [u8; N]) -> bool {
 
 #[test]
 fn byte_forms_are_padded_texts(rt: HostRuntime) {
-    assert!(rt; has_byte_form("verylongstring", *b"verylongstring\0\0"));
-    assert!(rt; has_byte_form("shortstring", *b"shortstring"));
-    assert!(rt; has_byte_form("veryveryverylongstring", *b"veryveryverylongstring\0\0"));
+    let are_right = [
+        has_byte_form("verylongstring", *b"verylongstring\0\0"),
+        has_byte_form("shortstring", *b"shortstring"),
+        has_byte_form("veryveryverylongstring", *b"veryveryverylongstring\0\0"),
+    ];
+    check(&rt, are_right == [true; 3], &are_right);
 }
 
 // Whether the text, written over bytes `#`, gives these bytes, and is read back from them with the others as the remainder.
@@ -120,9 +127,12 @@ fn are_read_unless_too_few<const N: usize>(input: &[u8], bytes: [u8; N], left: &
 #[test]
 fn bytes_that_are_no_text_are_read_and_not_written(rt: HostRuntime) {
     let bytes = UnvalidatedTinyAsciiStr::from_utf8_unchecked([0, 0x41, 0]);
-    assert!(rt; matches!(bytes.to_bytes(), Err(FormWriteError::NotAscii)));
-    assert!(rt; matches!(bytes.to_json(rt.alloc()), Err(FormWriteError::NotAscii)));
-    assert!(rt; are_read_unless_too_few(&[0, 0x41, 0], [0, 0x41, 0], b""));
+    let are_right = [
+        matches!(bytes.to_bytes(), Err(FormWriteError::NotAscii)),
+        matches!(bytes.to_json(rt.alloc()), Err(FormWriteError::NotAscii)),
+        are_read_unless_too_few(&[0, 0x41, 0], [0, 0x41, 0], b""),
+    ];
+    check(&rt, are_right == [true; 3], &are_right);
 }
 
 fn are_too_few(input: &[u8]) -> bool {
@@ -134,9 +144,12 @@ fn are_too_few(input: &[u8]) -> bool {
 
 #[test]
 fn any_bytes_are_read_unless_too_few(rt: HostRuntime) {
-    assert!(rt; are_read_unless_too_few(b"\0\x80\0\0", *b"\0\x80\0\0", b""));
-    assert!(rt; are_read_unless_too_few(b"\0\x80\0\0X", *b"\0\x80\0\0", b"X"));
-    assert!(rt; are_too_few(b"abc") && are_too_few(b"\0\x80a") && are_too_few(b"\0\0\0"));
+    let are_right = [
+        are_read_unless_too_few(b"\0\x80\0\0", *b"\0\x80\0\0", b""),
+        are_read_unless_too_few(b"\0\x80\0\0X", *b"\0\x80\0\0", b"X"),
+        are_too_few(b"abc") && are_too_few(b"\0\x80a") && are_too_few(b"\0\0\0"),
+    ];
+    check(&rt, are_right == [true; 3], &are_right);
     let text = UnvalidatedTinyAsciiStr::from_utf8_unchecked(*b"ab\0");
     assert!(rt; matches!(text.to_bytes(), Ok(bytes) if bytes == *b"ab\0"));
 }

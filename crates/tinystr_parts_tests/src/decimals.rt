@@ -2,6 +2,7 @@
 
 ghost use Rattle.std.specs.Prelude.{◌<◌, ◌^◌};
 
+use crate::check;
 use tinystr::TinyAsciiStr;
 
 // Whether the decimal text at N is this one, whole or cut.
@@ -16,24 +17,30 @@ fn is_decimal<const N: usize>(number: u32, expected: Result<&str, &str>) -> bool
 
 #[test]
 fn a_decimal_text_is_written_whole(rt: HostRuntime) {
-    assert!(rt; is_decimal::<1>(0, Ok("0")));
-    assert!(rt; is_decimal::<1>(9, Ok("9")));
-    assert!(rt; is_decimal::<2>(10, Ok("10")));
-    assert!(rt; is_decimal::<4>(0, Ok("0")));
-    assert!(rt; is_decimal::<3>(456, Ok("456")));
-    assert!(rt; is_decimal::<10>(4294967295, Ok("4294967295")));
-    assert!(rt; is_decimal::<40>(7, Ok("7")));
+    let are_right = [
+        is_decimal::<1>(0, Ok("0")),
+        is_decimal::<1>(9, Ok("9")),
+        is_decimal::<2>(10, Ok("10")),
+        is_decimal::<4>(0, Ok("0")),
+        is_decimal::<3>(456, Ok("456")),
+        is_decimal::<10>(4294967295, Ok("4294967295")),
+        is_decimal::<40>(7, Ok("7")),
+    ];
+    check(&rt, are_right == [true; 7], &are_right);
 }
 
 #[test]
 fn the_last_digits_are_written_of_a_number_that_has_more(rt: HostRuntime) {
-    assert!(rt; is_decimal::<1>(10, Err("0")));
-    assert!(rt; is_decimal::<2>(456, Err("56")));
-    assert!(rt; is_decimal::<2>(100, Err("00")));
-    assert!(rt; is_decimal::<9>(1000000000, Err("000000000")));
-    assert!(rt; is_decimal::<9>(4294967295, Err("294967295")));
-    assert!(rt; is_decimal::<0>(7, Err("")));
-    assert!(rt; is_decimal::<0>(0, Err("")));
+    let are_right = [
+        is_decimal::<1>(10, Err("0")),
+        is_decimal::<2>(456, Err("56")),
+        is_decimal::<2>(100, Err("00")),
+        is_decimal::<9>(1000000000, Err("000000000")),
+        is_decimal::<9>(4294967295, Err("294967295")),
+        is_decimal::<0>(7, Err("")),
+        is_decimal::<0>(0, Err("")),
+    ];
+    check(&rt, are_right == [true; 7], &are_right);
 }
 
 #[test]
@@ -46,6 +53,6 @@ fn ten_digits_hold_each_number(rt: HostRuntime) {
         (1000000000, "1000000000"),
         (4294967295, "4294967295"),
     ] {
-        assert!(rt; is_decimal::<10>(number, Ok(text)), "{number}");
+        check(&rt, is_decimal::<10>(number, Ok(text)), &number);
     }
 }

@@ -1,5 +1,6 @@
 //! The JSON form of both types, written, read and rejected.
 
+use crate::check;
 use serde_json::Value;
 use std::alloc::Global;
 use std::test::Fail;
@@ -57,11 +58,14 @@ fn texts_come_back_from_json(rt: HostRuntime) {
     let alloc = rt.alloc();
     let four = TinyAsciiStr::<4>::default();
     let eight = TinyAsciiStr::<8>::default();
-    assert!(rt; read_comes_back(alloc, "en", four, r#""en""#));
-    assert!(rt; read_comes_back(alloc, "Latn", four, r#""Latn""#));
-    assert!(rt; read_comes_back(alloc, "calendar", eight, r#""calendar""#));
-    assert!(rt; read_comes_back(alloc, "", four, r#""""#));
-    assert!(rt; read_comes_back(alloc, "", TinyAsciiStr::<0>::default(), r#""""#));
+    let are_right = [
+        read_comes_back(alloc, "en", four, r#""en""#),
+        read_comes_back(alloc, "Latn", four, r#""Latn""#),
+        read_comes_back(alloc, "calendar", eight, r#""calendar""#),
+        read_comes_back(alloc, "", four, r#""""#),
+        read_comes_back(alloc, "", TinyAsciiStr::<0>::default(), r#""""#),
+    ];
+    check(&rt, are_right == [true; 5], &are_right);
     let eleven = TinyAsciiStr::<11>::default();
     let sixteen = TinyAsciiStr::<16>::default();
     let twenty_four = TinyAsciiStr::<24>::default();
@@ -101,9 +105,10 @@ fn json_that_is_no_text_of_the_capacity_is_rejected(rt: HostRuntime) -> Result<(
         (r#""a\u0000""#, JsonReadError::InvalidText),
         ("\"é\"", JsonReadError::InvalidText),
     ] {
-        assert!(rt;
+        check(
+            &rt,
             is_rejected_by_both(rt.alloc(), compact, expected),
-            "{compact}"
+            &compact,
         );
     }
     let value = Value::from_str(rt.alloc(), r#""a""#)?;

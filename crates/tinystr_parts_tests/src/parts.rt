@@ -3,6 +3,7 @@
 ghost use Rattle.std.specs.Prelude.{◌<◌, ◌≤◌, ◌^◌};
 ghost use Rattle.tinystr_words.specs.Text.{IsTextByte};
 
+use crate::check;
 use std::ops::Range;
 use std::test::Fail;
 use tinystr::{TinyAsciiStr, TinyStr8, TinyStr16, tinystr};
@@ -26,12 +27,15 @@ fn is_some<const N: usize>(value: Option<TinyAsciiStr<N>>, text: Option<&str>) -
 fn two_texts_are_joined_and_cut(rt: HostRuntime) -> Result<(), Fail> {
     let front = TinyAsciiStr::<6>::try_from_str("abc")?;
     let back = TinyAsciiStr::<6>::try_from_str("defg")?;
-    assert!(rt; is_text(front.concat::<6, 16>(back), "abcdefg"));
-    assert!(rt; is_text(front.concat::<6, 12>(back), "abcdefg"));
-    assert!(rt; is_text(front.concat::<6, 8>(back), "abcdefg"));
-    assert!(rt; is_text(front.concat::<6, 7>(back), "abcdefg"));
-    assert!(rt; is_text(front.concat::<6, 6>(back), "abcdef"));
-    assert!(rt; is_text(front.concat::<6, 2>(back), "ab"));
+    let are_right = [
+        is_text(front.concat::<6, 16>(back), "abcdefg"),
+        is_text(front.concat::<6, 12>(back), "abcdefg"),
+        is_text(front.concat::<6, 8>(back), "abcdefg"),
+        is_text(front.concat::<6, 7>(back), "abcdefg"),
+        is_text(front.concat::<6, 6>(back), "abcdef"),
+        is_text(front.concat::<6, 2>(back), "ab"),
+    ];
+    check(&rt, are_right == [true; 6], &are_right);
     let empty = TinyAsciiStr::<0>::default();
     let ab = TinyAsciiStr::<2>::try_from_str("ab")?;
     assert!(rt; is_text(empty.concat::<2, 4>(ab), "ab"));
@@ -43,23 +47,29 @@ fn a_full_text_is_joined_whole_cut_or_not(rt: HostRuntime) -> Result<(), Fail> {
     let (full, longer) = ("MacintoshOSX2019", "MacintoshOSX2019x");
     let front = TinyStr16::try_from_str(full)?;
     let back = TinyAsciiStr::<1>::try_from_str("x")?;
-    assert!(rt; is_text(front.concat::<1, 17>(back), longer));
-    assert!(rt; is_text(front.concat::<1, 16>(back), full));
-    assert!(rt; is_text(front.concat::<1, 0>(back), ""));
-    assert!(rt; is_some(front.try_concat::<1, 17>(back), Some(longer)));
-    assert!(rt; is_some(front.try_concat::<1, 16>(back), None));
+    let are_right = [
+        is_text(front.concat::<1, 17>(back), longer),
+        is_text(front.concat::<1, 16>(back), full),
+        is_text(front.concat::<1, 0>(back), ""),
+        is_some(front.try_concat::<1, 17>(back), Some(longer)),
+        is_some(front.try_concat::<1, 16>(back), None),
+    ];
+    check(&rt, are_right == [true; 5], &are_right);
     Ok(())
 }
 
 #[test]
 fn a_text_is_cut_to_another_capacity_or_none(rt: HostRuntime) -> Result<(), Fail> {
     let text = TinyStr8::try_from_str("abcdefg")?;
-    assert!(rt; is_text(text.resize::<4>(), "abcd"));
-    assert!(rt; is_text(text.resize::<16>(), "abcdefg"));
-    assert!(rt; is_text(text.resize::<0>(), ""));
-    assert!(rt; is_text(TinyAsciiStr::<0>::default().resize::<4>(), ""));
-    assert!(rt; is_some(text.try_resize::<7>(), Some("abcdefg")));
-    assert!(rt; is_some(text.try_resize::<6>(), None));
+    let are_right = [
+        is_text(text.resize::<4>(), "abcd"),
+        is_text(text.resize::<16>(), "abcdefg"),
+        is_text(text.resize::<0>(), ""),
+        is_text(TinyAsciiStr::<0>::default().resize::<4>(), ""),
+        is_some(text.try_resize::<7>(), Some("abcdefg")),
+        is_some(text.try_resize::<6>(), None),
+    ];
+    check(&rt, are_right == [true; 6], &are_right);
     Ok(())
 }
 
@@ -77,10 +87,13 @@ fn is_cut<const N: usize, const M: usize>(text: &str, range: Range<usize>, part:
 
 #[test]
 fn a_range_of_a_text_is_cut_and_may_go_past_it(rt: HostRuntime) {
-    assert!(rt; is_cut::<17, 4>("zh-Hant-TW", 3..7, "Hant"));
-    assert!(rt; is_cut::<8, 3>("New York", 4..8, "Yor"));
-    assert!(rt; is_cut::<8, 4>("New York", 7..11, "k"));
-    assert!(rt; is_cut::<8, 17>("New York", usize::MAX..usize::MAX, ""));
+    let are_right = [
+        is_cut::<17, 4>("zh-Hant-TW", 3..7, "Hant"),
+        is_cut::<8, 3>("New York", 4..8, "Yor"),
+        is_cut::<8, 4>("New York", 7..11, "k"),
+        is_cut::<8, 17>("New York", usize::MAX..usize::MAX, ""),
+    ];
+    check(&rt, are_right == [true; 4], &are_right);
 }
 
 #[test]
@@ -117,9 +130,12 @@ fn is_split<const N: usize>(text: &str, parts: &[&str]) -> bool
 
 #[test]
 fn a_text_is_split_at_each_separator(rt: HostRuntime) {
-    assert!(rt; is_split::<10>("zh-Hant-TW", &["zh", "Hant", "TW"]));
-    assert!(rt; is_split::<8>("a--b-", &["a", "", "b", ""]));
-    assert!(rt; is_split::<0>("", &[""]));
+    let are_right = [
+        is_split::<10>("zh-Hant-TW", &["zh", "Hant", "TW"]),
+        is_split::<8>("a--b-", &["a", "", "b", ""]),
+        is_split::<0>("", &[""]),
+    ];
+    check(&rt, are_right == [true; 3], &are_right);
 }
 
 #[test]
@@ -151,9 +167,12 @@ fn is_joined<const Q: usize>(texts: &[TinyAsciiStr<4>], separator: u8, joined: O
 #[test]
 fn texts_are_joined_where_they_fit(rt: HostRuntime) -> Result<(), Fail> {
     let tag = [tinystr!(4, "zh")?, tinystr!(4, "Hant")?, tinystr!(4, "TW")?];
-    assert!(rt; is_joined::<10>(&tag, b'_', Some("zh_Hant_TW")));
-    assert!(rt; is_joined::<9>(&tag, b'_', None));
-    assert!(rt; is_joined::<4>(&tag[..1], b'_', Some("zh")));
-    assert!(rt; is_joined::<0>(&tag[..0], b'_', Some("")));
+    let are_right = [
+        is_joined::<10>(&tag, b'_', Some("zh_Hant_TW")),
+        is_joined::<9>(&tag, b'_', None),
+        is_joined::<4>(&tag[..1], b'_', Some("zh")),
+        is_joined::<0>(&tag[..0], b'_', Some("")),
+    ];
+    check(&rt, are_right == [true; 4], &are_right);
     Ok(())
 }
