@@ -1,5 +1,6 @@
 //! The cases of each error, printed.
 
+use crate::check;
 use std::alloc::{AllocError, Global};
 use std::fmt::Debug;
 use std::string::String;
@@ -22,28 +23,39 @@ fn is_debugged<E: Debug + Drop>(alloc: Global, error: E, text: &str) -> bool {
 #[test]
 fn cases_of_an_error_are_printed_by_their_names(rt: HostRuntime) {
     let alloc = rt.alloc();
-    let text = "[TooLong { max: 4, len: 5 }, ContainsNull, NonAscii]";
-    assert!(rt;
-        is_debugged(
-            alloc,
-            [TooLong { max: 4, len: 5 }, ContainsNull, NonAscii],
-            text
-        )
-    );
-    let errors = [JsonReadError::NotText, JsonReadError::InvalidText];
-    assert!(rt; is_debugged(alloc, errors, "[NotText, InvalidText]"));
     let length = BytesReadError::Length { expected: 4 };
-    let errors = [length, BytesReadError::Null, BytesReadError::NonAscii];
-    assert!(rt; is_debugged(alloc, errors, "[Length { expected: 4 }, Null, NonAscii]"));
     let parse = UleError::Parse {
         index: 1,
         fault: ContainsNull,
     };
-    let errors = [UleError::Length { len: 7 }, parse];
-    let text = "[Length { len: 7 }, Parse { index: 1, fault: ContainsNull }]";
-    assert!(rt; is_debugged(alloc, errors, text));
-    let errors = [FormWriteError::NotAscii, FormWriteError::Memory(AllocError)];
-    assert!(rt; is_debugged(alloc, errors, "[NotAscii, Memory(AllocError)]"));
+    let are_right = [
+        is_debugged(
+            alloc,
+            [TooLong { max: 4, len: 5 }, ContainsNull, NonAscii],
+            "[TooLong { max: 4, len: 5 }, ContainsNull, NonAscii]",
+        ),
+        is_debugged(
+            alloc,
+            [JsonReadError::NotText, JsonReadError::InvalidText],
+            "[NotText, InvalidText]",
+        ),
+        is_debugged(
+            alloc,
+            [length, BytesReadError::Null, BytesReadError::NonAscii],
+            "[Length { expected: 4 }, Null, NonAscii]",
+        ),
+        is_debugged(
+            alloc,
+            [UleError::Length { len: 7 }, parse],
+            "[Length { len: 7 }, Parse { index: 1, fault: ContainsNull }]",
+        ),
+        is_debugged(
+            alloc,
+            [FormWriteError::NotAscii, FormWriteError::Memory(AllocError)],
+            "[NotAscii, Memory(AllocError)]",
+        ),
+    ];
+    check(&rt, are_right == [true; 5], &are_right);
 }
 
 const SAID: &[(ParseError, &str)] = &[
@@ -64,9 +76,10 @@ const SAID: &[(ParseError, &str)] = &[
 #[test]
 fn errors_say_what_is_wrong(rt: HostRuntime) {
     for &(fault, text) in SAID {
-        assert!(rt;
+        check(
+            &rt,
             is_printed(format!(in rt.alloc(); "{fault}"), text),
-            "{text}"
+            &text,
         );
     }
 }

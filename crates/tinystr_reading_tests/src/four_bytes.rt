@@ -1,5 +1,6 @@
 //! Each reader of four bytes, for each byte at each position: those that no text has, and those at their edges.
 
+use crate::check;
 use tinystr::ParseError::{self, ContainsNull, NonAscii};
 use tinystr::TinyStr4;
 use tinystr::forms::BytesReadError;
@@ -65,7 +66,7 @@ fn readers_of_four_bytes_name_the_fault_of_each_byte_at_each_position(rt: HostRu
         for byte in 0..=u8::MAX {
             let mut bytes = *b"abcd";
             bytes[at] = byte;
-            assert!(rt; are_read_rightly(bytes, byte, at), "{bytes:?}");
+            check(&rt, are_read_rightly(bytes, byte, at), &bytes);
         }
     }
 }
@@ -78,8 +79,11 @@ fn is_byte(text: TinyStr4, byte: u8) -> bool {
 #[test]
 fn characters_and_replacements_go_up_to_127(rt: HostRuntime) {
     let highest = TinyStr4::try_from_utf16(&[0x7f]);
-    assert!(rt; matches!(highest, Ok(text) if is_byte(text, 0x7f)));
-    assert!(rt; is_byte(TinyStr4::from_utf16_lossy(&[0x0100], b'?'), b'?'));
-    assert!(rt; is_byte(TinyStr4::from_utf8_lossy(&[0], 1), 1));
-    assert!(rt; is_byte(TinyStr4::from_utf8_lossy(&[0], 127), 127));
+    let are_right = [
+        matches!(highest, Ok(text) if is_byte(text, 0x7f)),
+        is_byte(TinyStr4::from_utf16_lossy(&[0x0100], b'?'), b'?'),
+        is_byte(TinyStr4::from_utf8_lossy(&[0], 1), 1),
+        is_byte(TinyStr4::from_utf8_lossy(&[0], 127), 127),
+    ];
+    check(&rt, are_right == [true; 4], &are_right);
 }

@@ -1,5 +1,6 @@
 //! What the Rust crate writes by `Deref`, `Borrow<str>` and constants, as CALLING says it is written here.
 
+use crate::check;
 use std::collections::BTreeMap;
 use std::test::Fail;
 use tinystr::{TinyAsciiStr, tinystr};
@@ -11,11 +12,14 @@ fn eur() -> TinyAsciiStr<3> {
 #[test]
 fn a_text_is_used_as_a_string(rt: HostRuntime) {
     let text = eur();
-    assert!(rt; text.as_str() == "EUR" && text.as_str() != "EU");
-    assert!(rt; text.as_str().chars().count() == 3);
-    assert!(rt; text.get(0) == Some(b'E') && text.get(3).is_none());
-    assert!(rt; text.slice::<2>(1..3).as_str() == "UR");
-    assert!(rt; text.as_str().starts_with("EU") && !text.as_str().starts_with("U"));
+    let are_right = [
+        text.as_str() == "EUR" && text.as_str() != "EU",
+        text.as_str().chars().count() == 3,
+        text.get(0) == Some(b'E') && text.get(3).is_none(),
+        text.slice::<2>(1..3).as_str() == "UR",
+        text.as_str().starts_with("EU") && !text.as_str().starts_with("U"),
+    ];
+    check(&rt, are_right == [true; 5], &are_right);
 }
 
 #[test]

@@ -1,5 +1,6 @@
 //! A few answers of the original Rust crate, tinystr 0.8.5.
 
+use crate::check;
 use std::cmp::Ordering;
 use tinystr::{ParseError, TinyAsciiStr};
 
@@ -80,7 +81,7 @@ fn is_read_so(row: &[u8]) -> bool {
 fn lists_are_read_as_by_the_original(rt: HostRuntime) {
     let mut rows = 0usize;
     for row in LISTS.split(is_line_feed) {
-        assert!(rt; is_read_so(row), "{row:?}");
+        check(&rt, is_read_so(row), &row);
         rows = rows.saturating_add(1);
     }
     assert!(rt; rows == 16);
@@ -96,7 +97,7 @@ fn is_decimal(number: u32, expected: Result<&str, &str>) -> bool {
 #[test]
 fn decimals_are_those_of_the_original(rt: HostRuntime) {
     for &(number, expected) in DECIMALS {
-        assert!(rt; is_decimal(number, expected), "{number}");
+        check(&rt, is_decimal(number, expected), &number);
     }
 }
 
@@ -128,7 +129,7 @@ fn are_joined_and_ordered_so(row: &str) -> bool {
 fn pairs_are_joined_and_ordered_as_by_the_original(rt: HostRuntime) {
     let mut rows = 0usize;
     for row in PAIRS.lines() {
-        assert!(rt; are_joined_and_ordered_so(row), "{row}");
+        check(&rt, are_joined_and_ordered_so(row), &row);
         rows = rows.saturating_add(1);
     }
     assert!(rt; rows == 8);

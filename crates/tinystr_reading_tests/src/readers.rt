@@ -1,5 +1,8 @@
 //! What each reader takes, the first fault of what it rejects, and views of what is read.
 
+ghost use Rattle.std.specs.Prelude.{◌<◌, ◌^◌};
+
+use crate::check;
 use std::test::Fail;
 use tinystr::ParseError::{self, ContainsNull, NonAscii, TooLong};
 use tinystr::{TinyAsciiStr, TinyStr4, TinyStr8, TinyStr16, tinystr};
@@ -28,16 +31,19 @@ const FAULTS: &[(&[u8], ParseError)] = &[
 #[test]
 fn the_strict_reader_names_the_first_fault(rt: HostRuntime) {
     for &(bytes, fault) in FAULTS {
-        assert!(rt; TinyStr4::try_from_utf8(bytes) == Err(fault), "{bytes:?}");
+        check(&rt, TinyStr4::try_from_utf8(bytes) == Err(fault), &bytes);
     }
 }
 
 #[test]
 fn texts_are_read_and_parsed_as_they_are_spelled(rt: HostRuntime) {
     let long = Err(TooLong { max: 2, len: 3 });
-    assert!(rt; is_read(TinyAsciiStr::<2>::try_from_str("abc"), long));
-    assert!(rt; is_read("abc".parse::<TinyAsciiStr<2>>(), long));
-    assert!(rt; is_read("GB".parse::<TinyAsciiStr<2>>(), Ok("GB")));
+    let are_right = [
+        is_read(TinyAsciiStr::<2>::try_from_str("abc"), long),
+        is_read("abc".parse::<TinyAsciiStr<2>>(), long),
+        is_read("GB".parse::<TinyAsciiStr<2>>(), Ok("GB")),
+    ];
+    check(&rt, are_right == [true; 3], &are_right);
 }
 
 // Bytes, and what the strict and the raw reader answer.
@@ -59,7 +65,7 @@ fn the_strict_and_the_raw_reader_differ_at_nulls(rt: HostRuntime) {
     for &(bytes, strict, raw) in PADDED {
         let is_strict = is_read(TinyStr4::try_from_utf8(&bytes), strict);
         let is_raw = is_read(TinyStr4::try_from_raw(bytes), raw);
-        assert!(rt; is_strict && is_raw, "{bytes:?}");
+        check(&rt, is_strict && is_raw, &bytes);
     }
 }
 
@@ -73,7 +79,7 @@ const RAW: &[([u8; 3], Result<&str, ParseError>)] = &[
 fn the_raw_reader_takes_padded_texts_alone(rt: HostRuntime) {
     for &(raw, expected) in RAW {
         let is_right = is_read(TinyAsciiStr::<3>::try_from_raw(raw), expected);
-        assert!(rt; is_right, "{raw:?}");
+        check(&rt, is_right, &raw);
     }
     let unchecked = TinyAsciiStr::<3>::from_utf8_unchecked(*b"GB\0");
     assert!(rt; unchecked.as_str() == "GB");
@@ -82,11 +88,14 @@ fn the_raw_reader_takes_padded_texts_alone(rt: HostRuntime) {
 #[test]
 fn a_text_that_fills_its_array_is_read_tested_and_changed(rt: HostRuntime) -> Result<(), Fail> {
     let city = TinyStr8::try_from_raw(*b"New York")?;
-    assert!(rt; is_read(Ok(city), Ok("New York")));
-    assert!(rt; is_read(Ok(city.to_ascii_uppercase()), Ok("NEW YORK")));
-    assert!(rt; is_read(Ok(city.to_ascii_lowercase()), Ok("new york")));
-    assert!(rt; is_read(Ok(city.to_ascii_titlecase()), Ok("New york")));
-    assert!(rt; !city.is_ascii_alphanumeric() && !city.is_ascii_titlecase());
+    let are_right = [
+        is_read(Ok(city), Ok("New York")),
+        is_read(Ok(city.to_ascii_uppercase()), Ok("NEW YORK")),
+        is_read(Ok(city.to_ascii_lowercase()), Ok("new york")),
+        is_read(Ok(city.to_ascii_titlecase()), Ok("New york")),
+        !city.is_ascii_alphanumeric() && !city.is_ascii_titlecase(),
+    ];
+    check(&rt, are_right == [true; 5], &are_right);
     Ok(())
 }
 
@@ -103,7 +112,7 @@ const UNITS: &[(&[u16], Result<&str, ParseError>)] = &[
 fn sixteen_bit_units_are_compared_before_they_are_narrowed(rt: HostRuntime) {
     for &(units, expected) in UNITS {
         let is_right = is_read(TinyStr4::try_from_utf16(units), expected);
-        assert!(rt; is_right, "{units:?}");
+        check(&rt, is_right, &units);
     }
 }
 
@@ -120,7 +129,7 @@ const REPLACED: &[(&[u8], &str)] = &[
 fn lossy_readers_replace_each_bad_unit(rt: HostRuntime) {
     for &(bytes, text) in REPLACED {
         let read = TinyStr4::from_utf8_lossy(bytes, b'?');
-        assert!(rt; is_read(Ok(read), Ok(text)), "{bytes:?}");
+        check(&rt, is_read(Ok(read), Ok(text)), &bytes);
     }
     let grin = [0x61, 0xd83d, 0xde00, 0x7a];
     assert!(rt; is_read(Ok(TinyStr4::from_utf16_lossy(&grin, b'?')), Ok("a??z")));
@@ -130,18 +139,24 @@ fn lossy_readers_replace_each_bad_unit(rt: HostRuntime) {
 
 #[test]
 fn a_literal_is_read_at_its_capacity(rt: HostRuntime) {
-    assert!(rt; is_read(tinystr!(8, "foobar"), Ok("foobar")));
-    assert!(rt; is_read(tinystr!(12, "foobarbaz"), Ok("foobarbaz")));
-    assert!(rt; is_read(tinystr!(2, "abc"), Err(TooLong { max: 2, len: 3 })));
+    let are_right = [
+        is_read(tinystr!(8, "foobar"), Ok("foobar")),
+        is_read(tinystr!(12, "foobarbaz"), Ok("foobarbaz")),
+        is_read(tinystr!(2, "abc"), Err(TooLong { max: 2, len: 3 })),
+    ];
+    check(&rt, are_right == [true; 3], &are_right);
 }
 
 #[test]
 fn capacity_zero_holds_the_empty_text_alone(rt: HostRuntime) {
     type Empty = TinyAsciiStr<0>;
-    assert!(rt; is_read(Empty::try_from_utf8(&[0]), Err(TooLong { max: 0, len: 1 })));
-    assert!(rt; is_read(Empty::try_from_raw([]), Ok("")));
-    assert!(rt; is_read(Ok(Empty::from_utf8_lossy(b"abc", b'?')), Ok("")));
-    assert!(rt; Empty::default().all_bytes().is_empty());
+    let are_right = [
+        is_read(Empty::try_from_utf8(&[0]), Err(TooLong { max: 0, len: 1 })),
+        is_read(Empty::try_from_raw([]), Ok("")),
+        is_read(Ok(Empty::from_utf8_lossy(b"abc", b'?')), Ok("")),
+        Empty::default().all_bytes().is_empty(),
+    ];
+    check(&rt, are_right == [true; 4], &are_right);
 }
 
 fn is_empty_text<const N: usize>(text: TinyAsciiStr<N>) -> bool {
@@ -153,23 +168,38 @@ fn is_empty_text<const N: usize>(text: TinyAsciiStr<N>) -> bool {
         && text == TinyAsciiStr::default()
 }
 
+// Whether the empty list is read as the empty text.
+fn is_read_empty<const N: usize>() -> bool
+    requires { N < 2 ^ 63 }
+{
+    match TinyAsciiStr::<N>::try_from_utf8(b"") {
+        Ok(text) => is_empty_text(text),
+        Err(_) => false,
+    }
+}
+
 #[test]
-fn the_empty_text_at_every_kind_of_capacity(rt: HostRuntime) -> Result<(), Fail> {
-    assert!(rt; is_empty_text(TinyAsciiStr::<0>::try_from_utf8(b"")?));
-    assert!(rt; is_empty_text(TinyStr4::try_from_utf8(b"")?));
-    assert!(rt; is_empty_text(TinyStr8::try_from_utf8(b"")?));
-    assert!(rt; is_empty_text(TinyAsciiStr::<9>::try_from_utf8(b"")?));
-    assert!(rt; is_empty_text(TinyAsciiStr::<17>::try_from_utf8(b"")?));
-    assert!(rt; is_empty_text(<TinyStr16 as Default>::default()));
-    Ok(())
+fn the_empty_text_at_every_kind_of_capacity(rt: HostRuntime) {
+    let are_right = [
+        is_read_empty::<0>(),
+        is_read_empty::<4>(),
+        is_read_empty::<8>(),
+        is_read_empty::<9>(),
+        is_read_empty::<17>(),
+        is_empty_text(<TinyStr16 as Default>::default()),
+    ];
+    check(&rt, are_right == [true; 6], &are_right);
 }
 
 #[test]
 fn views_show_the_text_and_its_padding(rt: HostRuntime) -> Result<(), Fail> {
     let en = TinyStr4::try_from_str("en")?;
-    assert!(rt; is_read(Ok(en.clone()?), Ok("en")) && en.len() == 2);
-    assert!(rt; en.as_utf8() == b"en".as_slice() && *en.all_bytes() == *b"en\0\0");
-    assert!(rt; en.get(1) == Some(b'n') && en.get(2).is_none());
+    let are_right = [
+        is_read(Ok(en.clone()?), Ok("en")) && en.len() == 2,
+        en.as_utf8() == b"en".as_slice() && *en.all_bytes() == *b"en\0\0",
+        en.get(1) == Some(b'n') && en.get(2).is_none(),
+    ];
+    check(&rt, are_right == [true; 3], &are_right);
     Ok(())
 }
 
@@ -181,9 +211,10 @@ fn letters_at_the_start_are_read_in_lowercase(rt: HostRuntime) {
         (b"-en", ""),
     ] {
         let (text, len) = TinyStr8::read_letters(bytes);
-        assert!(rt;
+        check(
+            &rt,
             text.as_str() == letters && len == letters.len(),
-            "{letters}"
+            &letters,
         );
     }
 }

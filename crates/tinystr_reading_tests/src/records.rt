@@ -1,5 +1,6 @@
 //! Packed records, and the bytes that no value has.
 
+use crate::check;
 use tinystr::ule::UleError;
 use tinystr::{ParseError, TinyAsciiStr, UnvalidatedTinyAsciiStr};
 
@@ -12,7 +13,7 @@ fn packed_records_are_accepted(rt: HostRuntime) {
         TinyAsciiStr::<1>::validate_bytes(&[0, 0, 0]),
         UnvalidatedTinyAsciiStr::<3>::validate_bytes(b"GB\0\0A\0"),
     ];
-    assert_eq!(rt; answers, [Ok(()); 5]);
+    check(&rt, answers == [Ok(()); 5], &answers);
 }
 
 #[test]
@@ -21,13 +22,21 @@ fn a_length_that_is_no_multiple_is_rejected_first(rt: HostRuntime) {
         TinyAsciiStr::<3>::validate_bytes(b"GBPUSDx"),
         UnvalidatedTinyAsciiStr::<3>::validate_bytes(b"GBPUSDx"),
     ];
-    assert_eq!(rt; answers, [Err(UleError::Length { len: 7 }); 2]);
+    check(
+        &rt,
+        answers == [Err(UleError::Length { len: 7 }); 2],
+        &answers,
+    );
     let answers = [
         TinyAsciiStr::<2>::validate_bytes(b"\x80ab"),
         TinyAsciiStr::<2>::validate_bytes(b"ab\x80"),
         TinyAsciiStr::<32>::validate_bytes(b"abc"),
     ];
-    assert_eq!(rt; answers, [Err(UleError::Length { len: 3 }); 3]);
+    check(
+        &rt,
+        answers == [Err(UleError::Length { len: 3 }); 3],
+        &answers,
+    );
 }
 
 fn bad(index: usize, fault: ParseError) -> Result<(), UleError> {
@@ -50,7 +59,7 @@ fn the_first_bad_record_is_named(rt: HostRuntime) {
         bad(1, ParseError::NonAscii),
         bad(0, ParseError::NonAscii),
     ];
-    assert_eq!(rt; answers, expected);
+    check(&rt, answers == expected, &answers);
 }
 
 // Whether the pattern at the capacity of the value given is bytes 255, and is rejected.
@@ -61,8 +70,11 @@ fn is_no_value<const N: usize>(_like: TinyAsciiStr<N>) -> bool {
 
 #[test]
 fn the_niche_is_no_value(rt: HostRuntime) {
-    assert_eq!(rt; TinyAsciiStr::<0>::niche_bit_pattern(), []);
-    assert!(rt; is_no_value(TinyAsciiStr::<1>::default()));
-    assert!(rt; is_no_value(TinyAsciiStr::<4>::default()));
-    assert!(rt; is_no_value(TinyAsciiStr::<17>::default()));
+    let are_right = [
+        TinyAsciiStr::<0>::niche_bit_pattern() == [],
+        is_no_value(TinyAsciiStr::<1>::default()),
+        is_no_value(TinyAsciiStr::<4>::default()),
+        is_no_value(TinyAsciiStr::<17>::default()),
+    ];
+    check(&rt, are_right == [true; 4], &are_right);
 }

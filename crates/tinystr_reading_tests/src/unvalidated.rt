@@ -1,5 +1,6 @@
 //! Any bytes: made of shorter ones, read as texts, ordered and printed.
 
+use crate::check;
 use crate::errors::is_printed;
 use std::cmp::Ordering;
 use std::test::Fail;
@@ -12,10 +13,13 @@ fn bytes_that_are_no_text_are_kept_and_printed_as_a_list(rt: HostRuntime) -> Res
     let bytes = Unvalidated::<3>::try_from_utf8(b"\0A")?;
     let same = Unvalidated::from_utf8_unchecked([0, 0x41, 0]);
     let expected = Err(ParseError::ContainsNull);
-    assert!(rt; bytes == same && bytes.try_into_tinystr() == expected);
-    assert!(rt; is_printed(format!(in rt.alloc(); "{bytes:?}"), "[0, 65, 0]"));
-    let bytes = Unvalidated::from_utf8_unchecked(*b"caf\xe9");
-    assert!(rt; is_printed(format!(in rt.alloc(); "{bytes:?}"), "[99, 97, 102, 233]"));
+    let other = Unvalidated::from_utf8_unchecked(*b"caf\xe9");
+    let are_right = [
+        bytes == same && bytes.try_into_tinystr() == expected,
+        is_printed(format!(in rt.alloc(); "{bytes:?}"), "[0, 65, 0]"),
+        is_printed(format!(in rt.alloc(); "{other:?}"), "[99, 97, 102, 233]"),
+    ];
+    check(&rt, are_right == [true; 3], &are_right);
     Ok(())
 }
 
@@ -30,7 +34,7 @@ fn bytes_that_are_a_text_become_it(rt: HostRuntime) -> Result<(), Fail> {
         Unvalidated::try_from_utf8(b"ab")?,
         bytes.clone()?,
     ] {
-        assert!(rt; made == bytes, "{made:?}");
+        check(&rt, made == bytes, &made);
     }
     assert!(rt; is_printed(format!(in rt.alloc(); "{bytes:?}"), "\"ab\""));
     Ok(())
@@ -39,11 +43,12 @@ fn bytes_that_are_a_text_become_it(rt: HostRuntime) -> Result<(), Fail> {
 #[test]
 fn bytes_are_read_up_to_the_capacity(rt: HostRuntime) {
     let abc = Unvalidated::from_utf8_unchecked(*b"abc");
-    assert!(rt; Unvalidated::<3>::try_from_utf8(b"abc") == Ok(abc));
-    let long = ParseError::TooLong { max: 3, len: 4 };
-    assert!(rt; Unvalidated::<3>::try_from_utf8(b"abcd") == Err(long));
-    let long = ParseError::TooLong { max: 0, len: 1 };
-    assert!(rt; Unvalidated::<0>::try_from_utf8(b"a") == Err(long));
+    let are_right = [
+        Unvalidated::<3>::try_from_utf8(b"abc") == Ok(abc),
+        Unvalidated::<3>::try_from_utf8(b"abcd") == Err(ParseError::TooLong { max: 3, len: 4 }),
+        Unvalidated::<0>::try_from_utf8(b"a") == Err(ParseError::TooLong { max: 0, len: 1 }),
+    ];
+    check(&rt, are_right == [true; 3], &are_right);
 }
 
 #[test]
@@ -64,13 +69,16 @@ fn are_the_empty_text<const N: usize>(nuls: [u8; N]) -> bool {
 
 #[test]
 fn nuls_alone_are_the_empty_text(rt: HostRuntime) {
-    assert!(rt; are_the_empty_text([0; 1]));
-    assert!(rt; are_the_empty_text([0; 4]));
-    assert!(rt; are_the_empty_text([0; 8]));
-    assert!(rt; are_the_empty_text([0; 9]));
-    assert!(rt; are_the_empty_text([0; 16]));
-    assert!(rt; are_the_empty_text([0; 17]));
-    assert!(rt; are_the_empty_text([0; 32]));
+    let are_right = [
+        are_the_empty_text([0; 1]),
+        are_the_empty_text([0; 4]),
+        are_the_empty_text([0; 8]),
+        are_the_empty_text([0; 9]),
+        are_the_empty_text([0; 16]),
+        are_the_empty_text([0; 17]),
+        are_the_empty_text([0; 32]),
+    ];
+    check(&rt, are_right == [true; 7], &are_right);
 }
 
 #[test]
@@ -78,9 +86,12 @@ fn any_bytes_are_ordered_byte_by_byte(rt: HostRuntime) {
     let [first, second, third] = [[0, 0x61], [0x61, 0], [0x61, 0xFF]].map(
         UnvalidatedTinyAsciiStr::from_utf8_unchecked,
     );
-    assert!(rt; first < second && second < third);
-    assert!(rt; first.cmp(&second) == Ordering::Less && third.cmp(&second) == Ordering::Greater);
-    assert!(rt; second.cmp(&second) == Ordering::Equal && second == second && second != third);
+    let are_right = [
+        first < second && second < third,
+        first.cmp(&second) == Ordering::Less && third.cmp(&second) == Ordering::Greater,
+        second.cmp(&second) == Ordering::Equal && second == second && second != third,
+    ];
+    check(&rt, are_right == [true; 3], &are_right);
 }
 
 #[test]
