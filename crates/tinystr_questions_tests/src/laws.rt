@@ -1,5 +1,6 @@
 //! Equality, order and hash of values, and the laws, on the texts of the table.
 
+use crate::check;
 use crate::table::table_rows;
 use std::alloc::{AllocError, Global};
 use std::cmp::Ordering;
@@ -44,10 +45,7 @@ fn texts_are_ordered_byte_by_byte(rt: HostRuntime) {
     let texts = ["", "a", "a\x01", "ab", "b"];
     for (i, first) in texts.iter().enumerate() {
         for (j, second) in texts.iter().enumerate() {
-            assert!(rt;
-                are_ordered(i.cmp(&j), first, second),
-                "{first:?} {second:?}"
-            );
+            check(&rt, are_ordered(i.cmp(&j), first, second), &(first, second));
         }
     }
 }
@@ -67,15 +65,15 @@ fn a_hash_set_holds_each_text_once(rt: HostRuntime) -> Result<(), Fail> {
 #[test]
 fn values_are_ordered_and_found_as_their_texts(rt: HostRuntime) -> Result<(), Fail> {
     let texts = texts(rt.alloc())?;
-    assert_eq!(rt; texts.len(), 33);
+    check(&rt, texts.len() == 33, &texts.len());
     let mut set = HashSet::new(rt.alloc());
     for a in texts.iter() {
         for b in texts.iter() {
             let order = a.as_str().cmp(b.as_str());
-            assert!(rt; compare_as(order, *a, *b), "{a} {b}");
+            check(&rt, compare_as(order, *a, *b), &(a, b));
         }
-        assert!(rt; set.insert(*a)?, "{a}");
-        assert!(rt; set.contains(&a.resize::<33>().resize()), "{a}");
+        check(&rt, set.insert(*a)?, &a);
+        check(&rt, set.contains(&a.resize::<33>().resize()), &a);
     }
     Ok(())
 }
@@ -119,7 +117,7 @@ fn commute<const M: usize>(text: Text, front: TinyAsciiStr<M>) -> bool {
 #[test]
 fn case_changes_keep_their_laws_and_commute_with_cutting(rt: HostRuntime) -> Result<(), Fail> {
     let texts = texts(rt.alloc())?;
-    assert_eq!(rt; texts.len(), 33);
+    check(&rt, texts.len() == 33, &texts.len());
     for text in texts {
         let is_right = keeps_case_laws(text)
             && commute(text, text.resize::<0>())
@@ -127,7 +125,7 @@ fn case_changes_keep_their_laws_and_commute_with_cutting(rt: HostRuntime) -> Res
             && commute(text, text.resize::<8>())
             && commute(text, text.resize::<16>())
             && commute(text, text.resize::<33>());
-        assert!(rt; is_right, "{text}");
+        check(&rt, is_right, &text);
     }
     Ok(())
 }
@@ -149,10 +147,10 @@ fn join_alike(a: Text, b: Text, c: Text) -> bool {
 #[test]
 fn three_texts_join_and_cut_alike_in_either_order(rt: HostRuntime) -> Result<(), Fail> {
     let texts = texts(rt.alloc())?;
-    assert_eq!(rt; texts.len(), 33);
+    check(&rt, texts.len() == 33, &texts.len());
     for (a, c) in texts.iter().zip(texts.iter().rev()) {
         for b in texts.iter() {
-            assert!(rt; join_alike(*a, *b, *c), "{a} {b} {c}");
+            check(&rt, join_alike(*a, *b, *c), &(a, b, c));
         }
     }
     Ok(())
@@ -178,7 +176,7 @@ fn is_read_before(text: Text, after: &[u8]) -> bool {
 #[test]
 fn texts_come_back_from_each_form(rt: HostRuntime) -> Result<(), Fail> {
     let texts = texts(rt.alloc())?;
-    assert_eq!(rt; texts.len(), 33);
+    check(&rt, texts.len() == 33, &texts.len());
     for text in texts {
         let json = text.to_json(rt.alloc())?;
         let bytes = UnvalidatedTinyAsciiStr::from_utf8_unchecked(text.to_bytes());
@@ -188,7 +186,7 @@ fn texts_come_back_from_each_form(rt: HostRuntime) -> Result<(), Fail> {
             && text.to_unvalidated() == bytes
             && is_read_before(text, b"")
             && is_read_before(text, b"\0\xff\0a");
-        assert!(rt; is_back, "{text}");
+        check(&rt, is_back, &text);
     }
     assert!(rt; niche_refused::<17>() == Err(ParseError::NonAscii));
     Ok(())

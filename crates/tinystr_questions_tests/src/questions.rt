@@ -3,6 +3,7 @@
 
 ghost use Rattle.std.specs.Prelude.{◌<◌, ◌^◌};
 
+use crate::check;
 use crate::table::{Row, edge_rows, table_rows};
 use crate::words::are_right;
 use std::process::Abort;
@@ -122,7 +123,7 @@ fn each_byte<const N: usize>(rt: &impl Abort, base: TinyAsciiStr<N>) {
             let mut bytes = base.to_bytes();
             bytes[at] = byte;
             let text = &bytes[..base.len()];
-            assert!(rt; are_plain(text, base), "byte {byte} at {at} of {base}");
+            check(rt, are_plain(text, base), &(byte, at, base));
         }
     }
 }
@@ -177,7 +178,7 @@ fn check_rows<const N: usize>(rt: &impl Abort, rows: &[Row], holder: Holder)
 {
     for row in rows {
         let is_right = row.text.len() > N || is_right::<N>(row, holder);
-        assert!(rt; is_right, "{:?} at {N}", row.text);
+        check(rt, is_right, &(row.text, N));
     }
 }
 

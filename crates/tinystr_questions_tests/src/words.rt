@@ -5,6 +5,7 @@ ghost use Rattle.std.specs.Prelude.{◌≤◌, length};
 ghost use Rattle.tinystr_words.specs.Text.{IsPadded};
 ghost use Rattle.tinystr_words.specs.Words.{HasLowLanes};
 
+use crate::check;
 use crate::questions::{are_spelled, word_answers};
 use crate::table::Row;
 use tinystr::TinyAsciiStr;
@@ -70,18 +71,24 @@ fn with_added(text: u32, first: u8, others: u8) -> [u8; 4]
 #[test]
 fn the_array_of_no_bytes_is_the_empty_text(rt: HostRuntime) {
     let yes = "yyyyyyyyy";
-    assert!(rt; stays(&Aligned4::from_ascii_bytes(b""), yes, [0; 4], 0));
-    assert!(rt; stays(&Aligned8::from_ascii_bytes(b""), yes, [0; 8], 0));
-    assert!(rt; stays(&Aligned16::from_ascii_bytes(b""), yes, [0; 16], 0));
+    let stay = [
+        stays(&Aligned4::from_ascii_bytes(b""), yes, [0; 4], 0),
+        stays(&Aligned8::from_ascii_bytes(b""), yes, [0; 8], 0),
+        stays(&Aligned16::from_ascii_bytes(b""), yes, [0; 16], 0),
+    ];
+    check(&rt, stay == [true; 3], &stay);
 }
 
 #[test]
 fn words_full_of_the_highest_byte(rt: HostRuntime) {
     let answers = "nnnyyynnn";
     let (four, eight, sixteen) = ([0x7f; 4], [0x7f; 8], [0x7f; 16]);
-    assert!(rt; stays(&Aligned4::from_ascii_bytes(&four), answers, four, 4));
-    assert!(rt; stays(&Aligned8::from_ascii_bytes(&eight), answers, eight, 8));
-    assert!(rt; stays(&Aligned16::from_ascii_bytes(&sixteen), answers, sixteen, 16));
+    let stay = [
+        stays(&Aligned4::from_ascii_bytes(&four), answers, four, 4),
+        stays(&Aligned8::from_ascii_bytes(&eight), answers, eight, 8),
+        stays(&Aligned16::from_ascii_bytes(&sixteen), answers, sixteen, 16),
+    ];
+    check(&rt, stay == [true; 3], &stay);
 }
 
 #[test]
@@ -167,7 +174,10 @@ fn lanes_of_a_brace(rt: HostRuntime) {
 #[test]
 fn leading_zeros_of_a_length(rt: HostRuntime) {
     let word = word_of(b"en");
-    assert!(rt; word == 0x00006e65);
-    assert!(rt; word.leading_zeros() == 17);
-    assert!(rt; Aligned4::from_ascii_bytes(b"en").len() == 2);
+    let are_right = [
+        word == 0x00006e65,
+        word.leading_zeros() == 17,
+        Aligned4::from_ascii_bytes(b"en").len() == 2,
+    ];
+    check(&rt, are_right == [true; 3], &are_right);
 }
