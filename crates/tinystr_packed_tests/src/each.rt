@@ -2,6 +2,7 @@
 
 ghost use Rattle.std.specs.Prelude.{◌<◌, ◌^◌};
 
+use crate::check;
 use std::alloc::{AllocError, Global};
 use std::test::Fail;
 use tinystr::TinyAsciiStr;
@@ -104,9 +105,12 @@ fn are_found<const N: usize>(alloc: Global) -> Result<bool, AllocError>
 // In one word, in two, and longer.
 #[test]
 fn each_key_has_its_answer(rt: HostRuntime) -> Result<(), Fail> {
-    assert!(rt; are_found::<3>(rt.alloc())?);
-    assert!(rt; are_found::<12>(rt.alloc())?);
-    assert!(rt; are_found::<17>(rt.alloc())?);
+    let are_right = [
+        are_found::<3>(rt.alloc())?,
+        are_found::<12>(rt.alloc())?,
+        are_found::<17>(rt.alloc())?,
+    ];
+    check(&rt, are_right == [true; 3], &are_right);
     Ok(())
 }
 

@@ -1,5 +1,6 @@
 //! Packed maps, of bytes and of texts.
 
+use crate::check;
 use tinystr::ParseError::{ContainsNull, NonAscii};
 use tinystr::ule::UleError::{Length, Parse};
 use tinystr::{TinyAsciiStr, TinyStr4};
@@ -69,15 +70,18 @@ fn have_no_others(map: &PackedMap<'_, 4, 3>, texts: &TextMap<'_, 4, 3>) -> bool 
 
 #[test]
 fn each_key_has_its_value_and_its_text(rt: HostRuntime) {
-    let are_right = match (
+    let are_maps = match (
         PackedMap::<4, 3>::new(KEYS, VALUES),
         TextMap::<4, 3>::new(KEYS, VALUES),
     ) {
         (Ok(map), Ok(texts)) => have_entries(&map, &texts) && have_no_others(&map, &texts),
         _ => false,
     };
-    assert!(rt; are_right);
-    assert!(rt; PackedMap::<4, 3>::default().is_empty() && TextMap::<4, 3>::default().is_empty());
+    let are_right = [
+        are_maps,
+        PackedMap::<4, 3>::default().is_empty() && TextMap::<4, 3>::default().is_empty(),
+    ];
+    check(&rt, are_right == [true; 2], &are_right);
 }
 
 // Keys and values, each with the fault for which they are rejected: the first of several.
@@ -107,9 +111,10 @@ const REJECTED: &[(&[u8], &[u8], MapError)] = &[
 #[test]
 fn keys_are_rejected_first_then_their_order_then_the_values(rt: HostRuntime) {
     for (keys, values, fault) in REJECTED {
-        assert!(rt;
+        check(
+            &rt,
             PackedMap::<3, 2>::new(keys, values).err() == Some(*fault),
-            "{fault:?}"
+            &fault,
         );
     }
 }
@@ -143,9 +148,10 @@ const REJECTED_TEXTS: &[(&[u8], &[u8], TextMapError)] = &[
 #[test]
 fn keys_are_rejected_first_then_the_texts_then_their_number(rt: HostRuntime) {
     for (keys, values, fault) in REJECTED_TEXTS {
-        assert!(rt;
+        check(
+            &rt,
             TextMap::<2, 3>::new(keys, values).err() == Some(*fault),
-            "{fault:?}"
+            &fault,
         );
     }
 }

@@ -1,5 +1,6 @@
 //! The bytes of packed texts and maps, and texts counted.
 
+use crate::check;
 use std::alloc::{AllocError, Global};
 use std::collections::BTreeMap;
 use std::test::Fail;
@@ -26,8 +27,11 @@ fn are_unpacked(alloc: Global, file: &[u8], texts: &[TinyStr4]) -> Result<bool, 
 fn texts_are_padded_and_joined_as_they_are(rt: HostRuntime) -> Result<(), Fail> {
     let texts = texts(rt.alloc(), "b||a|Cyrl|b")?;
     let file = pack(rt.alloc(), &texts)?;
-    assert!(rt; file.as_slice() == b"b\0\0\0\0\0\0\0a\0\0\0Cyrlb\0\0\0".as_slice());
-    assert!(rt; are_unpacked(rt.alloc(), &file, &texts)?);
+    let are_right = [
+        file.as_slice() == b"b\0\0\0\0\0\0\0a\0\0\0Cyrlb\0\0\0".as_slice(),
+        are_unpacked(rt.alloc(), &file, &texts)?,
+    ];
+    check(&rt, are_right == [true; 2], &are_right);
     Ok(())
 }
 
@@ -51,8 +55,11 @@ fn keys_and_values_of_a_map_are_packed(rt: HostRuntime) -> Result<(), Fail> {
         text_map.insert(*key, TinyAsciiStr::from_utf8_unchecked(*value))?;
     }
     let (keys, values) = pack_map(rt.alloc(), &map)?;
-    assert!(rt; keys.as_slice() == b"CHF\0EUR\0USD\0".as_slice());
-    assert!(rt; values.as_slice() == b"123\078".as_slice());
+    let are_right = [
+        keys.as_slice() == b"CHF\0EUR\0USD\0".as_slice(),
+        values.as_slice() == b"123\078".as_slice(),
+    ];
+    check(&rt, are_right == [true; 2], &are_right);
     let (same, texts) = pack_text_map(rt.alloc(), &text_map)?;
     assert!(rt; same == keys && texts == values);
     Ok(())
@@ -83,9 +90,12 @@ fn many(alloc: Global) -> Result<Vec<TinyStr4>, AllocError> {
 fn many_texts_are_packed_sorted_and_counted(rt: HostRuntime) -> Result<(), Fail> {
     let texts = many(rt.alloc())?;
     let file = pack(rt.alloc(), &texts)?;
-    assert!(rt; file.len() == 1280 && are_unpacked(rt.alloc(), &file, &texts)?);
-    assert!(rt; pack_sorted(rt.alloc(), &texts)? == file);
-    assert!(rt; count_texts(rt.alloc(), &texts)?.len() == 320);
+    let are_right = [
+        file.len() == 1280 && are_unpacked(rt.alloc(), &file, &texts)?,
+        pack_sorted(rt.alloc(), &texts)? == file,
+        count_texts(rt.alloc(), &texts)?.len() == 320,
+    ];
+    check(&rt, are_right == [true; 3], &are_right);
     let mut map = BTreeMap::new(rt.alloc());
     let mut text_map = BTreeMap::new(rt.alloc());
     for text in texts.iter() {

@@ -1,5 +1,6 @@
 //! Tables and sorted tables.
 
+use crate::check;
 use tinystr::ParseError::{ContainsNull, NonAscii};
 use tinystr::TinyAsciiStr;
 use tinystr::ule::UleError::{self, Length, Parse};
@@ -76,7 +77,7 @@ const REJECTED: &[(&[u8], UleError)] = &[
 #[test]
 fn bytes_are_rejected_for_their_length_or_their_first_bad_record(rt: HostRuntime) {
     for (bytes, fault) in REJECTED {
-        assert!(rt; Table::<3>::new(bytes).err() == Some(*fault), "{fault:?}");
+        check(&rt, Table::<3>::new(bytes).err() == Some(*fault), &fault);
     }
 }
 
@@ -97,9 +98,10 @@ const UNSORTED: &[(&[u8], SortedError)] = &[
 #[test]
 fn records_are_rejected_first_and_then_their_order(rt: HostRuntime) {
     for (bytes, fault) in UNSORTED {
-        assert!(rt;
+        check(
+            &rt,
             SortedTable::<3>::from_bytes(bytes).err() == Some(*fault),
-            "{fault:?}"
+            &fault,
         );
     }
 }
@@ -131,7 +133,7 @@ fn is_searched(text: &str, answer: Result<usize, usize>) -> bool {
 #[test]
 fn sorted_tables_are_searched(rt: HostRuntime) {
     for (text, answer) in ANSWERS {
-        assert!(rt; is_searched(text, *answer), "{text}");
+        check(&rt, is_searched(text, *answer), &text);
     }
 }
 
@@ -157,6 +159,6 @@ fn has_begun(prefix: &str, range: (usize, usize), lines: &str) -> bool {
 #[test]
 fn texts_with_a_prefix_are_a_range(rt: HostRuntime) {
     for (prefix, range, lines) in BEGUN {
-        assert!(rt; has_begun(prefix, *range, lines), "{prefix}");
+        check(&rt, has_begun(prefix, *range, lines), &prefix);
     }
 }
