@@ -7,21 +7,23 @@ use tinystr::TinyAsciiStr;
 use tinystr_hashed::{PackHashedError, pack_hashed, pack_hashed_map, pack_hashed_text_map};
 
 // Two texts that begin with one of these have the hash 0, one for each seed that the packing tries: the last eight of its bytes are
-// the hash of the others. Another program computes them from the definition.
-const BEGINNINGS: &[&str] = &[
-    "rybwihuzjjyqaqpyKn4*kkvX",
-    "offxwfioyliolnpo.'<YW5hl",
-    "vrupmxaghfoaakxoo:_P$vqu",
-    "zxbjznbruzxqzafv`5.s'Up{",
-    "gjvyhxrgedvoeavfs`-io!Cr",
-    "arvkjfgzkfahjocq;g'(xbge",
-    "qqbllqaoopejqthm,H/FmmU1",
-    "aifsqdgiolnkxduy+pVMobF0",
-    "bolyrsgczxnuzacv$%-[k7fQ",
-    "cppipfbcowtarmqf%UyUW,R$",
-    "geqhemczlfevckru+W[H`xVZ",
-    "etdleemcyylficef8tC^CAUY",
-];
+// the hash of the others. Another program computes them from the definition. They are no constant, since each proof would read it.
+fn beginnings() -> &'static [&'static str] {
+    &[
+        "rybwihuzjjyqaqpyKn4*kkvX",
+        "offxwfioyliolnpo.'<YW5hl",
+        "vrupmxaghfoaakxoo:_P$vqu",
+        "zxbjznbruzxqzafv`5.s'Up{",
+        "gjvyhxrgedvoeavfs`-io!Cr",
+        "arvkjfgzkfahjocq;g'(xbge",
+        "qqbllqaoopejqthm,H/FmmU1",
+        "aifsqdgiolnkxduy+pVMobF0",
+        "bolyrsgczxnuzacv$%-[k7fQ",
+        "cppipfbcowtarmqf%UyUW,R$",
+        "geqhemczlfevckru+W[H`xVZ",
+        "etdleemcyylficef8tC^CAUY",
+    ]
+}
 
 /// Two texts of each beginning.
 fn texts(alloc: Global, beginnings: &[&str]) -> Result<Vec<TinyAsciiStr<32>>, AllocError> {
@@ -37,7 +39,7 @@ fn texts(alloc: Global, beginnings: &[&str]) -> Result<Vec<TinyAsciiStr<32>>, Al
 
 #[test]
 fn texts_of_equal_hashes_for_each_seed_are_packed_in_order(rt: HostRuntime) -> Result<(), Fail> {
-    let mut texts = texts(rt.alloc(), BEGINNINGS)?;
+    let mut texts = texts(rt.alloc(), beginnings())?;
     let bytes = pack_hashed(rt.alloc(), &texts)?;
     texts.sort_unstable();
     assert!(rt; is_in_order(&bytes, &texts));
@@ -59,7 +61,7 @@ fn is_in_order(bytes: &[u8], texts: &[TinyAsciiStr<32>]) -> bool {
 
 #[test]
 fn a_text_among_them_that_occurs_twice_is_named(rt: HostRuntime) -> Result<(), Fail> {
-    let mut texts = texts(rt.alloc(), BEGINNINGS)?;
+    let mut texts = texts(rt.alloc(), beginnings())?;
     let Some(text) = texts.get(5).copied() else {
         return Ok(());
     };
@@ -73,7 +75,7 @@ fn a_text_among_them_that_occurs_twice_is_named(rt: HostRuntime) -> Result<(), F
 fn a_map_with_such_keys_is_packed(rt: HostRuntime) -> Result<(), Fail> {
     let mut map = BTreeMap::new(rt.alloc());
     let mut text_map = BTreeMap::new(rt.alloc());
-    for key in texts(rt.alloc(), BEGINNINGS)?.iter() {
+    for key in texts(rt.alloc(), beginnings())?.iter() {
         map.insert(*key, [1])?;
         text_map.insert(*key, *key)?;
     }
@@ -87,10 +89,10 @@ fn a_map_with_such_keys_is_packed(rt: HostRuntime) -> Result<(), Fail> {
 // Without a beginning, the texts are packed by the seed that it was computed for.
 #[test]
 fn the_seeds_are_tried_from_the_first_to_the_last(rt: HostRuntime) -> Result<(), Fail> {
-    let but_the_first = texts(rt.alloc(), BEGINNINGS.split_at(1).1)?;
+    let but_the_first = texts(rt.alloc(), beginnings().split_at(1).1)?;
     let bytes = pack_hashed(rt.alloc(), &but_the_first)?;
     assert!(rt; has_seed(&bytes, b"\x01\0\0\0"));
-    let but_the_last = texts(rt.alloc(), BEGINNINGS.split_at(11).0)?;
+    let but_the_last = texts(rt.alloc(), beginnings().split_at(11).0)?;
     let bytes = pack_hashed(rt.alloc(), &but_the_last)?;
     assert!(rt; has_seed(&bytes, b"\x0c\0\0\0"));
     Ok(())

@@ -1,6 +1,7 @@
 //! Why bytes aren't a hashed table, and why texts aren't packed as one: each error is different from the others, and
 //! printed by its name.
 
+use crate::check;
 use std::alloc::{AllocError, Global};
 use std::fmt::Debug;
 use std::test::Fail;
@@ -65,7 +66,7 @@ const PRINTED: &[(HashedError, &str)] = &[
 #[test]
 fn faults_of_a_table_are_printed_by_their_names(rt: HostRuntime) -> Result<(), Fail> {
     for (fault, text) in PRINTED {
-        assert!(rt; is_printed(rt.alloc(), fault, text)?, "{text}");
+        check(&rt, is_printed(rt.alloc(), fault, text)?, &text);
     }
     Ok(())
 }
@@ -89,8 +90,11 @@ fn faults_of_a_map_are_different_and_printed(rt: HostRuntime) -> Result<(), Fail
     assert!(rt; are_different(MAP_FAULTS));
     let keys = HashedMapError::Keys(HashedError::Place { index: 1 });
     let values = HashedMapError::Values { keys: 2, len: 3 };
-    assert!(rt; is_printed(rt.alloc(), &keys, "Keys(Place { index: 1 })")?);
-    assert!(rt; is_printed(rt.alloc(), &values, "Values { keys: 2, len: 3 }")?);
+    let are_right = [
+        is_printed(rt.alloc(), &keys, "Keys(Place { index: 1 })")?,
+        is_printed(rt.alloc(), &values, "Values { keys: 2, len: 3 }")?,
+    ];
+    check(&rt, are_right == [true; 2], &are_right);
     Ok(())
 }
 
@@ -124,7 +128,7 @@ const PRINTED_OF_TEXTS: &[(HashedTextMapError, &str)] = &[
 fn faults_of_a_map_of_texts_are_different_and_printed(rt: HostRuntime) -> Result<(), Fail> {
     assert!(rt; are_different(TEXT_MAP_FAULTS));
     for (fault, text) in PRINTED_OF_TEXTS {
-        assert!(rt; is_printed(rt.alloc(), fault, text)?, "{text}");
+        check(&rt, is_printed(rt.alloc(), fault, text)?, &text);
     }
     Ok(())
 }
@@ -137,8 +141,11 @@ fn faults_of_packing_are_different_and_printed(rt: HostRuntime) -> Result<(), Fa
         text: TinyAsciiStr::from_utf8_unchecked(*b"EU\0"),
     };
     let faults = [duplicate, other, PackHashedError::Memory];
-    assert!(rt; are_different(&faults));
-    assert!(rt; is_printed(rt.alloc(), &duplicate, "Duplicate { text: \"EUR\" }")?);
+    let are_right = [
+        are_different(&faults),
+        is_printed(rt.alloc(), &duplicate, "Duplicate { text: \"EUR\" }")?,
+    ];
+    check(&rt, are_right == [true; 2], &are_right);
     let [.., memory] = faults;
     assert!(rt; is_printed(rt.alloc(), &memory, "Memory")?);
     Ok(())

@@ -1,6 +1,6 @@
 //! Bytes that aren't a hashed table, and why. The results come from another program, which is written from the definition.
 
-use crate::file;
+use crate::{check, file};
 use std::alloc::{AllocError, Global};
 use std::test::Fail;
 use tinystr::ParseError::{ContainsNull, NonAscii};
@@ -36,7 +36,7 @@ const LENGTHS: &[(usize, Option<HashedError>)] = &[
 #[test]
 fn the_first_bytes_of_a_table_have_their_fault(rt: HostRuntime) {
     for (len, fault) in LENGTHS {
-        assert!(rt; has_fault(*len, &[], *fault), "{len}");
+        check(&rt, has_fault(*len, &[], *fault), &len);
     }
 }
 
@@ -176,7 +176,7 @@ const HEADERS: &[(usize, &[(usize, u8)], Option<HashedError>)] = &[
 #[test]
 fn another_header_has_its_fault(rt: HostRuntime) {
     for (len, changes, fault) in HEADERS {
-        assert!(rt; has_fault(*len, changes, *fault), "{len} {changes:?}");
+        check(&rt, has_fault(*len, changes, *fault), &(len, changes));
     }
 }
 
@@ -274,7 +274,11 @@ const BYTES: &[(usize, u8, Option<HashedError>)] = &[
 #[test]
 fn another_byte_has_its_fault(rt: HostRuntime) {
     for (index, byte, fault) in BYTES {
-        assert!(rt; has_fault(38, &[(*index, *byte)], *fault), "{index} {byte}");
+        check(
+            &rt,
+            has_fault(38, &[(*index, *byte)], *fault),
+            &(index, byte),
+        );
     }
 }
 
@@ -342,7 +346,7 @@ const FIRST_FAULTS: &[(usize, &[(usize, u8)], Option<HashedError>)] = &[
 #[test]
 fn the_first_fault_is_named(rt: HostRuntime) {
     for (len, changes, fault) in FIRST_FAULTS {
-        assert!(rt; has_fault(*len, changes, *fault), "{len} {changes:?}");
+        check(&rt, has_fault(*len, changes, *fault), &(len, changes));
     }
 }
 
@@ -367,7 +371,7 @@ const ORDERS: &[(&[&str], usize)] = &[
 #[test]
 fn the_first_text_that_is_not_at_its_place_is_named(rt: HostRuntime) -> Result<(), Fail> {
     for (texts, index) in ORDERS {
-        assert!(rt; is_misplaced_at(rt.alloc(), texts, *index)?, "{texts:?}");
+        check(&rt, is_misplaced_at(rt.alloc(), texts, *index)?, &texts);
     }
     Ok(())
 }
@@ -390,7 +394,7 @@ fn without_pilots_the_first_text_that_is_not_above_the_one_before_it_is_named(
     for (texts, index) in FALLING {
         let file = file::<3>(rt.alloc(), b"\x01\0\0\0\0\0\0\0\0\0\0\0\0\0\0\0", texts)?;
         let fault = HashedTable::<3>::from_bytes(&file).err();
-        assert!(rt; fault == Some(Place { index: *index }), "{texts:?}");
+        check(&rt, fault == Some(Place { index: *index }), &texts);
     }
     Ok(())
 }

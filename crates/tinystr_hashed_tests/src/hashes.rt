@@ -3,7 +3,7 @@
 
 ghost use Rattle.std.specs.Prelude.{◌<◌};
 
-use crate::file;
+use crate::{check, file};
 use std::alloc::{AllocError, Global};
 use std::test::Fail;
 use tinystr_hashed::{HashedError, HashedTable};
@@ -11,58 +11,87 @@ use tinystr_hashed::{HashedError, HashedTable};
 #[test]
 fn short_texts_are_placed_by_each_seed(rt: HostRuntime) -> Result<(), Fail> {
     let results = "1001100.00.0.00100100100100000001.00.101.11100.0100.00100.01.000";
-    assert!(rt; has_results::<1>(rt.alloc(), &["", "a"], results)?);
-    assert!(rt; has_results::<3>(rt.alloc(), &["", "a"], results)?);
-    assert!(rt; has_results::<16>(rt.alloc(), &["", "a"], results)?);
-    let results = "1000010001000011000.01001000001001.10.00011000001000.0100.0000.1";
-    assert!(rt; has_results::<3>(rt.alloc(), &["EUR", "USD"], results)?);
-    let results = "100.001.01.0010.00101101100100000100..010000.1.1..01010.0100.011";
-    assert!(rt; has_results::<7>(rt.alloc(), &["abcdefg", "abcdef~"], results)?);
-    let results = "1001.0100..0.0010.101100110001.001..10000010000..0..001.010.10.1";
-    assert!(rt; has_results::<8>(rt.alloc(), &["abcdefgh", "abcdefg~"], results)?);
+    let are_right = [
+        has_results::<1>(rt.alloc(), &["", "a"], results)?,
+        has_results::<3>(rt.alloc(), &["", "a"], results)?,
+        has_results::<16>(rt.alloc(), &["", "a"], results)?,
+        has_results::<3>(
+            rt.alloc(),
+            &["EUR", "USD"],
+            "1000010001000011000.01001000001001.10.00011000001000.0100.0000.1",
+        )?,
+        has_results::<7>(
+            rt.alloc(),
+            &["abcdefg", "abcdef~"],
+            "100.001.01.0010.00101101100100000100..010000.1.1..01010.0100.011",
+        )?,
+        has_results::<8>(
+            rt.alloc(),
+            &["abcdefgh", "abcdefg~"],
+            "1001.0100..0.0010.101100110001.001..10000010000..0..001.010.10.1",
+        )?,
+    ];
+    check(&rt, are_right == [true; 6], &are_right);
     Ok(())
 }
 
 #[test]
 fn texts_of_up_to_sixteen_bytes_are_placed_by_each_seed(rt: HostRuntime) -> Result<(), Fail> {
-    let results = "1..0000111010011.01.0.00.100.000010..111101.100.0.0101100.101.10";
-    assert!(rt; has_results::<9>(rt.alloc(), &["abcdefghi", "abcdefgh~"], results)?);
-    let results = "100000100100.01.000000000001101.00001...111.0.1100.0001.01011000";
-    assert!(rt; has_results::<15>(rt.alloc(), &["abcdefghijklmno", "abcdefghijklmn~"], results)?);
-    let results = "10010010110010.000111.01101.01100.0.00.101.01.00100.01.0110001..";
-    assert!(rt;
+    let are_right = [
+        has_results::<9>(
+            rt.alloc(),
+            &["abcdefghi", "abcdefgh~"],
+            "1..0000111010011.01.0.00.100.000010..111101.100.0.0101100.101.10",
+        )?,
+        has_results::<15>(
+            rt.alloc(),
+            &["abcdefghijklmno", "abcdefghijklmn~"],
+            "100000100100.01.000000000001101.00001...111.0.1100.0001.01011000",
+        )?,
         has_results::<16>(
             rt.alloc(),
             &["abcdefghijklmnop", "abcdefghijklmno~"],
-            results
-        )?
-    );
+            "10010010110010.000111.01101.01100.0.00.101.01.00100.01.0110001..",
+        )?,
+    ];
+    check(&rt, are_right == [true; 3], &are_right);
     Ok(())
 }
 
 #[test]
 fn longer_texts_are_placed_by_each_seed(rt: HostRuntime) -> Result<(), Fail> {
-    let texts = ["abcdefghijklmnopq", "abcdefghijklmnop~"];
-    let results = "100000.101001001.0.00000000100110100101.00.10.001.00.01000000.01";
-    assert!(rt; has_results::<17>(rt.alloc(), &texts, results)?);
-    let texts = [
-        "abcdefghijklmnopqrstuvwxyzABCDEF",
-        "abcdefghijklmnopqrstuvwxyzABCDE~",
+    let are_right = [
+        has_results::<17>(
+            rt.alloc(),
+            &["abcdefghijklmnopq", "abcdefghijklmnop~"],
+            "100000.101001001.0.00000000100110100101.00.10.001.00.01000000.01",
+        )?,
+        has_results::<32>(
+            rt.alloc(),
+            &[
+                "abcdefghijklmnopqrstuvwxyzABCDEF",
+                "abcdefghijklmnopqrstuvwxyzABCDE~",
+            ],
+            "1010000.01100..000100..1..11.0..0..1..00.00011.0011.00100110..01",
+        )?,
+        has_results::<33>(
+            rt.alloc(),
+            &[
+                "abcdefghijklmnopqrstuvwxyzABCDEFG",
+                "abcdefghijklmnopqrstuvwxyzABCDEF~",
+            ],
+            "101001.0011..00.00.0111.1..00010110010010010.0.01.01.0001.001.0.",
+        )?,
+        has_results::<49>(
+            rt.alloc(),
+            &[
+                "abcdefghijklmnopqrstuvwxyzABCDEFGHIJKLMNOPQRSTUVW",
+                "abcdefghijklmnopqrstuvwxyzABCDEFGHIJKLMNOPQRSTUV~",
+            ],
+            "101100100100110101110.101001.0..0.00101000.00.01.000.01001101.00",
+        )?,
     ];
-    let results = "1010000.01100..000100..1..11.0..0..1..00.00011.0011.00100110..01";
-    assert!(rt; has_results::<32>(rt.alloc(), &texts, results)?);
-    let texts = [
-        "abcdefghijklmnopqrstuvwxyzABCDEFG",
-        "abcdefghijklmnopqrstuvwxyzABCDEF~",
-    ];
-    let results = "101001.0011..00.00.0111.1..00010110010010010.0.01.01.0001.001.0.";
-    assert!(rt; has_results::<33>(rt.alloc(), &texts, results)?);
-    let texts = [
-        "abcdefghijklmnopqrstuvwxyzABCDEFGHIJKLMNOPQRSTUVW",
-        "abcdefghijklmnopqrstuvwxyzABCDEFGHIJKLMNOPQRSTUV~",
-    ];
-    let results = "101100100100110101110.101001.0..0.00101000.00.01.000.01001101.00";
-    assert!(rt; has_results::<49>(rt.alloc(), &texts, results)?);
+    check(&rt, are_right == [true; 4], &are_right);
     Ok(())
 }
 

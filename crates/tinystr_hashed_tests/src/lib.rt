@@ -24,6 +24,16 @@ mod text_maps;
 
 #[cfg(test)]
 use std::alloc::{AllocError, Global};
+#[cfg(test)]
+use std::fmt::Debug;
+#[cfg(test)]
+use std::process::Abort;
+
+/// Ends the test, and prints the row, unless it is right.
+#[cfg(test)]
+fn check(rt: &impl Abort, is_right: bool, row: &impl Debug) {
+    assert!(rt; is_right, "{row:?}");
+}
 
 /// The front of a table, which is its header, its pilots and its moves, and texts as records of `N` bytes.
 #[cfg(test)]

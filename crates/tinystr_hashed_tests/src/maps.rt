@@ -1,5 +1,6 @@
 //! Hashed maps.
 
+use crate::check;
 use std::alloc::Global;
 use std::collections::BTreeMap;
 use tinystr::ParseError::NonAscii;
@@ -58,7 +59,7 @@ fn is_no_key(keys: &[u8], values: &[u8], key: &str) -> bool {
 #[test]
 fn each_key_has_its_value(rt: HostRuntime) {
     for (key, value) in ENTRIES {
-        assert!(rt; is_value(KEYS, VALUES, key, *value), "{key}");
+        check(&rt, is_value(KEYS, VALUES, key, *value), &key);
     }
     assert!(rt; is_value(ONE_KEY, b"\0\xff", "EUR", [0, 255]));
 }
@@ -66,22 +67,26 @@ fn each_key_has_its_value(rt: HostRuntime) {
 #[test]
 fn other_texts_have_no_value(rt: HostRuntime) {
     for key in "AA|B|E|EU|EUS|FUR|eur|USA|U|JPZ|~~~|EURO".split('|') {
-        assert!(rt;
+        check(
+            &rt,
             is_no_key(KEYS, VALUES, key) && is_no_key(ONE_KEY, b"\x01\x02", key),
-            "{key}"
+            &key,
         );
     }
     for key in ["", "EUR", "USD"] {
-        assert!(rt; is_no_key(NO_KEY, b"", key), "{key}");
+        check(&rt, is_no_key(NO_KEY, b"", key), &key);
     }
     assert!(rt; is_no_key(ONE_KEY, b"\x01\x02", "") && is_no_key(ONE_KEY, b"\x01\x02", "USD"));
 }
 
 #[test]
 fn entries_are_in_the_order_of_the_keys(rt: HostRuntime) {
-    assert!(rt; has_entries(KEYS, VALUES, ENTRIES));
-    assert!(rt; has_entries(ONE_KEY, b"\x07\x08", &[("EUR", [7, 8])]));
-    assert!(rt; has_entries(NO_KEY, b"", &[]) && has_len(&HashedMap::default(), 0));
+    let are_right = [
+        has_entries(KEYS, VALUES, ENTRIES),
+        has_entries(ONE_KEY, b"\x07\x08", &[("EUR", [7, 8])]),
+        has_entries(NO_KEY, b"", &[]) && has_len(&HashedMap::default(), 0),
+    ];
+    check(&rt, are_right == [true; 3], &are_right);
 }
 
 /// Whether the map has these entries in this order and no more, and each count is that of those that are left.
@@ -172,7 +177,7 @@ const REJECTED: &[(&[u8], &[u8], HashedMapError)] = &[
 #[test]
 fn keys_are_rejected_first_and_then_the_values(rt: HostRuntime) {
     for (keys, values, fault) in REJECTED {
-        assert!(rt; is_rejected(keys, values, *fault), "{fault:?}");
+        check(&rt, is_rejected(keys, values, *fault), &fault);
     }
 }
 
@@ -204,9 +209,12 @@ const PACKED_ONE_KEY: &[u8] = b"\x01\0\0\0\0\0\0\0\0\0\0\0\0\0\0\0EUR";
 
 #[test]
 fn a_map_of_std_is_packed(rt: HostRuntime) {
-    assert!(rt; is_packed(rt.alloc(), ENTRIES, PACKED_KEYS, PACKED_VALUES));
-    assert!(rt; is_packed(rt.alloc(), &[("EUR", [7, 8])], PACKED_ONE_KEY, b"\x07\x08"));
-    assert!(rt; is_packed(rt.alloc(), &[], PACKED_NO_KEY, b""));
+    let are_right = [
+        is_packed(rt.alloc(), ENTRIES, PACKED_KEYS, PACKED_VALUES),
+        is_packed(rt.alloc(), &[("EUR", [7, 8])], PACKED_ONE_KEY, b"\x07\x08"),
+        is_packed(rt.alloc(), &[], PACKED_NO_KEY, b""),
+    ];
+    check(&rt, are_right == [true; 3], &are_right);
 }
 
 /// Whether std's map of the entries is packed to the keys and the values.
@@ -230,12 +238,15 @@ fn is_packed(alloc: Global, entries: &[(&str, [u8; 2])], keys: &[u8], values: &[
 fn a_packed_map_has_its_entries_and_no_others(rt: HostRuntime) {
     assert!(rt; has_entries(PACKED_KEYS, PACKED_VALUES, PACKED_ENTRIES));
     for (key, value) in ENTRIES {
-        assert!(rt; is_value(PACKED_KEYS, PACKED_VALUES, key, *value), "{key}");
+        check(&rt, is_value(PACKED_KEYS, PACKED_VALUES, key, *value), &key);
     }
     for key in "AA|B|E|EU|EUS|FUR|eur|USA|U|JPZ|~~~".split('|') {
-        assert!(rt; is_no_key(PACKED_KEYS, PACKED_VALUES, key), "{key}");
+        check(&rt, is_no_key(PACKED_KEYS, PACKED_VALUES, key), &key);
     }
-    assert!(rt; has_entries(PACKED_ONE_KEY, b"\x07\x08", &[("EUR", [7, 8])]));
-    assert!(rt; has_entries(PACKED_NO_KEY, b"", &[]));
-    assert!(rt; is_no_key(PACKED_ONE_KEY, b"\x07\x08", "") && is_no_key(PACKED_NO_KEY, b"", ""));
+    let are_right = [
+        has_entries(PACKED_ONE_KEY, b"\x07\x08", &[("EUR", [7, 8])]),
+        has_entries(PACKED_NO_KEY, b"", &[]),
+        is_no_key(PACKED_ONE_KEY, b"\x07\x08", "") && is_no_key(PACKED_NO_KEY, b"", ""),
+    ];
+    check(&rt, are_right == [true; 3], &are_right);
 }

@@ -3,8 +3,8 @@
 
 ghost use Rattle.std.specs.Prelude.{◌<◌, ◌^◌};
 
-use crate::file;
 use crate::tables::is_table;
+use crate::{check, file};
 use std::alloc::{AllocError, Global};
 use std::test::Fail;
 use tinystr::TinyAsciiStr;
@@ -102,15 +102,18 @@ const OF_33: (&[u8], &[&str]) = (
 #[test]
 fn texts_are_packed_as_their_table(rt: HostRuntime) -> Result<(), Fail> {
     for literal in SHORT {
-        assert!(rt; is_packed::<3>(rt.alloc(), literal), "{literal:?}");
+        check(&rt, is_packed::<3>(rt.alloc(), literal), &literal);
     }
-    assert!(rt; is_packed::<1>(rt.alloc(), &OF_1));
-    assert!(rt; is_packed::<8>(rt.alloc(), &OF_8));
-    assert!(rt; is_packed::<9>(rt.alloc(), &OF_9));
-    assert!(rt; is_packed::<16>(rt.alloc(), &OF_16));
-    assert!(rt; is_packed::<17>(rt.alloc(), &OF_17));
-    assert!(rt; is_packed::<32>(rt.alloc(), &OF_32));
-    assert!(rt; is_packed::<33>(rt.alloc(), &OF_33));
+    let are_right = [
+        is_packed::<1>(rt.alloc(), &OF_1),
+        is_packed::<8>(rt.alloc(), &OF_8),
+        is_packed::<9>(rt.alloc(), &OF_9),
+        is_packed::<16>(rt.alloc(), &OF_16),
+        is_packed::<17>(rt.alloc(), &OF_17),
+        is_packed::<32>(rt.alloc(), &OF_32),
+        is_packed::<33>(rt.alloc(), &OF_33),
+    ];
+    check(&rt, are_right == [true; 7], &are_right);
     Ok(())
 }
 
@@ -166,7 +169,7 @@ const REPEATED: &[(&[&str], &str)] = &[
 #[test]
 fn a_text_that_occurs_twice_is_named(rt: HostRuntime) -> Result<(), Fail> {
     for (words, text) in REPEATED {
-        assert!(rt; is_rejected::<3>(rt.alloc(), words, text), "{words:?}");
+        check(&rt, is_rejected::<3>(rt.alloc(), words, text), &words);
     }
     let (long, other) = (
         "abcdefghijklmnopqrstuvwxyzABCDEFG",

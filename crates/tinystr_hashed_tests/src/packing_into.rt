@@ -2,6 +2,7 @@
 
 ghost use Rattle.std.specs.Prelude.{◌<◌, ◌^◌};
 
+use crate::check;
 use std::alloc::{AllocError, Global};
 use std::test::Fail;
 use tinystr::TinyAsciiStr;
@@ -11,14 +12,14 @@ use tinystr_packed::{Table, pack};
 #[test]
 fn both_ways_of_packing_make_the_same_bytes(rt: HostRuntime) -> Result<(), Fail> {
     for count in [0, 1, 2] {
-        assert!(rt; are_alike::<1>(rt.alloc(), count), "{count}");
+        check(&rt, are_alike::<1>(rt.alloc(), count), &count);
     }
     for count in [0, 1, 2, 20, 1000] {
-        assert!(rt; are_alike::<3>(rt.alloc(), count), "{count}");
+        check(&rt, are_alike::<3>(rt.alloc(), count), &count);
     }
     for count in [0, 1, 2, 20, 1000, 70_000] {
-        assert!(rt; are_alike::<8>(rt.alloc(), count), "{count}");
-        assert!(rt; are_alike::<17>(rt.alloc(), count), "{count}");
+        check(&rt, are_alike::<8>(rt.alloc(), count), &count);
+        check(&rt, are_alike::<17>(rt.alloc(), count), &count);
     }
     Ok(())
 }

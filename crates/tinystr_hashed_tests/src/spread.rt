@@ -3,6 +3,7 @@
 
 ghost use Rattle.std.specs.Prelude.{◌<◌, ◌^◌};
 
+use crate::check;
 use std::alloc::{AllocError, Global};
 use std::test::Fail;
 use tinystr::{TinyAsciiStr, tinystr};
@@ -22,7 +23,7 @@ fn texts_that_differ_in_one_byte_are_packed(rt: HostRuntime) -> Result<(), Fail>
         if *has_empty {
             texts.push(tinystr!(8, "")?)?;
         }
-        assert!(rt; is_packed_alike(rt.alloc(), &texts, *digest), "{front}");
+        check(&rt, is_packed_alike(rt.alloc(), &texts, *digest), &front);
     }
     Ok(())
 }
@@ -46,9 +47,10 @@ fn texts_that_differ_in_one_letter_are_packed(rt: HostRuntime) -> Result<(), Fai
             let text: TinyAsciiStr<16> = front.concat::<1, 9>(letter).concat(back);
             texts.push(text)?;
         }
-        assert!(rt;
+        check(
+            &rt,
             is_packed_alike::<16>(rt.alloc(), &texts, *digest),
-            "{back}"
+            &back,
         );
     }
     Ok(())
@@ -113,9 +115,9 @@ const NUMBERED: &[(&str, u32, u64)] = &[
 fn the_order_of_the_texts_does_not_matter(rt: HostRuntime) -> Result<(), Fail> {
     for (front, count, digest) in NUMBERED {
         let mut texts = numbered(rt.alloc(), front, *count)?;
-        assert!(rt; is_packed_alike(rt.alloc(), &texts, *digest), "{count}");
+        check(&rt, is_packed_alike(rt.alloc(), &texts, *digest), &count);
         texts.reverse();
-        assert!(rt; is_packed_alike(rt.alloc(), &texts, *digest), "{count}");
+        check(&rt, is_packed_alike(rt.alloc(), &texts, *digest), &count);
     }
     Ok(())
 }

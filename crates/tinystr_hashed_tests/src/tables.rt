@@ -2,7 +2,7 @@
 
 ghost use Rattle.std.specs.Prelude.{◌<◌, ◌≤◌, ◌^◌};
 
-use crate::file;
+use crate::{check, file};
 use std::alloc::{AllocError, Global};
 use std::test::Fail;
 use tinystr::TinyAsciiStr;
@@ -165,23 +165,26 @@ const KEYS: &str = "|A|AB|ABC|ABD|B|E|EU|EUR|EUS|EVR|FUR|eur|USD|US|JPY|JPZ|EURO
 #[test]
 fn each_text_is_found_at_its_index_and_no_other(rt: HostRuntime) -> Result<(), Fail> {
     for literal in SHORT {
-        assert!(rt; is_table::<3>(rt.alloc(), literal)?, "{literal:?}");
+        check(&rt, is_table::<3>(rt.alloc(), literal)?, &literal);
     }
     Ok(())
 }
 
 #[test]
 fn each_byte_of_longer_texts_counts(rt: HostRuntime) -> Result<(), Fail> {
-    assert!(rt; is_table::<1>(rt.alloc(), &OF_1)?);
-    assert!(rt; is_table::<8>(rt.alloc(), &OF_8)?);
-    assert!(rt; is_table::<9>(rt.alloc(), &OF_9)?);
-    assert!(rt; is_table::<16>(rt.alloc(), &OF_16)?);
-    assert!(rt; is_table::<17>(rt.alloc(), &OF_17)?);
-    assert!(rt; is_table::<32>(rt.alloc(), &OF_32)?);
-    assert!(rt; is_table::<33>(rt.alloc(), &OF_33)?);
-    assert!(rt; is_table::<8>(rt.alloc(), &(SORTED, SORTED_OF_8))?);
-    assert!(rt; is_table::<16>(rt.alloc(), &(SORTED, SORTED_OF_16))?);
-    assert!(rt; is_table::<33>(rt.alloc(), &(SORTED, SORTED_OF_33))?);
+    let are_right = [
+        is_table::<1>(rt.alloc(), &OF_1)?,
+        is_table::<8>(rt.alloc(), &OF_8)?,
+        is_table::<9>(rt.alloc(), &OF_9)?,
+        is_table::<16>(rt.alloc(), &OF_16)?,
+        is_table::<17>(rt.alloc(), &OF_17)?,
+        is_table::<32>(rt.alloc(), &OF_32)?,
+        is_table::<33>(rt.alloc(), &OF_33)?,
+        is_table::<8>(rt.alloc(), &(SORTED, SORTED_OF_8))?,
+        is_table::<16>(rt.alloc(), &(SORTED, SORTED_OF_16))?,
+        is_table::<33>(rt.alloc(), &(SORTED, SORTED_OF_33))?,
+    ];
+    check(&rt, are_right == [true; 10], &are_right);
     Ok(())
 }
 
@@ -290,20 +293,19 @@ fn is_found_by_text<const N: usize>(
 
 #[test]
 fn each_flipped_bit_has_its_fault(rt: HostRuntime) -> Result<(), Fail> {
-    assert!(rt; has_digest_of_flips::<1>(rt.alloc(), OF_1.0, OF_1.1, 0x593b_4e71_0bda_21c7)?);
-    assert!(rt; has_digest_of_flips::<1>(rt.alloc(), SORTED, SORTED_OF_1, 0x20ae_62ba_5986_6e35)?);
-    assert!(rt; has_digest_of_flips::<3>(rt.alloc(), OF_3.0, OF_3.1, 0x8f1c_cea3_9f48_de3f)?);
-    assert!(rt; has_digest_of_flips::<3>(rt.alloc(), SORTED, SORTED_OF_3, 0x1064_334a_9469_0981)?);
-    assert!(rt; has_digest_of_flips::<8>(rt.alloc(), OF_8.0, OF_8.1, 0x1789_0683_5899_603e)?);
-    assert!(rt; has_digest_of_flips::<8>(rt.alloc(), SORTED, SORTED_OF_8, 0x77ad_47cd_00d5_f9be)?);
-    assert!(rt; has_digest_of_flips::<16>(rt.alloc(), OF_16.0, OF_16.1, 0x4802_0558_19ff_7780)?);
-    assert!(rt;
-        has_digest_of_flips::<16>(rt.alloc(), SORTED, SORTED_OF_16, 0x0809_9bda_9673_5e22)?
-    );
-    assert!(rt; has_digest_of_flips::<33>(rt.alloc(), OF_33.0, OF_33.1, 0xa419_50a1_31c6_0980)?);
-    assert!(rt;
-        has_digest_of_flips::<33>(rt.alloc(), SORTED, SORTED_OF_33, 0x80d3_28bb_c1c3_ef56)?
-    );
+    let are_right = [
+        has_digest_of_flips::<1>(rt.alloc(), OF_1.0, OF_1.1, 0x593b_4e71_0bda_21c7)?,
+        has_digest_of_flips::<1>(rt.alloc(), SORTED, SORTED_OF_1, 0x20ae_62ba_5986_6e35)?,
+        has_digest_of_flips::<3>(rt.alloc(), OF_3.0, OF_3.1, 0x8f1c_cea3_9f48_de3f)?,
+        has_digest_of_flips::<3>(rt.alloc(), SORTED, SORTED_OF_3, 0x1064_334a_9469_0981)?,
+        has_digest_of_flips::<8>(rt.alloc(), OF_8.0, OF_8.1, 0x1789_0683_5899_603e)?,
+        has_digest_of_flips::<8>(rt.alloc(), SORTED, SORTED_OF_8, 0x77ad_47cd_00d5_f9be)?,
+        has_digest_of_flips::<16>(rt.alloc(), OF_16.0, OF_16.1, 0x4802_0558_19ff_7780)?,
+        has_digest_of_flips::<16>(rt.alloc(), SORTED, SORTED_OF_16, 0x0809_9bda_9673_5e22)?,
+        has_digest_of_flips::<33>(rt.alloc(), OF_33.0, OF_33.1, 0xa419_50a1_31c6_0980)?,
+        has_digest_of_flips::<33>(rt.alloc(), SORTED, SORTED_OF_33, 0x80d3_28bb_c1c3_ef56)?,
+    ];
+    check(&rt, are_right == [true; 10], &are_right);
     Ok(())
 }
 

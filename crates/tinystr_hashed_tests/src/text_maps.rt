@@ -1,5 +1,6 @@
 //! Hashed maps of texts.
 
+use crate::check;
 use std::alloc::Global;
 use std::collections::BTreeMap;
 use tinystr::ParseError::{ContainsNull, NonAscii};
@@ -60,7 +61,7 @@ fn is_no_key(keys: &[u8], values: &[u8], key: &str) -> bool {
 #[test]
 fn each_key_has_its_text(rt: HostRuntime) {
     for (key, value) in ENTRIES {
-        assert!(rt; is_value(KEYS, VALUES, key, value), "{key}");
+        check(&rt, is_value(KEYS, VALUES, key, value), &key);
     }
     assert!(rt; is_value(ONE_KEY, b"\0\0", "EUR", ""));
 }
@@ -68,22 +69,26 @@ fn each_key_has_its_text(rt: HostRuntime) {
 #[test]
 fn other_texts_have_no_text(rt: HostRuntime) {
     for key in "AA|B|E|EU|EUS|FUR|eur|USA|U|JPZ|~~~|EURO".split('|') {
-        assert!(rt;
+        check(
+            &rt,
             is_no_key(KEYS, VALUES, key) && is_no_key(ONE_KEY, b"EU", key),
-            "{key}"
+            &key,
         );
     }
     for key in ["", "EUR", "USD"] {
-        assert!(rt; is_no_key(NO_KEY, b"", key), "{key}");
+        check(&rt, is_no_key(NO_KEY, b"", key), &key);
     }
     assert!(rt; is_no_key(ONE_KEY, b"EU", "") && is_no_key(ONE_KEY, b"EU", "USD"));
 }
 
 #[test]
 fn entries_are_the_keys_with_their_texts(rt: HostRuntime) {
-    assert!(rt; has_entries(KEYS, VALUES, ENTRIES));
-    assert!(rt; has_entries(ONE_KEY, b"EU", &[("EUR", "EU")]));
-    assert!(rt; has_entries(NO_KEY, b"", &[]) && has_len(&HashedTextMap::default(), 0));
+    let are_right = [
+        has_entries(KEYS, VALUES, ENTRIES),
+        has_entries(ONE_KEY, b"EU", &[("EUR", "EU")]),
+        has_entries(NO_KEY, b"", &[]) && has_len(&HashedTextMap::default(), 0),
+    ];
+    check(&rt, are_right == [true; 3], &are_right);
 }
 
 /// Whether the map has these entries in this order and no more, and each count is that of those that are left.
@@ -185,7 +190,7 @@ const REJECTED: &[(&[u8], &[u8], HashedTextMapError)] = &[
 #[test]
 fn keys_are_rejected_first_then_the_values_then_their_number(rt: HostRuntime) {
     for (keys, values, fault) in REJECTED {
-        assert!(rt; is_rejected(keys, values, *fault), "{fault:?}");
+        check(&rt, is_rejected(keys, values, *fault), &fault);
     }
 }
 
@@ -217,9 +222,12 @@ const PACKED_ONE_KEY: &[u8] = b"\x01\0\0\0\0\0\0\0\0\0\0\0\0\0\0\0EUR";
 
 #[test]
 fn a_map_of_std_is_packed(rt: HostRuntime) {
-    assert!(rt; is_packed(rt.alloc(), ENTRIES, PACKED_KEYS, PACKED_VALUES));
-    assert!(rt; is_packed(rt.alloc(), &[("EUR", "a")], PACKED_ONE_KEY, b"a\0"));
-    assert!(rt; is_packed(rt.alloc(), &[], PACKED_NO_KEY, b""));
+    let are_right = [
+        is_packed(rt.alloc(), ENTRIES, PACKED_KEYS, PACKED_VALUES),
+        is_packed(rt.alloc(), &[("EUR", "a")], PACKED_ONE_KEY, b"a\0"),
+        is_packed(rt.alloc(), &[], PACKED_NO_KEY, b""),
+    ];
+    check(&rt, are_right == [true; 3], &are_right);
 }
 
 /// Whether std's map of the entries is packed to the keys and the texts.
@@ -247,12 +255,15 @@ fn is_packed(alloc: Global, entries: &[(&str, &str)], keys: &[u8], values: &[u8]
 fn a_packed_map_has_its_entries_and_no_others(rt: HostRuntime) {
     assert!(rt; has_entries(PACKED_KEYS, PACKED_VALUES, PACKED_ENTRIES));
     for (key, value) in ENTRIES {
-        assert!(rt; is_value(PACKED_KEYS, PACKED_VALUES, key, value), "{key}");
+        check(&rt, is_value(PACKED_KEYS, PACKED_VALUES, key, value), &key);
     }
     for key in "AA|B|E|EU|EUS|FUR|eur|USA|U|JPZ|~~~".split('|') {
-        assert!(rt; is_no_key(PACKED_KEYS, PACKED_VALUES, key), "{key}");
+        check(&rt, is_no_key(PACKED_KEYS, PACKED_VALUES, key), &key);
     }
-    assert!(rt; has_entries(PACKED_ONE_KEY, b"a\0", &[("EUR", "a")]));
-    assert!(rt; has_entries(PACKED_NO_KEY, b"", &[]));
-    assert!(rt; is_no_key(PACKED_ONE_KEY, b"a\0", "") && is_no_key(PACKED_NO_KEY, b"", ""));
+    let are_right = [
+        has_entries(PACKED_ONE_KEY, b"a\0", &[("EUR", "a")]),
+        has_entries(PACKED_NO_KEY, b"", &[]),
+        is_no_key(PACKED_ONE_KEY, b"a\0", "") && is_no_key(PACKED_NO_KEY, b"", ""),
+    ];
+    check(&rt, are_right == [true; 3], &are_right);
 }
