@@ -6,3 +6,14 @@
 mod reading;
 #[cfg(test)]
 mod values;
+
+#[cfg(test)]
+use std::fmt::Debug;
+#[cfg(test)]
+use std::process::Abort;
+
+/// Ends the test, and prints the row, unless it is right.
+#[cfg(test)]
+fn check(rt: &impl Abort, is_right: bool, row: &impl Debug) {
+    assert!(rt; is_right, "{row:?}");
+}

@@ -1,5 +1,6 @@
 //! Identifiers and subtags, read, rejected and shown; subtags of an identifier, and an identifier of subtags.
 
+use crate::check;
 use std::convert::{AsSlice, AsStr};
 use std::str::FromStr;
 use subtags::LangIdError::{InvalidLanguage, InvalidSubtag};
@@ -10,7 +11,7 @@ fn accepted_inputs_give_their_canonical_text(rt: HostRuntime) {
     let rows = "en=en EN_latn-us=en-Latn-US es-419=es-419 ZH-hANT_TW=zh-Hant-TW abcde=abcde \
                 abcdefgh-Latn-419=abcdefgh-Latn-419";
     for row in rows.split_whitespace() {
-        assert!(rt; is_read_as_its_text(row), "{row}");
+        check(&rt, is_read_as_its_text(row), &row);
     }
 }
 
@@ -29,7 +30,7 @@ fn is_read_as_its_text(row: &str) -> bool {
 #[test]
 fn a_first_subtag_that_is_no_language_is_named(rt: HostRuntime) {
     for input in "|a|abcd|abcdefghi|e1|-en|en.US|abcd-!!".split('|') {
-        assert!(rt; is_rejected(input, InvalidLanguage), "{input}");
+        check(&rt, is_rejected(input, InvalidLanguage), &input);
     }
 }
 
@@ -37,7 +38,7 @@ fn a_first_subtag_that_is_no_language_is_named(rt: HostRuntime) {
 fn a_language_is_followed_by_a_script_a_region_or_both(rt: HostRuntime) {
     let inputs = "en- en--US en-US-Latn en-1234 en-u1 en-Lat1 en-Latn-Latn en-Latn-US-";
     for input in inputs.split_whitespace() {
-        assert!(rt; is_rejected(input, InvalidSubtag), "{input}");
+        check(&rt, is_rejected(input, InvalidSubtag), &input);
     }
 }
 
@@ -48,13 +49,13 @@ fn is_rejected(input: &str, error: LangIdError) -> bool {
 #[test]
 fn each_kind_reads_its_own(rt: HostRuntime) {
     for row in "EN=en abcd= a=".split_whitespace() {
-        assert!(rt; is_language_or_none(row), "{row}");
+        check(&rt, is_language_or_none(row), &row);
     }
     for row in "hANT=Hant Han1=".split_whitespace() {
-        assert!(rt; is_script_or_none(row), "{row}");
+        check(&rt, is_script_or_none(row), &row);
     }
     for row in "us=US 419=419 41= u1= u12=".split_whitespace() {
-        assert!(rt; is_region_or_none(row), "{row}");
+        check(&rt, is_region_or_none(row), &row);
     }
 }
 
@@ -85,14 +86,17 @@ fn is_region_or_none(row: &str) -> bool {
 
 #[test]
 fn values_are_parsed_and_tried_from_texts(rt: HostRuntime) {
-    assert!(rt; is_tried::<LangId>("EN_latn", Ok("en-Latn")));
-    assert!(rt; is_tried::<Language>("ZH", Ok("zh")));
-    assert!(rt; is_tried::<Script>("hANT", Ok("Hant")));
-    assert!(rt; is_tried::<Region>("tw", Ok("TW")));
-    assert!(rt; is_tried::<LangId>("en-Latn-", Err(InvalidSubtag)));
-    assert!(rt; is_tried::<Language>("abcd", Err(InvalidLanguage)));
-    assert!(rt; is_tried::<Script>("abc", Err(InvalidSubtag)));
-    assert!(rt; is_tried::<Region>("abc", Err(InvalidSubtag)));
+    let are_right = [
+        is_tried::<LangId>("EN_latn", Ok("en-Latn")),
+        is_tried::<Language>("ZH", Ok("zh")),
+        is_tried::<Script>("hANT", Ok("Hant")),
+        is_tried::<Region>("tw", Ok("TW")),
+        is_tried::<LangId>("en-Latn-", Err(InvalidSubtag)),
+        is_tried::<Language>("abcd", Err(InvalidLanguage)),
+        is_tried::<Script>("abc", Err(InvalidSubtag)),
+        is_tried::<Region>("abc", Err(InvalidSubtag)),
+    ];
+    check(&rt, are_right == [true; 8], &are_right);
 }
 
 /// Whether std's traits answer the input by the value of this text, or by this error.
@@ -119,7 +123,7 @@ fn shows<T: AsStr + AsSlice<u8>>(value: &T, text: &str) -> bool {
 fn an_identifier_gives_its_subtags_and_is_made_of_them(rt: HostRuntime) {
     let rows = "en/en// es-419/es//419 en-Latn/en/Latn/ abcdefgh-Hant-TW/abcdefgh/Hant/TW";
     for row in rows.split_whitespace() {
-        assert!(rt; has_its_subtags(row), "{row}");
+        check(&rt, has_its_subtags(row), &row);
     }
 }
 

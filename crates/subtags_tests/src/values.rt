@@ -1,5 +1,6 @@
 //! Values, compared, hashed and printed.
 
+use crate::check;
 use std::alloc::{AllocError, Global};
 use std::cmp::Ordering;
 use std::collections::HashSet;
@@ -11,10 +12,13 @@ use subtags::{LangId, LangIdError, Language, Region, Script};
 
 #[test]
 fn values_compare_as_their_texts(rt: HostRuntime) {
-    assert!(rt; are_in_order::<LangId>("en en-Latn en-Latn-US en-US enx"));
-    assert!(rt; are_in_order::<Language>("de en enx"));
-    assert!(rt; are_in_order::<Script>("Cyrl Hans Latn"));
-    assert!(rt; are_in_order::<Region>("001 419 DE US"));
+    let are_right = [
+        are_in_order::<LangId>("en en-Latn en-Latn-US en-US enx"),
+        are_in_order::<Language>("de en enx"),
+        are_in_order::<Script>("Cyrl Hans Latn"),
+        are_in_order::<Region>("001 419 DE US"),
+    ];
+    check(&rt, are_right == [true; 4], &are_right);
 }
 
 /// Whether the words are values, each less than those after it.
@@ -52,10 +56,13 @@ fn spellings_of_one_identifier_are_equal_and_found(rt: HostRuntime) -> Result<()
 #[test]
 fn values_are_printed_as_texts(rt: HostRuntime) {
     let forms = "zh-Hant-TW|\"zh-Hant-TW\"|zh-Hant-TW|zh-Hant-TW|z";
-    assert!(rt; has_forms::<LangId>(rt.alloc(), "ZH_hant-tw", forms));
-    assert!(rt; has_forms::<Language>(rt.alloc(), "ZH", "zh|\"zh\"|--zh---|zh   |z"));
-    assert!(rt; has_forms::<Script>(rt.alloc(), "hant", "Hant|\"Hant\"|-Hant--|Hant |H"));
-    assert!(rt; has_forms::<Region>(rt.alloc(), "tw", "TW|\"TW\"|--TW---|TW   |T"));
+    let are_right = [
+        has_forms::<LangId>(rt.alloc(), "ZH_hant-tw", forms),
+        has_forms::<Language>(rt.alloc(), "ZH", "zh|\"zh\"|--zh---|zh   |z"),
+        has_forms::<Script>(rt.alloc(), "hant", "Hant|\"Hant\"|-Hant--|Hant |H"),
+        has_forms::<Region>(rt.alloc(), "tw", "TW|\"TW\"|--TW---|TW   |T"),
+    ];
+    check(&rt, are_right == [true; 4], &are_right);
 }
 
 /// Whether the value of the spelling has these forms.
