@@ -12,6 +12,9 @@ HERE, THERE, START = "here", "there", "start"
 
 SECOND = 1e9
 
+# The title of the table of bench/build_cost, whose columns are what its numbers are.
+COSTS = "What it costs to build"
+
 # A table, a call and a column.
 Cell = tuple[str, str, str]
 COLUMNS = ["table", "call", "column", "whose", "median", "least", "largest"]
@@ -124,11 +127,22 @@ def ratio_table(results: Results, cells: list[Cell]) -> str:
     return grid("nanoseconds, ratio", rows)
 
 
+def cost_table(results: Results, cells: list[Cell]) -> str:
+    """A row for each cost: this crate's, the Rust crate's, and their ratio. Seconds have fractions."""
+    rows = {}
+    for cell in cells:
+        digits = 2 if cell[2] == "seconds" else 0
+        here, there = (f"{results.time(cell, whose):,.{digits}f}" for whose in (HERE, THERE))
+        rows[", ".join(cell[1:])] = {"this crate": here, "tinystr 0.8.5": there, "ratio": f"{results.ratio(cell):.2f}"}
+    return grid("cost", rows)
+
+
 def all_tables(results: Results, beginning: str = "") -> str:
     """The tables whose titles begin with `beginning`: with a column for each capacity where all rivals are the Rust crate."""
     made = []
     for title, cells in results.tables().items():
         if title.startswith(beginning):
             is_by_capacity = all(cell[2] and results.times[cell].keys() == {HERE, THERE} for cell in cells)
-            made.append(f"{title}\n\n{(ratio_table if is_by_capacity else crate_table)(results, cells)}")
+            table = cost_table if title == COSTS else ratio_table if is_by_capacity else crate_table
+            made.append(f"{title}\n\n{table(results, cells)}")
     return "\n\n".join(made)
