@@ -17,6 +17,8 @@ TWINS = {
     **{f"tinystr_{kind}/{map}.rt": "new(keys: &'a [u8]" for kind in ("packed", "hashed") for map in ("map", "text_map")},
 }
 CALL = re.compile(r"\b((?:Table|SortedTable|HashedTable)::(?:new|from_bytes))\(")
+# The module by hand with what twins of hashed tables call.
+HASHED = "crate::constants::tables::hashed"
 # The frame, and the name by which its rules are listed.
 FRAME = "cargo/eraser/in_constants.rs"
 NAME = "tinystr_words/in_constants.rt"
@@ -69,7 +71,7 @@ def with_twin(text: str, file: str) -> str:
     name = re.search(r"fn (\w+)", call)[1]
     panics = re.findall(r"(?m)^ *///\n */// # Panics\n(?:.*\n){2}", text[: text.index(call)])[-1]
     head = f"    /// `{name}` at compile time. At run time `{name}` is faster.\n"
-    twin = call.replace(f"pub fn {name}", f"pub const fn {name}_const").replace("first_out_of", "crate::constants::first_out_of")
+    twin = call.replace(f"pub fn {name}", f"pub const fn {name}_const").replace("first_out_of", f"{HASHED}::first_out_of")
     twin = CALL.sub(r"\1_const(", twin)
     return text.replace(call, f"{call}\n{head}{panics}{twin}")
 

@@ -71,13 +71,20 @@ DOCUMENTED_FIRST = "the page of a text begins with constructors and views"
 NAMED_AS_STR = "`Deref` to `str` has this name, and the original's callers use that"
 
 
+def of_feature(name: str) -> str:
+    return f'#[cfg(feature = "{name}")]\n'
+
+
+IDENTIFIERS = of_feature("identifiers")
+
+
 def at_root(*modules: str) -> list[Rule]:
     return [Rule(f"pub use {module}::", f"#[doc(inline)]\npub use {module}::", "documented at the root") for module in modules]
 
 
-def of_feature(*modules: str) -> list[Rule]:
+def of_alloc(*modules: str) -> list[Rule]:
     heads = [head for module in modules for head in (f"mod {module};", f"pub use {module}::")]
-    return [Rule(head, f'#[cfg(feature = "alloc")]\n{head}', "what allocates is feature `alloc`") for head in heads]
+    return [Rule(head, f"{of_feature('alloc')}{head}", "what allocates is feature `alloc`") for head in heads]
 
 
 IN_FILE = {
@@ -85,13 +92,15 @@ IN_FILE = {
         *at_root("ascii", "error", "unvalidated"),
         Rule(
             "pub mod short_input;",
-            "// private, and `is_empty` is called by no function here\n#[allow(dead_code)]\nmod short_input;",
+            f"// private, and `is_empty` is called by no function here\n#[allow(dead_code)]\n{IDENTIFIERS}mod short_input;",
             "its texts have conditions",
         ),
-        Rule("pub use short_input::", "pub(crate) use short_input::", "its texts have conditions"),
+        Rule("pub use short_input::", f"{IDENTIFIERS}pub(crate) use short_input::", "its texts have conditions"),
         Rule(
             "pub mod unvalidated;\n",
-            "pub mod unvalidated;\n\npub mod hashed;\npub mod packed;\npub mod subtags;\n"
+            "pub mod unvalidated;\n\n"
+            f"{of_feature('hashed')}pub mod hashed;\n{of_feature('packed')}pub mod packed;\n"
+            f"{IDENTIFIERS}pub mod subtags;\n"
             "// private, and some of it is called by no function here\n#[allow(dead_code, unused_imports)]\nmod words;\n",
             "the other crates are modules",
         ),
@@ -207,10 +216,10 @@ IN_FILE = {
             "what a kind gives is proved of the three that there are, so no caller adds one",
         ),
     ],
-    "tinystr_packed/lib.rt": of_feature("packing"),
+    "tinystr_packed/lib.rt": of_alloc("packing"),
     "tinystr_hashed/lib.rt": [
         Rule("mod hashing;", "pub(crate) mod hashing;", OF_CONSTANTS),
-        *of_feature("packing", "packing_maps"),
+        *of_alloc("packing", "packing_maps"),
         *(Rule(f"mod {it};", f"{UNUSED}mod {it};", "what allocates calls more of it") for it in ("building", "placing")),
     ],
     "tinystr_hashed/hashing.rt": [

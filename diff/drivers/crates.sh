@@ -38,8 +38,10 @@ write_exports_in_rust() { write_in_rust tinystr_exports "$top/diff/drivers/out" 
 # build_proved [SOURCE FLAG..]: builds cargo/tinystr-proved as libtinystr.rlib and, with a source of calls, these as libmade.rlib
 build_proved() {
     # the original's crate has the same name, so that this one's needs a mark
-    build --edition 2024 --crate-type rlib --crate-name tinystr -C metadata=made --cfg 'feature="alloc"' \
-        --check-cfg 'cfg(test, portable_lanes)' --check-cfg 'cfg(feature, values("alloc", "serde"))' "${@:2}" \
+    local features=()
+    for feature in alloc identifiers packed hashed; do features+=(--cfg "feature=\"$feature\""); done
+    build --edition 2024 --crate-type rlib --crate-name tinystr -C metadata=made "${features[@]}" \
+        --check-cfg 'cfg(test, portable_lanes)' --check-cfg 'cfg(feature, values(any()))' "${@:2}" \
         "$top/cargo/tinystr-proved/src/lib.rs" -o "$made/libtinystr.rlib"
     [ $# -eq 0 ] || build --crate-type rlib --crate-name made -A dead_code --extern tinystr="$made/libtinystr.rlib" "${@:2}" \
         "$1" -o "$made/libmade.rlib"

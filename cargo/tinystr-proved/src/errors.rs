@@ -2,13 +2,14 @@
 
 use crate::error::ParseError;
 use crate::forms::{BytesReadError, FormWriteError};
-#[cfg(feature = "alloc")]
-use crate::hashed::PackHashedError;
-use crate::hashed::{HashedError, HashedMapError, HashedTextMapError, PackIntoError};
-use crate::packed::{MapError, NotRising, SortedError, TextMapError};
 use crate::ule::UleError;
 use core::error::Error;
 use core::fmt::{Display, Formatter, Result};
+
+#[cfg(feature = "hashed")]
+mod hashed;
+#[cfg(feature = "packed")]
+mod packed;
 
 impl Display for ParseError {
     fn fmt(&self, f: &mut Formatter<'_>) -> Result {
@@ -58,109 +59,3 @@ impl Display for UleError {
 }
 
 impl Error for UleError {}
-
-impl Display for NotRising {
-    fn fmt(&self, f: &mut Formatter<'_>) -> Result {
-        write!(f, "record {} isn't above the one before it", self.index)
-    }
-}
-
-impl Error for NotRising {}
-
-impl Display for SortedError {
-    fn fmt(&self, f: &mut Formatter<'_>) -> Result {
-        match self {
-            SortedError::Records(fault) => write!(f, "{fault}"),
-            SortedError::Order(fault) => write!(f, "{fault}"),
-        }
-    }
-}
-
-impl Error for SortedError {}
-
-impl Display for MapError {
-    fn fmt(&self, f: &mut Formatter<'_>) -> Result {
-        match self {
-            MapError::Keys(fault) => write!(f, "keys: {fault}"),
-            MapError::Order(fault) => write!(f, "keys: {fault}"),
-            MapError::Values { keys, len } => write!(f, "{len} bytes aren't a value for each of {keys} keys"),
-        }
-    }
-}
-
-impl Error for MapError {}
-
-impl Display for TextMapError {
-    fn fmt(&self, f: &mut Formatter<'_>) -> Result {
-        match self {
-            TextMapError::Keys(fault) => write!(f, "keys: {fault}"),
-            TextMapError::Values(fault) => write!(f, "values: {fault}"),
-            TextMapError::Count { keys, values } => write!(f, "there are {values} values for {keys} keys"),
-        }
-    }
-}
-
-impl Error for TextMapError {}
-
-impl Display for HashedError {
-    fn fmt(&self, f: &mut Formatter<'_>) -> Result {
-        match self {
-            HashedError::Header { len } => write!(f, "{len} bytes are fewer than the sixteen of a header"),
-            HashedError::Version { version } => write!(f, "the version is {version}, and not 1"),
-            HashedError::Index { size, len } => {
-                write!(f, "{len} bytes after the header are fewer than the {size} of pilots and moves")
-            }
-            HashedError::Records(fault) => write!(f, "{fault}"),
-            HashedError::Place { index } => write!(f, "record {index} is out of order"),
-        }
-    }
-}
-
-impl Error for HashedError {}
-
-impl Display for HashedMapError {
-    fn fmt(&self, f: &mut Formatter<'_>) -> Result {
-        match self {
-            HashedMapError::Keys(fault) => write!(f, "keys: {fault}"),
-            HashedMapError::Values { keys, len } => write!(f, "{len} bytes aren't a value for each of {keys} keys"),
-        }
-    }
-}
-
-impl Error for HashedMapError {}
-
-impl Display for HashedTextMapError {
-    fn fmt(&self, f: &mut Formatter<'_>) -> Result {
-        match self {
-            HashedTextMapError::Keys(fault) => write!(f, "keys: {fault}"),
-            HashedTextMapError::Values(fault) => write!(f, "values: {fault}"),
-            HashedTextMapError::Count { keys, values } => write!(f, "there are {values} values for {keys} keys"),
-        }
-    }
-}
-
-impl Error for HashedTextMapError {}
-
-#[cfg(feature = "alloc")]
-impl<const N: usize> Display for PackHashedError<N> {
-    fn fmt(&self, f: &mut Formatter<'_>) -> Result {
-        match self {
-            PackHashedError::Duplicate { text } => write!(f, "a text occurs twice: {text}"),
-        }
-    }
-}
-
-#[cfg(feature = "alloc")]
-impl<const N: usize> Error for PackHashedError<N> {}
-
-impl Display for PackIntoError {
-    fn fmt(&self, f: &mut Formatter<'_>) -> Result {
-        match self {
-            PackIntoError::Out => write!(f, "there is too little room for the table"),
-            PackIntoError::Scratch => write!(f, "there is too little scratch"),
-            PackIntoError::Duplicate { index } => write!(f, "text {index} is equal to one before it"),
-        }
-    }
-}
-
-impl Error for PackIntoError {}

@@ -34,6 +34,9 @@
 //! | feature | what it adds |
 //! |---|---|
 //! | `alloc`, on by default | packing tables and maps, `count_texts`, and equality with `String` |
+//! | `identifiers`, on by default | [`subtags`] |
+//! | `packed`, on by default | [`packed`] |
+//! | `hashed`, on by default | [`hashed`], and `packed` |
 //! | `std` | `AsRef` for `TinyAsciiStr` |
 //! | `serde` | `Serialize` and `Deserialize` |
 //!
@@ -55,16 +58,19 @@ mod constants;
 #[cfg(doc)]
 pub mod definitions {}
 #[doc = include_str!("../README.md")]
-#[cfg(doctest)]
+#[cfg(all(doctest, feature = "identifiers", feature = "hashed"))]
 mod examples_of_readme {}
 mod errors;
+#[cfg(feature = "identifiers")]
 mod identifiers;
 mod in_words;
+#[cfg(feature = "identifiers")]
 mod sealed;
 #[cfg(feature = "serde")]
 mod serde;
 mod simd;
 mod strings;
+#[cfg(feature = "packed")]
 mod traits;
 
 // `src/proved/` has the modules that `cargo/erase` generates from proved sources. They are included, so `proved` is in no path.

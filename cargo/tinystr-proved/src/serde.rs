@@ -1,16 +1,14 @@
-//! Feature `serde`: a text where the format is human-readable, and else its `N` bytes, read by the proved readers. An identifier
-//! is a string in both, as in icu_locale_core.
+//! Feature `serde`: a text where the format is human-readable, and else its `N` bytes, read by the proved readers.
 
 use crate::ascii::TinyAsciiStr;
 use crate::forms::BytesReadError;
-use crate::subtags::subtag::{Subtag, SubtagKind};
-use crate::subtags::{LangId, LangIdError};
 use crate::unvalidated::UnvalidatedTinyAsciiStr;
 use core::fmt;
-use core::marker::PhantomData;
-use core::str::FromStr;
 use serde::de::{Deserialize, Deserializer, Error, SeqAccess, Visitor};
 use serde::ser::{Error as _, Serialize, SerializeTuple, Serializer};
+
+#[cfg(feature = "identifiers")]
+mod identifiers;
 
 impl<const N: usize> Serialize for TinyAsciiStr<N> {
     fn serialize<S: Serializer>(&self, serializer: S) -> Result<S::Ok, S::Error> {
@@ -65,37 +63,6 @@ impl<'de, const N: usize> Deserialize<'de> for UnvalidatedTinyAsciiStr<N> {
     }
 }
 
-impl Serialize for LangId {
-    fn serialize<S: Serializer>(&self, serializer: S) -> Result<S::Ok, S::Error> {
-        serializer.serialize_str(self.as_str())
-    }
-}
-
-impl<'de> Deserialize<'de> for LangId {
-    fn deserialize<D: Deserializer<'de>>(deserializer: D) -> Result<Self, D::Error> {
-        deserializer.deserialize_str(ParsedVisitor("a language identifier", PhantomData))
-    }
-}
-
-impl<K: SubtagKind<N>, const N: usize> Serialize for Subtag<K, N> {
-    fn serialize<S: Serializer>(&self, serializer: S) -> Result<S::Ok, S::Error> {
-        self.to_text().serialize(serializer)
-    }
-}
-
-/// In any case where the format is human-readable, and else only in the canonical one.
-impl<'de, K: SubtagKind<N>, const N: usize> Deserialize<'de> for Subtag<K, N> {
-    fn deserialize<D: Deserializer<'de>>(deserializer: D) -> Result<Self, D::Error> {
-        let is_for_people = deserializer.is_human_readable();
-        if is_for_people {
-            return deserializer.deserialize_str(ParsedVisitor("a subtag", PhantomData));
-        }
-        let text = TinyAsciiStr::deserialize(deserializer)?;
-        let read = Self::try_from_utf8(text.as_utf8()).filter(|subtag| subtag.to_text() == text);
-        read.ok_or_else(|| D::Error::custom(K::refusal()))
-    }
-}
-
 // The original's words for the first fault of bytes.
 fn refusal<const N: usize, E: Error>(fault: BytesReadError) -> E {
     match fault {
@@ -116,21 +83,6 @@ impl<const N: usize> Visitor<'_> for TextVisitor<N> {
 
     fn visit_str<E: Error>(self, s: &str) -> Result<TinyAsciiStr<N>, E> {
         TinyAsciiStr::try_from_str(s).map_err(|_| E::custom("invalid str"))
-    }
-}
-
-/// Parses a string, and says what was expected in the place of anything else.
-struct ParsedVisitor<T>(&'static str, PhantomData<T>);
-
-impl<T: FromStr<Err = LangIdError>> Visitor<'_> for ParsedVisitor<T> {
-    type Value = T;
-
-    fn expecting(&self, f: &mut fmt::Formatter) -> fmt::Result {
-        f.write_str(self.0)
-    }
-
-    fn visit_str<E: Error>(self, s: &str) -> Result<T, E> {
-        s.parse().map_err(E::custom)
     }
 }
 

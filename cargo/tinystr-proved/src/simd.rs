@@ -174,6 +174,8 @@ impl u8x16 {
         Mask16(machine::equal(self.0, other.0))
     }
 
+    // (identifiers alone compare so)
+    #[cfg_attr(not(feature = "identifiers"), allow(dead_code))]
     #[inline(always)]
     pub fn simd_lt(self, other: Self) -> Mask16 {
         Mask16(machine::less(self.0, other.0))

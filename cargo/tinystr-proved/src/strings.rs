@@ -1,13 +1,18 @@
-//! A value in the place of a `str`: each call here is one of the proved `as_str`. And a text of an array of bytes.
+//! A value in the place of a `str`: each call here is one of the proved `as_str`. And what its parts are to Rust's users, and a text
+//! of an array of bytes.
 
-use crate::ascii::TinyAsciiStr;
+use crate::ascii::{Parts, TinyAsciiStr};
 use crate::error::ParseError;
+#[cfg(feature = "identifiers")]
 use crate::subtags::LangId;
+#[cfg(feature = "identifiers")]
 use crate::subtags::subtag::{Subtag, SubtagKind};
 #[cfg(feature = "alloc")]
 use alloc::string::String;
 use core::borrow::Borrow;
+use core::fmt::{self, Debug, Formatter};
 use core::hash::{Hash, Hasher};
+use core::iter::FusedIterator;
 use core::ops::Deref;
 
 impl<const N: usize> Deref for TinyAsciiStr<N> {
@@ -82,6 +87,10 @@ macro_rules! with_strings {
 
 with_strings! {
     [const N: usize] TinyAsciiStr<N>;
+}
+
+#[cfg(feature = "identifiers")]
+with_strings! {
     [] LangId;
     [K: SubtagKind<N>, const N: usize] Subtag<K, N>;
 }
@@ -102,6 +111,7 @@ macro_rules! as_ref_like_str {
 #[cfg(feature = "std")]
 as_ref_like_str! { str, [u8], std::ffi::OsStr, std::path::Path }
 
+#[cfg(feature = "identifiers")]
 impl AsRef<str> for LangId {
     #[inline]
     fn as_ref(&self) -> &str {
@@ -109,9 +119,20 @@ impl AsRef<str> for LangId {
     }
 }
 
+#[cfg(feature = "identifiers")]
 impl<K: SubtagKind<N>, const N: usize> AsRef<str> for Subtag<K, N> {
     #[inline]
     fn as_ref(&self) -> &str {
         self.as_str()
     }
 }
+
+/// A list of the parts that are left.
+impl<const N: usize> Debug for Parts<'_, N> {
+    fn fmt(&self, f: &mut Formatter<'_>) -> fmt::Result {
+        f.debug_list().entries(self.clone()).finish()
+    }
+}
+
+// After the last one it gives `None` again.
+impl<const N: usize> FusedIterator for Parts<'_, N> {}

@@ -2,12 +2,11 @@
 //! what they hold, run through by a value or a reference, and say how much is left. And of subtags: they are copied, compared and
 //! hashed as their texts.
 
-use crate::ascii::Parts;
+#[cfg(feature = "hashed")]
 use crate::hashed::{self, HashedError, HashedMap, HashedTable, HashedTextMap};
 use crate::packed::{BinarySearchEach, Entries, GetEach, PackedMap, SortedError, SortedTable, Table, TextEntries, TextMap, Texts};
 use crate::ule::UleError;
 use core::fmt::{self, Debug, Formatter};
-use core::iter::FusedIterator;
 
 // Lists of the values that an expression gives of each of these types, and maps of the entries.
 macro_rules! printed {
@@ -25,20 +24,29 @@ printed! {
     debug_list:
     [const N: usize] Table<'_, N>, |it| it.iter();
     [const N: usize] SortedTable<'_, N>, |it| it.iter();
-    [const N: usize] HashedTable<'_, N>, |it| it.iter();
     [const N: usize] Texts<'_, N>, |it| it.clone();
-    [const N: usize] Parts<'_, N>, |it| it.clone();
+}
+
+#[cfg(feature = "hashed")]
+printed! {
+    debug_list:
+    [const N: usize] HashedTable<'_, N>, |it| it.iter();
 }
 
 printed! {
     debug_map:
     [const N: usize, const M: usize] PackedMap<'_, N, M>, |it| it.iter();
     [const N: usize, const M: usize] TextMap<'_, N, M>, |it| it.iter();
+    [const N: usize, const M: usize] Entries<'_, N, M>, |it| it.clone();
+    [const N: usize, const M: usize] TextEntries<'_, N, M>, |it| it.clone();
+}
+
+#[cfg(feature = "hashed")]
+printed! {
+    debug_map:
     [const N: usize, const M: usize] HashedMap<'_, N, M>, |it| it.iter();
     [const N: usize, const M: usize] HashedTextMap<'_, N, M>, |it| it.iter();
-    [const N: usize, const M: usize] Entries<'_, N, M>, |it| it.clone();
     [const N: usize, const M: usize] hashed::Entries<'_, N, M>, |it| it.clone();
-    [const N: usize, const M: usize] TextEntries<'_, N, M>, |it| it.clone();
 }
 
 // These can't be cloned: their names, and how many results are left.
@@ -83,23 +91,27 @@ macro_rules! run_through {
 run_through! {
     [const N: usize] Table<'a, N>, Texts<'a, N>, |it| it.iter();
     [const N: usize] SortedTable<'a, N>, Texts<'a, N>, |it| it.iter();
-    [const N: usize] HashedTable<'a, N>, Texts<'a, N>, |it| it.iter();
     [const N: usize, const M: usize] PackedMap<'a, N, M>, Entries<'a, N, M>, |it| it.iter();
     [const N: usize, const M: usize] TextMap<'a, N, M>, TextEntries<'a, N, M>, |it| it.iter();
+}
+
+#[cfg(feature = "hashed")]
+run_through! {
+    [const N: usize] HashedTable<'a, N>, Texts<'a, N>, |it| it.iter();
     [const N: usize, const M: usize] HashedMap<'a, N, M>, hashed::Entries<'a, N, M>, |it| it.iter();
     [const N: usize, const M: usize] HashedTextMap<'a, N, M>, TextEntries<'a, N, M>, |it| it.iter();
 }
 
-// After the last one it gives `None` again.
-impl<const N: usize> FusedIterator for Parts<'_, N> {}
-
 // A table or a map is a slice or two.
 impl<const N: usize> Copy for Table<'_, N> {}
 impl<const N: usize> Copy for SortedTable<'_, N> {}
+#[cfg(feature = "hashed")]
 impl<const N: usize> Copy for HashedTable<'_, N> {}
 impl<const N: usize, const M: usize> Copy for PackedMap<'_, N, M> {}
 impl<const N: usize, const M: usize> Copy for TextMap<'_, N, M> {}
+#[cfg(feature = "hashed")]
 impl<const N: usize, const M: usize> Copy for HashedMap<'_, N, M> {}
+#[cfg(feature = "hashed")]
 impl<const N: usize, const M: usize> Copy for HashedTextMap<'_, N, M> {}
 
 // Tables and maps whose records are equal, which an expression gives.
@@ -120,9 +132,13 @@ macro_rules! compared {
 compared! {
     [const N: usize] Table<'_, N>, |it| it.records();
     [const N: usize] SortedTable<'_, N>, |it| it.table().records();
-    [const N: usize] HashedTable<'_, N>, |it| it.table().records();
     [const N: usize, const M: usize] PackedMap<'_, N, M>, |it| (it.keys().table().records(), it.values());
     [const N: usize, const M: usize] TextMap<'_, N, M>, |it| (it.keys().table().records(), it.values().records());
+}
+
+#[cfg(feature = "hashed")]
+compared! {
+    [const N: usize] HashedTable<'_, N>, |it| it.table().records();
     [const N: usize, const M: usize] HashedMap<'_, N, M>, |it| (it.keys().table().records(), it.values());
     [const N: usize, const M: usize] HashedTextMap<'_, N, M>, |it| (it.keys().table().records(), it.values().records());
 }
@@ -144,5 +160,9 @@ macro_rules! read_of_bytes {
 read_of_bytes! {
     Table, new, UleError;
     SortedTable, from_bytes, SortedError;
+}
+
+#[cfg(feature = "hashed")]
+read_of_bytes! {
     HashedTable, from_bytes, HashedError;
 }

@@ -1,5 +1,5 @@
 //! Equality with strings, conversions and the texts of errors, which are written by hand.
-#![cfg(feature = "alloc")]
+#![cfg(all(feature = "alloc", feature = "identifiers", feature = "hashed"))]
 
 use std::collections::BTreeMap;
 use std::error::Error;

@@ -1,4 +1,5 @@
 //! A call panics where it doesn't meet a condition that is proved at each call in Rattle.
+#![cfg(feature = "hashed")]
 
 use std::panic::catch_unwind;
 use tinystr::hashed::{self, HashedMap, HashedTable, HashedTextMap};

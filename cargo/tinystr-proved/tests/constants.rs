@@ -1,4 +1,5 @@
 //! What constants call gives what is defined, and the twins for tables give the same as the calls that aren't `const`.
+#![cfg(all(feature = "identifiers", feature = "hashed"))]
 
 mod definitions;
 

@@ -1,5 +1,5 @@
 //! Hashed tables are packed as by another program, c/consumers/hashed.py, and each of their texts is found.
-#![cfg(feature = "alloc")]
+#![cfg(all(feature = "alloc", feature = "hashed"))]
 
 use std::collections::BTreeMap;
 use tinystr::hashed::{HashedError, HashedTable, HashedTextMap, PackHashedError, in_place};

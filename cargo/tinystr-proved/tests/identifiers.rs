@@ -1,4 +1,5 @@
 //! Language identifiers and subtags: the proved readers return what those of constants do.
+#![cfg(feature = "identifiers")]
 
 use tinystr::subtags::{LangId, LangIdError, Language, Region, Script};
 use tinystr::{lang_id, language, region, script};

@@ -1,4 +1,5 @@
 //! Sizes of optional texts, constants of texts as patterns, and that a pattern fits where `==` is true.
+#![cfg(feature = "packed")]
 
 use tinystr::packed::{Table, in_place};
 use tinystr::{TinyAsciiStr, tinystr};

@@ -1,4 +1,5 @@
 //! The traits that Rust's users expect of tables, maps, iterators and errors.
+#![cfg(all(feature = "identifiers", feature = "hashed"))]
 
 use std::fmt::Debug;
 use std::iter::FusedIterator;

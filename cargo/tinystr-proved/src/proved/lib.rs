@@ -4,12 +4,16 @@ pub mod error;
 pub mod forms;
 // private, and `is_empty` is called by no function here
 #[allow(dead_code)]
+#[cfg(feature = "identifiers")]
 mod short_input;
 pub mod ule;
 pub mod unvalidated;
 
+#[cfg(feature = "hashed")]
 pub mod hashed;
+#[cfg(feature = "packed")]
 pub mod packed;
+#[cfg(feature = "identifiers")]
 pub mod subtags;
 // private, and some of it is called by no function here
 #[allow(dead_code, unused_imports)]
@@ -19,6 +23,7 @@ mod words;
 pub use ascii::{Parts, TinyAsciiStr, TinyStr4, TinyStr8, TinyStr16};
 #[doc(inline)]
 pub use error::ParseError;
+#[cfg(feature = "identifiers")]
 pub(crate) use short_input::ShortInput;
 pub use crate::words::{Case, Question};
 #[doc(inline)]

@@ -140,7 +140,7 @@ impl<'a, const N: usize> HashedTable<'a, N> {
         if table.is_empty() {
             return Ok(HashedTable { table, places });
         }
-        match crate::constants::first_out_of_order(&table, &places) {
+        match crate::constants::tables::hashed::first_out_of_order(&table, &places) {
             None => Ok(HashedTable { table, places }),
             Some(index) => Err(HashedError::Place { index }),
         }
