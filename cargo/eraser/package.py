@@ -7,6 +7,7 @@ from pathlib import Path
 from eraser import Stopped, constants, substituted
 from eraser.contracts import Contracts, with_folds, without_ghosts
 from eraser.examples import with_examples
+from eraser.inlining import with_inlining
 from eraser.modules import AS_CONST, EXPORTED, MODULES, PRIVATE, PRIVATE_FILE, with_paths, with_signatures
 from eraser.omissions import LEFT_OUT, without_allocation_errors, without_items, without_kit_traits
 from eraser.rules import EVERYWHERE, IN_FILE, Rules, with_fields
@@ -34,7 +35,8 @@ def files_of_package(top: Path) -> dict[str, str]:
     text = rules.apply(frame, constants.NAME)
     rules.finish()
     text = generated_from(f"{constants.FRAME} and crates/tinystr_words", text)
-    return constants.without_moved(made) | {"words/in_constants.rs": text}
+    made = constants.without_moved(made) | {"words/in_constants.rs": text}
+    return {path: with_inlining(text, path) for path, text in made.items()}
 
 
 def rust_of(text: str, file: str, contracts: Contracts, rules: Rules) -> str:

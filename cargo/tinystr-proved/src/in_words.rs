@@ -12,13 +12,13 @@ const HIGH_BITS: u64 = !LOW_BITS;
 const ONES: u64 = 0x0101_0101_0101_0101;
 
 /// `a.min(b)`, which a `const fn` can't call.
-#[inline(always)]
+#[cfg_attr(not(debug_assertions), inline(always))]
 pub(crate) const fn least(a: usize, b: usize) -> usize {
     if b < a { b } else { a }
 }
 
 /// The length of a text with NULs after it.
-#[inline(always)]
+#[cfg_attr(not(debug_assertions), inline(always))]
 pub const fn text_len(bytes: &[u8]) -> usize {
     if bytes.len() <= 16 {
         let (front, back) = bytes.split_at(least(bytes.len(), 8));
@@ -43,13 +43,13 @@ pub const fn text_len(bytes: &[u8]) -> usize {
 }
 
 /// In each byte 1 where it is a character, else 0.
-#[inline(always)]
+#[cfg_attr(not(debug_assertions), inline(always))]
 const fn ones(text: u64) -> u64 {
     (text + LOW_BITS) >> 7 & ONES
 }
 
 /// Whether bytes are a text and then NULs.
-#[inline(always)]
+#[cfg_attr(not(debug_assertions), inline(always))]
 pub const fn is_padded(bytes: &[u8]) -> bool {
     let (words, last) = bytes.as_chunks();
     // as if a character were before the first
@@ -65,14 +65,14 @@ pub const fn is_padded(bytes: &[u8]) -> bool {
 
 /// The faults so far and those of a word, in high bits: a byte above 127, and a character after a NUL; and the high bits of the
 /// word's characters.
-#[inline(always)]
+#[cfg_attr(not(debug_assertions), inline(always))]
 const fn with_faults(faults: u64, before: u64, word: u64) -> (u64, u64) {
     let characters = ((word & LOW_BITS) + LOW_BITS) & HIGH_BITS;
     (faults | word | characters & !(characters << 8 | before >> 56), characters)
 }
 
 /// The first `Q` bytes of two texts joined, each in at most sixteen bytes.
-#[inline(always)]
+#[cfg_attr(not(debug_assertions), inline(always))]
 pub const fn concat<const N: usize, const M: usize, const Q: usize>(first: &[u8; N], len: usize, second: &[u8; M]) -> [u8; Q] {
     if N % 8 == 0 && len == N {
         let mut bytes = resize_at_once(first);
@@ -92,7 +92,7 @@ pub const fn concat<const N: usize, const M: usize, const Q: usize>(first: &[u8;
 }
 
 /// The low bytes of four numbers, of which the high bytes are 0.
-#[inline(always)]
+#[cfg_attr(not(debug_assertions), inline(always))]
 pub const fn word_of_four(units: &[u16]) -> u32 {
     let [a, b, c, d] = *units.first_chunk::<4>().unwrap();
     let given = a as u64 | (b as u64) << 16 | (c as u64) << 32 | (d as u64) << 48;
@@ -102,7 +102,7 @@ pub const fn word_of_four(units: &[u16]) -> u32 {
 }
 
 /// The low bytes of at most sixteen numbers, of which the high bytes are 0.
-#[inline(always)]
+#[cfg_attr(not(debug_assertions), inline(always))]
 pub const fn load_sixteen(units: &[u16]) -> u128 {
     let len = units.len();
     if len <= 8 {
@@ -114,7 +114,7 @@ pub const fn load_sixteen(units: &[u16]) -> u128 {
 
 /// The low bytes of eight numbers. They are written at a place that is known only at run time, so that the compiler packs them in
 /// a vector.
-#[inline(always)]
+#[cfg_attr(not(debug_assertions), inline(always))]
 const fn word_of_eight(units: &[u16], place: usize) -> u64 {
     let start = place % 8;
     let mut bytes = [0; 16];
@@ -127,7 +127,7 @@ const fn word_of_eight(units: &[u16], place: usize) -> u64 {
 }
 
 /// At most sixteen bytes, with the replacement for each that isn't a character, and then NULs. Most texts have only characters.
-#[inline(always)]
+#[cfg_attr(not(debug_assertions), inline(always))]
 pub const fn lossy_word<const N: usize>(units: &[u8], replacement: u8) -> [u8; N] {
     let len = units.len();
     if N <= 8 || len <= 8 {
@@ -161,7 +161,7 @@ static FIRST_ONES: [u64; 9] = {
 
 /// Whether one of the first `len` bytes isn't a character, where the others are NULs: some high bit is set. A byte above the first
 /// such one may have it too.
-#[inline(always)]
+#[cfg_attr(not(debug_assertions), inline(always))]
 const fn high_bits_of_faults(text: u64, len: usize) -> u64 {
     (text.wrapping_sub(FIRST_ONES[len]) | text) & HIGH_BITS
 }

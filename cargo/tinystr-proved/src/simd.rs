@@ -37,23 +37,23 @@ pub struct Mask16([u8; 16]);
 pub struct Mask8([u8; 16]);
 
 impl<T: Copy, const L: usize> Lanes<T, L> {
-    #[inline(always)]
+    #[cfg_attr(not(debug_assertions), inline(always))]
     pub const fn from_array(array: [T; L]) -> Self {
         Lanes(array)
     }
 
-    #[inline(always)]
+    #[cfg_attr(not(debug_assertions), inline(always))]
     pub const fn to_array(self) -> [T; L] {
         self.0
     }
 
     /// The first `L` elements of a slice: it panics where there are fewer.
-    #[inline(always)]
+    #[cfg_attr(not(debug_assertions), inline(always))]
     pub fn from_slice(slice: &[T]) -> Self {
         Lanes(*slice.first_chunk().unwrap())
     }
 
-    #[inline(always)]
+    #[cfg_attr(not(debug_assertions), inline(always))]
     pub const fn splat(value: T) -> Self {
         Lanes([value; L])
     }
@@ -81,7 +81,7 @@ macro_rules! on_numbers {
         impl<const L: usize> $trait for Lanes<u64, L> {
             type Output = Self;
 
-            #[inline(always)]
+            #[cfg_attr(not(debug_assertions), inline(always))]
             fn $call(self, other: Self) -> Self {
                 Lanes::$call(self, other)
             }
@@ -107,7 +107,7 @@ impl<const L: usize> Lanes<u64, L> {
 impl<const L: usize> Not for Lanes<u64, L> {
     type Output = Self;
 
-    #[inline(always)]
+    #[cfg_attr(not(debug_assertions), inline(always))]
     fn not(self) -> Self {
         Lanes::not(self)
     }
@@ -119,7 +119,7 @@ macro_rules! on_bytes {
         impl $trait for u8x16 {
             type Output = Self;
 
-            #[inline(always)]
+            #[cfg_attr(not(debug_assertions), inline(always))]
             fn $call(self, other: Self) -> Self {
                 Lanes(machine::$call(self.0, other.0))
             }
@@ -128,7 +128,7 @@ macro_rules! on_bytes {
         impl $trait for u8x8 {
             type Output = Self;
 
-            #[inline(always)]
+            #[cfg_attr(not(debug_assertions), inline(always))]
             fn $call(self, other: Self) -> Self {
                 Lanes(first_half(machine::$call(self.widened(), other.widened())))
             }
@@ -142,19 +142,19 @@ on_bytes! {
     BitOr bitor;
 }
 
-#[inline(always)]
+#[cfg_attr(not(debug_assertions), inline(always))]
 fn first_half(bytes: [u8; 16]) -> [u8; 8] {
     (u128::from_le_bytes(bytes) as u64).to_le_bytes()
 }
 
 impl u8x8 {
     /// Its bytes, and then zeros.
-    #[inline(always)]
+    #[cfg_attr(not(debug_assertions), inline(always))]
     fn widened(self) -> [u8; 16] {
         u128::from(u64::from_le_bytes(self.0)).to_le_bytes()
     }
 
-    #[inline(always)]
+    #[cfg_attr(not(debug_assertions), inline(always))]
     pub fn simd_lt(self, other: Self) -> Mask8 {
         Mask8(machine::less(self.widened(), other.widened()))
     }
@@ -162,27 +162,27 @@ impl u8x8 {
 
 impl Mask8 {
     /// The truth of lane `i` in bit `i`.
-    #[inline(always)]
+    #[cfg_attr(not(debug_assertions), inline(always))]
     pub fn to_bitmask(self) -> u64 {
         machine::bits(self.0)
     }
 }
 
 impl u8x16 {
-    #[inline(always)]
+    #[cfg_attr(not(debug_assertions), inline(always))]
     pub fn simd_eq(self, other: Self) -> Mask16 {
         Mask16(machine::equal(self.0, other.0))
     }
 
     // (identifiers alone compare so)
     #[cfg_attr(not(feature = "identifiers"), allow(dead_code))]
-    #[inline(always)]
+    #[cfg_attr(not(debug_assertions), inline(always))]
     pub fn simd_lt(self, other: Self) -> Mask16 {
         Mask16(machine::less(self.0, other.0))
     }
 
     /// The lanes at these places of this vector followed by the other.
-    #[inline(always)]
+    #[cfg_attr(not(debug_assertions), inline(always))]
     pub fn shuffle(self, other: Self, places: [usize; 16]) -> Self {
         if matches!(places, [1, 2, 3, 4, 5, 6, 7, 8, 9, 10, 11, 12, 13, 14, 15, 16]) {
             return Lanes(machine::next(self.0, other.0));
@@ -193,7 +193,7 @@ impl u8x16 {
 
 // Compares all lanes in one step.
 impl PartialEq for u8x16 {
-    #[inline(always)]
+    #[cfg_attr(not(debug_assertions), inline(always))]
     fn eq(&self, other: &Self) -> bool {
         if IS_PORTABLE {
             return u128::from_le_bytes(self.0) == u128::from_le_bytes(other.0);
@@ -205,7 +205,7 @@ impl PartialEq for u8x16 {
 impl BitOr for Mask16 {
     type Output = Self;
 
-    #[inline(always)]
+    #[cfg_attr(not(debug_assertions), inline(always))]
     fn bitor(self, other: Self) -> Self {
         Mask16(machine::bitor(self.0, other.0))
     }
@@ -213,20 +213,20 @@ impl BitOr for Mask16 {
 
 impl Mask16 {
     /// The truth of lane `i` in bit `i`.
-    #[inline(always)]
+    #[cfg_attr(not(debug_assertions), inline(always))]
     pub fn to_bitmask(self) -> u64 {
         machine::bits(self.0)
     }
 
     /// Each lane of the one where it is true, else of the other.
-    #[inline(always)]
+    #[cfg_attr(not(debug_assertions), inline(always))]
     pub fn select(self, one: u8x16, other: u8x16) -> u8x16 {
         Lanes(machine::select(self.0, one.0, other.0))
     }
 }
 
 impl u64x2 {
-    #[inline(always)]
+    #[cfg_attr(not(debug_assertions), inline(always))]
     pub fn to_le_bytes(self) -> u8x16 {
         let number = u128::from(self.0[0]) | u128::from(self.0[1]) << 64;
         Lanes(number.to_le_bytes())

@@ -43,84 +43,84 @@ macro_rules! for_each_width {
 }
 
 for_each_width! {
-    #[inline(always)]
+    #[cfg_attr(not(debug_assertions), inline(always))]
     pub const fn present(text: T) -> T {
         text.plus(T::splat(NOT_NUL)).and(T::splat(0x80))
     }
 
-    #[inline(always)]
+    #[cfg_attr(not(debug_assertions), inline(always))]
     pub const fn marks(bytes: T) -> T {
         present(bytes.and(T::splat(0x7f)))
     }
 
-    #[inline(always)]
+    #[cfg_attr(not(debug_assertions), inline(always))]
     pub const fn unpadded(bytes: T, marks: T) -> T {
         let late = marks.next_lanes().and(marks.not());
         bytes.and(T::splat(0x80)).or(late)
     }
 
-    #[inline(always)]
+    #[cfg_attr(not(debug_assertions), inline(always))]
     pub const fn outside(text: T, first: Range, others: Range) -> T {
         let below = text.plus(T::first_then(first.low, others.low)).not();
         let above = text.plus(T::first_then(first.high, others.high));
         below.or(above)
     }
 
-    #[inline(always)]
+    #[cfg_attr(not(debug_assertions), inline(always))]
     pub const fn inside(text: T, first: Range, others: Range) -> T {
         let not_below = text.plus(T::first_then(first.low, others.low));
         let above = text.plus(T::first_then(first.high, others.high));
         not_below.xor(above)
     }
 
-    #[inline(always)]
+    #[cfg_attr(not(debug_assertions), inline(always))]
     pub const fn case_bits(text: T, first: Range, others: Range) -> T {
         outside(text, first, others).not().high_bits_as_case_bits()
     }
 
-    #[inline(always)]
+    #[cfg_attr(not(debug_assertions), inline(always))]
     pub const fn with_case_bits(text: T) -> T {
         text.or(T::splat(0x20))
     }
 
-    #[inline(always)]
+    #[cfg_attr(not(debug_assertions), inline(always))]
     pub const fn no_character_marked(marks: T, text: T) -> bool {
         marks.and(present(text)).equals(T::splat(0))
     }
 
-    #[inline(always)]
+    #[cfg_attr(not(debug_assertions), inline(always))]
     pub const fn no_lane_marked(marks: T) -> bool {
         marks.and(T::splat(0x80)).equals(T::splat(0))
     }
 
     impl T {
-        #[inline(always)]
+        #[cfg_attr(not(debug_assertions), inline(always))]
         pub const fn first_then(first: u8, others: u8) -> Self {
             let mut bytes = [others; LEN];
             bytes[0] = first;
             Self::from_le_bytes(&bytes)
         }
 
-        #[inline(always)]
+        #[cfg_attr(not(debug_assertions), inline(always))]
         pub const fn splat(byte: u8) -> Self {
             Self::first_then(byte, byte)
         }
     }
 
     impl Aligned<T, LEN> {
-        #[inline(always)]
+        #[cfg_attr(not(debug_assertions), inline(always))]
         pub const fn from_ascii_bytes<const N: usize>(src: &[u8; N]) -> Self {
             Self::from_padded(src)
         }
 
-        #[inline(always)]
+        #[cfg_attr(not(debug_assertions), inline(always))]
         pub const fn from_padded(bytes: &[u8]) -> Self {
             Aligned {
                 word: T::load(bytes),
             }
         }
 
-        #[inline(always)]
+        #[cfg_attr(not(debug_assertions), inline(always))]
         pub const fn try_from_padded(bytes: &[u8]) -> Option<Self> {
             let word = T::load(bytes);
             if unpadded(word, marks(word)).equals(T::splat(0)) {
@@ -130,12 +130,12 @@ for_each_width! {
             }
         }
 
-        #[inline(always)]
+        #[cfg_attr(not(debug_assertions), inline(always))]
         pub const fn to_bytes(self) -> [u8; LEN] {
             self.word.to_bytes_in_registers()
         }
 
-        #[inline(always)]
+        #[cfg_attr(not(debug_assertions), inline(always))]
         pub const fn ask(&self, question: Question) -> bool {
             match question {
                 Question::Alphabetic => self.each_letter(),
@@ -150,24 +150,24 @@ for_each_width! {
             }
         }
 
-        #[inline(always)]
+        #[cfg_attr(not(debug_assertions), inline(always))]
         pub const fn each_in(&self, first: Range, others: Range) -> bool {
             let word = self.word;
             no_character_marked(outside(word, first, others), word)
         }
 
-        #[inline(always)]
+        #[cfg_attr(not(debug_assertions), inline(always))]
         pub const fn none_in(&self, first: Range, others: Range) -> bool {
             no_lane_marked(inside(self.word, first, others))
         }
 
-        #[inline(always)]
+        #[cfg_attr(not(debug_assertions), inline(always))]
         pub const fn each_letter(&self) -> bool {
             let word = self.word;
             no_character_marked(outside(with_case_bits(word), LOWER, LOWER), word)
         }
 
-        #[inline(always)]
+        #[cfg_attr(not(debug_assertions), inline(always))]
         pub const fn each_letter_or_digit(&self) -> bool {
             let word = self.word;
             let not_letter = outside(with_case_bits(word), LOWER, LOWER);
@@ -175,7 +175,7 @@ for_each_width! {
             no_character_marked(not_letter.and(not_digit), word)
         }
 
-        #[inline(always)]
+        #[cfg_attr(not(debug_assertions), inline(always))]
         pub const fn in_case(&self, case: Case) -> [u8; LEN] {
             let word = self.word;
             let bits = match case {
@@ -244,12 +244,12 @@ impl Word<u32> {
         self.0 == other.0
     }
 
-    #[inline(always)]
+    #[cfg_attr(not(debug_assertions), inline(always))]
     pub const fn to_bytes_in_memory(self) -> [u8; size_of::<Self>()] {
         self.to_bytes_in_registers()
     }
 
-    #[inline(always)]
+    #[cfg_attr(not(debug_assertions), inline(always))]
     pub const fn load(src: &[u8]) -> Self {
         Word(bytes::Load::<u32>::load(src))
     }
@@ -306,24 +306,24 @@ impl Word<u64> {
         self.0 == other.0
     }
 
-    #[inline(always)]
+    #[cfg_attr(not(debug_assertions), inline(always))]
     pub const fn to_bytes_in_memory(self) -> [u8; size_of::<Self>()] {
         self.to_bytes_in_registers()
     }
 
-    #[inline(always)]
+    #[cfg_attr(not(debug_assertions), inline(always))]
     pub const fn load(src: &[u8]) -> Self {
         Word(bytes::Load::<u64>::load(src))
     }
 }
 
 impl Word<u128> {
-    #[inline(always)]
+    #[cfg_attr(not(debug_assertions), inline(always))]
     pub const fn from_le_bytes(bytes: &[u8; 16]) -> Self {
         Word(u128::from_le_bytes(*bytes))
     }
 
-    #[inline(always)]
+    #[cfg_attr(not(debug_assertions), inline(always))]
     pub const fn to_bytes_in_registers(self) -> [u8; 16] {
         let mut bytes = [0; 16];
         bytes[15] = (self.0 >> 120) as u8;
@@ -334,7 +334,7 @@ impl Word<u128> {
         bytes
     }
 
-    #[inline(always)]
+    #[cfg_attr(not(debug_assertions), inline(always))]
     pub const fn to_bytes_in_memory(self) -> [u8; 16] {
         let low = (self.0 % HALF) as u64;
         let high = (self.0 / HALF) as u64;
@@ -344,47 +344,47 @@ impl Word<u128> {
         bytes
     }
 
-    #[inline(always)]
+    #[cfg_attr(not(debug_assertions), inline(always))]
     pub const fn plus(self, other: Self) -> Self {
         Word(whole(halves(self.0).add(halves(other.0))))
     }
 
-    #[inline(always)]
+    #[cfg_attr(not(debug_assertions), inline(always))]
     pub const fn and(self, other: Self) -> Self {
         Word(whole(halves(self.0).bitand(halves(other.0))))
     }
 
-    #[inline(always)]
+    #[cfg_attr(not(debug_assertions), inline(always))]
     pub const fn or(self, other: Self) -> Self {
         Word(whole(halves(self.0).bitor(halves(other.0))))
     }
 
-    #[inline(always)]
+    #[cfg_attr(not(debug_assertions), inline(always))]
     pub const fn xor(self, other: Self) -> Self {
         Word(whole(halves(self.0).bitxor(halves(other.0))))
     }
 
-    #[inline(always)]
+    #[cfg_attr(not(debug_assertions), inline(always))]
     pub const fn not(self) -> Self {
         Word(whole(halves(self.0).not()))
     }
 
-    #[inline(always)]
+    #[cfg_attr(not(debug_assertions), inline(always))]
     pub const fn high_bits_as_case_bits(self) -> Self {
         Word(whole(halves(self.0).bitand(halves(Self::splat(0x80).0)).shr(u64x2::splat(2))))
     }
 
-    #[inline(always)]
+    #[cfg_attr(not(debug_assertions), inline(always))]
     pub const fn next_lanes(self) -> Self {
         Word(self.0 >> 8)
     }
 
-    #[inline(always)]
+    #[cfg_attr(not(debug_assertions), inline(always))]
     pub const fn equals(self, other: Self) -> bool {
         self.0 == other.0
     }
 
-    #[inline(always)]
+    #[cfg_attr(not(debug_assertions), inline(always))]
     pub const fn load(src: &[u8]) -> Self {
         Word(bytes::Late::load(src))
     }
@@ -394,7 +394,7 @@ impl Word<u128> {
 mod words {
     use super::*;
 
-    #[inline(always)]
+    #[cfg_attr(not(debug_assertions), inline(always))]
     pub const fn split_word(bytes: &[u8]) -> Option<(Aligned16, &[u8])> {
         let Some((word, rest)) = bytes.split_first_chunk::<16>() else {
             return None;
@@ -402,7 +402,7 @@ mod words {
         Some((Aligned16::from_ascii_bytes(word), rest))
     }
 
-    #[inline(always)]
+    #[cfg_attr(not(debug_assertions), inline(always))]
     pub const fn ask(bytes: &[u8], question: Question) -> bool {
         let mut rest = bytes;
         let mut current = question;
@@ -416,7 +416,7 @@ mod words {
         Aligned16::from_padded(rest).ask(current)
     }
 
-    #[inline(always)]
+    #[cfg_attr(not(debug_assertions), inline(always))]
     pub const fn put_in_case(bytes: &mut [u8], case: Case) {
         let mut start = 0;
         let mut applied = case;
@@ -437,7 +437,7 @@ mod words {
 mod bytewise {
     use super::*;
 
-    #[inline(always)]
+    #[cfg_attr(not(debug_assertions), inline(always))]
     pub const fn ask_bytes(bytes: &[u8], question: Question) -> bool {
         // constants, so that no loop tests which question it is
         match question {
@@ -457,7 +457,7 @@ mod bytewise {
         }
     }
 
-    #[inline(always)]
+    #[cfg_attr(not(debug_assertions), inline(always))]
     pub const fn ask_apart(bytes: &[u8], first: Question, others: Question) -> bool {
         let (front, back) = bytes.split_at(16);
         let mut after_first = [0; 16];
@@ -467,7 +467,7 @@ mod bytewise {
         front_passes && ask_each(back, others)
     }
 
-    #[inline(always)]
+    #[cfg_attr(not(debug_assertions), inline(always))]
     pub const fn ask_each(bytes: &[u8], question: Question) -> bool {
         let mut rest = bytes;
         while rest.len() > 16 {
@@ -480,7 +480,7 @@ mod bytewise {
         all_pass(rest, question)
     }
 
-    #[inline(always)]
+    #[cfg_attr(not(debug_assertions), inline(always))]
     pub const fn all_pass(bytes: &[u8], question: Question) -> bool {
         // else a loop over texts may become one over a byte of each, several times as slow
         core::hint::black_box(());
@@ -493,7 +493,7 @@ mod bytewise {
         all
     }
 
-    #[inline(always)]
+    #[cfg_attr(not(debug_assertions), inline(always))]
     pub const fn passes(byte: u8, question: Question) -> bool {
         let is_nul = byte == 0;
         match question {
@@ -515,20 +515,20 @@ pub type Aligned8 = Aligned<Word<u64>, 8>;
 type Aligned16 = Aligned<Word<u128>, 16>;
 
 impl Aligned4 {
-    #[inline(always)]
+    #[cfg_attr(not(debug_assertions), inline(always))]
     pub const fn len(&self) -> usize {
         self.word.text_len()
     }
 }
 
 impl Aligned8 {
-    #[inline(always)]
+    #[cfg_attr(not(debug_assertions), inline(always))]
     pub const fn len_by_top(&self) -> usize {
         let bits = 63 - u64::leading_zeros(2 * self.word.0 + 1) as usize;
         (bits + 7) / 8
     }
 
-    #[inline(always)]
+    #[cfg_attr(not(debug_assertions), inline(always))]
     pub const fn concat(&self, other: &Self) -> Self {
         let (front, back) = (self.word, other.word);
         let len = self.len_by_top();
@@ -541,7 +541,7 @@ impl Aligned8 {
     }
 }
 
-#[inline(always)]
+#[cfg_attr(not(debug_assertions), inline(always))]
 pub const fn is_padded<const N: usize>(bytes: &[u8; N]) -> bool {
     match width_of(N) {
         Width::Four => Aligned4::try_from_padded(bytes.as_slice()).is_some(),
@@ -549,7 +549,7 @@ pub const fn is_padded<const N: usize>(bytes: &[u8; N]) -> bool {
     }
 }
 
-#[inline(always)]
+#[cfg_attr(not(debug_assertions), inline(always))]
 pub const fn len<const N: usize>(bytes: &[u8; N]) -> usize {
     match width_of(N) {
         Width::Four => Aligned4::from_ascii_bytes(bytes).len(),
@@ -558,7 +558,7 @@ pub const fn len<const N: usize>(bytes: &[u8; N]) -> usize {
     }
 }
 
-#[inline(always)]
+#[cfg_attr(not(debug_assertions), inline(always))]
 pub const fn ask<const N: usize>(bytes: &[u8; N], question: Question) -> bool {
     match width_of(N) {
         Width::Four => Aligned4::from_ascii_bytes(bytes).ask(question),
@@ -568,7 +568,7 @@ pub const fn ask<const N: usize>(bytes: &[u8; N], question: Question) -> bool {
     }
 }
 
-#[inline(always)]
+#[cfg_attr(not(debug_assertions), inline(always))]
 pub const fn put_in_case<const N: usize>(bytes: &mut [u8; N], case: Case) {
     match width_of(N) {
         Width::Four => {
@@ -583,7 +583,7 @@ pub const fn put_in_case<const N: usize>(bytes: &mut [u8; N], case: Case) {
     }
 }
 
-#[inline(always)]
+#[cfg_attr(not(debug_assertions), inline(always))]
 pub const fn concat<const N: usize, const M: usize, const Q: usize>(
     first: &[u8; N],
     second: &[u8; M],
@@ -604,13 +604,13 @@ pub const fn concat<const N: usize, const M: usize, const Q: usize>(
     }
 }
 
-#[inline(always)]
+#[cfg_attr(not(debug_assertions), inline(always))]
 pub const fn concat_in_word<const Q: usize>(first: &[u8], second: &[u8]) -> [u8; Q] {
     let text = Aligned8::from_padded(first).concat(&Aligned8::from_padded(second));
     resize_at_once(&text.to_bytes())
 }
 
-#[inline(always)]
+#[cfg_attr(not(debug_assertions), inline(always))]
 pub const fn concat_in_memory<const N: usize, const M: usize, const Q: usize>(
     first: [u8; N],
     first_len: usize,
@@ -627,7 +627,7 @@ pub const fn concat_in_memory<const N: usize, const M: usize, const Q: usize>(
     bytes
 }
 
-#[inline(always)]
+#[cfg_attr(not(debug_assertions), inline(always))]
 pub const fn put_both(bytes: &mut [u8], first: &[u8], second: &[u8]) {
     put(bytes, first);
     let end = crate::in_words::least(first.len(), bytes.len());
@@ -635,7 +635,7 @@ pub const fn put_both(bytes: &mut [u8], first: &[u8], second: &[u8]) {
 }
 
 /// What `ascii::readers::read_padded` returns.
-#[inline(always)]
+#[cfg_attr(not(debug_assertions), inline(always))]
 pub const fn read_padded<const N: usize>(raw: [u8; N]) -> Result<TinyAsciiStr<N>, ParseError> {
     if is_padded(&raw) {
         Ok(TinyAsciiStr::from_padded(raw))
@@ -656,7 +656,7 @@ const fn fault_by_value<const N: usize>(raw: [u8; N]) -> ParseError {
 /// Writes functions out for a code unit `U`, whose own stand beside them.
 macro_rules! readers {
     () => {
-        #[inline(always)]
+        #[cfg_attr(not(debug_assertions), inline(always))]
         pub const fn are_characters(units: &[U]) -> bool {
             let mut are_characters = true;
             let mut left = units;
@@ -667,12 +667,12 @@ macro_rules! readers {
             are_characters
         }
 
-        #[inline(always)]
+        #[cfg_attr(not(debug_assertions), inline(always))]
         pub const fn is_text_by_ends(units: &[U], count: usize) -> bool {
             are_characters(units.split_at(count).0) & are_characters(units.split_at(units.len() - count).1)
         }
 
-        #[inline(always)]
+        #[cfg_attr(not(debug_assertions), inline(always))]
         pub const fn is_text(units: &[U]) -> bool {
             let len = units.len();
             if len > 8 {
@@ -690,7 +690,7 @@ macro_rules! readers {
         pub struct Load<T>(T);
 
         impl Load<u32> {
-            #[inline(always)]
+            #[cfg_attr(not(debug_assertions), inline(always))]
             pub const fn load(src: &[U]) -> u32 {
                 let len = src.len();
                 if len == 0 {
@@ -708,7 +708,7 @@ macro_rules! readers {
         }
 
         impl Load<u64> {
-            #[inline(always)]
+            #[cfg_attr(not(debug_assertions), inline(always))]
             pub const fn load(src: &[U]) -> u64 {
                 let len = src.len();
                 if len < 4 {
@@ -721,7 +721,7 @@ macro_rules! readers {
         }
 
         for_each_width! {
-            #[inline(always)]
+            #[cfg_attr(not(debug_assertions), inline(always))]
             pub const fn try_from_text(units: &[U]) -> Option<Aligned<T, LEN>> {
                 if is_text(units) {
                     Some(Aligned {
@@ -733,7 +733,7 @@ macro_rules! readers {
             }
         }
 
-        #[inline(always)]
+        #[cfg_attr(not(debug_assertions), inline(always))]
         pub const fn byte_or(unit: U, replacement: u8) -> u8 {
             if is_character(unit) {
                 low_byte(unit)
@@ -742,7 +742,7 @@ macro_rules! readers {
             }
         }
 
-        #[inline(always)]
+        #[cfg_attr(not(debug_assertions), inline(always))]
         pub const fn read_piece<const K: usize>(
             bytes: &mut [u8],
             units: &[U],
@@ -760,13 +760,13 @@ macro_rules! readers {
             are_characters
         }
 
-        #[inline(always)]
+        #[cfg_attr(not(debug_assertions), inline(always))]
         pub const fn read_pair<const K: usize>(bytes: &mut [u8], units: &[U], replacement: u8) -> bool {
             let are_characters = read_piece::<K>(bytes, units, replacement, 0);
             are_characters & read_piece::<K>(bytes, units, replacement, units.len() - K)
         }
 
-        #[inline(always)]
+        #[cfg_attr(not(debug_assertions), inline(always))]
         pub const fn read_many(bytes: &mut [u8], units: &[U], replacement: u8) -> bool {
             let last = units.len() - 32;
             let mut are_characters = true;
@@ -778,7 +778,7 @@ macro_rules! readers {
             are_characters & read_piece::<32>(bytes, units, replacement, last)
         }
 
-        #[inline(always)]
+        #[cfg_attr(not(debug_assertions), inline(always))]
         pub const fn read_all(bytes: &mut [u8], units: &[U], replacement: u8) -> bool {
             // The capacity is known at compile time, so no code is built for pieces that are longer.
             let capacity = bytes.len();
@@ -798,7 +798,7 @@ macro_rules! readers {
             }
         }
 
-        #[inline(always)]
+        #[cfg_attr(not(debug_assertions), inline(always))]
         pub const fn low_bytes<const N: usize>(units: &[U]) -> [u8; N] {
             let mut bytes = [0; N];
             let mut i = 0;
@@ -809,14 +809,14 @@ macro_rules! readers {
             bytes
         }
 
-        #[inline(always)]
+        #[cfg_attr(not(debug_assertions), inline(always))]
         pub const fn lossy_chunk<const N: usize>(units: &[U], replacement: u8) -> [u8; N] {
             let mut bytes = [0; N];
             read_piece::<N>(&mut bytes, units, replacement, 0);
             bytes
         }
 
-        #[inline(always)]
+        #[cfg_attr(not(debug_assertions), inline(always))]
         pub const fn lossy<const N: usize>(units: &[U], replacement: u8) -> [u8; N] {
             if units.len() >= N {
                 // past 8 bytes the loop of a known length is faster
@@ -836,7 +836,7 @@ macro_rules! readers {
             bytes
         }
 
-        #[inline(always)]
+        #[cfg_attr(not(debug_assertions), inline(always))]
         pub const fn read<const N: usize>(units: &[U]) -> Result<TinyAsciiStr<N>, ParseError> {
             if N > 16 && units.len() > 16 {
                 return read_pieces(units);
@@ -860,7 +860,7 @@ macro_rules! readers {
             Err(fault::<N>(units))
         }
 
-        #[inline(always)]
+        #[cfg_attr(not(debug_assertions), inline(always))]
         pub const fn read_pieces<const N: usize>(units: &[U]) -> Result<TinyAsciiStr<N>, ParseError> {
             if units.len() > N {
                 return Err(fault::<N>(units));
@@ -898,7 +898,7 @@ macro_rules! readers {
             None
         }
 
-        #[inline(always)]
+        #[cfg_attr(not(debug_assertions), inline(always))]
         pub const fn fault<const N: usize>(units: &[U]) -> ParseError {
             if units.len() > N {
                 return ParseError::TooLong {
@@ -920,27 +920,27 @@ pub mod bytes {
     use crate::in_words::lossy_word;
     type U = u8;
 
-    #[inline(always)]
+    #[cfg_attr(not(debug_assertions), inline(always))]
     pub const fn code(unit: U) -> u16 {
         unit as u16
     }
 
-    #[inline(always)]
+    #[cfg_attr(not(debug_assertions), inline(always))]
     pub const fn is_character(unit: U) -> bool {
         unit.wrapping_sub(1) < CHARACTERS
     }
 
-    #[inline(always)]
+    #[cfg_attr(not(debug_assertions), inline(always))]
     pub const fn low_byte(unit: U) -> u8 {
         unit
     }
 
-    #[inline(always)]
+    #[cfg_attr(not(debug_assertions), inline(always))]
     pub const fn as_bytes(units: &[u8]) -> Option<&[u8]> {
         Some(units)
     }
 
-    #[inline(always)]
+    #[cfg_attr(not(debug_assertions), inline(always))]
     pub const fn word_of_four(units: &[u8]) -> u32 {
         u32::from_le_bytes(*units.first_chunk::<4>().unwrap())
     }
@@ -948,7 +948,7 @@ pub mod bytes {
     readers! {}
 
     impl Load<u128> {
-        #[inline(always)]
+        #[cfg_attr(not(debug_assertions), inline(always))]
         pub const fn load(src: &[U]) -> u128 {
             let len = src.len();
             if len <= 8 {
@@ -983,22 +983,22 @@ pub mod numbers {
     use crate::in_words::{load_sixteen, lossy_word, word_of_four};
     type U = u16;
 
-    #[inline(always)]
+    #[cfg_attr(not(debug_assertions), inline(always))]
     pub const fn code(unit: U) -> u16 {
         unit
     }
 
-    #[inline(always)]
+    #[cfg_attr(not(debug_assertions), inline(always))]
     pub const fn is_character(unit: U) -> bool {
         unit.wrapping_sub(1) < CHARACTERS as u16
     }
 
-    #[inline(always)]
+    #[cfg_attr(not(debug_assertions), inline(always))]
     pub const fn low_byte(unit: U) -> u8 {
         (unit % 256) as u8
     }
 
-    #[inline(always)]
+    #[cfg_attr(not(debug_assertions), inline(always))]
     pub const fn as_bytes(_: &[u16]) -> Option<&[u8]> {
         None
     }
@@ -1006,7 +1006,7 @@ pub mod numbers {
     readers! {}
 
     impl Load<u128> {
-        #[inline(always)]
+        #[cfg_attr(not(debug_assertions), inline(always))]
         pub const fn load(units: &[U]) -> u128 {
             load_sixteen(units)
         }

@@ -31,7 +31,7 @@ pub trait Word<const LEN: usize>: Copy {
     /// ```text
     /// ensures { result ≡ lanes_of LEN (number self) }
     /// ```
-    #[inline(always)]
+    #[cfg_attr(not(debug_assertions), inline(always))]
     fn to_bytes_in_memory(self) -> [u8; LEN] {
         self.to_bytes_in_registers()
     }
@@ -138,7 +138,7 @@ pub trait Word<const LEN: usize>: Copy {
     /// ```text
     /// ensures { number result ≡ word (first_then LEN first others) }
     /// ```
-    #[inline(always)]
+    #[cfg_attr(not(debug_assertions), inline(always))]
     fn first_then(first: u8, others: u8) -> Self {
         let mut bytes = [others; LEN];
         bytes[0] = first;
@@ -152,7 +152,7 @@ pub trait Word<const LEN: usize>: Copy {
     /// ```text
     /// ensures { number result ≡ word (first_then LEN byte byte) }
     /// ```
-    #[inline(always)]
+    #[cfg_attr(not(debug_assertions), inline(always))]
     fn splat(byte: u8) -> Self {
         Self::first_then(byte, byte)
     }
@@ -170,7 +170,7 @@ impl Word<4> for u32 {
     }
 
     // Of one to three code units, the first, the middle and the last are all.
-    #[inline(always)]
+    #[cfg_attr(not(debug_assertions), inline(always))]
     fn load<U: CodeUnit>(src: &[U]) -> u32 {
         let len = src.len();
         if len == 0 {
@@ -245,7 +245,7 @@ impl Word<8> for u64 {
     }
 
     // Four code units are two pieces too, as in `is_text`, so that a caller of both tests the length once.
-    #[inline(always)]
+    #[cfg_attr(not(debug_assertions), inline(always))]
     fn load<U: CodeUnit>(src: &[U]) -> u64 {
         let len = src.len();
         if len < 4 {
@@ -309,7 +309,7 @@ pub(crate) const HALF: u128 = 1 << 64;
 // on; in halves or as one number they would take two registers, and twice the steps.
 // Proved:
 //     ensures { result ≡ (word % 2 ^ 64) ∷ (word / 2 ^ 64) ∷ [] }
-#[inline(always)]
+#[cfg_attr(not(debug_assertions), inline(always))]
 pub(crate) const fn halves(word: u128) -> u64x2 {
     u64x2::from_array([(word % HALF) as u64, (word / HALF) as u64])
 }
@@ -321,7 +321,7 @@ pub(crate) const fn halves(word: u128) -> u64x2 {
 /// ```text
 /// ensures { result ≡ lanes_of 16 word }
 /// ```
-#[inline(always)]
+#[cfg_attr(not(debug_assertions), inline(always))]
 pub fn lanes(word: u128) -> u8x16 {
     halves(word).to_le_bytes()
 }
@@ -329,7 +329,7 @@ pub fn lanes(word: u128) -> u8x16 {
 // The word of two halves.
 // Proved:
 //     ensures { result ≡ low + 2 ^ 64 * high }
-#[inline(always)]
+#[cfg_attr(not(debug_assertions), inline(always))]
 pub(crate) const fn joined(low: u64, high: u64) -> u128 {
     low as u128 | (high as u128) << 64
 }
@@ -337,21 +337,21 @@ pub(crate) const fn joined(low: u64, high: u64) -> u128 {
 // The word of the halves in a vector.
 // Proved:
 //     ensures { result ≡ slice_index halves 0 + 2 ^ 64 * slice_index halves 1 }
-#[inline(always)]
+#[cfg_attr(not(debug_assertions), inline(always))]
 pub(crate) const fn whole(halves: u64x2) -> u128 {
     let [low, high] = halves.to_array();
     joined(low, high)
 }
 
 impl Word<16> for u128 {
-    #[inline(always)]
+    #[cfg_attr(not(debug_assertions), inline(always))]
     fn from_le_bytes(bytes: &[u8; 16]) -> u128 {
         u128::from_le_bytes(*bytes)
     }
 
     // In pieces that end at the bytes 7 and 15, where the compiler cuts a `Result` of a text and an error of two
     // numbers: each then stays in a register.
-    #[inline(always)]
+    #[cfg_attr(not(debug_assertions), inline(always))]
     fn to_bytes_in_registers(self) -> [u8; 16] {
         let mut bytes = [0; 16];
         bytes[15] = (self >> 120) as u8;
@@ -362,7 +362,7 @@ impl Word<16> for u128 {
         bytes
     }
 
-    #[inline(always)]
+    #[cfg_attr(not(debug_assertions), inline(always))]
     fn to_bytes_in_memory(self) -> [u8; 16] {
         let low = (self % HALF) as u64;
         let high = (self / HALF) as u64;
@@ -372,7 +372,7 @@ impl Word<16> for u128 {
         bytes
     }
 
-    #[inline(always)]
+    #[cfg_attr(not(debug_assertions), inline(always))]
     fn load<U: CodeUnit>(src: &[U]) -> u128 {
         let len = src.len();
         if len <= 8 {
@@ -383,47 +383,47 @@ impl Word<16> for u128 {
         joined(low, high >> (8 * (16 - len)))
     }
 
-    #[inline(always)]
+    #[cfg_attr(not(debug_assertions), inline(always))]
     fn text_len(self) -> usize {
         16 - u128::leading_zeros(self) as usize / 8
     }
 
-    #[inline(always)]
+    #[cfg_attr(not(debug_assertions), inline(always))]
     fn plus(self, other: u128) -> u128 {
         whole(halves(self) + halves(other))
     }
 
-    #[inline(always)]
+    #[cfg_attr(not(debug_assertions), inline(always))]
     fn and(self, other: u128) -> u128 {
         whole(halves(self) & halves(other))
     }
 
-    #[inline(always)]
+    #[cfg_attr(not(debug_assertions), inline(always))]
     fn or(self, other: u128) -> u128 {
         whole(halves(self) | halves(other))
     }
 
-    #[inline(always)]
+    #[cfg_attr(not(debug_assertions), inline(always))]
     fn xor(self, other: u128) -> u128 {
         whole(halves(self) ^ halves(other))
     }
 
-    #[inline(always)]
+    #[cfg_attr(not(debug_assertions), inline(always))]
     fn not(self) -> u128 {
         whole(!halves(self))
     }
 
-    #[inline(always)]
+    #[cfg_attr(not(debug_assertions), inline(always))]
     fn high_bits_as_case_bits(self) -> u128 {
         whole((halves(self) & halves(Self::splat(0x80))) >> u64x2::splat(2))
     }
 
-    #[inline(always)]
+    #[cfg_attr(not(debug_assertions), inline(always))]
     fn next_lanes(self) -> u128 {
         self >> 8
     }
 
-    #[inline(always)]
+    #[cfg_attr(not(debug_assertions), inline(always))]
     fn equals(self, other: u128) -> bool {
         self == other
     }
