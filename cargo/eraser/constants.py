@@ -1,8 +1,8 @@
 """Functions that constants call: proved ones once more, in a hand-written frame that names them.
 
-A line '//= FILE: `NAMES`' of the frame is replaced by the functions of these names in a made file, and '//= FILE, ITEM: `NAMES`'
-by those of one item: with `free` before the names if they are no methods here, and with `held` if they are those of a word that
-holds the number. Each becomes a `pub const fn` without its comment, in what a `const fn` can do.
+A line '//= FILE: `NAMES`' of the frame is replaced by the functions and constants of these names in a made file, and
+'//= FILE, ITEM: `NAMES`' by those of one item: with `free` before the names if they are no methods here, and with `held` if they
+are those of a word that holds the number. A function becomes a `pub const fn` without its comment, in what a `const fn` can do.
 """
 
 import re
@@ -27,12 +27,13 @@ MOVED = {
     "ascii/readers.rs": ["fn read", "fn read_padded", "fn read_pieces", "fn find_fault", "fn fault"],
     "words/code_unit.rs": ["impl CodeUnit for u16"],
     "words/padded.rs": ["fn len", "fn ask", "fn put_in_case", "fn concat"],
-    **{f"words/{name}.rs": [] for name in ("bytewise", "padded/code_units", "padded/concatenation", "padded/words")},
+    **{f"words/{name}.rs": [] for name in ("bytewise", "in_words", "padded/code_units", "padded/concatenation", "padded/words")},
 }
 MARK = re.compile(r"^( *)//= (?P<file>\S+\.rs)(?:, (?P<item>.*?))?: (?P<how>free |held )?`(?P<names>[\w ]+)`\n", re.M)
 HEAD = r"( *)(?:pub(?:\(crate\))? )?(?:const )?fn "
 # An item, and a function that has a body, with its attributes: each ends at the first brace as far in as its head.
 ITEM = r"^()%s \{\n(?:.*\n)*?\}\n"
+CONSTANT = r"^()const %s: .*;\n"
 FUNCTION = rf"(?:^ *#\[.*\]\n)*^{HEAD}%s(?!\w).*[^;]\n(?:.*\n)*?\1\}}\n"
 # The frame names the code unit by a type `U`, and its trait's functions are free.
 OF_UNITS = [
@@ -50,7 +51,7 @@ def with_functions(frame: str, made: dict[str, str]) -> str:
     def functions(mark: re.Match) -> str:
         file = mark["file"]
         text = only(ITEM, mark["item"], made[file], file) if mark["item"] else made[file]
-        found = (only(FUNCTION, name, text, file) for name in mark["names"].split())
+        found = (only(CONSTANT if name.isupper() else FUNCTION, name, text, file) for name in mark["names"].split())
         change = {"free ": without_self, "held ": of_word, None: str}[mark["how"]]
         return "\n".join(placed(change(it), mark[1]) for it in found)
 

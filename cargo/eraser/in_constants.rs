@@ -4,7 +4,6 @@
 
 use crate::ascii::TinyAsciiStr;
 use crate::error::ParseError;
-use crate::in_words;
 use crate::simd::u64x2;
 use crate::words::code_unit::CHARACTERS;
 use crate::words::kernel::{DIGIT, LOWER, NOT_NUL, Range, UPPER};
@@ -103,8 +102,30 @@ mod words {
 mod bytewise {
     use super::*;
 
-    //= words/bytewise.rs: `ask_bytes ask_apart ask_each all_pass passes`
+    //= words/bytewise.rs: `ask ask_bytes ask_apart ask_each all_pass passes`
 }
+
+/// Bytes in words of eight.
+mod in_words {
+    use super::bytes::Load;
+    use super::*;
+
+    //= words/in_words.rs: `LOW_BITS HIGH_BITS ONES word_of`
+
+    //= words/in_words.rs: `is_padded are_padded characters_of faults_of`
+
+    //= words/in_words.rs: `len len_of_two len_of_many len_of_part ones_of`
+}
+
+/// What `bytewise` calls.
+mod padded {
+    use super::*;
+
+    //= words/padded.rs: `ask`
+}
+
+pub use bytewise::ask;
+pub use in_words::{is_padded, len};
 
 type Aligned4 = Aligned<Word<u32>, 4>;
 pub type Aligned8 = Aligned<Word<u64>, 8>;
@@ -118,7 +139,7 @@ impl Aligned8 {
     //= words/int_ops.rs, impl Aligned<u64, 8>: `len_by_top concat`
 }
 
-//= words/padded.rs: `is_padded len ask put_in_case concat`
+//= words/padded.rs: `put_in_case concat`
 
 //= words/padded/concatenation.rs: `concat_in_word concat_in_memory put_both`
 

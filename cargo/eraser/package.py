@@ -4,7 +4,7 @@ import re
 from collections.abc import Iterator
 from pathlib import Path
 
-from eraser import Stopped, constants, substituted
+from eraser import Stopped, constants, stand_ins, substituted
 from eraser.contracts import Contracts, with_folds, without_ghosts
 from eraser.examples import with_examples
 from eraser.inlining import with_inlining
@@ -27,6 +27,7 @@ def files_of_package(top: Path) -> dict[str, str]:
     """The generated files, by their paths in `src/proved/`."""
     contracts, rules = Contracts(), Rules(IN_FILE, EVERYWHERE)
     found = {file: text for crate in MODULES for file, text in sources(top / "crates" / crate)}
+    stand_ins.check(found)
     for file in FILES_LEFT_OUT.keys() - found.keys():
         raise Stopped(f"{file} is left out, and isn't there")
     made = {place_of(file): rust_of(text, file, contracts, rules) for file, text in found.items() if file not in FILES_LEFT_OUT}

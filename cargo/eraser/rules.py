@@ -281,14 +281,6 @@ IN_FILE = {
         ),
         Rule("passes(*byte, question)", "passes(byte, question)", IN_CONSTANTS),
         # past eight bytes, and 16-bit numbers
-        Rule("words::len(bytes)", "in_words::text_len(bytes)", WITHOUT_VECTORS),
-        Rule(
-            "Width::Eight => Aligned8::try_from_padded(bytes.as_slice()).is_some(),\n"
-            "        Width::Sixteen => Aligned16::try_from_padded(bytes.as_slice()).is_some(),\n"
-            "        Width::Many => padding::is_padded(bytes.as_slice()),",
-            "Width::Eight | Width::Sixteen | Width::Many => in_words::is_padded(bytes),",
-            WITHOUT_VECTORS,
-        ),
         Rule("Some(bytes) if N <= 8 =>", "Some(bytes) if N <= 16 =>", WITHOUT_VECTORS),
         Rule(
             "            if N >= 8 && as_bytes(units).is_none() {\n"
@@ -300,7 +292,7 @@ IN_FILE = {
         ),
         Rule("if units.len() == N {", "if as_bytes(units).is_some() && units.len() == N {", "the same"),
         Rule("fit_vectors(first_part.len(), second_part.len())", "N <= 16 && M <= 16", WITHOUT_VECTORS),
-        Rule("concat_in_vectors(first_part, second_part)", "in_words::concat(first, len(first), second)", WITHOUT_VECTORS),
+        Rule("concat_in_vectors(first_part, second_part)", "crate::in_words::concat(first, len(first), second)", WITHOUT_VECTORS),
         # readers
         Rule("pub const fn find_fault", "#[inline]\n    pub const fn find_fault", "not generic, so callers inline it only so"),
         Rule("try_from_text(units: &[U]) -> Option<Self>", "try_from_text(units: &[U]) -> Option<Aligned<T, LEN>>", OF_WIDTHS),
@@ -320,12 +312,6 @@ IN_FILE = {
     "tinystr_words/padded.rt": [
         Rule("mod copying;", "pub mod copying;", OF_CONSTANTS),
         Rule("mod words;\n", "", OF_CONST_CALLS),
-        Rule(
-            "        Width::Sixteen | Width::Many => words::ask(bytes, question),\n",
-            "        Width::Many if N % 8 == 0 => bytewise::ask_bytes(bytes, question),\n"
-            "        Width::Sixteen | Width::Many => words::ask(bytes, question),\n",
-            "rustc makes vectors of loops over bytes",
-        ),
     ],
 }
 

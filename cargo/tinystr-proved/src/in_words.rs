@@ -1,8 +1,8 @@
-//! What `const fn` has in words of 64 bits, since it calls no vector: `len` and `concat` past eight bytes, the test of padding
-//! past four, and what readers do with at most sixteen code units. Written by hand. A sum of the low seven bits of bytes leaves
-//! their high bits for what it carries, so no byte carries into the next.
+//! What `const fn` has in words of 64 bits, since it calls no vector: `concat` past eight bytes, and what readers do with at most
+//! sixteen code units. Written by hand. A sum of the low seven bits of bytes leaves their high bits for what it carries, so no byte
+//! carries into the next.
 
-use crate::words::in_constants::{Aligned8, bytes, numbers};
+use crate::words::in_constants::{bytes, numbers};
 use crate::words::padded::copying::append;
 use crate::words::padded::resize_at_once;
 use crate::words::word::joined;
@@ -15,60 +15,6 @@ const ONES: u64 = 0x0101_0101_0101_0101;
 #[cfg_attr(not(debug_assertions), inline(always))]
 pub(crate) const fn least(a: usize, b: usize) -> usize {
     if b < a { b } else { a }
-}
-
-/// The length of a text with NULs after it.
-#[cfg_attr(not(debug_assertions), inline(always))]
-pub const fn text_len(bytes: &[u8]) -> usize {
-    if bytes.len() <= 16 {
-        let (front, back) = bytes.split_at(least(bytes.len(), 8));
-        return Aligned8::from_padded(front).len_by_top() + Aligned8::from_padded(back).len_by_top();
-    }
-    let mut len = 0;
-    let mut rest = bytes;
-    while !rest.is_empty() {
-        // a sum of 240 ones fits in a byte
-        let (part, after) = rest.split_at(least(rest.len(), 240));
-        let (words, last) = part.as_chunks();
-        let mut sum = ones(bytes::Load::<u64>::load(last));
-        let mut at = 0;
-        while at < words.len() {
-            sum += ones(u64::from_le_bytes(words[at]));
-            at += 1;
-        }
-        len += (sum.wrapping_mul(ONES) >> 56) as usize;
-        rest = after;
-    }
-    len
-}
-
-/// In each byte 1 where it is a character, else 0.
-#[cfg_attr(not(debug_assertions), inline(always))]
-const fn ones(text: u64) -> u64 {
-    (text + LOW_BITS) >> 7 & ONES
-}
-
-/// Whether bytes are a text and then NULs.
-#[cfg_attr(not(debug_assertions), inline(always))]
-pub const fn is_padded(bytes: &[u8]) -> bool {
-    let (words, last) = bytes.as_chunks();
-    // as if a character were before the first
-    let (mut faults, mut before) = (0, HIGH_BITS);
-    let mut at = 0;
-    while at < words.len() {
-        (faults, before) = with_faults(faults, before, u64::from_le_bytes(words[at]));
-        at += 1;
-    }
-    (faults, _) = with_faults(faults, before, bytes::Load::<u64>::load(last));
-    faults & HIGH_BITS == 0
-}
-
-/// The faults so far and those of a word, in high bits: a byte above 127, and a character after a NUL; and the high bits of the
-/// word's characters.
-#[cfg_attr(not(debug_assertions), inline(always))]
-const fn with_faults(faults: u64, before: u64, word: u64) -> (u64, u64) {
-    let characters = ((word & LOW_BITS) + LOW_BITS) & HIGH_BITS;
-    (faults | word | characters & !(characters << 8 | before >> 56), characters)
 }
 
 /// The first `Q` bytes of two texts joined, each in at most sixteen bytes.

@@ -1,5 +1,5 @@
 -- A question that is asked of each byte, where NUL passes.
-use Rattle.std.proofs.Common.{Bool, List, cond, not, zero, suc, [], ◌∷◌, ◌==◌, ◌||◌, ap₂, ap, arith, drop, false, length, refl, slice_index_or, slice_set, sym, take, true, ℕ, ◌&&◌, ◌++◌, ◌+◌, ◌-◌, ◌∙◌, ◌≡◌}
+use Rattle.std.proofs.Common.{Bool, List, cond, not, zero, suc, [], ◌∷◌, ◌==◌, ◌||◌, ap₂, ap, arith, drop, false, length, refl, slice_index_or, slice_set, sym, take, true, ℕ, ◌&&◌, ◌+◌, ◌-◌, ◌∙◌, ◌≡◌}
 use Rattle.std.proofs.lemmas.List.{take-append-drop}
 use Rattle.std.specs.List.{list_all}
 use Rattle.std.proofs.lemmas.Bool.Decides.{nat_tests}

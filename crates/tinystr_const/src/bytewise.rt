@@ -1,17 +1,30 @@
-//! A question asked of each byte, in loops of sixteen without a branch, of which rustc makes vectors. It stands in for
-//! `padded::ask` of `tinystr_words` past sixteen bytes; words are faster in the kit's build.
+//! A question asked of each byte, in loops of sixteen without a branch, of which rustc makes vectors. Words are faster in the kit's
+//! build.
 
 ghost use Rattle.std.specs.Prelude.{◌≡◌, ◌≤◌, ◌==◌, ◌||◌, length};
 ghost use Rattle.std.specs.List.{list_all};
-ghost use Rattle.tinystr_words.specs.Text.{IsPadded, text_of};
+ghost use Rattle.tinystr_words.specs.Text.{IsPadded, IsPaddedText, text_of};
 ghost use Rattle.tinystr_words.specs.Classes.{ask};
 ghost use Rattle.tinystr_words.specs.Questions.{ask_question, later_class};
 
 use tinystr_words::Question;
+use tinystr_words::padded::{self, Width, width_of};
 
-/// The answer to a question about the text, as `ask` gives it, by loops over sixteen bytes or more.
+/// The answer to a question about the text.
 #[inline(always)]
-pub fn ask_bytes(bytes: &[u8], question: Question) -> bool
+pub fn ask<const N: usize>(bytes: &[u8; N], question: Question) -> bool
+    requires { IsPaddedText bytes.now N }
+    ensures { result ≡ ask_question question (text_of bytes.now) }
+{
+    match width_of(N) {
+        Width::Many if N % 8 == 0 => ask_bytes(&bytes[..], question),
+        _ => padded::ask(bytes, question),
+    }
+}
+
+// The same, by loops over sixteen bytes or more.
+#[inline(always)]
+fn ask_bytes(bytes: &[u8], question: Question) -> bool
     requires long { 16 ≤ length bytes.now }
     requires padded { IsPadded bytes.now }
     ensures { result ≡ ask_question question (text_of bytes.now) }

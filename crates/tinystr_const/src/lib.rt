@@ -3,3 +3,4 @@
 #![tactic(auto)]
 
 pub mod bytewise;
+pub mod in_words;

@@ -5,7 +5,6 @@
 
 use crate::ascii::TinyAsciiStr;
 use crate::error::ParseError;
-use crate::in_words;
 use crate::simd::u64x2;
 use crate::words::code_unit::CHARACTERS;
 use crate::words::kernel::{DIGIT, LOWER, NOT_NUL, Range, UPPER};
@@ -438,6 +437,14 @@ mod bytewise {
     use super::*;
 
     #[cfg_attr(not(debug_assertions), inline(always))]
+    pub const fn ask<const N: usize>(bytes: &[u8; N], question: Question) -> bool {
+        match width_of(N) {
+            Width::Many if N % 8 == 0 => ask_bytes(bytes.as_slice(), question),
+            _ => padded::ask(bytes, question),
+        }
+    }
+
+    #[cfg_attr(not(debug_assertions), inline(always))]
     pub const fn ask_bytes(bytes: &[u8], question: Question) -> bool {
         // constants, so that no loop tests which question it is
         match question {
@@ -510,6 +517,121 @@ mod bytewise {
     }
 }
 
+/// Bytes in words of eight.
+mod in_words {
+    use super::bytes::Load;
+    use super::*;
+
+    const LOW_BITS: u64 = 0x7f7f_7f7f_7f7f_7f7f;
+
+    const HIGH_BITS: u64 = 0x8080_8080_8080_8080;
+
+    const ONES: u64 = 0x0101_0101_0101_0101;
+
+    #[cfg_attr(not(debug_assertions), inline(always))]
+    pub const fn word_of(bytes: &[u8; 8]) -> u64 {
+        u64::from_le_bytes(*bytes)
+    }
+
+    #[cfg_attr(not(debug_assertions), inline(always))]
+    pub const fn is_padded<const N: usize>(bytes: &[u8; N]) -> bool {
+        match width_of(N) {
+            Width::Four => Aligned4::try_from_padded(bytes.as_slice()).is_some(),
+            Width::Eight | Width::Sixteen | Width::Many => are_padded(bytes.as_slice()),
+        }
+    }
+
+    #[cfg_attr(not(debug_assertions), inline(always))]
+    pub const fn are_padded(bytes: &[u8]) -> bool {
+        let mut rest = bytes;
+        let mut faults = 0;
+        // as if a character were before the first
+        let mut before = 0x80;
+        while let Some((eight, after)) = rest.split_first_chunk::<8>() {
+            let word = word_of(eight);
+            let characters = characters_of(word);
+            faults |= faults_of(word, characters, before);
+            before = characters >> 56;
+            rest = after;
+        }
+        let word = Load::<u64>::load(rest);
+        faults | faults_of(word, characters_of(word), before) == 0
+    }
+
+    #[cfg_attr(not(debug_assertions), inline(always))]
+    pub const fn characters_of(word: u64) -> u64 {
+        ((word & LOW_BITS) + LOW_BITS) & HIGH_BITS
+    }
+
+    #[cfg_attr(not(debug_assertions), inline(always))]
+    pub const fn faults_of(word: u64, characters: u64, before: u64) -> u64 {
+        (word | characters & !((characters << 8) + before)) & HIGH_BITS
+    }
+
+    #[cfg_attr(not(debug_assertions), inline(always))]
+    pub const fn len<const N: usize>(bytes: &[u8; N]) -> usize {
+        match width_of(N) {
+            Width::Four => Aligned4::from_ascii_bytes(bytes).len(),
+            Width::Eight => Aligned8::from_ascii_bytes(bytes).len_by_top(),
+            Width::Sixteen => len_of_two(bytes.as_slice()),
+            Width::Many => len_of_many(bytes.as_slice()),
+        }
+    }
+
+    #[cfg_attr(not(debug_assertions), inline(always))]
+    pub const fn len_of_two(bytes: &[u8]) -> usize {
+        let (front, back) = bytes.split_at(crate::in_words::least(bytes.len(), 8));
+        Aligned8::from_padded(front).len_by_top() + Aligned8::from_padded(back).len_by_top()
+    }
+
+    #[cfg_attr(not(debug_assertions), inline(always))]
+    pub const fn len_of_many(bytes: &[u8]) -> usize {
+        let mut len = 0;
+        let mut rest = bytes;
+        while !rest.is_empty() {
+            let (part, after) = rest.split_at(crate::in_words::least(rest.len(), 240));
+            len += len_of_part(part);
+            rest = after;
+        }
+        len
+    }
+
+    #[cfg_attr(not(debug_assertions), inline(always))]
+    pub const fn len_of_part(bytes: &[u8]) -> usize {
+        let mut counts = 0;
+        let mut rest = bytes;
+        while let Some((eight, after)) = rest.split_first_chunk::<8>() {
+            counts += ones_of(word_of(eight));
+            rest = after;
+        }
+        counts += ones_of(Load::<u64>::load(rest));
+        // all bytes of it, in the highest
+        (counts.wrapping_mul(ONES) >> 56) as usize
+    }
+
+    #[cfg_attr(not(debug_assertions), inline(always))]
+    pub const fn ones_of(text: u64) -> u64 {
+        ((text + LOW_BITS) & HIGH_BITS) >> 7
+    }
+}
+
+/// What `bytewise` calls.
+mod padded {
+    use super::*;
+
+    #[cfg_attr(not(debug_assertions), inline(always))]
+    pub const fn ask<const N: usize>(bytes: &[u8; N], question: Question) -> bool {
+        match width_of(N) {
+            Width::Four => Aligned4::from_ascii_bytes(bytes).ask(question),
+            Width::Eight => Aligned8::from_ascii_bytes(bytes).ask(question),
+            Width::Sixteen | Width::Many => words::ask(bytes, question),
+        }
+    }
+}
+
+pub use bytewise::ask;
+pub use in_words::{is_padded, len};
+
 type Aligned4 = Aligned<Word<u32>, 4>;
 pub type Aligned8 = Aligned<Word<u64>, 8>;
 type Aligned16 = Aligned<Word<u128>, 16>;
@@ -542,33 +664,6 @@ impl Aligned8 {
 }
 
 #[cfg_attr(not(debug_assertions), inline(always))]
-pub const fn is_padded<const N: usize>(bytes: &[u8; N]) -> bool {
-    match width_of(N) {
-        Width::Four => Aligned4::try_from_padded(bytes.as_slice()).is_some(),
-        Width::Eight | Width::Sixteen | Width::Many => in_words::is_padded(bytes),
-    }
-}
-
-#[cfg_attr(not(debug_assertions), inline(always))]
-pub const fn len<const N: usize>(bytes: &[u8; N]) -> usize {
-    match width_of(N) {
-        Width::Four => Aligned4::from_ascii_bytes(bytes).len(),
-        Width::Eight => Aligned8::from_ascii_bytes(bytes).len_by_top(),
-        Width::Sixteen | Width::Many => in_words::text_len(bytes),
-    }
-}
-
-#[cfg_attr(not(debug_assertions), inline(always))]
-pub const fn ask<const N: usize>(bytes: &[u8; N], question: Question) -> bool {
-    match width_of(N) {
-        Width::Four => Aligned4::from_ascii_bytes(bytes).ask(question),
-        Width::Eight => Aligned8::from_ascii_bytes(bytes).ask(question),
-        Width::Many if N % 8 == 0 => bytewise::ask_bytes(bytes, question),
-        Width::Sixteen | Width::Many => words::ask(bytes, question),
-    }
-}
-
-#[cfg_attr(not(debug_assertions), inline(always))]
 pub const fn put_in_case<const N: usize>(bytes: &mut [u8; N], case: Case) {
     match width_of(N) {
         Width::Four => {
@@ -593,7 +688,7 @@ pub const fn concat<const N: usize, const M: usize, const Q: usize>(
     match width_of(Q) {
         // short arrays to more than 8 bytes, as `concat::<8, 16>` of a text of at most 8
         Width::Sixteen | Width::Many if N <= 16 && M <= 16 => {
-            in_words::concat(first, len(first), second)
+            crate::in_words::concat(first, len(first), second)
         }
         // a first text that fills the result is copied as it is
         _ if Q > 0 && Q <= N && first[Q - 1] != 0 => resize_at_once(first),

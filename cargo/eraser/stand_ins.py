@@ -1,0 +1,56 @@
+"""Which proved functions run in place of others of the same name: those of tinystr_const, each with the contract of the other.
+
+A `const fn` calls no trait and no vector, so the other can't be one.
+"""
+
+import re
+
+from eraser import Stopped
+from lib.rattle import Item, items_of
+
+CRATE = "tinystr_const/"
+# The public functions of each file, and where the others are.
+STAND_INS = {
+    "tinystr_const/bytewise.rt": {"ask": "tinystr_words/padded.rt"},
+    "tinystr_const/in_words.rt": {"is_padded": "tinystr_words/padded.rt", "len": "tinystr_words/padded.rt"},
+}
+GHOST_USE = re.compile(r"^ghost use ([\w.]+)\.\{(.*)\};", re.M)
+
+
+def check(sources: dict[str, str]) -> None:
+    """Stops unless each public function of the crate has the contract of the one that it stands in for."""
+    for file in sorted(file for file in sources if file.startswith(CRATE)):
+        public = [item.name for item in items_of(sources[file]) if item.kind == "fn" and item.is_public]
+        others = STAND_INS.get(file, {})
+        if sorted(public) != sorted(others):
+            raise Stopped(f"{file}: its public functions aren't those that stand in for others: {', '.join(public)}")
+        for name, other in others.items():
+            compare(name, file, sources[file], other, sources[other])
+
+
+def compare(name: str, file: str, text: str, other: str, other_text: str) -> None:
+    """Stops unless a function has the same signature and clauses in two files, of the same definitions."""
+    one, two = contract_of(name, file, text), contract_of(name, other, other_text)
+    if one != two:
+        raise Stopped(f"{file}: the contract of `{name}` isn't that in {other}:\n    {one}\n    {two}")
+    here, there = definitions_of(text), definitions_of(other_text)
+    for word in here.keys() & there.keys() & set(re.findall(r"\w+", one)):
+        if here[word] != there[word]:
+            raise Stopped(f"{file}: `{word}`, which the contract of `{name}` cites, isn't that of {other}")
+
+
+def contract_of(name: str, file: str, text: str) -> str:
+    """A function's signature and clauses, with one space between words."""
+    found = [item for item in functions_of(items_of(text)) if item.name == name]
+    if len(found) != 1:
+        raise Stopped(f"{file}: `{name}` is there {len(found)} times, and not once")
+    return re.sub(r"^pub(?:\(crate\))? ", "", " ".join(" ".join(found[0].contract).split()))
+
+
+def functions_of(items: list[Item]) -> list[Item]:
+    return [it for item in items for it in ([item] if item.kind == "fn" else functions_of(item.inner))]
+
+
+def definitions_of(text: str) -> dict[str, str]:
+    """The modules of the definitions that a file's contracts cite, by the names of these."""
+    return {name.strip(): module for module, names in GHOST_USE.findall(text) for name in names.split(",")}
