@@ -148,14 +148,19 @@ fn move_all(moves: &[(&Path, &Path)]) -> Result<()> {
 
 #[cfg(test)]
 #[test]
-fn names_are_given_back() {
+fn several_files_are_put_in_place_or_none() {
     let folder = std::env::temp_dir().join(format!("tinystr-table.{}", std::process::id()));
-    let [a, b, none] = ["a", "b", "none"].map(|it| folder.join(it));
+    let targets = ["a", "b"].map(|it| folder.join(it));
     fs::create_dir(&folder).unwrap();
-    fs::write(&a, "").unwrap();
-    let result = move_all(&[(&a, &b), (&none, &a)]);
-    let there = (a.exists(), b.exists());
+    let files = targets.each_ref().map(|it| {
+        fs::write(it, "old").unwrap();
+        Written::beside(it, b"new").unwrap()
+    });
+    fs::remove_file(&files[0].new).unwrap();
+    let result = put_in_place(&files);
+    let there = targets.map(|it| fs::read_to_string(it).unwrap_or_default());
+    let are_aside = files.each_ref().map(|it| it.old.exists());
     fs::remove_dir_all(&folder).unwrap();
     assert!(result.is_err());
-    assert_eq!(there, (true, false));
+    assert_eq!((there, are_aside), (["old", "old"].map(String::from), [false; 2]));
 }

@@ -103,10 +103,28 @@ fn help_is_printed() {
 }
 
 #[test]
-fn an_option_that_is_given_twice_is_no_call() {
-    let here = Folder::new("twice");
-    for (options, name) in [("--sorted --hashed", "KIND"), ("-n 3 -n 4", "-n"), ("--map u8 --map u16", "--map")] {
-        here.fails(&format!("check {options} table"), 2, "", &format!("{name} is given twice; see tinystr-table --help"));
+fn what_is_wrong_with_a_command_line_is_named() {
+    let here = Folder::new("arguments");
+    for (line, fault) in [
+        ("check --sorted --hashed table", "KIND is given twice"),
+        ("check -n 3 -n 4 table", "-n is given twice"),
+        ("check --map u8 --map u16 table", "--map is given twice"),
+        ("--sorted -n 2", "the command is missing"),
+        ("pick --sorted -n 2 table", "there is no command pick"),
+        ("pack --sorted -n 2", "CODES is missing"),
+        ("pack --sorted -n 2 codes", "TABLE is missing"),
+        ("check --sorted -n 2 --map u8", "KEYS is missing"),
+        ("check --sorted -n 2 --map u8 keys", "VALUES is missing"),
+        ("get --sorted -n 2 table", "CODE is missing"),
+        ("show --sorted -n 2 table more", "more is one argument too many"),
+        ("show -n 2 table", "--sorted or --hashed is missing"),
+        ("show --hashed table", "-n is missing"),
+        ("show --hashed table -n", "-n has no value"),
+        ("show --hashed table -n 17", "-n can't be 17"),
+        ("show --hashed table -n 0", "-n can't be 0"),
+        ("show --hashed table --map text0", "--map can't be text0"),
+    ] {
+        here.fails(line, 2, "", &format!("{fault}; see tinystr-table --help"));
     }
 }
 
@@ -174,14 +192,6 @@ fn each_capacity_is_served() {
             here.printed(&format!("pack {kind} -n {n} code.txt code.tbl"));
             assert_eq!(here.printed(&format!("show {kind} -n {n} code.tbl")), format!("{code}\n"));
         }
-    }
-    for option in ["-n 0", "-n 17", "--map text0"] {
-        here.fails(
-            &format!("show --sorted {option} code.tbl"),
-            2,
-            "",
-            &format!("{}; see tinystr-table --help", option.replace(' ', " can't be ")),
-        );
     }
 }
 
@@ -333,9 +343,25 @@ fn a_file_is_replaced_whole_or_not_at_all() {
 }
 
 #[test]
+fn other_files_stay() {
+    let here = Folder::new("others");
+    let others = [".keys.0.new", ".keys.1.old", ".values.0.old"];
+    here.write("codes", "EU\t1\n");
+    for name in others {
+        here.write(name, name);
+    }
+    here.printed("pack --sorted -n 2 --map u8 codes keys values");
+    assert_eq!((here.read("keys"), here.read("values")), (b"EU".to_vec(), vec![1]));
+    assert_eq!(others.map(|name| here.read(name)), others.map(Vec::from));
+    assert_eq!(here.names(), [&others[..], &["codes", "keys", "values"]].concat());
+}
+
+#[test]
 fn a_target_keeps_its_permissions_and_its_links() {
     let here = Folder::new("links");
     here.write("codes", "EU");
+    symlink("circle", here.0.join("circle")).unwrap();
+    here.fails("pack --sorted -n 2 codes circle", 1, "", "circle: Too many levels of symbolic links (os error 40)");
     here.write("table", "");
     fs::set_permissions(here.0.join("table"), fs::Permissions::from_mode(0o600)).unwrap();
     symlink("table", here.0.join("link")).unwrap();

@@ -104,6 +104,11 @@ fn lanes_at_places() {
             assert_eq!(Lanes(one).shuffle(Lanes(other), of_two).0, of_two.map(|place| both[place]));
         }
     }
+    // those of `next`, with another place in a lane
+    for (lane, other_place) in (0..16).flat_map(|lane| [lane, lane + 2].map(|place| (lane, place))) {
+        let places = core::array::from_fn(|it| if it == lane { other_place } else { it + 1 });
+        assert_eq!(Lanes(one).shuffle(Lanes(other), places).0, places.map(|place| both[place]));
+    }
 }
 
 /// The lanes one further on, at all pairs of bytes beside each other.
