@@ -2,7 +2,7 @@
 //! `Copy` value that is compared, ordered and hashed without a pointer.
 //!
 //! The crate is an independent reimplementation of ICU4X's `tinystr` 0.8.5, generated from sources in which each function is proved
-//! to meet its contract. It is `no_std`, and tested on 64-bit Linux: 32-bit targets and wasm are untested.
+//! to meet its contract. It is `no_std`, and tested on the targets that the README lists.
 //!
 //! ```
 //! use tinystr::{TinyAsciiStr, tinystr};
