@@ -27,7 +27,10 @@ MOVED = {
     "ascii/readers.rs": ["fn read", "fn read_padded", "fn read_pieces", "fn find_fault", "fn fault"],
     "words/code_unit.rs": ["impl CodeUnit for u16"],
     "words/padded.rs": ["fn len", "fn ask", "fn put_in_case", "fn concat"],
-    **{f"words/{name}.rs": [] for name in ("bytewise", "in_words", "padded/code_units", "padded/concatenation", "padded/words")},
+    **{
+        f"words/{name}.rs": []
+        for name in ("bytewise", "in_words", "loading", "padded/code_units", "padded/concatenation", "padded/words")
+    },
 }
 MARK = re.compile(r"^( *)//= (?P<file>\S+\.rs)(?:, (?P<item>.*?))?: (?P<how>free |held )?`(?P<names>[\w ]+)`\n", re.M)
 HEAD = r"( *)(?:pub(?:\(crate\))? )?(?:const )?fn "

@@ -213,7 +213,8 @@ pub mod bytes {
 /// The readers of 16-bit numbers.
 pub mod numbers {
     use super::*;
-    use crate::in_words::{load_sixteen, lossy_word, word_of_four};
+    use super::in_words::word_of;
+    use crate::in_words::{lossy_word, word_of_four};
     type U = u16;
 
     //= words/code_unit.rs, impl CodeUnit for u16: free `code is_character low_byte as_bytes`
@@ -221,9 +222,8 @@ pub mod numbers {
     readers! {}
 
     impl Load<u128> {
-        #[inline(always)]
-        pub const fn load(units: &[U]) -> u128 {
-            load_sixteen(units)
-        }
+        //= words/loading.rs: `load`
     }
+
+    //= words/loading.rs: `word_of_eight`
 }

@@ -1,11 +1,10 @@
-//! What `const fn` has in words of 64 bits, since it calls no vector: `concat` past eight bytes, and what readers do with at most
-//! sixteen code units. Written by hand. A sum of the low seven bits of bytes leaves their high bits for what it carries, so no byte
-//! carries into the next.
+//! What `const fn` has in words of 64 bits, since it calls no vector: `concat` past eight bytes, loads of four 16-bit numbers, and
+//! lossy texts of at most sixteen bytes. Written by hand. A sum of the low seven bits of bytes leaves their high bits for what it
+//! carries, so no byte carries into the next.
 
-use crate::words::in_constants::{bytes, numbers};
+use crate::words::in_constants::bytes;
 use crate::words::padded::copying::append;
 use crate::words::padded::resize_at_once;
-use crate::words::word::joined;
 
 const LOW_BITS: u64 = 0x7f7f_7f7f_7f7f_7f7f;
 const HIGH_BITS: u64 = !LOW_BITS;
@@ -45,31 +44,6 @@ pub const fn word_of_four(units: &[u16]) -> u32 {
     // two pairs, and then both
     let pairs = given.wrapping_mul(0x101) & 0x00ff_ff00_00ff_ff00;
     (pairs.wrapping_mul(0x1_0001) >> 24) as u32
-}
-
-/// The low bytes of at most sixteen numbers, of which the high bytes are 0.
-#[cfg_attr(not(debug_assertions), inline(always))]
-pub const fn load_sixteen(units: &[u16]) -> u128 {
-    let len = units.len();
-    if len <= 8 {
-        return numbers::Load::<u64>::load(units) as u128;
-    }
-    let high = word_of_eight(units.split_at(len - 8).1, len);
-    joined(word_of_eight(units, len), high >> (8 * (16 - len)))
-}
-
-/// The low bytes of eight numbers. They are written at a place that is known only at run time, so that the compiler packs them in
-/// a vector.
-#[cfg_attr(not(debug_assertions), inline(always))]
-const fn word_of_eight(units: &[u16], place: usize) -> u64 {
-    let start = place % 8;
-    let mut bytes = [0; 16];
-    let mut at = 0;
-    while at < 8 {
-        bytes[start + at] = units[at] as u8;
-        at += 1;
-    }
-    u64::from_le_bytes(*bytes.split_at(start).1.first_chunk().unwrap())
 }
 
 /// At most sixteen bytes, with the replacement for each that isn't a character, and then NULs. Most texts have only characters.

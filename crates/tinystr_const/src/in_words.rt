@@ -133,7 +133,7 @@ fn ones_of(text: u64) -> u64
 
 // Eight bytes, the first lowest.
 #[inline(always)]
-fn word_of(bytes: &[u8; 8]) -> u64
+pub(crate) fn word_of(bytes: &[u8; 8]) -> u64
     ensures { result ≡ word bytes.now }
 {
     u64::from_le_bytes(*bytes)

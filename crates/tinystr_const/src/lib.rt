@@ -4,3 +4,4 @@
 
 pub mod bytewise;
 pub mod in_words;
+pub mod loading;

@@ -1075,7 +1075,8 @@ pub mod bytes {
 /// The readers of 16-bit numbers.
 pub mod numbers {
     use super::*;
-    use crate::in_words::{load_sixteen, lossy_word, word_of_four};
+    use super::in_words::word_of;
+    use crate::in_words::{lossy_word, word_of_four};
     type U = u16;
 
     #[cfg_attr(not(debug_assertions), inline(always))]
@@ -1102,8 +1103,27 @@ pub mod numbers {
 
     impl Load<u128> {
         #[cfg_attr(not(debug_assertions), inline(always))]
-        pub const fn load(units: &[U]) -> u128 {
-            load_sixteen(units)
+        pub const fn load(src: &[u16]) -> u128 {
+            let len = src.len();
+            if len <= 8 {
+                return Load::<u64>::load(src) as u128;
+            }
+            let low = word_of_eight(src.split_at(8).0, len);
+            let high = word_of_eight(src.split_at(len - 8).1, len);
+            joined(low, high >> (8 * (16 - len)))
         }
+    }
+
+    #[cfg_attr(not(debug_assertions), inline(always))]
+    pub const fn word_of_eight(units: &[u16], place: usize) -> u64 {
+        let start = place % 8;
+        let mut bytes = [0; 16];
+        let mut at = 0;
+        while at < 8 {
+            bytes[start + at] = (units[at] % 256) as u8;
+            at += 1;
+        }
+        let made = bytes.split_at(start).1;
+        word_of(made.first_chunk::<8>().unwrap())
     }
 }
