@@ -8,7 +8,7 @@ use tinystr_hashed::{PackHashedError, pack_hashed, pack_hashed_map, pack_hashed_
 
 // Two texts that begin with one of these have the hash 0, one for each seed that the packing tries: the last eight of its bytes are
 // the hash of the others. Another program computes them from the definition. They are no constant, since each proof would read it.
-fn beginnings() -> &'static [&'static str] {
+fn beginnings() -> &'static [&'static str; 12] {
     &[
         "rybwihuzjjyqaqpyKn4*kkvX",
         "offxwfioyliolnpo.'<YW5hl",
@@ -89,10 +89,10 @@ fn a_map_with_such_keys_is_packed(rt: HostRuntime) -> Result<(), Fail> {
 // Without a beginning, the texts are packed by the seed that it was computed for.
 #[test]
 fn the_seeds_are_tried_from_the_first_to_the_last(rt: HostRuntime) -> Result<(), Fail> {
-    let but_the_first = texts(rt.alloc(), beginnings().split_at(1).1)?;
+    let but_the_first = texts(rt.alloc(), &beginnings()[1..])?;
     let bytes = pack_hashed(rt.alloc(), &but_the_first)?;
     assert!(rt; has_seed(&bytes, b"\x01\0\0\0"));
-    let but_the_last = texts(rt.alloc(), beginnings().split_at(11).0)?;
+    let but_the_last = texts(rt.alloc(), &beginnings()[..11])?;
     let bytes = pack_hashed(rt.alloc(), &but_the_last)?;
     assert!(rt; has_seed(&bytes, b"\x0c\0\0\0"));
     Ok(())
