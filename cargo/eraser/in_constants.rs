@@ -117,13 +117,6 @@ mod in_words {
     //= words/in_words.rs: `len len_of_two len_of_many len_of_part ones_of`
 }
 
-/// What `bytewise` calls.
-mod padded {
-    use super::*;
-
-    //= words/padded.rs: `ask`
-}
-
 pub use bytewise::ask;
 pub use in_words::{is_padded, len};
 

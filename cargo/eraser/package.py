@@ -7,7 +7,6 @@ from pathlib import Path
 from eraser import Stopped, constants, stand_ins, substituted
 from eraser.contracts import Contracts, with_folds, without_ghosts
 from eraser.examples import with_examples
-from eraser.inlining import with_inlining
 from eraser.modules import AS_CONST, EXPORTED, MODULES, PRIVATE, PRIVATE_FILE, with_paths, with_signatures
 from eraser.omissions import LEFT_OUT, without_allocation_errors, without_items, without_kit_traits
 from eraser.rules import EVERYWHERE, IN_FILE, Rules, with_fields
@@ -21,6 +20,9 @@ FILES_LEFT_OUT = {
     "tinystr_const/lib.rt": "`in_constants.rs` has its functions",
     **{f"{crate}/laws.rt": "laws are for proofs" for crate in LIBRARIES},
 }
+
+# In debug builds, which take more time to compile by it, nothing is always inlined.
+INLINED = ("#[inline(always)]", "#[cfg_attr(not(debug_assertions), inline(always))]")
 
 
 def files_of_package(top: Path) -> dict[str, str]:
@@ -37,7 +39,7 @@ def files_of_package(top: Path) -> dict[str, str]:
     rules.finish()
     text = generated_from(f"{constants.FRAME} and crates/tinystr_words", text)
     made = constants.without_moved(made) | {"words/in_constants.rs": text}
-    return {path: with_inlining(text, path) for path, text in made.items()}
+    return {path: text.replace(*INLINED) for path, text in made.items()}
 
 
 def rust_of(text: str, file: str, contracts: Contracts, rules: Rules) -> str:

@@ -280,6 +280,14 @@ IN_FILE = {
             "LLVM makes vectors of the innermost loop that is left, so the caller's has to have what no vector does",
         ),
         Rule("passes(*byte, question)", "passes(byte, question)", IN_CONSTANTS),
+        Rule("ask_bytes(bytes.as_slice(), ", "ask_bytes(bytes, ", "the same, and faster"),
+        Rule(
+            "            _ => padded::ask(bytes, question),\n",
+            "            Width::Four => Aligned4::from_ascii_bytes(bytes).ask(question),\n"
+            "            Width::Eight => Aligned8::from_ascii_bytes(bytes).ask(question),\n"
+            "            Width::Sixteen | Width::Many => words::ask(bytes, question),\n",
+            "the arms of `padded::ask`, whose call takes up to twice as long",
+        ),
         # past eight bytes, and 16-bit numbers
         Rule("Some(bytes) if N <= 8 =>", "Some(bytes) if N <= 16 =>", WITHOUT_VECTORS),
         Rule(

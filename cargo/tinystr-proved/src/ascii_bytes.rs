@@ -37,13 +37,13 @@ impl<const N: usize> AsciiBytes<N> {
     /// # Safety
     ///
     /// Each byte has to be below 128.
-    #[inline]
+    #[cfg_attr(not(debug_assertions), inline(always))]
     pub(crate) const unsafe fn new(bytes: [u8; N]) -> Self {
         // SAFETY: both types are `N` bytes, and each below 128 is a variant.
         unsafe { *(&raw const bytes).cast::<Self>() }
     }
 
-    #[inline]
+    #[cfg_attr(not(debug_assertions), inline(always))]
     pub(crate) const fn as_array(&self) -> &[u8; N] {
         // SAFETY: both types are `N` bytes, and each variant is one.
         unsafe { &*(&raw const *self).cast::<[u8; N]>() }
@@ -67,7 +67,7 @@ impl<const N: usize> TinyAsciiStr<N> {
     /// The text, on its way into an `Option` or a `Result`, where a first byte above 127 is `None` or an error. By the hint that
     /// this text has no such byte the compiler leaves out a test. Where the text is in a vector, the hint costs more than the
     /// test, so few functions give it.
-    #[inline]
+    #[cfg_attr(not(debug_assertions), inline(always))]
     pub(crate) const fn hinted(self) -> Self {
         let bytes = self.all_bytes();
         // SAFETY: each byte of a text is below 128.
@@ -77,7 +77,7 @@ impl<const N: usize> TinyAsciiStr<N> {
 
     /// The same where the `Result` with a `ParseError` is as large as the text. Else it has a word of its own that says which
     /// it is.
-    #[inline]
+    #[cfg_attr(not(debug_assertions), inline(always))]
     pub(crate) const fn hinted_in_result(self) -> Self {
         if size_of::<Result<Self, crate::error::ParseError>>() == N { self.hinted() } else { self }
     }

@@ -103,7 +103,7 @@ impl<const N: usize> TinyAsciiStr<N> {
     //     ensures len { length result.now ≡ N }
     //     ensures padded { IsPadded result.now }
     //     ensures text { text_of result.now ≡ self.now }
-    #[inline]
+    #[cfg_attr(not(debug_assertions), inline(always))]
     pub(crate) fn padded_bytes(&self) -> &[u8] {
         &self.bytes.as_array()[..]
     }

@@ -30,7 +30,7 @@ impl<'a> ShortInput<'a> {
     /// ensures fits { IsSome result ↔ length bytes.now ≤ 17 }
     /// ensures bytes { IfSome result (λ input. input ≡ bytes.now) }
     /// ```
-    #[inline]
+    #[cfg_attr(not(debug_assertions), inline(always))]
     pub fn new(bytes: &'a [u8]) -> Option<Self> {
         if bytes.len() > 17 {
             return None;
@@ -47,7 +47,7 @@ impl<'a> ShortInput<'a> {
     /// ensures len { result ≡ length self.now }
     /// ensures fits { length self.now ≤ 17 }
     /// ```
-    #[inline]
+    #[cfg_attr(not(debug_assertions), inline(always))]
     pub fn len(&self) -> usize {
         self.bytes.len()
     }
@@ -59,7 +59,7 @@ impl<'a> ShortInput<'a> {
     /// ```text
     /// ensures { IsTrue result ↔ (self.now ≡ []) }
     /// ```
-    #[inline]
+    #[cfg_attr(not(debug_assertions), inline(always))]
     pub fn is_empty(&self) -> bool {
         self.bytes.is_empty()
     }
@@ -71,7 +71,7 @@ impl<'a> ShortInput<'a> {
     /// ```text
     /// ensures { result ≡ bits_of is_alphabetic self.now }
     /// ```
-    #[inline]
+    #[cfg_attr(not(debug_assertions), inline(always))]
     pub fn alphabetic_bits(&self) -> u64 {
         let bits = letters(self.lanes());
         let last = self.bytes.get(16);
@@ -85,7 +85,7 @@ impl<'a> ShortInput<'a> {
     /// ```text
     /// ensures { result ≡ bits_of is_digit self.now }
     /// ```
-    #[inline]
+    #[cfg_attr(not(debug_assertions), inline(always))]
     pub fn numeric_bits(&self) -> u64 {
         let bits = digits(self.lanes());
         let last = self.bytes.get(16);
@@ -101,7 +101,7 @@ impl<'a> ShortInput<'a> {
     /// requires other { 0 < other }
     /// ensures { result ≡ bits_of (λ b. b == one || b == other) self.now }
     /// ```
-    #[inline]
+    #[cfg_attr(not(debug_assertions), inline(always))]
     pub fn bits_of_either(&self, one: u8, other: u8) -> u64 {
         let bits = either(self.lanes(), one, other);
         let last = self.bytes.get(16);
@@ -119,7 +119,7 @@ impl<'a> ShortInput<'a> {
     /// requires to { IsTextByte to }
     /// ensures { result ≡ map (lower_but from to) self.now }
     /// ```
-    #[inline]
+    #[cfg_attr(not(debug_assertions), inline(always))]
     pub fn in_lowercase(&self, from: u8, to: u8) -> TinyAsciiStr<17> {
         self.in_case_of(&[b'a'; 16], from, to)
     }
@@ -141,7 +141,7 @@ impl<'a> ShortInput<'a> {
     /// requires to { IsTextByte to }
     /// ensures { result ≡ in_case_of example.now from to self.now }
     /// ```
-    #[inline]
+    #[cfg_attr(not(debug_assertions), inline(always))]
     pub fn in_case_of(&self, example: &[u8; 16], from: u8, to: u8) -> TinyAsciiStr<17> {
         let first = lanes_in_case_of(self.lanes(), u8x16::from_array(*example), from, to);
         let last = self.bytes.get(16);
@@ -150,7 +150,7 @@ impl<'a> ShortInput<'a> {
 
     // Proved:
     //     ensures { IsLoaded result self.now }
-    #[inline]
+    #[cfg_attr(not(debug_assertions), inline(always))]
     fn lanes(&self) -> u8x16 {
         u8x16::from_array(self.first)
     }
@@ -159,7 +159,7 @@ impl<'a> ShortInput<'a> {
 // At most the first sixteen bytes, and then NULs.
 // Proved:
 //     ensures { result ≡ pad (take 16 units.now) 16 }
-#[inline]
+#[cfg_attr(not(debug_assertions), inline(always))]
 fn first_lanes(units: &[u8]) -> u8x16 {
     let front = &units[..units.len().min(16)];
     lanes(<u128 as Word<16>>::load(front))
@@ -169,7 +169,7 @@ fn first_lanes(units: &[u8]) -> u8x16 {
 // Proved:
 //     requires { bits < 2 ^ 16 }
 //     ensures { result ≡ bits + (if is_set then 2 ^ 16 else 0) }
-#[inline]
+#[cfg_attr(not(debug_assertions), inline(always))]
 fn with_last(bits: u64, is_set: bool) -> u64 {
     bits + (u64::from(is_set) << 16)
 }
@@ -180,7 +180,7 @@ const LOWERCASE: u8 = 0x20;
 // The lanes that are letters.
 // Proved:
 //     ensures { result ≡ mask_l (map is_alphabetic lanes) }
-#[inline]
+#[cfg_attr(not(debug_assertions), inline(always))]
 fn letters(lanes: u8x16) -> u64 {
     let from_a = (lanes | u8x16::splat(LOWERCASE)) - u8x16::splat(b'a');
     from_a.simd_lt(u8x16::splat(26)).to_bitmask()
@@ -189,7 +189,7 @@ fn letters(lanes: u8x16) -> u64 {
 // The lanes that are digits.
 // Proved:
 //     ensures { result ≡ mask_l (map is_digit lanes) }
-#[inline]
+#[cfg_attr(not(debug_assertions), inline(always))]
 fn digits(lanes: u8x16) -> u64 {
     let from_0 = lanes - u8x16::splat(b'0');
     from_0.simd_lt(u8x16::splat(10)).to_bitmask()
@@ -198,7 +198,7 @@ fn digits(lanes: u8x16) -> u64 {
 // The lanes that are one of two bytes.
 // Proved:
 //     ensures { result ≡ mask_l (map (λ b. b == one || b == other) lanes) }
-#[inline]
+#[cfg_attr(not(debug_assertions), inline(always))]
 fn either(lanes: u8x16, one: u8, other: u8) -> u64 {
     let ones = lanes.simd_eq(u8x16::splat(one));
     (ones | lanes.simd_eq(u8x16::splat(other))).to_bitmask()
@@ -207,7 +207,7 @@ fn either(lanes: u8x16, one: u8, other: u8) -> u64 {
 // The lanes with `to` for `from`, and letters in the case of the example.
 // Proved:
 //     ensures { result ≡ in_case_of example from to lanes }
-#[inline]
+#[cfg_attr(not(debug_assertions), inline(always))]
 fn lanes_in_case_of(lanes: u8x16, example: u8x16, from: u8, to: u8) -> u8x16 {
     let lowered = lanes | u8x16::splat(LOWERCASE);
     let are_letters = (lowered - u8x16::splat(b'a')).simd_lt(u8x16::splat(26));
@@ -219,7 +219,7 @@ fn lanes_in_case_of(lanes: u8x16, example: u8x16, from: u8, to: u8) -> u8x16 {
 // `to` for `from`, or the byte in lowercase.
 // Proved:
 //     ensures { result ≡ lower_but from to byte }
-#[inline]
+#[cfg_attr(not(debug_assertions), inline(always))]
 fn lower_but(byte: u8, from: u8, to: u8) -> u8 {
     if byte == from {
         to
@@ -232,7 +232,7 @@ fn lower_but(byte: u8, from: u8, to: u8) -> u8 {
 // Proved:
 //     requires { IsPaddedText (lanes ++ last ∷ []) 17 }
 //     ensures { result ≡ text_of (lanes ++ last ∷ []) }
-#[inline]
+#[cfg_attr(not(debug_assertions), inline(always))]
 fn text_of(lanes: u8x16, last: u8) -> TinyAsciiStr<17> {
     let mut bytes = [last; 17];
     bytes[..16].copy_from_slice(&lanes.to_array()[..]);

@@ -120,7 +120,7 @@ impl<const N: usize> TinyAsciiStr<N> {
     //     ensures fits { SomeIff result (len + length self.now ≤ length bytes.old) (len + length self.now) }
     //     ensures padded { IsPadded bytes.new }
     //     ensures text { len + length self.now ≤ length bytes.old → text_of bytes.new ≡ text_of bytes.old ++ self.now }
-    #[inline]
+    #[cfg_attr(not(debug_assertions), inline(always))]
     fn append_to(&self, bytes: &mut [u8], len: usize) -> Option<usize> {
         let free = bytes.len() - len;
         let text_len = self.len();

@@ -16,7 +16,7 @@ use crate::words::padded::{first_lanes_of_sixteen, resize, resize_at_once};
 /// ensures padded { IsPadded result }
 /// ensures text { text_of result ≡ take 16 (text_of bytes.now) }
 /// ```
-#[inline]
+#[cfg_attr(not(debug_assertions), inline(always))]
 pub(crate) fn first_sixteen(bytes: &[u8]) -> u8x16 {
     match bytes.first_chunk::<16>() {
         Some(sixteen) => u8x16::from_array(*sixteen),
@@ -33,7 +33,7 @@ pub(crate) fn first_sixteen(bytes: &[u8]) -> u8x16 {
 /// requires fits { length (text_of lanes) ≤ N }
 /// ensures { result ≡ text_of lanes }
 /// ```
-#[inline]
+#[cfg_attr(not(debug_assertions), inline(always))]
 pub(crate) fn text_of_lanes<const N: usize>(lanes: u8x16) -> TinyAsciiStr<N> {
     TinyAsciiStr::from_padded(resize(&lanes.to_array()[..]))
 }
@@ -49,7 +49,7 @@ pub(crate) fn text_of_lanes<const N: usize>(lanes: u8x16) -> TinyAsciiStr<N> {
 /// requires fits { length (text_of lanes) ≤ N }
 /// ensures { result ≡ take count (text_of lanes) }
 /// ```
-#[inline]
+#[cfg_attr(not(debug_assertions), inline(always))]
 pub(crate) fn text_of_first_lanes<const N: usize>(lanes: u8x16, count: usize) -> TinyAsciiStr<N> {
     text_of_lanes(first_lanes_of_sixteen(lanes, count))
 }
@@ -62,7 +62,7 @@ pub(crate) fn text_of_first_lanes<const N: usize>(lanes: u8x16, count: usize) ->
 /// requires { IsPadded bytes.now }
 /// ensures { result ≡ take N (text_of bytes.now) }
 /// ```
-#[inline]
+#[cfg_attr(not(debug_assertions), inline(always))]
 pub(crate) fn text_of_bytes<const N: usize>(bytes: &[u8]) -> TinyAsciiStr<N> {
     TinyAsciiStr::from_padded(resize_at_once(bytes))
 }
@@ -78,7 +78,7 @@ pub(crate) fn text_of_bytes<const N: usize>(bytes: &[u8]) -> TinyAsciiStr<N> {
 /// ensures padded { IsPadded result.now }
 /// ensures text { text_of result.now ≡ take len (text_of bytes.now) }
 /// ```
-#[inline]
+#[cfg_attr(not(debug_assertions), inline(always))]
 pub(crate) fn front_of(bytes: &[u8], len: usize) -> &[u8] {
     &bytes[..len]
 }
@@ -94,7 +94,7 @@ pub(crate) fn front_of(bytes: &[u8], len: usize) -> &[u8] {
 /// ensures padded { IsPadded result.now }
 /// ensures text { text_of result.now ≡ drop start (text_of bytes.now) }
 /// ```
-#[inline]
+#[cfg_attr(not(debug_assertions), inline(always))]
 pub(crate) fn rest_of(bytes: &[u8], start: usize) -> &[u8] {
     &bytes[start..]
 }

@@ -40,7 +40,7 @@ impl TinyAsciiStr<8> {
 // The first eight bytes, or all and then NULs.
 // Proved:
 //     ensures { result ≡ pad (take 8 units.now) 8 }
-#[inline]
+#[cfg_attr(not(debug_assertions), inline(always))]
 fn front_lanes(units: &[u8]) -> u8x8 {
     let front = &units[..units.len().min(8)];
     u8x8::from_array(<u64 as Word<8>>::load(front).to_le_bytes())
@@ -50,7 +50,7 @@ fn front_lanes(units: &[u8]) -> u8x8 {
 // Proved:
 //     ensures len { result ≡ prefix_len is_lower lanes }
 //     ensures fits { result ≤ 8 }
-#[inline]
+#[cfg_attr(not(debug_assertions), inline(always))]
 fn lowercase_lanes(lanes: u8x8) -> usize {
     let others = u8x8::splat(25)
         .simd_lt(lanes - u8x8::splat(b'a'))

@@ -20,7 +20,7 @@ impl<const N: usize> TinyAsciiStr<N> {
     /// ensures { result ≡ ask_question question self.now }
     /// ```
     /// </details>
-    #[inline]
+    #[cfg_attr(not(debug_assertions), inline(always))]
     #[must_use]
     pub const fn ask(&self, question: Question) -> bool {
         in_constants::ask(self.bytes.as_array(), question)
@@ -41,7 +41,7 @@ impl<const N: usize> TinyAsciiStr<N> {
     /// ensures { result ≡ in_case case self.entry }
     /// ```
     /// </details>
-    #[inline]
+    #[cfg_attr(not(debug_assertions), inline(always))]
     #[must_use]
     pub const fn in_case(self, case: Case) -> Self {
         let mut bytes = *self.bytes.as_array();

@@ -195,7 +195,7 @@ impl<const N: usize> TinyAsciiStr<N> {
 /// ```text
 /// ensures { IsTrue result ↔ All (λ bytes. IsPaddedText bytes N) records.now }
 /// ```
-#[inline]
+#[cfg_attr(not(debug_assertions), inline(always))]
 pub(crate) fn are_padded<const N: usize>(records: &[[u8; N]]) -> bool {
     let mut are_padded = true;
     for bytes in records {

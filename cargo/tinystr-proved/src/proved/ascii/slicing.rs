@@ -69,7 +69,7 @@ impl<const N: usize> TinyAsciiStr<N> {
     // Otherwise up to sixteen bytes stay in a vector.
     // Proved:
     //     ensures { result ≡ take M (drop start self.now) }
-    #[inline]
+    #[cfg_attr(not(debug_assertions), inline(always))]
     pub(crate) fn suffix<const M: usize>(&self, start: usize) -> TinyAsciiStr<M> {
         let bytes = self.padded_bytes();
         if M <= N && start <= N - M {
@@ -85,7 +85,7 @@ impl<const N: usize> TinyAsciiStr<N> {
     // The first bytes. Up to sixteen stay in a vector.
     // Proved:
     //     ensures { result ≡ take len self.entry }
-    #[inline]
+    #[cfg_attr(not(debug_assertions), inline(always))]
     fn prefix(self, len: usize) -> Self {
         if len >= N {
             return self;

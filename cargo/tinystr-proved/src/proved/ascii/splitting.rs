@@ -155,7 +155,7 @@ impl<'a, const N: usize> Iterator for Parts<'a, N> {
 //     ensures parts { slice_split (λ b. b == separator) text ≡ result.0 ∷ parts_left separator result.1 }
 //     ensures part { length result.0 ≤ length text }
 //     ensures rest { IfSome result.1 (λ rest. length rest ≤ length text) }
-#[inline]
+#[cfg_attr(not(debug_assertions), inline(always))]
 fn split_first_of_eight(
     text: TinyAsciiStr<8>,
     separator: u8,
@@ -174,7 +174,7 @@ fn split_first_of_eight(
 // Proved:
 //     ensures place { result ≡ position (λ b. b == byte) text }
 //     ensures inside { IfSome result (λ at. at < 8) }
-#[inline]
+#[cfg_attr(not(debug_assertions), inline(always))]
 fn find_in_eight(text: TinyAsciiStr<8>, byte: u8) -> Option<usize> {
     match text.get_byte(0) {
         Some(first) if first == byte => Some(0),
@@ -187,7 +187,7 @@ fn find_in_eight(text: TinyAsciiStr<8>, byte: u8) -> Option<usize> {
 //     requires { at < 8 }
 //     ensures part { result.0 ≡ take at text }
 //     ensures rest { result.1 ≡ drop (at + 1) text }
-#[inline]
+#[cfg_attr(not(debug_assertions), inline(always))]
 fn split_around(text: TinyAsciiStr<8>, at: usize) -> (TinyAsciiStr<8>, TinyAsciiStr<8>) {
     let word = <u64 as Word<8>>::from_le_bytes(text.bytes.as_array());
     let bits = 8 * at;
@@ -206,7 +206,7 @@ fn split_around(text: TinyAsciiStr<8>, at: usize) -> (TinyAsciiStr<8>, TinyAscii
 //     requires fits { length bytes.now ≤ N }
 //     ensures parts { slice_split (λ b. b == separator) (text_of bytes.now) ≡ result.0 ∷ parts_left separator (option_map text_of (option_copied result.1)) }
 //     ensures rest { IfSome result.1 (λ rest. IsPadded rest.now × (length rest.now ≤ N)) }
-#[inline]
+#[cfg_attr(not(debug_assertions), inline(always))]
 fn split_first<const N: usize>(bytes: &[u8], separator: u8) -> (TinyAsciiStr<N>, Option<&[u8]>) {
     let lanes = first_sixteen(bytes);
     match find_in_sixteen(lanes, separator) {
@@ -258,7 +258,7 @@ fn find_past_sixteen(bytes: &[u8], byte: u8) -> Option<usize> {
 //     requires len { length lanes ≡ 16 }
 //     requires padded { IsPadded lanes }
 //     ensures { result ≡ position (λ b. b == byte) (text_of lanes) }
-#[inline]
+#[cfg_attr(not(debug_assertions), inline(always))]
 fn find_in_sixteen(lanes: u8x16, byte: u8) -> Option<usize> {
     let equal = lanes.simd_eq(u8x16::splat(byte)).to_bitmask();
     if equal == 0 || byte == 0 {

@@ -17,7 +17,7 @@ pub(crate) enum Texts<'a, 'b, const N: usize> {
 impl<'a, 'b, const N: usize> Texts<'a, 'b, N> {
     // Proved:
     //     ensures { result ≡ length (texts_in self.now) }
-    #[inline]
+    #[cfg_attr(not(debug_assertions), inline(always))]
     fn len(&self) -> usize {
         match self {
             Texts::Given(texts) => texts.len(),
@@ -29,7 +29,7 @@ impl<'a, 'b, const N: usize> Texts<'a, 'b, N> {
     // Proved:
     //     requires { index < length (texts_in self.now) }
     //     ensures { result ≡ text_at (texts_in self.now) index }
-    #[inline]
+    #[cfg_attr(not(debug_assertions), inline(always))]
     fn text(&self, index: usize) -> TinyAsciiStr<N> {
         match self {
             Texts::Given(texts) => *texts.get(index).unwrap(),

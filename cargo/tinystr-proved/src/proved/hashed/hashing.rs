@@ -29,7 +29,7 @@ impl<'a> Places<'a> {
     /// ensures exact { IsSome result ↔ (0 < length self.now.pilots.now) }
     /// ensures place { IfSome result (λ place. place ≡ place_of self.now.start self.now.pilots.now (map word self.now.moves.now) count raw.now) }
     /// ```
-    #[inline]
+    #[cfg_attr(not(debug_assertions), inline(always))]
     pub(crate) fn place<const N: usize>(&self, raw: &[u8; N], count: usize) -> Option<usize> {
         self.place_of_hash(hash_of(self.start, raw), count)
     }
@@ -43,7 +43,7 @@ impl<'a> Places<'a> {
     /// ensures exact { IsSome result ↔ (0 < length self.now.pilots.now) }
     /// ensures place { IfSome result (λ place. place ≡ place_of_hash self.now.pilots.now (map word self.now.moves.now) count hash) }
     /// ```
-    #[inline]
+    #[cfg_attr(not(debug_assertions), inline(always))]
     pub(crate) fn place_of_hash(&self, hash: u64, count: usize) -> Option<usize> {
         let slot = self.slot_of_hash(hash, count)?;
         Some(if slot < count {
@@ -62,7 +62,7 @@ impl<'a> Places<'a> {
     /// ensures exact { IsSome result ↔ (0 < length self.now.pilots.now) }
     /// ensures slot { IfSome result (λ slot. place_of_slot (map word self.now.moves.now) count slot ≡ place_of self.now.start self.now.pilots.now (map word self.now.moves.now) count raw.now) }
     /// ```
-    #[inline]
+    #[cfg_attr(not(debug_assertions), inline(always))]
     pub(crate) fn slot<const N: usize>(&self, raw: &[u8; N], count: usize) -> Option<usize> {
         self.slot_of_hash(hash_of(self.start, raw), count)
     }
@@ -72,7 +72,7 @@ impl<'a> Places<'a> {
     //     requires { count < 2 ^ 63 }
     //     ensures exact { IsSome result ↔ (0 < length self.now.pilots.now) }
     //     ensures slot { IfSome result (λ slot. place_of_slot (map word self.now.moves.now) count slot ≡ place_of_hash self.now.pilots.now (map word self.now.moves.now) count hash) }
-    #[inline]
+    #[cfg_attr(not(debug_assertions), inline(always))]
     fn slot_of_hash(&self, hash: u64, count: usize) -> Option<usize> {
         let group = scaled(hash, self.pilots.len());
         let pilot = self.pilots.get(group)?;
@@ -123,7 +123,7 @@ impl<'a> Places<'a> {
 /// ```text
 /// ensures { result ≡ start_of seed }
 /// ```
-#[inline]
+#[cfg_attr(not(debug_assertions), inline(always))]
 pub(crate) const fn start_of(seed: u32) -> u64 {
     (seed as u64).wrapping_mul(SEED_MULTIPLIER)
 }
@@ -135,7 +135,7 @@ pub(crate) const fn start_of(seed: u32) -> u64 {
 /// ```text
 /// ensures { result ≡ hash_of start raw.now }
 /// ```
-#[inline]
+#[cfg_attr(not(debug_assertions), inline(always))]
 pub(crate) const fn hash_of<const N: usize>(start: u64, raw: &[u8; N]) -> u64 {
     let bytes = raw.as_slice();
     let (pieces, rest) = bytes.as_chunks::<16>();
@@ -156,7 +156,7 @@ pub(crate) const fn hash_of<const N: usize>(start: u64, raw: &[u8; N]) -> u64 {
 // Proved:
 //     requires { length piece.now ≤ 16 }
 //     ensures { result ≡ hash_on hash piece.now }
-#[inline]
+#[cfg_attr(not(debug_assertions), inline(always))]
 const fn hash_on(hash: u64, piece: &[u8]) -> u64 {
     let (low, high) = piece.split_at(crate::in_words::least(piece.len(), 8));
     folded(hash ^ number(low), hash ^ (HASH_MASK ^ number(high)))
@@ -166,7 +166,7 @@ const fn hash_on(hash: u64, piece: &[u8]) -> u64 {
 // Proved:
 //     requires { length bytes.now ≤ 8 }
 //     ensures { result ≡ word bytes.now }
-#[inline]
+#[cfg_attr(not(debug_assertions), inline(always))]
 const fn number(bytes: &[u8]) -> u64 {
     Load::<u64>::load(bytes)
 }
@@ -179,7 +179,7 @@ const fn number(bytes: &[u8]) -> u64 {
 /// requires { length bytes.now ≤ 4 }
 /// ensures { result ≡ word bytes.now }
 /// ```
-#[inline]
+#[cfg_attr(not(debug_assertions), inline(always))]
 pub(crate) const fn short_number(bytes: &[u8]) -> u32 {
     Load::<u32>::load(bytes)
 }
@@ -187,7 +187,7 @@ pub(crate) const fn short_number(bytes: &[u8]) -> u32 {
 // Both halves of a product, as one number.
 // Proved:
 //     ensures { result ≡ folded a b }
-#[inline]
+#[cfg_attr(not(debug_assertions), inline(always))]
 const fn folded(a: u64, b: u64) -> u64 {
     let product = a as u128 * b as u128;
     (product % (1 << 64)) as u64 ^ (product >> 64) as u64
@@ -200,7 +200,7 @@ const fn folded(a: u64, b: u64) -> u64 {
 /// ```text
 /// ensures { result ≡ scaled hash count }
 /// ```
-#[inline]
+#[cfg_attr(not(debug_assertions), inline(always))]
 pub(crate) const fn scaled(hash: u64, count: usize) -> usize {
     ((hash as u128 * count as u128) >> 64) as usize
 }
@@ -212,7 +212,7 @@ pub(crate) const fn scaled(hash: u64, count: usize) -> usize {
 /// ```text
 /// ensures { result ≡ slot_of hash pilot slots }
 /// ```
-#[inline]
+#[cfg_attr(not(debug_assertions), inline(always))]
 pub(crate) const fn slot_of(hash: u64, pilot: u8, slots: usize) -> usize {
     slot_by(slot_factor(hash), pilot, slots)
 }
@@ -224,7 +224,7 @@ pub(crate) const fn slot_of(hash: u64, pilot: u8, slots: usize) -> usize {
 /// ```text
 /// ensures { result ≡ hash * 0xe703_7ed1_a0b4_28db % 2 ^ 64 }
 /// ```
-#[inline]
+#[cfg_attr(not(debug_assertions), inline(always))]
 pub(crate) const fn slot_factor(hash: u64) -> u64 {
     hash.wrapping_mul(SLOT_MULTIPLIER)
 }
@@ -236,7 +236,7 @@ pub(crate) const fn slot_factor(hash: u64) -> u64 {
 /// ```text
 /// ensures { result ≡ scaled (factor * pilot % 2 ^ 64) slots }
 /// ```
-#[inline]
+#[cfg_attr(not(debug_assertions), inline(always))]
 pub(crate) const fn slot_by(factor: u64, pilot: u8, slots: usize) -> usize {
     scaled(factor.wrapping_mul(pilot as u64), slots)
 }

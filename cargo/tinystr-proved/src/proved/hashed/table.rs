@@ -216,7 +216,7 @@ impl<'a, const N: usize> HashedTable<'a, N> {
     /// ensures distinct { AreDistinct self.now }
     /// ```
     /// </details>
-    #[inline]
+    #[cfg_attr(not(debug_assertions), inline(always))]
     #[must_use]
     pub fn position(&self, key: &TinyAsciiStr<N>) -> Option<usize> {
         let count = self.table.records().len();
@@ -320,7 +320,7 @@ impl<'a, const N: usize> Default for HashedTable<'a, N> {
 // Proved:
 //     ensures there { IfSome result (λ index. (index ≡ place) × (slice_get table.now index ≡ Some text.now)) }
 //     ensures elsewhere { IsNone result → (slice_get table.now place ≢ Some text.now) }
-#[inline]
+#[cfg_attr(not(debug_assertions), inline(always))]
 fn position_at<const N: usize>(
     table: &Table<'_, N>,
     place: usize,
@@ -383,7 +383,7 @@ impl<'a> Parts<'a> {
     /// ensures records { IfOk result (λ parts. parts.records.now ≡ records_in bytes.now) }
     /// ensures fault { IfErr result (λ e. (n : ℕ) → RefusesHashed e bytes.now n) }
     /// ```
-    #[inline]
+    #[cfg_attr(not(debug_assertions), inline(always))]
     pub(crate) const fn of(bytes: &'a [u8]) -> Result<Self, HashedError> {
         if bytes.len() < 16 {
             return Err(HashedError::Header { len: bytes.len() });

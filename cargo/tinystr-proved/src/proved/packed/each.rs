@@ -62,7 +62,7 @@ impl<'a, 'k, const N: usize> BinarySearchEach<'a, 'k, N> {
 //     requires last { 0 < index → last ≡ search_result (map text_of records.now) (text_at keys.now (index - 1)) }
 //     ensures answer { IfSome result (λ answer. answer ≡ search_result (map text_of records.now) (text_at keys.now index)) }
 //     ensures many { IfNone result (index + 8 ≤ length keys.now) }
-#[inline]
+#[cfg_attr(not(debug_assertions), inline(always))]
 fn answer_alone<const N: usize>(
     records: &[[u8; N]],
     keys: &[TinyAsciiStr<N>],
@@ -88,7 +88,7 @@ fn answer_alone<const N: usize>(
 //     requires rising { IsRising (map text_of records.now) }
 //     requires answer { answer ≡ search_result (map text_of records.now) before.now }
 //     ensures { IfSome result (λ answer. answer ≡ search_result (map text_of records.now) key.now) }
-#[inline]
+#[cfg_attr(not(debug_assertions), inline(always))]
 fn answer_after<const N: usize>(
     records: &[[u8; N]],
     before: &TinyAsciiStr<N>,

@@ -26,7 +26,7 @@ impl EightPairs {
     //     requires { lane < 8 }
     //     ensures number { paired result.first result.next ≡ wanted self.now.firsts self.now.nexts lane }
     //     ensures text { (n : ℕ) → ArePairsOfTexts n self.now.firsts self.now.nexts → IsPairOfText n result.first result.next }
-    #[inline]
+    #[cfg_attr(not(debug_assertions), inline(always))]
     fn pair(&self, lane: usize) -> Pair {
         Pair {
             first: self.firsts[lane],
@@ -93,7 +93,7 @@ pub(crate) fn search_first_eight<const N: usize>(
 /// requires short { N ≤ 16 }
 /// ensures { AreAnswers N records.now keys.now result 8 }
 /// ```
-#[inline]
+#[cfg_attr(not(debug_assertions), inline(always))]
 pub(crate) fn answers_of_short<const N: usize>(
     records: &[[u8; N]],
     keys: &[TinyAsciiStr<N>],
@@ -112,7 +112,7 @@ pub(crate) fn answers_of_short<const N: usize>(
 //     requires bound { (i : ℕ) → i < 8 → slice_index places.now i ≤ length records.now }
 //     requires places { All (λ raw. IsPaddedText raw N) records.now → AreRisingRecords N records.now → (i : ℕ) → i < 8 → IsFirstNotBelow (pad (text_at keys.now i) N) records.now (slice_index places.now i) }
 //     ensures { AreAnswers N records.now keys.now result 8 }
-#[inline]
+#[cfg_attr(not(debug_assertions), inline(always))]
 fn answers_at<const N: usize>(
     records: &[[u8; N]],
     keys: &[TinyAsciiStr<N>],
@@ -133,7 +133,7 @@ fn answers_at<const N: usize>(
 /// requires { 8 ≤ length keys.now }
 /// ensures { AreAnswers N records.now keys.now result 8 }
 /// ```
-#[inline]
+#[cfg_attr(not(debug_assertions), inline(always))]
 pub(crate) fn answers_one_by_one<const N: usize>(
     records: &[[u8; N]],
     keys: &[TinyAsciiStr<N>],
@@ -150,7 +150,7 @@ pub(crate) fn answers_one_by_one<const N: usize>(
 // Proved:
 //     requires { 8 ≤ length keys.now }
 //     ensures { IfSome result (λ answers. AreAnswers N records.now keys.now answers 8) }
-#[inline]
+#[cfg_attr(not(debug_assertions), inline(always))]
 fn answers_of_one<const N: usize>(
     records: &[[u8; N]],
     keys: &[TinyAsciiStr<N>],
@@ -170,7 +170,7 @@ fn answers_of_one<const N: usize>(
 //     requires texts { IsPairOfText N number.first number.next }
 //     ensures bound { result ≤ 1 }
 //     ensures bit { AreNumbered N start records.now → result ≡ cond (nat_lt (pair_at start (text_at records.now index)) (paired number.first number.next)) 1 0 }
-#[inline]
+#[cfg_attr(not(debug_assertions), inline(always))]
 fn bit_below_at<const N: usize>(
     records: &[[u8; N]],
     start: usize,
@@ -185,7 +185,7 @@ fn bit_below_at<const N: usize>(
 // Proved:
 //     requires { bit ≤ 1 }
 //     ensures { result ≡ cond (nat_eq bit 1) number 0 }
-#[inline]
+#[cfg_attr(not(debug_assertions), inline(always))]
 fn number_if(number: usize, bit: u64) -> usize {
     number & (bit as usize).wrapping_neg()
 }
@@ -198,7 +198,7 @@ fn number_if(number: usize, bit: u64) -> usize {
 //     requires some { 0 < size }
 //     requires within { IsPlaceWithin N start records.now (paired number.first number.next) base (base + size) }
 //     ensures { IsPlaceWithin N start records.now (paired number.first number.next) result (result + size / 2) }
-#[inline]
+#[cfg_attr(not(debug_assertions), inline(always))]
 fn halved<const N: usize>(
     records: &[[u8; N]],
     start: usize,
@@ -220,7 +220,7 @@ fn halved<const N: usize>(
 //     ensures texts { ArePairsOfTexts N result.firsts result.nexts }
 //     ensures numbers { (i : ℕ) → i < 8 → wanted result.firsts result.nexts i ≡ pair_at start (pad (text_at keys.now i) N) }
 //     ensures strict { (i : ℕ) → i < 8 → IsStrictText (text_at keys.now i) N }
-#[inline]
+#[cfg_attr(not(debug_assertions), inline(always))]
 fn pairs_of<const N: usize>(keys: &[TinyAsciiStr<N>], start: usize) -> EightPairs {
     let mut firsts = [0u64; 8];
     let mut nexts = [0u64; 8];
@@ -236,7 +236,7 @@ fn pairs_of<const N: usize>(keys: &[TinyAsciiStr<N>], start: usize) -> EightPair
 // Proved:
 //     requires { ArePairsOfTexts N pairs.now.firsts pairs.now.nexts }
 //     ensures { IsTrue result → AreAscending (wanted pairs.now.firsts pairs.now.nexts) }
-#[inline]
+#[cfg_attr(not(debug_assertions), inline(always))]
 fn are_ascending<const N: usize>(pairs: &EightPairs) -> bool {
     let mut descents = 0u64;
     for lane in 0..7usize {
@@ -252,7 +252,7 @@ fn are_ascending<const N: usize>(pairs: &EightPairs) -> bool {
 //     requires some { 0 < size }
 //     requires within { ArePlacesWithin N start records.now (wanted pairs.now.firsts pairs.now.nexts) places.old size }
 //     ensures { ArePlacesWithin N start records.now (wanted pairs.now.firsts pairs.now.nexts) places.new (size / 2) }
-#[inline]
+#[cfg_attr(not(debug_assertions), inline(always))]
 fn halved_each<const N: usize>(
     records: &[[u8; N]],
     start: usize,
@@ -272,7 +272,7 @@ fn halved_each<const N: usize>(
 //     requires texts { ArePairsOfTexts N pairs.now.firsts pairs.now.nexts }
 //     requires within { AreWithin N start records.now (wanted pairs.now.firsts pairs.now.nexts) range.start range.end }
 //     ensures { ArePlacesWithin N start records.now (wanted pairs.now.firsts pairs.now.nexts) result 0 }
-#[inline]
+#[cfg_attr(not(debug_assertions), inline(always))]
 fn places_within<const N: usize>(
     records: &[[u8; N]],
     start: usize,
@@ -295,7 +295,7 @@ fn places_within<const N: usize>(
 //     requires in_turn { AreAscending (wanted pairs.now.firsts pairs.now.nexts) }
 //     requires inside { index ≤ length records.now }
 //     ensures { IsTrue result → AreNumbered N start records.now → (i k : ℕ) → i < 8 → index ≤ k → k < length records.now → wanted pairs.now.firsts pairs.now.nexts i ≤ pair_at start (text_at records.now k) }
-#[inline]
+#[cfg_attr(not(debug_assertions), inline(always))]
 fn are_at_most<const N: usize>(
     records: &[[u8; N]],
     start: usize,
@@ -312,7 +312,7 @@ fn are_at_most<const N: usize>(
 //     requires in_turn { AreAscending (wanted pairs.now.firsts pairs.now.nexts) }
 //     requires inside { index ≤ length records.now }
 //     ensures { IsTrue result → AreNumbered N start records.now → (i k : ℕ) → i < 8 → k < index → pair_at start (text_at records.now k) < wanted pairs.now.firsts pairs.now.nexts i }
-#[inline]
+#[cfg_attr(not(debug_assertions), inline(always))]
 fn are_at_least<const N: usize>(
     records: &[[u8; N]],
     start: usize,
@@ -329,7 +329,7 @@ fn are_at_least<const N: usize>(
 //     requires start { start ≤ N - 8 }
 //     requires texts { ArePairsOfTexts N pairs.now.firsts pairs.now.nexts }
 //     ensures { AreWithin N start records.now (wanted pairs.now.firsts pairs.now.nexts) result.start result.end }
-#[inline]
+#[cfg_attr(not(debug_assertions), inline(always))]
 fn range_near<const N: usize>(
     records: &[[u8; N]],
     start: usize,
@@ -361,7 +361,7 @@ fn range_near<const N: usize>(
 //     requires start { start ≤ N - 8 }
 //     ensures places { (i : ℕ) → i < 8 → IsPlaceWithin N start records.now (pair_at start (pad (text_at keys.now i) N)) (slice_index result i) (slice_index result i) }
 //     ensures strict { (i : ℕ) → i < 8 → IsStrictText (text_at keys.now i) N }
-#[inline]
+#[cfg_attr(not(debug_assertions), inline(always))]
 fn places_by_numbers<const N: usize>(
     records: &[[u8; N]],
     keys: &[TinyAsciiStr<N>],
@@ -379,7 +379,7 @@ fn places_by_numbers<const N: usize>(
 //     requires long { 8 < N }
 //     ensures bound { result ≤ N - 8 }
 //     ensures alike { AreRisingRecords N records.now → (i : ℕ) → i < 8 → BeginAlike result (pad (text_at keys.now i) N) records.now }
-#[inline]
+#[cfg_attr(not(debug_assertions), inline(always))]
 fn shared_len_of_each<const N: usize>(records: &[[u8; N]], keys: &[TinyAsciiStr<N>]) -> usize {
     let mut len = shared_len(records, keys[0].all_bytes());
     for lane in 1..8usize {
@@ -397,7 +397,7 @@ fn shared_len_of_each<const N: usize>(records: &[[u8; N]], keys: &[TinyAsciiStr<
 //     requires short { N ≤ 16 }
 //     ensures bound { (i : ℕ) → i < 8 → slice_index result i ≤ length records.now }
 //     ensures places { All (λ raw. IsPaddedText raw N) records.now → AreRisingRecords N records.now → (i : ℕ) → i < 8 → IsFirstNotBelow (pad (text_at keys.now i) N) records.now (slice_index result i) }
-#[inline]
+#[cfg_attr(not(debug_assertions), inline(always))]
 fn lower_bound_each_short<const N: usize>(
     records: &[[u8; N]],
     keys: &[TinyAsciiStr<N>],
@@ -412,7 +412,7 @@ fn lower_bound_each_short<const N: usize>(
 //     requires eight { 8 ≤ length keys.now }
 //     ensures bound { (i : ℕ) → i < 8 → slice_index result.0 i ≤ length records.now }
 //     ensures places { All (λ raw. IsPaddedText raw N) records.now → AreRisingRecords N records.now → (i : ℕ) → i < 8 → IsFirstNotBelow (pad (text_at keys.now i) N) records.now (slice_index result.0 i) }
-#[inline]
+#[cfg_attr(not(debug_assertions), inline(always))]
 fn lower_bound_each<const N: usize>(
     records: &[[u8; N]],
     keys: &[TinyAsciiStr<N>],
@@ -429,7 +429,7 @@ fn lower_bound_each<const N: usize>(
 // Proved:
 //     requires { start ≤ N - 8 }
 //     ensures { index < length records.now → pair_at start (text_at records.now index) ≡ pair_at start key.now → order (text_at records.now index) key.now ≡ Less → IsTrue result }
-#[inline]
+#[cfg_attr(not(debug_assertions), inline(always))]
 fn is_tied_below<const N: usize>(
     records: &[[u8; N]],
     start: usize,
@@ -452,7 +452,7 @@ fn is_tied_below<const N: usize>(
 //     requires long { 16 < N }
 //     ensures bound { (i : ℕ) → i < 8 → slice_index result.0 i ≤ length records.now }
 //     ensures places { All (λ raw. IsPaddedText raw N) records.now → AreRisingRecords N records.now → (i : ℕ) → i < 8 → IsFirstNotBelow (pad (text_at keys.now i) N) records.now (slice_index result.0 i) }
-#[inline]
+#[cfg_attr(not(debug_assertions), inline(always))]
 fn lower_bound_each_long<const N: usize>(
     records: &[[u8; N]],
     keys: &[TinyAsciiStr<N>],

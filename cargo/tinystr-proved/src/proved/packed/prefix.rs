@@ -15,7 +15,7 @@ use crate::TinyAsciiStr;
 /// ensures bound { result ≤ length records.now }
 /// ensures count { IsPartitionPoint (λ raw. starts_with nat_eq raw beginning.now ≡ true) (λ raw. starts_with nat_eq raw beginning.now ≡ false) records.now result }
 /// ```
-#[inline]
+#[cfg_attr(not(debug_assertions), inline(always))]
 pub(crate) fn count_with_prefix<const N: usize>(
     records: &[[u8; N]],
     beginning: &TinyAsciiStr<N>,
@@ -36,7 +36,7 @@ pub(crate) fn count_with_prefix<const N: usize>(
 //     requires records { AreRisingRecords N records.now }
 //     requires key { IsRecord N key.now }
 //     ensures { IsFirstNotBelow key.now records.now result }
-#[inline]
+#[cfg_attr(not(debug_assertions), inline(always))]
 fn lower_bound_near_start<const N: usize>(records: &[[u8; N]], key: &[u8; N]) -> usize {
     let len = records.len();
     if len > 0 && is_below_at(records, len - 1, key) {

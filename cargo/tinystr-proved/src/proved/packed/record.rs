@@ -13,7 +13,7 @@ use crate::words::padded;
 /// requires { length left.now ≡ length right.now }
 /// ensures { result ≡ is_lt (slice_cmp nat_cmp left.now right.now) }
 /// ```
-#[inline]
+#[cfg_attr(not(debug_assertions), inline(always))]
 pub(crate) fn is_below(left: &[u8], right: &[u8]) -> bool {
     if left.len() <= 8 {
         padded::number(left) < padded::number(right)
@@ -30,7 +30,7 @@ pub(crate) fn is_below(left: &[u8], right: &[u8]) -> bool {
 /// requires { length left.now ≡ length right.now }
 /// ensures { result ≡ slice_cmp nat_cmp left.now right.now }
 /// ```
-#[inline]
+#[cfg_attr(not(debug_assertions), inline(always))]
 pub(crate) fn compare(left: &[u8], right: &[u8]) -> Ordering {
     padded::compare(left, right)
 }
@@ -43,7 +43,7 @@ pub(crate) fn compare(left: &[u8], right: &[u8]) -> Ordering {
 /// ```text
 /// ensures { IsRecord N left.now → IsRecord N right.now → (IsTrue result ↔ (left.now ≡ right.now)) }
 /// ```
-#[inline]
+#[cfg_attr(not(debug_assertions), inline(always))]
 pub(crate) fn are_same<const N: usize>(left: &[u8; N], right: &[u8; N]) -> bool {
     if N <= 8 {
         return number_at(left, 0) == number_at(right, 0);
@@ -64,7 +64,7 @@ pub(crate) fn are_same<const N: usize>(left: &[u8; N], right: &[u8; N]) -> bool 
 /// requires { start ≤ N - 8 }
 /// ensures { result ≡ number_at start raw.now }
 /// ```
-#[inline]
+#[cfg_attr(not(debug_assertions), inline(always))]
 pub(crate) fn number_at<const N: usize>(raw: &[u8; N], start: usize) -> u64 {
     let bytes = &raw[..];
     if N <= 8 {
@@ -112,35 +112,35 @@ pub(crate) trait Number<const N: usize>: Copy {
 }
 
 impl<const N: usize> Number<N> for u64 {
-    #[inline]
+    #[cfg_attr(not(debug_assertions), inline(always))]
     fn at(raw: &[u8; N], start: usize) -> u64 {
         number_at(raw, start)
     }
 
-    #[inline]
+    #[cfg_attr(not(debug_assertions), inline(always))]
     fn is_below(self, other: u64) -> bool {
         self < other
     }
 
-    #[inline]
+    #[cfg_attr(not(debug_assertions), inline(always))]
     fn is_same(self, other: u64) -> bool {
         self == other
     }
 }
 
 impl<const N: usize> Number<N> for u128 {
-    #[inline]
+    #[cfg_attr(not(debug_assertions), inline(always))]
     fn at(raw: &[u8; N], start: usize) -> u128 {
         let Pair { first, next } = Pair::at(raw, start);
         u128::from(first) * (1 << 64) + u128::from(next)
     }
 
-    #[inline]
+    #[cfg_attr(not(debug_assertions), inline(always))]
     fn is_below(self, other: u128) -> bool {
         self < other
     }
 
-    #[inline]
+    #[cfg_attr(not(debug_assertions), inline(always))]
     fn is_same(self, other: u128) -> bool {
         self == other
     }
@@ -165,7 +165,7 @@ impl Pair {
     /// ensures first { result.first ≡ number_at start raw.now }
     /// ensures number { paired result.first result.next ≡ pair_at start raw.now }
     /// ```
-    #[inline]
+    #[cfg_attr(not(debug_assertions), inline(always))]
     pub(crate) fn at<const N: usize>(raw: &[u8; N], start: usize) -> Pair {
         let next = (start + 8).min(N.saturating_sub(8));
         Pair {
@@ -183,7 +183,7 @@ impl Pair {
 /// ensures bound { result ≤ 1 }
 /// ensures bit { IsPairOfText N pair.first pair.next → IsPairOfText N other.first other.next → result ≡ cond (nat_lt (paired pair.first pair.next) (paired other.first other.next)) 1 0 }
 /// ```
-#[inline]
+#[cfg_attr(not(debug_assertions), inline(always))]
 pub(crate) fn bit_below<const N: usize>(pair: Pair, other: Pair) -> u64 {
     if N <= 8 {
         borrow(pair.first, other.first, 0)
@@ -197,7 +197,7 @@ pub(crate) fn bit_below<const N: usize>(pair: Pair, other: Pair) -> u64 {
 // Proved:
 //     ensures bound { result ≤ 1 }
 //     ensures bit { number < 2 ^ 63 → other < 2 ^ 63 → more ≤ 1 → result ≡ cond (nat_lt number (other + more)) 1 0 }
-#[inline]
+#[cfg_attr(not(debug_assertions), inline(always))]
 fn borrow(number: u64, other: u64, more: u64) -> u64 {
     number.wrapping_sub(other).wrapping_sub(more) >> 63
 }

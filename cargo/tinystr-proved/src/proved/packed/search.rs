@@ -36,7 +36,7 @@ pub(crate) enum LongRecords {
 /// ```text
 /// ensures { IsAnswer N key.now records.now result }
 /// ```
-#[inline]
+#[cfg_attr(not(debug_assertions), inline(always))]
 pub(crate) fn binary_search_as<const N: usize>(
     records: &[[u8; N]],
     key: &TinyAsciiStr<N>,
@@ -89,7 +89,7 @@ pub(crate) fn binary_search_whole<const N: usize>(
 /// requires place { All (λ raw. IsPaddedText raw N) records.now → AreRisingRecords N records.now → IsFirstNotBelow (pad key.now N) records.now place }
 /// ensures { IsAnswer N key.now records.now result }
 /// ```
-#[inline]
+#[cfg_attr(not(debug_assertions), inline(always))]
 pub(crate) fn answer_at<const N: usize>(
     records: &[[u8; N]],
     place: usize,
@@ -116,7 +116,7 @@ pub(crate) fn answer_at<const N: usize>(
 /// ensures bound { result ≤ length records.now }
 /// ensures place { AreRisingRecords N records.now → IsRecord N key.now → IsFirstNotBelow key.now records.now result }
 /// ```
-#[inline]
+#[cfg_attr(not(debug_assertions), inline(always))]
 pub(crate) fn lower_bound<const N: usize>(records: &[[u8; N]], key: &[u8; N]) -> usize {
     if N <= 16 {
         return lower_bound_short(records, key);
@@ -135,7 +135,7 @@ pub(crate) fn lower_bound<const N: usize>(records: &[[u8; N]], key: &[u8; N]) ->
 /// ensures bound { result ≤ length records.now }
 /// ensures place { AreRisingRecords N records.now → IsRecord N key.now → IsFirstNotBelow key.now records.now result }
 /// ```
-#[inline]
+#[cfg_attr(not(debug_assertions), inline(always))]
 pub(crate) fn lower_bound_whole<const N: usize>(records: &[[u8; N]], key: &[u8; N]) -> usize {
     if N <= 16 {
         return lower_bound_short(records, key);
@@ -148,7 +148,7 @@ pub(crate) fn lower_bound_whole<const N: usize>(records: &[[u8; N]], key: &[u8; 
 //     requires { N ≤ 16 }
 //     ensures bound { result ≤ length records.now }
 //     ensures place { AreRisingRecords N records.now → IsRecord N key.now → IsFirstNotBelow key.now records.now result }
-#[inline]
+#[cfg_attr(not(debug_assertions), inline(always))]
 fn lower_bound_short<const N: usize>(records: &[[u8; N]], key: &[u8; N]) -> usize {
     let all = 0..records.len();
     if N <= 8 {
@@ -183,7 +183,7 @@ fn lower_bound_long<const N: usize>(records: &[[u8; N]], key: &[u8; N]) -> usize
 /// requires below { (k : ℕ) → k < start → order (text_at records.now k) key.now ≡ Less }
 /// ensures { IfSome result (λ place. IsFirstNotBelow key.now records.now place) }
 /// ```
-#[inline]
+#[cfg_attr(not(debug_assertions), inline(always))]
 pub(crate) fn lower_bound_near<const N: usize>(
     records: &[[u8; N]],
     key: &[u8; N],
@@ -211,7 +211,7 @@ pub(crate) fn lower_bound_near<const N: usize>(
 /// ```text
 /// ensures { IsTrue result ↔ ((index < length records.now) × (order (text_at records.now index) key.now ≡ Less)) }
 /// ```
-#[inline]
+#[cfg_attr(not(debug_assertions), inline(always))]
 pub(crate) fn is_below_at<const N: usize>(records: &[[u8; N]], index: usize, key: &[u8; N]) -> bool {
     index < records.len() && is_below(&records[index][..], &key[..])
 }
@@ -229,7 +229,7 @@ pub(crate) fn is_below_at<const N: usize>(records: &[[u8; N]], index: usize, key
 //     ensures inside { result.end ≤ length records.now }
 //     ensures within { AreDistinguished N (T.spelled start) key.now records.now → IsFirstNotBelowWithin key.now records.now range.start range.end → IsFirstNotBelowWithin key.now records.now result.start result.end }
 //     ensures place { N ≤ 16 → result.start ≡ result.end }
-#[inline]
+#[cfg_attr(not(debug_assertions), inline(always))]
 fn narrow<const N: usize, T: Number<N>>(
     records: &[[u8; N]],
     key: &[u8; N],
@@ -270,7 +270,7 @@ fn narrow<const N: usize, T: Number<N>>(
 //     requires inside { range.end ≤ length records.now }
 //     ensures bound { result ≤ length records.now }
 //     ensures place { IsRising records.now → IsFirstNotBelowWithin key.now records.now range.start range.end → IsFirstNotBelow key.now records.now result }
-#[inline]
+#[cfg_attr(not(debug_assertions), inline(always))]
 fn lower_bound_within<const N: usize>(
     records: &[[u8; N]],
     key: &[u8; N],
@@ -292,7 +292,7 @@ fn lower_bound_within<const N: usize>(
 // Proved:
 //     ensures bound { result ≤ length records.now }
 //     ensures place { IsRising records.now → IsFirstNotBelow key.now records.now result }
-#[inline]
+#[cfg_attr(not(debug_assertions), inline(always))]
 fn lower_bound_by_halves<const N: usize>(records: &[[u8; N]], key: &[u8; N]) -> usize {
     records.partition_point(
         |raw| -> bool { is_below(&raw[..], &key[..]) },
@@ -309,7 +309,7 @@ fn lower_bound_by_halves<const N: usize>(records: &[[u8; N]], key: &[u8; N]) -> 
 /// ensures bound { result ≤ N - 8 }
 /// ensures alike { AreRisingRecords N records.now → IsRecord N key.now → BeginAlike result key.now records.now }
 /// ```
-#[inline]
+#[cfg_attr(not(debug_assertions), inline(always))]
 pub(crate) fn shared_len<const N: usize>(records: &[[u8; N]], key: &[u8; N]) -> usize {
     let (Some(first), Some(last)) = (records.first(), records.last()) else {
         return 0;

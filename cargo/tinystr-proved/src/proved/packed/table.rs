@@ -255,7 +255,7 @@ impl<'a, const N: usize> Table<'a, N> {
     /// ensures padded { All (λ raw. IsPaddedText raw N) result.now }
     /// ```
     /// </details>
-    #[inline]
+    #[cfg_attr(not(debug_assertions), inline(always))]
     #[must_use]
     pub const fn records(&self) -> &'a [[u8; N]] {
         self.records

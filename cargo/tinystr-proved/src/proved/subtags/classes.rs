@@ -20,7 +20,7 @@ impl<'a> Classes<'a> {
     /// ```text
     /// ensures { result ≡ input.entry }
     /// ```
-    #[inline]
+    #[cfg_attr(not(debug_assertions), inline(always))]
     pub(crate) fn of(input: ShortInput<'a>) -> Self {
         let letters = input.alphabetic_bits();
         let digits = input.numeric_bits();
@@ -40,7 +40,7 @@ impl<'a> Classes<'a> {
     /// ```text
     /// ensures { result.now ≡ self.now }
     /// ```
-    #[inline]
+    #[cfg_attr(not(debug_assertions), inline(always))]
     pub(crate) fn input(&self) -> &ShortInput<'a> {
         &self.input
     }
@@ -53,7 +53,7 @@ impl<'a> Classes<'a> {
     /// ensures len { result ≡ length self.now }
     /// ensures fits { length self.now ≤ 17 }
     /// ```
-    #[inline]
+    #[cfg_attr(not(debug_assertions), inline(always))]
     pub(crate) fn len(&self) -> usize {
         self.input.len()
     }
@@ -66,7 +66,7 @@ impl<'a> Classes<'a> {
     /// requires { count ≤ length self.now }
     /// ensures { result ≡ list_all is_alphabetic (take count self.now) }
     /// ```
-    #[inline]
+    #[cfg_attr(not(debug_assertions), inline(always))]
     pub(crate) fn are_letters(&self, count: usize) -> bool {
         self.letters % (1 << count) + 1 == 1 << count
     }
@@ -79,7 +79,7 @@ impl<'a> Classes<'a> {
     /// ensures end { result ≡ position_or_len is_separator self.now }
     /// ensures fits { result ≤ 17 }
     /// ```
-    #[inline]
+    #[cfg_attr(not(debug_assertions), inline(always))]
     pub(crate) fn first_end(&self) -> usize {
         (self.separators + (1 << self.input.len())).trailing_zeros() as usize
     }
@@ -91,7 +91,7 @@ impl<'a> Classes<'a> {
     /// ```text
     /// ensures { result ≡ classes_of self.now }
     /// ```
-    #[inline]
+    #[cfg_attr(not(debug_assertions), inline(always))]
     pub(crate) fn packed(&self) -> u64 {
         self.letters + (self.digits << 20) + (self.separators << 40)
     }
@@ -106,7 +106,7 @@ impl<'a> Classes<'a> {
     /// requires { list_all is_alphabetic self.now ≡ false }
     /// ensures { MatchOption result (¬ IsLangId self.now) (λ len. IsLangId self.now × (len ≡ position_or_len is_separator self.now)) }
     /// ```
-    #[inline]
+    #[cfg_attr(not(debug_assertions), inline(always))]
     pub(crate) fn language_len(&self) -> Option<usize> {
         let len = self.len();
         let end = self.first_end();
@@ -125,7 +125,7 @@ impl<'a> Classes<'a> {
 /// ```text
 /// ensures { result ≡ list_all is_alphabetic input.now }
 /// ```
-#[inline]
+#[cfg_attr(not(debug_assertions), inline(always))]
 pub(crate) fn is_alphabetic(input: &ShortInput<'_>) -> bool {
     let len = input.len();
     input.alphabetic_bits() + 1 == 1 << len
@@ -150,7 +150,7 @@ const AAAA_DDD: u64 = 0x00021_001c0_0001f;
 // Proved:
 //     requires { len < 18 }
 //     ensures { result ≡ one_more (tail_example len) }
-#[inline]
+#[cfg_attr(not(debug_assertions), inline(always))]
 fn one_more(len: usize) -> u64 {
     EXAMPLES[len]
 }

@@ -68,7 +68,7 @@ impl LangId {
     //     ensures fold { IfOk result (λ id. fold_text id ≡ fold_text code_units.now) }
     //     ensures refusal { IfErr result (λ e. e ≡ refusal_of code_units.now) }
     //     ensures value { result_ok result ≡ canonical_of code_units.now }
-    #[inline]
+    #[cfg_attr(not(debug_assertions), inline(always))]
     fn read(code_units: &[u8]) -> Result<Self, LangIdError> {
         let Some(input) = ShortInput::new(code_units) else {
             return Err(refusal_of_more(code_units));
@@ -360,7 +360,7 @@ fn is_subtag_end(code_units: &[u8], end: usize) -> bool {
 // The error for at most 17 bytes that aren't an identifier, by the first subtag.
 // Proved:
 //     ensures { result ≡ refusal_of classes.now }
-#[inline]
+#[cfg_attr(not(debug_assertions), inline(always))]
 fn refusal(classes: &Classes<'_>) -> LangIdError {
     let end = classes.first_end();
     if is_language_length(end) && classes.are_letters(end) {

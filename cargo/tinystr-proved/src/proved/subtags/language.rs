@@ -55,7 +55,7 @@ const LENGTHS: u64 = 0b1_1110_1100;
 /// requires { len < 64 }
 /// ensures { result ≡ is_language_length len }
 /// ```
-#[inline]
+#[cfg_attr(not(debug_assertions), inline(always))]
 pub(crate) fn is_language_length(len: usize) -> bool {
     (LENGTHS >> len) % 2 == 1
 }

@@ -12,7 +12,7 @@ use crate::TinyAsciiStr;
 /// ensures place { result ≡ language_end text.now }
 /// ensures fits { result ≤ 8 }
 /// ```
-#[inline]
+#[cfg_attr(not(debug_assertions), inline(always))]
 pub(crate) fn language_end(text: &TinyAsciiStr<17>) -> usize {
     text.resize::<8>().find_byte(b'-').unwrap_or(8).min(8)
 }
@@ -24,7 +24,7 @@ pub(crate) fn language_end(text: &TinyAsciiStr<17>) -> usize {
 /// ```text
 /// ensures { result ≡ nat_lt place (length text.now) }
 /// ```
-#[inline]
+#[cfg_attr(not(debug_assertions), inline(always))]
 pub(crate) fn has_byte_at(text: &TinyAsciiStr<17>, place: usize) -> bool {
     text.get_byte(place).is_some()
 }
@@ -37,7 +37,7 @@ pub(crate) fn has_byte_at(text: &TinyAsciiStr<17>, place: usize) -> bool {
 /// ensures place { result ≡ region_start text.now }
 /// ensures fits { result ≤ 14 }
 /// ```
-#[inline]
+#[cfg_attr(not(debug_assertions), inline(always))]
 pub(crate) fn region_start(text: &TinyAsciiStr<17>) -> usize {
     let start = language_end(text) + 1;
     if has_byte_at(text, start + 3) {

@@ -12,7 +12,7 @@ use crate::{ShortInput, TinyAsciiStr};
 /// requires language { end ≡ position_or_len is_separator input.now }
 /// ensures { result ≡ canonical_text input.now }
 /// ```
-#[inline]
+#[cfg_attr(not(debug_assertions), inline(always))]
 pub(crate) fn text_in_case(input: &ShortInput<'_>, end: usize) -> TinyAsciiStr<17> {
     let row = &example(input.len() - end)[8 - end..];
     input.in_case_of(row.first_chunk::<16>().unwrap(), b'_', b'-')
@@ -38,7 +38,7 @@ const AAAA_DDD: [u8; 24] = *b"aaaaaaaa-Aaaa-000\0\0\0\0\0\0\0";
 // Proved:
 //     requires { len ≤ 9 }
 //     ensures { take (length (example 8 len)) result.now ≡ example 8 len }
-#[inline]
+#[cfg_attr(not(debug_assertions), inline(always))]
 fn example(len: usize) -> &'static [u8; 24] {
     &EXAMPLES[len]
 }

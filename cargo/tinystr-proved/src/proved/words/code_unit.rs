@@ -72,32 +72,32 @@ pub trait CodeUnit: Copy {
 pub(crate) const CHARACTERS: u8 = 0x7f;
 
 impl CodeUnit for u8 {
-    #[inline]
+    #[cfg_attr(not(debug_assertions), inline(always))]
     fn code(self) -> u16 {
         u16::from(self)
     }
 
-    #[inline]
+    #[cfg_attr(not(debug_assertions), inline(always))]
     fn is_character(self) -> bool {
         self.wrapping_sub(1) < CHARACTERS
     }
 
-    #[inline]
+    #[cfg_attr(not(debug_assertions), inline(always))]
     fn low_byte(self) -> u8 {
         self
     }
 
-    #[inline]
+    #[cfg_attr(not(debug_assertions), inline(always))]
     fn as_bytes(units: &[u8]) -> Option<&[u8]> {
         Some(units)
     }
 
-    #[inline]
+    #[cfg_attr(not(debug_assertions), inline(always))]
     fn word_of_four(units: &[u8]) -> u32 {
         u32::from_le_bytes(*units.first_chunk::<4>().unwrap())
     }
 
-    #[inline]
+    #[cfg_attr(not(debug_assertions), inline(always))]
     fn eight_low_bytes(units: &[u8]) -> [u8; 8] {
         let mut bytes = [0; 8];
         bytes.copy_from_slice(units);
@@ -113,7 +113,7 @@ impl CodeUnit for u8 {
 /// ```text
 /// ensures { IsTrue result ↔ IsText (map U.number units.now) }
 /// ```
-#[inline]
+#[cfg_attr(not(debug_assertions), inline(always))]
 pub fn are_characters<U: CodeUnit>(units: &[U]) -> bool {
     let mut are_characters = true;
     for unit in units {
@@ -127,7 +127,7 @@ pub fn are_characters<U: CodeUnit>(units: &[U]) -> bool {
 //     requires least { count ≤ length units.now }
 //     requires most { length units.now ≤ 2 * count }
 //     ensures { IsTrue result ↔ IsText (map U.number units.now) }
-#[inline]
+#[cfg_attr(not(debug_assertions), inline(always))]
 fn is_text_by_ends<U: CodeUnit>(units: &[U], count: usize) -> bool {
     are_characters(&units[..count]) & are_characters(&units[units.len() - count..])
 }
@@ -140,7 +140,7 @@ fn is_text_by_ends<U: CodeUnit>(units: &[U], count: usize) -> bool {
 /// requires { length units.now ≤ 16 }
 /// ensures { IsTrue result ↔ IsText (map U.number units.now) }
 /// ```
-#[inline]
+#[cfg_attr(not(debug_assertions), inline(always))]
 pub(crate) fn is_text<U: CodeUnit>(units: &[U]) -> bool {
     let len = units.len();
     if len > 8 {

@@ -13,7 +13,7 @@
 /// ```text
 /// ensures { IsTrue result ↔ (length (decimal number) ≤ most) }
 /// ```
-#[inline]
+#[cfg_attr(not(debug_assertions), inline(always))]
 pub fn decimal_fits(number: u32, most: usize) -> bool {
     most >= 10 || (most > 0 && number < 10u32.pow(most as u32))
 }
@@ -22,7 +22,7 @@ pub fn decimal_fits(number: u32, most: usize) -> bool {
 // Proved:
 //     requires { number < 100 }
 //     ensures { result ≡ (48 + number / 10) + 256 * (48 + number % 10) }
-#[inline]
+#[cfg_attr(not(debug_assertions), inline(always))]
 fn two_digits(number: u32) -> u32 {
     number / 10 + 256 * (number % 10) + 0x3030
 }
@@ -35,7 +35,7 @@ fn two_digits(number: u32) -> u32 {
 /// ```text
 /// ensures { result ≡ word (decimal number) }
 /// ```
-#[inline]
+#[cfg_attr(not(debug_assertions), inline(always))]
 pub(crate) fn decimal_word(number: u32) -> u128 {
     let mut last = 0u64;
     let mut rest = number;
@@ -57,7 +57,7 @@ pub(crate) fn decimal_word(number: u32) -> u128 {
 // Proved:
 //     requires { number < 10 ^ 4 }
 //     ensures { result ≡ number / 100 + 65536 * (number % 100) }
-#[inline]
+#[cfg_attr(not(debug_assertions), inline(always))]
 fn two_pairs(number: u32) -> u32 {
     number / 100 + 65536 * (number % 100)
 }
@@ -66,7 +66,7 @@ fn two_pairs(number: u32) -> u32 {
 // Proved:
 //     requires { number < 10 ^ 8 }
 //     ensures { result ≡ number / 10 ^ 6 + 65536 * (number / 10 ^ 4 % 100 + 65536 * (number / 100 % 100 + 65536 * (number % 100))) }
-#[inline]
+#[cfg_attr(not(debug_assertions), inline(always))]
 fn four_pairs(number: u32) -> u64 {
     u64::from(two_pairs(number / 10000)) + (u64::from(two_pairs(number % 10000)) << 32)
 }
@@ -80,7 +80,7 @@ fn four_pairs(number: u32) -> u64 {
 /// requires { number < 10 ^ 8 }
 /// ensures { result + 0x3030303030303030 ≡ word (decimal (10 ^ 8 + number)) / 256 }
 /// ```
-#[inline]
+#[cfg_attr(not(debug_assertions), inline(always))]
 pub(crate) fn eight_digits(number: u32) -> u64 {
     let pairs = four_pairs(number);
     let tens = ((pairs * 103) >> 10) & 0x000f_000f_000f_000f;

@@ -439,8 +439,10 @@ mod bytewise {
     #[cfg_attr(not(debug_assertions), inline(always))]
     pub const fn ask<const N: usize>(bytes: &[u8; N], question: Question) -> bool {
         match width_of(N) {
-            Width::Many if N % 8 == 0 => ask_bytes(bytes.as_slice(), question),
-            _ => padded::ask(bytes, question),
+            Width::Many if N % 8 == 0 => ask_bytes(bytes, question),
+            Width::Four => Aligned4::from_ascii_bytes(bytes).ask(question),
+            Width::Eight => Aligned8::from_ascii_bytes(bytes).ask(question),
+            Width::Sixteen | Width::Many => words::ask(bytes, question),
         }
     }
 
@@ -612,20 +614,6 @@ mod in_words {
     #[cfg_attr(not(debug_assertions), inline(always))]
     pub const fn ones_of(text: u64) -> u64 {
         ((text + LOW_BITS) & HIGH_BITS) >> 7
-    }
-}
-
-/// What `bytewise` calls.
-mod padded {
-    use super::*;
-
-    #[cfg_attr(not(debug_assertions), inline(always))]
-    pub const fn ask<const N: usize>(bytes: &[u8; N], question: Question) -> bool {
-        match width_of(N) {
-            Width::Four => Aligned4::from_ascii_bytes(bytes).ask(question),
-            Width::Eight => Aligned8::from_ascii_bytes(bytes).ask(question),
-            Width::Sixteen | Width::Many => words::ask(bytes, question),
-        }
     }
 }
 

@@ -59,7 +59,7 @@ impl<T: Word<LEN>, const LEN: usize> Aligned<T, LEN> {
     /// requires padded { IsPaddedText src.now N }
     /// ensures { result ≡ text_of src.now }
     /// ```
-    #[inline]
+    #[cfg_attr(not(debug_assertions), inline(always))]
     pub fn from_ascii_bytes<const N: usize>(src: &[u8; N]) -> Self {
         Self::from_padded(src)
     }
@@ -71,7 +71,7 @@ impl<T: Word<LEN>, const LEN: usize> Aligned<T, LEN> {
     /// ```text
     /// ensures { result ≡ length self.now }
     /// ```
-    #[inline]
+    #[cfg_attr(not(debug_assertions), inline(always))]
     pub fn len(&self) -> usize {
         self.word.text_len()
     }
@@ -85,7 +85,7 @@ impl<T: Word<LEN>, const LEN: usize> Aligned<T, LEN> {
     /// requires padded { IsPadded bytes.now }
     /// ensures { result ≡ text_of bytes.now }
     /// ```
-    #[inline]
+    #[cfg_attr(not(debug_assertions), inline(always))]
     pub fn from_padded(bytes: &[u8]) -> Self {
         Aligned {
             word: T::load(bytes),
@@ -105,7 +105,7 @@ impl<T: Word<LEN>, const LEN: usize> Aligned<T, LEN> {
     /// requires fits { length bytes.now ≤ LEN }
     /// ensures { MatchOption result (¬ IsPadded bytes.now) (λ t. IsPadded bytes.now × (t ≡ text_of bytes.now)) }
     /// ```
-    #[inline]
+    #[cfg_attr(not(debug_assertions), inline(always))]
     pub fn try_from_padded(bytes: &[u8]) -> Option<Self> {
         let word = T::load(bytes);
         if unpadded(word, marks(word)).equals(T::splat(0)) {
@@ -128,7 +128,7 @@ impl<T: Word<LEN>, const LEN: usize> Aligned<T, LEN> {
     /// requires fits { length units.now ≤ LEN }
     /// ensures { MatchOption result (¬ IsText (map U.number units.now)) (λ t. IsText (map U.number units.now) × (t ≡ map U.number units.now)) }
     /// ```
-    #[inline]
+    #[cfg_attr(not(debug_assertions), inline(always))]
     pub fn try_from_text<U: CodeUnit>(units: &[U]) -> Option<Self> {
         if is_text(units) {
             Some(Aligned {
@@ -148,7 +148,7 @@ impl<T: Word<LEN>, const LEN: usize> Aligned<T, LEN> {
     /// ensures padded { IsPaddedText result LEN }
     /// ensures text { text_of result ≡ self.now }
     /// ```
-    #[inline]
+    #[cfg_attr(not(debug_assertions), inline(always))]
     pub fn to_bytes(&self) -> [u8; LEN] {
         self.word.to_bytes_in_registers()
     }
@@ -160,7 +160,7 @@ impl<T: Word<LEN>, const LEN: usize> Aligned<T, LEN> {
     /// ```text
     /// ensures { result ≡ bytes_eq self.now other.now }
     /// ```
-    #[inline]
+    #[cfg_attr(not(debug_assertions), inline(always))]
     pub fn equals(&self, other: &Self) -> bool {
         self.word.equals(other.word)
     }
@@ -172,7 +172,7 @@ impl<T: Word<LEN>, const LEN: usize> Aligned<T, LEN> {
     /// ```text
     /// ensures { result ≡ ask_question question self.now }
     /// ```
-    #[inline]
+    #[cfg_attr(not(debug_assertions), inline(always))]
     pub fn ask(&self, question: Question) -> bool {
         match question {
             Question::Alphabetic => self.each_letter(),
@@ -190,7 +190,7 @@ impl<T: Word<LEN>, const LEN: usize> Aligned<T, LEN> {
     // Whether the first byte is in one range, and each later byte in another.
     // Proved:
     //     ensures { result ≡ ask (is_in first) (is_in others) self.now }
-    #[inline]
+    #[cfg_attr(not(debug_assertions), inline(always))]
     fn each_in(&self, first: Range, others: Range) -> bool {
         let word = self.word;
         no_character_marked(outside(word, first, others), word)
@@ -199,7 +199,7 @@ impl<T: Word<LEN>, const LEN: usize> Aligned<T, LEN> {
     // Whether the first byte is outside one range, and each later byte outside another.
     // Proved:
     //     ensures { result ≡ ask (is_not_in first) (is_not_in others) self.now }
-    #[inline]
+    #[cfg_attr(not(debug_assertions), inline(always))]
     fn none_in(&self, first: Range, others: Range) -> bool {
         no_lane_marked(inside(self.word, first, others))
     }
@@ -207,7 +207,7 @@ impl<T: Word<LEN>, const LEN: usize> Aligned<T, LEN> {
     // Whether each byte is a letter.
     // Proved:
     //     ensures { result ≡ ask is_alphabetic is_alphabetic self.now }
-    #[inline]
+    #[cfg_attr(not(debug_assertions), inline(always))]
     fn each_letter(&self) -> bool {
         let word = self.word;
         no_character_marked(outside(with_case_bits(word), LOWER, LOWER), word)
@@ -216,7 +216,7 @@ impl<T: Word<LEN>, const LEN: usize> Aligned<T, LEN> {
     // Whether each byte is a letter or a digit.
     // Proved:
     //     ensures { result ≡ ask is_alphanumeric is_alphanumeric self.now }
-    #[inline]
+    #[cfg_attr(not(debug_assertions), inline(always))]
     fn each_letter_or_digit(&self) -> bool {
         let word = self.word;
         let not_letter = outside(with_case_bits(word), LOWER, LOWER);
@@ -231,7 +231,7 @@ impl<T: Word<LEN>, const LEN: usize> Aligned<T, LEN> {
     /// ```text
     /// ensures { result ≡ pad (in_case case self.now) LEN }
     /// ```
-    #[inline]
+    #[cfg_attr(not(debug_assertions), inline(always))]
     pub fn in_case(&self, case: Case) -> [u8; LEN] {
         let word = self.word;
         let bits = match case {
@@ -256,7 +256,7 @@ impl Aligned<u64, 8> {
     /// ```text
     /// ensures { result ≡ length self.now }
     /// ```
-    #[inline]
+    #[cfg_attr(not(debug_assertions), inline(always))]
     pub fn len_by_top(&self) -> usize {
         let bits = 63 - u64::leading_zeros(2 * self.word + 1) as usize;
         (bits + 7) / 8
@@ -269,7 +269,7 @@ impl Aligned<u64, 8> {
     /// ```text
     /// ensures { result ≡ take 8 (self.now ++ other.now) }
     /// ```
-    #[inline]
+    #[cfg_attr(not(debug_assertions), inline(always))]
     pub fn concat(&self, other: &Self) -> Self {
         let (front, back) = (self.word, other.word);
         let len = self.len_by_top();
@@ -295,7 +295,7 @@ impl Aligned<u64, 8> {
     /// requires { (0 < most) × (most ≤ 8) }
     /// ensures { result ≡ last most (decimal number) }
     /// ```
-    #[inline]
+    #[cfg_attr(not(debug_assertions), inline(always))]
     pub fn from_number(number: u32, most: usize) -> Self {
         let digits = eight_digits(number % 100_000_000);
         let others = if decimal_fits(number, most) {
@@ -323,7 +323,7 @@ impl Aligned<u128, 16> {
     /// ```text
     /// ensures { result ≡ length self.now }
     /// ```
-    #[inline]
+    #[cfg_attr(not(debug_assertions), inline(always))]
     pub fn len_by_nuls(&self) -> usize {
         let nuls = lanes(self.word).simd_eq(u8x16::splat(0)).to_bitmask();
         63 - u64::leading_zeros((1 << 16) - nuls) as usize
@@ -336,7 +336,7 @@ impl Aligned<u128, 16> {
     /// ```text
     /// ensures { result ≡ pad self.now 16 }
     /// ```
-    #[inline]
+    #[cfg_attr(not(debug_assertions), inline(always))]
     pub fn to_lanes(&self) -> u8x16 {
         lanes(self.word)
     }
@@ -352,7 +352,7 @@ impl Aligned<u128, 16> {
     /// ```text
     /// ensures { result ≡ decimal number }
     /// ```
-    #[inline]
+    #[cfg_attr(not(debug_assertions), inline(always))]
     pub fn from_decimal(number: u32) -> Self {
         Aligned {
             word: decimal_word(number),
@@ -367,7 +367,7 @@ impl Aligned<u128, 16> {
     /// requires { count < length (decimal number) }
     /// ensures { result ≡ last count (decimal number) }
     /// ```
-    #[inline]
+    #[cfg_attr(not(debug_assertions), inline(always))]
     pub fn from_last_digits(number: u32, count: usize) -> Self {
         let limit = 10u32.pow(count as u32);
         Aligned {

@@ -42,7 +42,7 @@ pub const NOT_NUL: u8 = 0x7f;
 /// requires { HasLowLanes (T.number text) }
 /// ensures { T.number result ≡ bit_and (T.number text + word (first_then LEN NOT_NUL NOT_NUL)) (word (first_then LEN 0x80 0x80)) }
 /// ```
-#[inline]
+#[cfg_attr(not(debug_assertions), inline(always))]
 pub fn present<T: Word<LEN>, const LEN: usize>(text: T) -> T {
     text.plus(T::splat(NOT_NUL)).and(T::splat(0x80))
 }
@@ -54,7 +54,7 @@ pub fn present<T: Word<LEN>, const LEN: usize>(text: T) -> T {
 /// ```text
 /// ensures { T.number result ≡ bit_and (bit_and (T.number bytes) (word (first_then LEN 0x7f 0x7f)) + word (first_then LEN NOT_NUL NOT_NUL)) (word (first_then LEN 0x80 0x80)) }
 /// ```
-#[inline]
+#[cfg_attr(not(debug_assertions), inline(always))]
 pub fn marks<T: Word<LEN>, const LEN: usize>(bytes: T) -> T {
     present(bytes.and(T::splat(0x7f)))
 }
@@ -66,7 +66,7 @@ pub fn marks<T: Word<LEN>, const LEN: usize>(bytes: T) -> T {
 /// ```text
 /// ensures { T.number result ≡ bit_or (bit_and (T.number bytes) (word (first_then LEN 0x80 0x80))) (bit_and (T.number marks / 256) (256 ^ LEN - 1 - T.number marks)) }
 /// ```
-#[inline]
+#[cfg_attr(not(debug_assertions), inline(always))]
 pub fn unpadded<T: Word<LEN>, const LEN: usize>(bytes: T, marks: T) -> T {
     let late = marks.next_lanes().and(marks.not());
     bytes.and(T::splat(0x80)).or(late)
@@ -80,7 +80,7 @@ pub fn unpadded<T: Word<LEN>, const LEN: usize>(bytes: T, marks: T) -> T {
 /// requires { HasLowLanes (T.number text) }
 /// ensures { T.number result ≡ bit_or (256 ^ LEN - 1 - (T.number text + word (first_then LEN first.low others.low))) (T.number text + word (first_then LEN first.high others.high)) }
 /// ```
-#[inline]
+#[cfg_attr(not(debug_assertions), inline(always))]
 pub fn outside<T: Word<LEN>, const LEN: usize>(text: T, first: Range, others: Range) -> T {
     let below = text.plus(T::first_then(first.low, others.low)).not();
     let above = text.plus(T::first_then(first.high, others.high));
@@ -96,7 +96,7 @@ pub fn outside<T: Word<LEN>, const LEN: usize>(text: T, first: Range, others: Ra
 /// requires { HasLowLanes (T.number text) }
 /// ensures { T.number result ≡ bit_xor (T.number text + word (first_then LEN first.low others.low)) (T.number text + word (first_then LEN first.high others.high)) }
 /// ```
-#[inline]
+#[cfg_attr(not(debug_assertions), inline(always))]
 pub fn inside<T: Word<LEN>, const LEN: usize>(text: T, first: Range, others: Range) -> T {
     let not_below = text.plus(T::first_then(first.low, others.low));
     let above = text.plus(T::first_then(first.high, others.high));
@@ -111,7 +111,7 @@ pub fn inside<T: Word<LEN>, const LEN: usize>(text: T, first: Range, others: Ran
 /// requires { HasLowLanes (T.number text) }
 /// ensures { T.number result ≡ bit_and (256 ^ LEN - 1 - bit_or (256 ^ LEN - 1 - (T.number text + word (first_then LEN first.low others.low))) (T.number text + word (first_then LEN first.high others.high))) (word (first_then LEN 0x80 0x80)) / 4 }
 /// ```
-#[inline]
+#[cfg_attr(not(debug_assertions), inline(always))]
 pub fn case_bits<T: Word<LEN>, const LEN: usize>(text: T, first: Range, others: Range) -> T {
     outside(text, first, others).not().high_bits_as_case_bits()
 }
@@ -125,7 +125,7 @@ pub fn case_bits<T: Word<LEN>, const LEN: usize>(text: T, first: Range, others: 
 /// ensures bits { T.number result ≡ bit_or (T.number text) (word (first_then LEN 0x20 0x20)) }
 /// ensures low { HasLowLanes (T.number result) }
 /// ```
-#[inline]
+#[cfg_attr(not(debug_assertions), inline(always))]
 pub fn with_case_bits<T: Word<LEN>, const LEN: usize>(text: T) -> T {
     text.or(T::splat(0x20))
 }
@@ -138,7 +138,7 @@ pub fn with_case_bits<T: Word<LEN>, const LEN: usize>(text: T) -> T {
 /// requires { HasLowLanes (T.number text) }
 /// ensures { result ≡ (bit_and (T.number marks) (bit_and (T.number text + word (first_then LEN NOT_NUL NOT_NUL)) (word (first_then LEN 0x80 0x80))) == word (first_then LEN 0 0)) }
 /// ```
-#[inline]
+#[cfg_attr(not(debug_assertions), inline(always))]
 pub fn no_character_marked<T: Word<LEN>, const LEN: usize>(marks: T, text: T) -> bool {
     marks.and(present(text)).equals(T::splat(0))
 }
@@ -150,7 +150,7 @@ pub fn no_character_marked<T: Word<LEN>, const LEN: usize>(marks: T, text: T) ->
 /// ```text
 /// ensures { result ≡ (bit_and (T.number marks) (word (first_then LEN 0x80 0x80)) == word (first_then LEN 0 0)) }
 /// ```
-#[inline]
+#[cfg_attr(not(debug_assertions), inline(always))]
 pub fn no_lane_marked<T: Word<LEN>, const LEN: usize>(marks: T) -> bool {
     marks.and(T::splat(0x80)).equals(T::splat(0))
 }

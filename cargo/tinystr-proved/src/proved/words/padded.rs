@@ -36,7 +36,7 @@ pub enum Width {
 /// ```text
 /// ensures { IsWidthOf result len }
 /// ```
-#[inline]
+#[cfg_attr(not(debug_assertions), inline(always))]
 pub const fn width_of(len: usize) -> Width {
     if len <= 4 {
         Width::Four
@@ -56,7 +56,7 @@ pub const fn width_of(len: usize) -> Width {
 /// ```text
 /// ensures { IsTrue result ↔ IsPaddedText bytes.now N }
 /// ```
-#[inline]
+#[cfg_attr(not(debug_assertions), inline(always))]
 pub fn is_padded<const N: usize>(bytes: &[u8; N]) -> bool {
     match width_of(N) {
         Width::Four => Aligned4::try_from_padded(&bytes[..]).is_some(),
@@ -75,7 +75,7 @@ pub fn is_padded<const N: usize>(bytes: &[u8; N]) -> bool {
 /// ensures digits { IfOk result (λ bytes. IsPaddedText bytes N × (text_of bytes ≡ decimal number)) }
 /// ensures last_digits { IfErr result (λ bytes. IsPaddedText bytes N × (text_of bytes ≡ last N (decimal number))) }
 /// ```
-#[inline]
+#[cfg_attr(not(debug_assertions), inline(always))]
 pub fn decimal<const N: usize>(number: u32) -> Result<[u8; N], [u8; N]> {
     let fits = decimal_fits(number, N);
     match width_of(N) {
@@ -99,7 +99,7 @@ pub fn decimal<const N: usize>(number: u32) -> Result<[u8; N], [u8; N]> {
 /// requires right { IsPaddedText right.now N }
 /// ensures { result ≡ bytes_eq (text_of left.now) (text_of right.now) }
 /// ```
-#[inline]
+#[cfg_attr(not(debug_assertions), inline(always))]
 pub fn equals<const N: usize>(left: &[u8; N], right: &[u8; N]) -> bool {
     match width_of(N) {
         Width::Four => Aligned4::from_ascii_bytes(left).equals(&Aligned4::from_ascii_bytes(right)),

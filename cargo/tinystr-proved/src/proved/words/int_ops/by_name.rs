@@ -13,7 +13,7 @@ impl<T: Word<LEN>, const LEN: usize> Aligned<T, LEN> {
     /// ```text
     /// ensures { result ≡ ask is_alphabetic is_alphabetic self.now }
     /// ```
-    #[inline]
+    #[cfg_attr(not(debug_assertions), inline(always))]
     pub fn is_ascii_alphabetic(&self) -> bool {
         self.ask(Question::Alphabetic)
     }
@@ -25,7 +25,7 @@ impl<T: Word<LEN>, const LEN: usize> Aligned<T, LEN> {
     /// ```text
     /// ensures { result ≡ ask is_alphanumeric is_alphanumeric self.now }
     /// ```
-    #[inline]
+    #[cfg_attr(not(debug_assertions), inline(always))]
     pub fn is_ascii_alphanumeric(&self) -> bool {
         self.ask(Question::Alphanumeric)
     }
@@ -37,7 +37,7 @@ impl<T: Word<LEN>, const LEN: usize> Aligned<T, LEN> {
     /// ```text
     /// ensures { result ≡ ask is_digit is_digit self.now }
     /// ```
-    #[inline]
+    #[cfg_attr(not(debug_assertions), inline(always))]
     pub fn is_ascii_numeric(&self) -> bool {
         self.ask(Question::Numeric)
     }
@@ -49,7 +49,7 @@ impl<T: Word<LEN>, const LEN: usize> Aligned<T, LEN> {
     /// ```text
     /// ensures { result ≡ ask is_not_upper is_not_upper self.now }
     /// ```
-    #[inline]
+    #[cfg_attr(not(debug_assertions), inline(always))]
     pub fn is_ascii_lowercase(&self) -> bool {
         self.ask(Question::Lowercase)
     }
@@ -61,7 +61,7 @@ impl<T: Word<LEN>, const LEN: usize> Aligned<T, LEN> {
     /// ```text
     /// ensures { result ≡ ask is_not_lower is_not_upper self.now }
     /// ```
-    #[inline]
+    #[cfg_attr(not(debug_assertions), inline(always))]
     pub fn is_ascii_titlecase(&self) -> bool {
         self.ask(Question::Titlecase)
     }
@@ -73,7 +73,7 @@ impl<T: Word<LEN>, const LEN: usize> Aligned<T, LEN> {
     /// ```text
     /// ensures { result ≡ ask is_not_lower is_not_lower self.now }
     /// ```
-    #[inline]
+    #[cfg_attr(not(debug_assertions), inline(always))]
     pub fn is_ascii_uppercase(&self) -> bool {
         self.ask(Question::Uppercase)
     }
@@ -85,7 +85,7 @@ impl<T: Word<LEN>, const LEN: usize> Aligned<T, LEN> {
     /// ```text
     /// ensures { result ≡ ask is_lower is_lower self.now }
     /// ```
-    #[inline]
+    #[cfg_attr(not(debug_assertions), inline(always))]
     pub fn is_ascii_alphabetic_lowercase(&self) -> bool {
         self.ask(Question::AlphabeticLowercase)
     }
@@ -97,7 +97,7 @@ impl<T: Word<LEN>, const LEN: usize> Aligned<T, LEN> {
     /// ```text
     /// ensures { result ≡ ask is_upper is_lower self.now }
     /// ```
-    #[inline]
+    #[cfg_attr(not(debug_assertions), inline(always))]
     pub fn is_ascii_alphabetic_titlecase(&self) -> bool {
         self.ask(Question::AlphabeticTitlecase)
     }
@@ -109,7 +109,7 @@ impl<T: Word<LEN>, const LEN: usize> Aligned<T, LEN> {
     /// ```text
     /// ensures { result ≡ ask is_upper is_upper self.now }
     /// ```
-    #[inline]
+    #[cfg_attr(not(debug_assertions), inline(always))]
     pub fn is_ascii_alphabetic_uppercase(&self) -> bool {
         self.ask(Question::AlphabeticUppercase)
     }
@@ -121,7 +121,7 @@ impl<T: Word<LEN>, const LEN: usize> Aligned<T, LEN> {
     /// ```text
     /// ensures { result ≡ pad (lowercase self.now) LEN }
     /// ```
-    #[inline]
+    #[cfg_attr(not(debug_assertions), inline(always))]
     pub fn to_ascii_lowercase(&self) -> [u8; LEN] {
         self.in_case(Case::Lower)
     }
@@ -133,7 +133,7 @@ impl<T: Word<LEN>, const LEN: usize> Aligned<T, LEN> {
     /// ```text
     /// ensures { result ≡ pad (titlecase self.now) LEN }
     /// ```
-    #[inline]
+    #[cfg_attr(not(debug_assertions), inline(always))]
     pub fn to_ascii_titlecase(&self) -> [u8; LEN] {
         self.in_case(Case::Title)
     }
@@ -145,7 +145,7 @@ impl<T: Word<LEN>, const LEN: usize> Aligned<T, LEN> {
     /// ```text
     /// ensures { result ≡ pad (uppercase self.now) LEN }
     /// ```
-    #[inline]
+    #[cfg_attr(not(debug_assertions), inline(always))]
     pub fn to_ascii_uppercase(&self) -> [u8; LEN] {
         self.in_case(Case::Upper)
     }

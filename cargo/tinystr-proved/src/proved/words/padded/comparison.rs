@@ -13,7 +13,7 @@ use crate::simd::*;
 /// requires { length left.now ≡ length right.now }
 /// ensures { result ≡ slice_cmp nat_cmp left.now right.now }
 /// ```
-#[inline]
+#[cfg_attr(not(debug_assertions), inline(always))]
 pub fn compare(left: &[u8], right: &[u8]) -> Ordering {
     let mut left_rest = left;
     let mut right_rest = right;
@@ -33,7 +33,7 @@ pub fn compare(left: &[u8], right: &[u8]) -> Ordering {
 // `number` of all eight, in one load.
 // Proved:
 //     ensures { result ≡ from_be_bytes w64 bytes.now }
-#[inline]
+#[cfg_attr(not(debug_assertions), inline(always))]
 fn number_of_eight(bytes: &[u8; 8]) -> u64 {
     // `from_be_bytes` would be eight loads
     u64::from_le_bytes(*bytes).swap_bytes()
@@ -47,7 +47,7 @@ fn number_of_eight(bytes: &[u8; 8]) -> u64 {
 /// requires { length bytes.now ≤ 8 }
 /// ensures { result ≡ from_be_bytes w64 (pad bytes.now 8) }
 /// ```
-#[inline]
+#[cfg_attr(not(debug_assertions), inline(always))]
 pub fn number(bytes: &[u8]) -> u64 {
     let word: u64 = Word::<8>::load(bytes);
     word.swap_bytes()
@@ -64,7 +64,7 @@ pub fn number(bytes: &[u8]) -> u64 {
 /// requires sixteen { 16 ≤ length left.now }
 /// ensures { result ≡ bytes_eq left.now right.now }
 /// ```
-#[inline]
+#[cfg_attr(not(debug_assertions), inline(always))]
 pub(crate) fn equal(left: &[u8], right: &[u8]) -> bool {
     let mut start = 0;
     while left.len() - start > 32 {
@@ -82,7 +82,7 @@ pub(crate) fn equal(left: &[u8], right: &[u8]) -> bool {
 //     requires left { start + 16 ≤ length left.now }
 //     requires right { start + 16 ≤ length right.now }
 //     ensures { result ≡ bytes_eq (take 16 (drop start left.now)) (take 16 (drop start right.now)) }
-#[inline]
+#[cfg_attr(not(debug_assertions), inline(always))]
 fn sixteen_equal(left: &[u8], right: &[u8], start: usize) -> bool {
     u8x16::from_slice(&left[start..]) == u8x16::from_slice(&right[start..])
 }

@@ -10,7 +10,7 @@
 /// ```text
 /// ensures { bytes.new ≡ take (length bytes.old) src.now ++ drop (length src.now) bytes.old }
 /// ```
-#[inline]
+#[cfg_attr(not(debug_assertions), inline(always))]
 pub(crate) const fn put(bytes: &mut [u8], src: &[u8]) {
     let len = crate::in_words::least(bytes.len(), src.len());
     let mut at = 0;
@@ -31,7 +31,7 @@ pub(crate) const fn put(bytes: &mut [u8], src: &[u8]) {
 /// ensures padded { IsPadded bytes.now → IsPaddedText result M }
 /// ensures text { IsPadded bytes.now → text_of result ≡ take M (text_of bytes.now) }
 /// ```
-#[inline]
+#[cfg_attr(not(debug_assertions), inline(always))]
 pub const fn resize<const M: usize>(bytes: &[u8]) -> [u8; M] {
     let mut resized = [0; M];
     put(&mut resized, bytes);
@@ -48,7 +48,7 @@ pub const fn resize<const M: usize>(bytes: &[u8]) -> [u8; M] {
 /// ensures padded { IsPaddedText result M }
 /// ensures text { text_of result ≡ take M (text_of padded.now) }
 /// ```
-#[inline]
+#[cfg_attr(not(debug_assertions), inline(always))]
 pub const fn resize_at_once<const M: usize>(padded: &[u8]) -> [u8; M] {
     let mut bytes = [0; M];
     append(&mut bytes, 0, padded);
@@ -68,7 +68,7 @@ pub const fn resize_at_once<const M: usize>(padded: &[u8]) -> [u8; M] {
 /// ensures padded { IsPadded bytes.new }
 /// ensures text { text_of bytes.new ≡ take (length bytes.old) (text_of bytes.old ++ text_of padded.now) }
 /// ```
-#[inline]
+#[cfg_attr(not(debug_assertions), inline(always))]
 pub(crate) const fn append(bytes: &mut [u8], len: usize, padded: &[u8]) {
     let free = bytes.len() - len;
     if padded.len() <= free {

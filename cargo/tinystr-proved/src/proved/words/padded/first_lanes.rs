@@ -18,7 +18,7 @@ static KEPT_LANES: [u8; 32] = [
 /// requires { count ≤ 8 }
 /// ensures { result ≡ pad (take count lanes) 8 }
 /// ```
-#[inline]
+#[cfg_attr(not(debug_assertions), inline(always))]
 pub fn first_lanes_of_eight(lanes: u8x8, count: usize) -> u8x8 {
     lanes & u8x8::from_slice(&KEPT_LANES[16 - count..])
 }
@@ -31,7 +31,7 @@ pub fn first_lanes_of_eight(lanes: u8x8, count: usize) -> u8x8 {
 /// requires { count ≤ 16 }
 /// ensures { result ≡ pad (take count lanes) 16 }
 /// ```
-#[inline]
+#[cfg_attr(not(debug_assertions), inline(always))]
 pub fn first_lanes_of_sixteen(lanes: u8x16, count: usize) -> u8x16 {
     lanes & u8x16::from_slice(&KEPT_LANES[16 - count..])
 }

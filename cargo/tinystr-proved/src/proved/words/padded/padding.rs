@@ -13,7 +13,7 @@ use crate::simd::*;
 /// requires { 17 ≤ length bytes.now }
 /// ensures { IsTrue result ↔ IsPadded bytes.now }
 /// ```
-#[inline]
+#[cfg_attr(not(debug_assertions), inline(always))]
 pub(crate) fn is_padded(bytes: &[u8]) -> bool {
     let mut start = 0;
     while bytes.len() - start >= 32 {
@@ -29,7 +29,7 @@ pub(crate) fn is_padded(bytes: &[u8]) -> bool {
 // Proved:
 //     requires { start ≤ length bytes.now }
 //     ensures { IsTrue result ↔ ArePaddedFrom bytes.now start 16 }
-#[inline]
+#[cfg_attr(not(debug_assertions), inline(always))]
 fn are_sixteen_padded(bytes: &[u8], start: usize) -> bool {
     let nuls = u8x16::splat(0);
     let given = sixteen_at(bytes, start);
@@ -46,7 +46,7 @@ fn are_sixteen_padded(bytes: &[u8], start: usize) -> bool {
 // Sixteen bytes from `at` on, with NULs where they end.
 // Proved:
 //     ensures { result ≡ sixteen_from bytes.now at }
-#[inline]
+#[cfg_attr(not(debug_assertions), inline(always))]
 fn sixteen_at(bytes: &[u8], at: usize) -> u8x16 {
     let start = at.min(bytes.len());
     if bytes.len() - start >= 16 {
@@ -60,7 +60,7 @@ fn sixteen_at(bytes: &[u8], at: usize) -> u8x16 {
 // Proved:
 //     requires { length bytes.now ≤ 16 }
 //     ensures { result ≡ pad bytes.now 16 }
-#[inline]
+#[cfg_attr(not(debug_assertions), inline(always))]
 fn sixteen_of(bytes: &[u8]) -> u8x16 {
     let (front, back) = bytes.split_at(bytes.len().min(8));
     u64x2::from_array([eight_of(front), eight_of(back)]).to_le_bytes()
@@ -70,7 +70,7 @@ fn sixteen_of(bytes: &[u8]) -> u8x16 {
 // Proved:
 //     requires { length bytes.now ≤ 8 }
 //     ensures { result ≡ word bytes.now }
-#[inline]
+#[cfg_attr(not(debug_assertions), inline(always))]
 fn eight_of(bytes: &[u8]) -> u64 {
     let (front, back) = bytes.split_at(bytes.len().min(4));
     let low = <u32 as Word<4>>::load(front);
