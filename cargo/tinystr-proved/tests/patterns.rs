@@ -76,4 +76,5 @@ fn texts_of_tables_are_patterns() {
     assert_eq!(found, [false, true, true]);
     assert!(matches!(table.get(1), Some(EUR)) && table.get(3).is_none());
     assert_eq!(in_place::search(b"CHFEURUSD", &EUR), Ok(1));
+    assert_eq!(Table::<1>::new(b"\x7f").unwrap().get(0), Some(tinystr!(1, "\x7f")));
 }
